@@ -1,0 +1,3 @@
+pub mod PaddingLaws
+pub mod NumberLaws
+mod Spelling

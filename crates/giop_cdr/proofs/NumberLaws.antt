@@ -1,0 +1,63 @@
+-- The laws of the numbers that octets spell.
+use Rattle.std.proofs.Common.{◌≡◌, ℕ, suc, ◌+◌, ◌*◌, ◌^◌, ◌<◌, ◌≤◌, List, [], ◌∷◌, ◌++◌, length, reverse, refl, arith, pow-suc}
+use Rattle.std.proofs.lemmas.List.{reverse-append, length-reverse}
+use Rattle.std.proofs.Math.Nat.{mul-le-mul_left}
+use Rattle.giop_cdr.specs.declared.order.Order.{Order}
+use Rattle.giop_cdr.specs.declared.order.Order.TheVariants.{Big, Little}
+use Rattle.giop_cdr.specs.Numbers.{AreOctets, little, num}
+
+-- no octets spell 0
+pub num-nil : (order : Order) → num order [] ≡ 0
+unfolding num
+num-nil Big = refl
+num-nil Little = refl
+
+-- one octet more, which is the lightest
+pub num_big-push : (xs : List ℕ) (x : ℕ) → num Big (xs ++ x ∷ []) ≡ 256 * num Big xs + x
+unfolding num
+num_big-push xs x = rw reverse-append (omega arith)
+
+little-push : (xs : List ℕ) (x : ℕ) → little (xs ++ x ∷ []) ≡ little xs + x * 256 ^ length xs
+little-push [] x = omega arith
+little-push (y ∷ xs) x = rw (little-push xs x, pow-suc) (omega arith)
+
+-- one octet more, which is the heaviest
+pub num_little-push : (xs : List ℕ) (x : ℕ) → num Little (xs ++ x ∷ []) ≡ num Little xs + x * 256 ^ length xs
+unfolding num
+num_little-push xs x = little-push xs x
+
+-- one octet more in front, which is the lightest
+pub num_little-cons : (x : ℕ) (xs : List ℕ) → num Little (x ∷ xs) ≡ x + 256 * num Little xs
+unfolding num
+num_little-cons x xs = refl
+
+-- one octet more in front, which is the heaviest
+pub num_big-cons : (x : ℕ) (xs : List ℕ) → num Big (x ∷ xs) ≡ x * 256 ^ length xs + num Big xs
+unfolding num
+num_big-cons x xs =
+    let turned : reverse (x ∷ xs) ≡ reverse xs ++ x ∷ [] = reverse-append (x ∷ []) xs in
+    rw (turned, little-push (reverse xs) x, length-reverse) (omega arith)
+
+first_octet : (x : ℕ) (xs : List ℕ) → AreOctets (x ∷ xs) → x < 256
+first_octet x xs h = h 0 0 (omega arith)
+
+octets_after : (x : ℕ) (xs : List ℕ) → AreOctets (x ∷ xs) → AreOctets xs
+octets_after x xs h = λ k d below. h (suc k) d (omega arith)
+
+-- a heaviest octet in front stays below one power more
+below_power : (x n power : ℕ) → x < 256 → n < power → x * power + n < power * 256
+below_power x n power octet below = omega (arith, mul-le-mul_left power (le_pred x octet))
+  where
+    le_pred : (x : ℕ) → x < 256 → x ≤ 255
+    le_pred x h = omega arith
+
+-- octets spell a number below 256 to their count
+pub num_bound : (order : Order) (xs : List ℕ) → AreOctets xs → num order xs < 256 ^ length xs
+num_bound Big [] h = rw num-nil (omega arith)
+num_bound Little [] h = rw num-nil (omega arith)
+num_bound Big (x ∷ xs) h = rw (num_big-cons, pow-suc) (below_power x (num Big xs) (256 ^ length xs) (first_octet x xs h) (num_bound Big xs (octets_after x xs h)))
+num_bound Little (x ∷ xs) h = rw (num_little-cons, pow-suc) (omega (arith, num_bound Little xs (octets_after x xs h), first_octet x xs h))
+
+-- four octets spell a number of 32 bits
+pub num_bound-4 : (order : Order) (xs : List ℕ) → AreOctets xs → length xs ≡ 4 → num order xs < 2 ^ 32
+num_bound-4 order xs h e = let b : num order xs < 256 ^ 4 = rw e at (num_bound order xs h) in omega arith

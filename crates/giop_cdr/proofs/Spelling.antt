@@ -1,0 +1,38 @@
+-- How the code spells a number: octet by octet, each time 256 times what it has and one octet.
+use Rattle.std.proofs.Common.{◌≡◌, ℕ, zero, suc, ◌+◌, ◌-◌, ◌*◌, ◌^◌, ◌<◌, ◌≤◌, List, length, take, drop, get_or, reverse, ◌∙◌, ap, arith, add-zero, add-one, pow-suc, add-suc, le_refl}
+use Rattle.std.proofs.lemmas.List.{take_more, take_all, drop_more, reverse-append}
+use Rattle.giop_cdr.specs.declared.order.Order.TheVariants.{Big, Little}
+use Rattle.giop_cdr.specs.Numbers.{little, num}
+
+-- from the front, the first heaviest
+pub big_more : (xs : List ℕ) (i n x : ℕ) → i < length xs → n ≡ little (reverse (take i xs)) → x ≡ get_or xs i 0 → n * 256 + x ≡ little (reverse (take (i + 1) xs))
+big_more xs i n x h e is = rw (take_more xs i 0 h, ← is, reverse-append, e) (omega arith)
+
+pub big_all : (xs : List ℕ) (i n : ℕ) → length xs ≤ i → n ≡ little (reverse (take i xs)) → n ≡ num Big xs
+unfolding num
+big_all xs i n h e = e ∙ ap (λ ys. little (reverse ys)) (take_all i xs h)
+
+-- from the back, the first lightest
+pub little_more : (xs : List ℕ) (i n x : ℕ) → i < length xs → n ≡ little (drop (i + 1) xs) → x ≡ get_or xs i 0 → n * 256 + x ≡ little (drop i xs)
+little_more xs i n x h e is = rw (drop_more xs i 0 h, ← is, e) (omega arith)
+
+pub little_all : (xs : List ℕ) (n : ℕ) → n ≡ little (drop 0 xs) → n ≡ num Little xs
+unfolding num
+little_all xs n e = e
+
+-- one octet more stays within one power more
+pub spelled_bound : (k n x : ℕ) → n < 256 ^ k → x < 256 → n * 256 + x < 256 ^ (k + 1)
+spelled_bound k n x h l = rw (add-one, pow-suc) (omega arith)
+
+pow_le : (d k : ℕ) → 256 ^ k ≤ 256 ^ (k + d)
+pow_le zero k = rw add-zero (le_refl (256 ^ k))
+pow_le (suc d) k = rw (add-suc, pow-suc) (omega (arith, pow_le d k))
+
+-- fewer than 8 octets leave room for one more in 64 bits
+pub spelled_small : (k n : ℕ) → n < 256 ^ k → k < 8 → n < 2 ^ 56
+spelled_small k n h below =
+    let e : k + (7 - k) ≡ 7 = omega arith in
+    let p : 256 ^ k ≤ 256 ^ 7 = rw e at (pow_le (7 - k) k) in
+    omega arith
+
+pub ruleset spelling_steps = (big_more, big_all, little_more, little_all, spelled_bound, spelled_small)

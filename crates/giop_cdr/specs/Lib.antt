@@ -1,0 +1,3 @@
+pub mod Primitives
+pub mod Alignment
+pub mod Numbers

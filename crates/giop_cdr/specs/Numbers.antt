@@ -1,0 +1,48 @@
+-- The number that octets spell, and what it is as a primitive (CDR Transfer Syntax, Primitive Types).
+use Rattle.std.specs.Prelude.{ℕ, ◌+◌, ◌-◌, ◌*◌, ◌^◌, ◌<◌, ◌==◌, ℤ, pos, ◌-ℤ◌, true, false, if◌then◌else◌, nat_lt, List, [], ◌∷◌, reverse, All, Option, Some, None}
+use Rattle.giop_cdr.specs.declared.order.Order.{Order}
+use Rattle.giop_cdr.specs.declared.order.Order.TheVariants.{Big, Little}
+use Rattle.giop_cdr.specs.declared.prim.Primitive.{Primitive}
+use Rattle.giop_cdr.specs.declared.prim.Primitive.TheVariants as prims
+use Rattle.giop_cdr.specs.declared.number.Number.{Number}
+use Rattle.giop_cdr.specs.declared.number.Number.TheVariants as numbers
+
+-- numbers that are octets
+abbrev pub AreOctets : List ℕ → Type 0
+AreOctets xs = All (λ x. x < 256) xs
+
+-- the whole number that octets spell in base 256, the first the lightest
+abbrev pub little : List ℕ → ℕ
+little [] = 0
+little (x ∷ xs) = x + 256 * little xs
+
+-- the whole number that octets spell in base 256, the first the heaviest for Big and the lightest for Little
+unfoldable pub num : Order → List ℕ → ℕ
+num Big octets = little (reverse octets)
+num Little octets = little octets
+
+-- the signed number that a number of so many octets is in two's complement: less 2 to its bits where the heaviest bit is set
+unfoldable pub twos_complement : ℕ → ℕ → ℤ
+twos_complement size n = if nat_lt n (2 ^ (8 * size - 1)) then pos n else (pos n -ℤ pos (2 ^ (8 * size)))
+
+-- a truth is 0 or 1
+abbrev pub truth_of : ℕ → Option Number
+truth_of n = if n == 0 then Some (numbers.Truth false) else (if n == 1 then Some (numbers.Truth true) else None)
+
+-- what a whole number is as a primitive: none for a boolean above 1
+abbrev pub taken_as : Primitive → ℕ → Option Number
+taken_as prims.Octet n = Some (numbers.Unsigned n)
+taken_as prims.Char n = Some (numbers.Char n)
+taken_as prims.Boolean n = truth_of n
+taken_as prims.Short n = Some (numbers.Signed (twos_complement 2 n))
+taken_as prims.UShort n = Some (numbers.Unsigned n)
+taken_as prims.Long n = Some (numbers.Signed (twos_complement 4 n))
+taken_as prims.ULong n = Some (numbers.Unsigned n)
+taken_as prims.LongLong n = Some (numbers.Signed (twos_complement 8 n))
+taken_as prims.ULongLong n = Some (numbers.Unsigned n)
+taken_as prims.Float n = Some (numbers.Bits n)
+taken_as prims.Double n = Some (numbers.Bits n)
+
+-- the number of a primitive's octets
+abbrev pub number_of : Primitive → Order → List ℕ → Option Number
+number_of prim order octets = taken_as prim (num order octets)

@@ -1,0 +1,16 @@
+//! Padding in front of an aligned value.
+
+ghost use Rattle.std.specs.Prelude.{◌≡◌};
+ghost use Rattle.giop_cdr.specs.Alignment.{IsAlignment, IsPadding, padding};
+
+/// How many octets of padding stand in front of a value of this size. The offset counts from the first octet of the
+/// message, and each of 64 bits is exact.
+#[tactic(auto, using(crate::proofs::PaddingLaws::padding_counts))]
+pub fn pad(at: u64, size: u8) -> u8
+    requires { IsAlignment size }
+    ensures least { IsPadding at size result }
+    ensures value { result ≡ padding at size }
+{
+    let over = (at % u64::from(size)) as u8;
+    if over == 0 { 0 } else { size - over }
+}

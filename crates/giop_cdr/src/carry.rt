@@ -1,0 +1,92 @@
+//! A carry: the octets of a number that is on its way.
+
+ghost use Rattle.std.specs.Prelude.{◌≡◌, ℕ, ◌<◌, ◌≤◌, ◌↔◌, List, [], ◌∷◌, ◌++◌, length, IsTrue, IfOk, IsErr, Some};
+ghost use Rattle.giop_cdr.specs.Numbers.{AreOctets, num, number_of};
+ghost use Rattle.giop_cdr.specs.Primitives.{size_of};
+ghost use Rattle.giop_cdr.specs.declared.prim.Primitive.TheVariants as prims;
+
+use crate::fault::CdrFault;
+use crate::number::{Number, interpreted, spelled};
+use crate::order::Order;
+use crate::prim::{Prim, size};
+use arrayvec::ArrayVec;
+use std::marker::Model;
+
+/// The octets of a number, as they come: at most 8. A contract sees the list of the octets held.
+#[derive(Clone, Debug, Default, Drop, PartialEq, Eq)]
+pub struct Carry {
+    octets: ArrayVec<u8, 8>,
+}
+
+impl Model for Carry {
+    ghost use Rattle.std.specs.Prelude.{ℕ, ◌≤◌, List, length};
+    ghost use Rattle.giop_cdr.specs.Numbers.{AreOctets};
+
+    ghost Value = { List ℕ };
+
+    ghost view = { λ carry. carry.octets.items };
+
+    ghost inverse = { λ octets. record { octets = record { items = octets } } };
+
+    ghost invariant = { λ carry. (length carry.octets.items ≤ 8) × AreOctets carry.octets.items };
+}
+
+impl Carry {
+    /// A carry that holds nothing.
+    pub fn new() -> Carry
+        ensures { result ≡ [] }
+    {
+        Carry {
+            octets: ArrayVec::new(),
+        }
+    }
+
+    /// How many octets are held.
+    pub fn len(&self) -> usize
+        ensures value { result ≡ length self.now }
+        ensures within { result ≤ 8 }
+        ensures octets { AreOctets self.now }
+    {
+        self.octets.len()
+    }
+
+    /// Whether no octet is held.
+    pub fn is_empty(&self) -> bool
+        ensures { IsTrue result ↔ (self.now ≡ []) }
+    {
+        self.octets.is_empty()
+    }
+
+    /// Lets go of all that is held.
+    pub fn clear(&mut self)
+        ensures { self.new ≡ [] }
+    {
+        self.octets.clear();
+    }
+
+    /// Takes one octet more.
+    pub fn push(&mut self, octet: u8)
+        requires { length self.old < 8 }
+        ensures { self.new ≡ self.old ++ octet ∷ [] }
+    {
+        self.octets.push(octet);
+    }
+
+    /// Whether as many octets are held as the primitive takes.
+    pub fn is_full_for(&self, prim: Prim) -> bool
+        ensures { IsTrue result ↔ (length self.now ≡ size_of prim) }
+    {
+        self.len() == usize::from(size(prim))
+    }
+
+    /// The number that the held octets spell, as the primitive for which the carry is full.
+    pub fn value(&self, order: Order, prim: Prim) -> Result<Number, CdrFault>
+        requires { length self.now ≡ size_of prim }
+        ensures ok { IfOk result (λ number. number_of prim order self.now ≡ Some number) }
+        // The only refusal is a boolean above 1.
+        ensures err { IsErr result ↔ ((prim ≡ prims.Boolean) × (1 < num order self.now)) }
+        ensures octets { AreOctets self.now }
+    {
+        interpreted(prim, spelled(order, &self.octets))
+    }
+}

@@ -1,0 +1,90 @@
+//! The number that octets spell, and what it is as a primitive.
+
+ghost use Rattle.std.specs.Prelude.{◌≡◌, ◌^◌, ◌<◌, ◌≤◌, ◌↔◌, length, IfOk, IsErr, Some};
+ghost use Rattle.giop_cdr.specs.declared.order.Order.TheVariants as orders;
+ghost use Rattle.giop_cdr.specs.Numbers.{num, taken_as};
+ghost use Rattle.giop_cdr.specs.Primitives.{size_of};
+ghost use Rattle.giop_cdr.specs.declared.prim.Primitive.TheVariants as prims;
+
+use crate::fault::CdrFault;
+use crate::order::Order;
+use crate::prim::Prim;
+
+/// The value of a primitive.
+#[derive(Clone, Copy, Debug, PartialEq, Eq, Hash)]
+pub enum Number {
+    /// Of an octet or an unsigned integer.
+    Unsigned(u64),
+    /// Of a signed integer.
+    Signed(i64),
+    /// Of a float (the lower 32 bits) or a double: its bits.
+    Bits(u64),
+    /// Of a boolean.
+    Truth(bool),
+    /// Of a char: its octet.
+    Char(u8),
+}
+
+/// The number that octets spell.
+pub fn spelled(order: Order, octets: &[u8]) -> u64
+    requires { length octets.now ≤ 8 }
+    ensures value { result ≡ num order octets.now }
+    ensures bound { result < 256 ^ length octets.now }
+{
+    match order {
+        Order::Big => heaviest_first(octets),
+        Order::Little => lightest_first(octets),
+    }
+}
+
+/// What a number of a primitive's size is as that primitive.
+#[tactic(auto, unfolding(crate::specs::Numbers::twos_complement))]
+pub fn interpreted(prim: Prim, n: u64) -> Result<Number, CdrFault>
+    requires { n < 256 ^ size_of prim }
+    ensures ok { IfOk result (λ number. taken_as prim n ≡ Some number) }
+    ensures err { IsErr result ↔ ((prim ≡ prims.Boolean) × (1 < n)) }
+{
+    Ok(match prim {
+        Prim::Octet | Prim::UShort | Prim::ULong | Prim::ULongLong => Number::Unsigned(n),
+        Prim::Short => Number::Signed(i64::from((n as u16).cast_signed())),
+        Prim::Long => Number::Signed(i64::from((n as u32).cast_signed())),
+        Prim::LongLong => Number::Signed(n.cast_signed()),
+        Prim::Float | Prim::Double => Number::Bits(n),
+        Prim::Char => Number::Char(n as u8),
+        Prim::Boolean => match n {
+            0 => Number::Truth(false),
+            1 => Number::Truth(true),
+            _ => return Err(CdrFault::Boolean),
+        },
+    })
+}
+
+/// The number that octets spell, the first heaviest.
+#[tactic(auto, using(crate::proofs::Spelling::spelling_steps))]
+fn heaviest_first(octets: &[u8]) -> u64
+    requires { length octets.now ≤ 8 }
+    ensures value { result ≡ num orders.Big octets.now }
+    ensures bound { result < 256 ^ length octets.now }
+{
+    let mut n = 0;
+    for octet in octets {
+        n = n * 256 + u64::from(*octet);
+    }
+    n
+}
+
+/// The number that octets spell, the first lightest.
+#[tactic(auto, using(crate::proofs::Spelling::spelling_steps))]
+fn lightest_first(octets: &[u8]) -> u64
+    requires { length octets.now ≤ 8 }
+    ensures value { result ≡ num orders.Little octets.now }
+    ensures bound { result < 256 ^ length octets.now }
+{
+    let mut n = 0;
+    let mut left = octets.len();
+    while left > 0 {
+        left -= 1;
+        n = n * 256 + u64::from(octets[left]);
+    }
+    n
+}

@@ -1,0 +1,15 @@
+pub mod Writing
+pub mod Run
+pub mod Lists
+pub mod Cutting
+pub mod Happenings
+pub mod Telling
+pub mod Starting
+pub mod Bridge
+pub mod Finishing
+pub mod FirstLaws
+pub mod FirstSteps
+pub mod Dealing
+pub mod Following
+pub mod Held
+pub mod Rows

@@ -1,0 +1,129 @@
+-- How many start lines an octet has: one at a header's last octet, and none at any other.
+use Rattle.std.proofs.Common.{◌≡◌, ℕ, suc, ◌+◌, ◌-◌, ◌<◌, Bool, true, false, cond, List, [], ◌∷◌, ◌++◌, length, map, refl, sym, ap, ◌∙◌, Option, Some, None, arith, get_or, length-append}
+use Rattle.std.specs.Prelude.{◌==◌, if◌then◌else◌, flat_map, ◌||◌}
+use Rattle.std.specs.List.{filter, AllByRecursion as Each}
+use Rattle.std.proofs.lemmas.Bool.{ne_eqb, eq-eqb}
+use Rattle.std.proofs.lemmas.List.Elements.{filter-append}
+use Rattle.giop_stream.specs.Headers.{size}
+use Rattle.giop_stream.specs.Framing.{Message}
+use Rattle.giop_stream.specs.Events.{Happening, Begins, Takes, Closes, Event, title, place, own, at_header, at_octet, at_end, happens, octet, joined}
+use Rattle.giop_stream.specs.Reading.{Saying, Value, Call, Rest, Fault, End, Reading}
+use Rattle.giop_stream.specs.Lines.{Class, Start, Said_value, Said_call, Said_rest, Said_fault, Said_end, Stop, Content, Started, Said, Stopped, Line, has_class, line, tells, classes, by_class, is_last_of, standing}
+use Rattle.giop_stream.specs.Stream.{is_start, start_count}
+use Rattle.giop_stream.specs.Machine.{Kept, utters_kept, taking, utters, now_written}
+use Rattle.giop_stream.proofs.Lists.{each_append, each_map, filter_drops, each_weaker}
+use Rattle.giop_stream.proofs.Telling.{classes_each, standing_each}
+
+NoStart : Line → Type 0
+NoStart l = is_start l.content ≡ false
+
+none_count : (ls : List Line) → Each NoStart ls → start_count ls ≡ 0
+unfolding start_count NoStart
+none_count ls h = rw (filter_drops (λ l. is_start l.content) ls h) refl
+
+pub start_append : (xs ys : List Line) → start_count (xs ++ ys) ≡ start_count xs + start_count ys
+unfolding start_count
+start_append xs ys = rw (filter-append (λ l. is_start l.content) xs ys) (length-append (filter (λ l. is_start l.content) xs) (filter (λ l. is_start l.content) ys))
+
+-- what a reading says is no start
+said_none : (e : Event) (s : Saying) (text : List ℕ) → NoStart (line e (Said s text))
+unfolding NoStart line
+said_none e s text = refl
+
+takes_none : (R : Reading) (e : Event) (so_far all : List ℕ) (x : ℕ) → Each NoStart (tells R e so_far all (Takes x))
+unfolding tells
+takes_none R e so_far all x = each_map NoStart (λ r. line e (Said r.saying r.text)) (λ r. said_none e r.saying r.text) (filter (λ r. r.at == suc (length so_far)) (R.reads e.whom.header all))
+
+closes_none : (R : Reading) (e : Event) (so_far all : List ℕ) → Each NoStart (tells R e so_far all Closes)
+unfolding tells
+closes_none R e so_far all = each_map NoStart (λ l. line e (Said l.0 l.1)) (λ l. said_none e l.0 l.1) (R.closes e.whom.header so_far)
+
+Quiet : Event → Type 0
+Quiet e = (R : Reading) (so_far all : List ℕ) → Each NoStart (tells R e so_far all e.what)
+
+kept_none : (R : Reading) (e : Event) (o : Option (List ℕ)) → Quiet e → Each NoStart (utters_kept R e o)
+unfolding utters_kept Quiet
+kept_none R e None h = tt
+kept_none R e (Some xs) h = h R xs (xs ++ joined e.whom.number (e ∷ []))
+
+utters_none : (R : Reading) (K : Kept) (es : List Event) → Each Quiet es → Each NoStart (utters R K es)
+unfolding utters
+utters_none R K [] h = tt
+utters_none R K (e ∷ es) h = each_append NoStart (utters_kept R e (K e.whom.number)) (utters R (taking K (e ∷ [])) es) (kept_none R e (K e.whom.number) h.0) (utters_none R (taking K (e ∷ [])) es h.1)
+
+quiet_takes : (m : Message) (x : ℕ) → Each Quiet (own m (Takes x))
+unfolding own Quiet
+quiet_takes m x = (λ R so_far all. takes_none R _ so_far all x, tt)
+
+quiet_closes : (m : Message) → Each Quiet (own m Closes)
+unfolding own Quiet
+quiet_closes m = (λ R so_far all. closes_none R _ so_far all, tt)
+
+quiet_end : (m : Message) → Each Quiet (if length m.payload == size m.header then at_end m else [])
+unfolding at_end
+quiet_end m = go (length m.payload == size m.header)
+  where
+    go : (b : Bool) → Each Quiet (if b then own m Closes else [])
+    go true = quiet_closes m
+    go false = tt
+
+pub none_later : (R : Reading) (K : Kept) (m : Message) → 0 < length m.payload → start_count (now_written R K (happens m)) ≡ 0
+unfolding now_written by_class happens at_octet
+none_later R K m h =
+    let es : List Event = own m (Takes (get_or m.payload (length m.payload - 1) 0)) ++ (if length m.payload == size m.header then at_end m else []) in
+    let quiet : Each Quiet es = each_append Quiet (own m (Takes (get_or m.payload (length m.payload - 1) 0))) (if length m.payload == size m.header then at_end m else []) (quiet_takes m (get_or m.payload (length m.payload - 1) 0)) (quiet_end m) in
+    let all : Each NoStart (utters R K es) = utters_none R K es quiet in
+    rw (ne_eqb (length m.payload) 0 (λ e. omega arith))
+    (none_count (standing (λ i. false) (flat_map (λ class. filter (has_class class) (utters R K es)) classes))
+    (standing_each NoStart (λ i. false) (flat_map (λ class. filter (has_class class) (utters R K es)) classes) (classes_each NoStart (utters R K es) classes all)))
+
+-- the start line comes before all others
+no_start_class : (ls : List Line) → Each NoStart ls → filter (has_class Start) ls ≡ []
+unfolding NoStart
+no_start_class ls h = filter_drops (has_class Start) ls (each_weaker NoStart (λ l. has_class Start l ≡ false) (λ l k. go l.content k) ls h)
+  where
+    go : (c : Content) → is_start c ≡ false → has_class Start (record { place = 0; number = 0; content = c }) ≡ false
+    go (Started header) k = absurd cc
+    go (Said Value text) k = refl
+    go (Said Call text) k = refl
+    go (Said Rest text) k = refl
+    go (Said Fault text) k = refl
+    go (Said End text) k = refl
+    go (Stopped fault) k = refl
+
+start_first : (l : Line) (header : List ℕ) (ls : List Line) → l.content ≡ Started header → Each NoStart ls → by_class (l ∷ ls) ≡ l ∷ by_class ls
+unfolding by_class classes
+start_first l header ls e h = rw (e, no_start_class ls h) refl
+
+begun : (R : Reading) (K : Kept) (m : Message) (e : Event) (xs : List ℕ) (rest : List Event) → e.whom ≡ title m → e.what ≡ Begins → K m.number ≡ Some xs → utters R K (e ∷ rest) ≡ line e (Started m.header) ∷ utters R (taking K (e ∷ [])) rest
+unfolding utters utters_kept tells title
+begun R K m e xs rest w b k = rw (w, b, k) refl
+
+first_start : (e : Event) (header : List ℕ) → is_start (line e (Started header)).content ≡ true
+unfolding line
+first_start e header = refl
+
+by_class_each : (ls : List Line) → Each NoStart ls → Each NoStart (by_class ls)
+unfolding by_class
+by_class_each ls h = classes_each NoStart ls classes h
+
+one_counted : (l : Line) (ls : List Line) → is_start l.content ≡ true → Each NoStart (standing (λ i. false || is_last_of i l) ls) → start_count (standing (λ i. false) (l ∷ ls)) ≡ 1
+unfolding standing start_count
+one_counted l ls k h = rw k (ap suc (none_count (standing (λ i. false || is_last_of i l) ls) h))
+
+first_of_all : (e : Event) (header : List ℕ) (more : List Line) → Each NoStart more → by_class (line e (Started header) ∷ more) ≡ line e (Started header) ∷ by_class more
+unfolding line
+first_of_all e header more h = start_first (record { place = e.place; number = e.whom.number; content = Started header }) header more refl h
+
+pub one_first : (R : Reading) (K : Kept) (m : Message) (xs : List ℕ) → m.payload ≡ [] → K m.number ≡ Some xs → start_count (now_written R K (happens m)) ≡ 1
+unfolding now_written happens at_header own
+one_first R K m xs pay known =
+    let e : Event = record { place = place m; whom = title m; what = Begins } in
+    let rest : List Event = if length m.payload == size m.header then at_end m else [] in
+    let more : List Line = utters R (taking K (e ∷ [])) rest in
+    let none : Each NoStart more = utters_none R (taking K (e ∷ [])) rest (quiet_end m) in
+    let empty : length m.payload ≡ 0 = rw pay refl in
+    let said : utters R K (e ∷ rest) ≡ line e (Started m.header) ∷ more = begun R K m e xs rest refl refl known in
+    let calm : Each NoStart (standing (λ i. false || is_last_of i (line e (Started m.header))) (by_class more)) =
+    standing_each NoStart (λ i. false || is_last_of i (line e (Started m.header))) (by_class more) (by_class_each more none) in
+    rw (eq-eqb (length m.payload) 0 empty, said, first_of_all e m.header more none) (one_counted (line e (Started m.header)) (by_class more) (first_start e m.header) calm)

@@ -1,0 +1,69 @@
+-- How a stream falls into messages, and where it stops (GIOP Message Formats, GIOP Message Header). Places count stream octets from 1.
+use Rattle.std.specs.Prelude.{ℕ, zero, suc, Bool, true, false, ◌+◌, ◌^◌, List, [], ◌∷◌, ◌++◌, length, take, drop, Option, Some, None, nat_lt, if◌then◌else◌, option_to_list}
+use Rattle.giop_stream.specs.declared.fault.StreamFault.{StreamFault}
+use Rattle.giop_stream.specs.declared.fault.StreamFault.TheVariants.{StreamLimit}
+use Rattle.giop_stream.specs.Headers.{offence, size}
+
+pub record Message : Type 0 where
+  pub number : ℕ  -- from 1
+  pub before : ℕ  -- the stream octets before it
+  pub header : List ℕ  -- its 12 octets
+  pub payload : List ℕ  -- what has come of its payload
+
+abbrev pub with_payload : Message → List ℕ → Message
+with_payload m xs = record m { payload = xs }
+
+pub record Cut : Type 0 where
+  pub whole : List Message  -- the messages that are complete
+  pub current : Option Message  -- the last one, where it is incomplete
+  pub held : List ℕ  -- what has come of the next header
+  pub stop : Option (ℕ × StreamFault)  -- the stream fault, with the place of its octet
+
+unfoldable pub with_first : Message → Cut → Cut
+with_first m c = record c { whole = m ∷ c.whole }
+
+-- What is left of the stream, where the next message has this number and comes after so many octets: at most `fuel`
+-- messages. The `elim` waits for the offence, so that nothing is cut behind one.
+unfoldable pub cut_from : ℕ → ℕ → ℕ → List ℕ → Cut
+cut_from zero number before xs = record { whole = []; current = None; held = []; stop = None }
+cut_from (suc fuel) number before xs =
+    let header = take 12 xs in
+    let payload = drop 12 xs in
+    let rest = cut_from fuel (suc number) (before + 12 + size header) (drop (size header) payload) in
+    elim (offence header) [
+      | Some found ↦ record { whole = []; current = None; held = []; stop = Some (before + found.0, found.1) }
+      | None ↦
+          if nat_lt (length xs) 12
+          then record { whole = []; current = None; held = xs; stop = None }
+          else if nat_lt (length payload) (size header)
+          then record { whole = []; current = Some (record { number = number; before = before; header = header; payload = payload }); held = []; stop = None }
+          else with_first (record { number = number; before = before; header = header; payload = take (size header) payload }) rest
+    ]
+
+-- no octet from number 2 ^ 48 + 1 on is read
+unfoldable pub limit : ℕ
+limit = 2 ^ 48
+
+abbrev pub stop_or_limit : Option (ℕ × StreamFault) → Cut → Cut
+stop_or_limit (Some found) c = c
+stop_or_limit None c = record c { held = []; stop = Some (suc limit, StreamLimit) }
+
+unfoldable pub limited : Bool → Cut → Cut
+limited false c = c
+limited true c = stop_or_limit c.stop c
+
+-- The whole stream, cut. The offending octet and what follows it belong to no message.
+unfoldable pub cut : List ℕ → Cut
+cut p = limited (nat_lt limit (length p)) (cut_from (suc (length p)) 1 0 (take limit p))
+
+unfoldable pub messages : Cut → List Message
+messages c = c.whole ++ option_to_list c.current
+
+-- the octets that are read, up to and with that of a stream fault
+unfoldable pub read_of : List ℕ → Option (ℕ × StreamFault) → ℕ
+read_of p None = length p
+read_of p (Some found) = found.0
+
+abbrev pub fault_of : Option (ℕ × StreamFault) → Option StreamFault
+fault_of None = None
+fault_of (Some found) = Some found.1

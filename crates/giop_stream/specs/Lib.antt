@@ -1,0 +1,17 @@
+pub mod Headers
+pub mod Framing
+pub mod Events
+pub mod Reading
+pub mod Lines
+pub mod Text
+pub mod FirstReading
+pub mod Stream
+pub mod Output
+pub mod Sheets
+pub mod Writers
+pub mod Remembering
+pub mod Holding
+pub mod Machine
+pub mod Steps
+pub mod Shown
+pub mod Reach

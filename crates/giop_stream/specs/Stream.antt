@@ -1,0 +1,69 @@
+-- The text of a stream, its totals, and its closing: what is written at the finish (docs/FORMATS.md, Lines).
+use Rattle.std.specs.Prelude.{◌≡◌, ℕ, ◌+◌, Bool, true, false, not, ◌&&◌, ◌||◌, List, [], ◌∷◌, ◌++◌, length, map, filter, flat_map, Option, Some, None, is_some, is_none, nat_lt, if◌then◌else◌}
+use Rattle.std.specs.List.{list_any}
+use Rattle.giop_stream.specs.declared.fault.StreamFault.{StreamFault}
+use Rattle.giop_stream.specs.declared.status.Totals.{Totals}
+use Rattle.giop_stream.specs.Framing.{Message, Cut, cut, messages, read_of}
+use Rattle.giop_stream.specs.Reading.{Saying, Value, Call, Rest, Fault, End, Reading}
+use Rattle.giop_stream.specs.Lines.{Content, Started, Said, Stopped, Line, is_last_of, said, lines}
+use Rattle.giop_stream.specs.Text.{lines_text, truncated_line, unfinished_line, total_line}
+use Rattle.giop_stream.specs.FirstReading.{reading}
+
+-- what is written of the stream p
+unfoldable pub text : List ℕ → List ℕ
+text p = lines_text (lines reading p)
+
+abbrev pub is_start : Content → Bool
+is_start (Started header) = true
+is_start (Said saying text) = false
+is_start (Stopped fault) = false
+
+abbrev pub is_fault : Content → Bool
+is_fault (Started header) = false
+is_fault (Said Value text) = false
+is_fault (Said Call text) = false
+is_fault (Said Rest text) = false
+is_fault (Said Fault text) = true
+is_fault (Said End text) = false
+is_fault (Stopped fault) = true
+
+unfoldable pub start_count : List Line → ℕ
+start_count ls = length (filter (λ l. is_start l.content) ls)
+
+unfoldable pub fault_count : List Line → ℕ
+fault_count ls = length (filter (λ l. is_fault l.content) ls)
+
+-- the start lines, the fault lines, and the octets that are read
+unfoldable pub tally_of : Reading → List ℕ → Totals
+tally_of R p =
+    record { messages = start_count (lines R p); faults = fault_count (lines R p); octets = read_of p (cut p).stop }
+
+unfoldable pub tally : List ℕ → Totals
+tally p = tally_of reading p
+
+-- The stream ends inside a message or a header.
+unfoldable pub is_inside : Option Message → List ℕ → Option (ℕ × StreamFault) → Bool
+is_inside current held stop = is_none stop && (is_some current || nat_lt 0 (length held))
+
+unfoldable pub is_truncated : Cut → Bool
+is_truncated c = is_inside c.current c.held c.stop
+
+-- a message that has a last line
+unfoldable pub is_over : Reading → List ℕ → ℕ → Bool
+is_over R p i = list_any (is_last_of i) (said R p)
+
+-- the messages that have neither ended nor been faulted, by number
+unfoldable pub unfinished : Reading → List ℕ → List ℕ
+unfinished R p = filter (λ i. not (is_over R p i)) (map (λ m. m.number) (messages (cut p)))
+
+abbrev pub with_truncated : Bool → Totals → Totals
+with_truncated truncated t = record t { faults = t.faults + (if truncated then 1 else 0) }
+
+-- the totals with the truncated line counted
+unfoldable pub final : List ℕ → Totals
+final p = with_truncated (is_truncated (cut p)) (tally p)
+
+unfoldable pub closing : List ℕ → List ℕ
+closing p =
+    (if is_truncated (cut p) then truncated_line (length p) else [])
+    ++ (flat_map unfinished_line (unfinished reading p) ++ total_line (final p).messages (final p).faults (final p).octets)

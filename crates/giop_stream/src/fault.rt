@@ -1,0 +1,36 @@
+//! The refusals of an out and of an engine.
+
+use thiserror::Error;
+
+/// A put that failed. It wrote nothing.
+#[derive(Clone, Copy, Debug, PartialEq, Eq, Error)]
+#[error("write failed")]
+pub struct OutFault;
+
+/// What ends the reading of a stream, at its offending octet. `Display` is the word of its line.
+#[derive(Clone, Copy, Debug, PartialEq, Eq, Error)]
+pub enum StreamFault {
+    /// One of the first four octets of a header isn't that of `GIOP`.
+    #[error("magic")]
+    Magic = 1,
+    /// A major version other than 1, or a minor version above 2.
+    #[error("version")]
+    Version = 2,
+    /// A byte order above 1 in a header of 1.0.
+    #[error("byte-order")]
+    ByteOrder = 3,
+    /// An octet behind the first 2^48.
+    #[error("stream-limit")]
+    StreamLimit = 5,
+}
+
+/// Why a call wrote less than was due.
+#[derive(Clone, Copy, Debug, PartialEq, Eq, Error)]
+pub enum Stop {
+    /// A put failed in this call; a front of what was due is written, and the engine is failed from now on.
+    #[error("{0}")]
+    Out(OutFault),
+    /// The engine was failed before the call; nothing is written.
+    #[error("the engine was failed")]
+    Failed,
+}

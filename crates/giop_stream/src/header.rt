@@ -1,0 +1,103 @@
+//! The fields of a message header, and the octets that it may have (GIOP Message Formats, GIOP Message Header).
+
+ghost use Rattle.std.specs.Prelude.{◌≡◌, ◌≤◌, ◌<◌, ℕ, List, length};
+ghost use Rattle.giop_cdr.specs.Numbers.{num};
+ghost use Rattle.giop_stream.specs.Headers.{minor, order, has_more, kind, size, wrong};
+
+use crate::fault::StreamFault;
+use giop_cdr::{Carry, Number, Order, Prim};
+
+/// The number that the four octets of a carry spell (CDR Transfer Syntax, Primitive Types).
+pub fn unsigned_long(order: Order, carry: &Carry) -> u32
+    requires { length carry.now ≡ 4 }
+    ensures { result ≡ num order carry.now }
+{
+    match carry.value(order, Prim::ULong) {
+        Ok(Number::Unsigned(number)) => number as u32,
+        _ => unreachable!(),
+    }
+}
+
+/// Four octets, as a carry takes them.
+fn carried(octets: &[u8]) -> Carry
+    requires { length octets.now ≡ 4 }
+    ensures { result ≡ octets.now }
+{
+    let mut carry = Carry::new();
+    for octet in octets {
+        carry.push(*octet);
+    }
+    carry
+}
+
+/// The order of a message's numbers.
+#[tactic(auto, unfolding(crate::specs::Headers::order))]
+pub fn order_of(header: &[u8]) -> Order
+    requires { length header.now ≡ 12 }
+    ensures { result ≡ order header.now }
+{
+    if header[6] % 2 == 1 {
+        Order::Little
+    } else {
+        Order::Big
+    }
+}
+
+/// The minor version.
+#[tactic(auto, unfolding(crate::specs::Headers::minor))]
+pub fn minor_of(header: &[u8]) -> u8
+    requires { length header.now ≡ 12 }
+    ensures { result ≡ minor header.now }
+{
+    header[5]
+}
+
+/// The message type.
+#[tactic(auto, unfolding(crate::specs::Headers::kind))]
+pub fn kind_of(header: &[u8]) -> u8
+    requires { length header.now ≡ 12 }
+    ensures { result ≡ kind header.now }
+{
+    header[7]
+}
+
+/// Whether more fragments follow.
+#[tactic(auto, unfolding(crate::specs::Headers::has_more, crate::specs::Headers::minor))]
+pub fn more_of(header: &[u8]) -> bool
+    requires { length header.now ≡ 12 }
+    ensures { result ≡ has_more header.now }
+{
+    0 < header[5] && header[6] / 2 % 2 == 1
+}
+
+/// How many octets come after the header.
+#[tactic(auto, unfolding(crate::specs::Headers::size))]
+pub fn size_of(header: &[u8]) -> u32
+    requires { length header.now ≡ 12 }
+    ensures { result ≡ size header.now }
+{
+    unsigned_long(order_of(header), &carried(&header[8..]))
+}
+
+/// What is wrong with the last octet of a header's front.
+#[tactic(auto, unfolding(crate::specs::Headers::wrong))]
+pub fn wrong_in(front: &[u8]) -> Option<StreamFault>
+    requires { length front.now ≤ 12 }
+    ensures { result ≡ wrong front.now }
+{
+    let Some(octet) = front.last() else {
+        return None;
+    };
+    let octet = *octet;
+    let (is_right, fault) = match front.len() - 1 {
+        0 => (octet == b'G', StreamFault::Magic),
+        1 => (octet == b'I', StreamFault::Magic),
+        2 => (octet == b'O', StreamFault::Magic),
+        3 => (octet == b'P', StreamFault::Magic),
+        4 => (octet == 1, StreamFault::Version),
+        5 => (octet < 3, StreamFault::Version),
+        6 => (octet < 2 || 0 < front[5], StreamFault::ByteOrder),
+        _ => (true, StreamFault::Magic),
+    };
+    if is_right { None } else { Some(fault) }
+}

@@ -1,0 +1,56 @@
+-- What octets add to a stream's text, piece by piece, and what an engine's status says of the stream.
+use Rattle.std.proofs.Common.{◌≡◌, List, ℕ, [], ◌++◌, length, drop, Option, Some, None, refl, sym, ap, ◌∙◌, append-nil, append_assoc, IsSome}
+use Rattle.std.proofs.Math.Seq.{drop-length, drop-append_seam}
+use Rattle.giop_stream.specs.Output.{OutLog, Wrote}
+use Rattle.giop_stream.specs.Framing.{cut, fault_of}
+use Rattle.giop_stream.specs.Stream.{text}
+use Rattle.giop_stream.specs.Holding.{status_of}
+use Rattle.giop_stream.specs.declared.fault.StreamFault.{StreamFault}
+use Rattle.giop_stream.specs.declared.status.Status.TheVariants.{Running, Stopped}
+use Rattle.giop_stream.proofs.Held.{text_begins}
+use Rattle.giop_stream.proofs.Writing.{wrote-nil}
+use Rattle.giopdump.specs.Running.{adds, IsStopped}
+use Rattle.giopdump.specs.Turns.{IsRunning}
+
+pub adds-nil : (p : List ℕ) → adds p [] ≡ []
+unfolding adds
+adds-nil p = rw append-nil (drop-length (text p))
+
+pub adds-append : (p s t : List ℕ) → adds p (s ++ t) ≡ adds p s ++ adds (p ++ s) t
+unfolding adds
+adds-append p s t =
+    let a = text_begins p s in
+    let b = text_begins (p ++ s) t in
+    let whole : text (p ++ (s ++ t)) ≡ text p ++ (a.0 ++ b.0) =
+    ap text (sym (append_assoc p s t)) ∙ (b.1 ∙ (ap (λ z. z ++ b.0) a.1 ∙ append_assoc (text p) a.0 b.0)) in
+    let first : drop (length (text p)) (text (p ++ s)) ≡ a.0 = ap (drop (length (text p))) a.1 ∙ drop-append_seam (text p) a.0 in
+    let second : drop (length (text (p ++ s))) (text ((p ++ s) ++ t)) ≡ b.0 = ap (drop (length (text (p ++ s)))) b.1 ∙ drop-append_seam (text (p ++ s)) b.0 in
+    ap (drop (length (text p))) whole ∙ (drop-append_seam (text p) (a.0 ++ b.0) ∙ rw (first, second) refl)
+
+-- nothing is due where nothing was read
+pub wrote-none : (a : OutLog) (p : List ℕ) → Wrote a a (adds p [])
+wrote-none a p = rw adds-nil (wrote-nil a)
+
+running_fault : (o : Option (ℕ × StreamFault)) → Running ≡ status_of (fault_of o) → o ≡ None
+running_fault None e = refl
+running_fault (Some o) e = cc
+
+stopped_fault : (o : Option (ℕ × StreamFault)) (f : _) → Stopped f ≡ status_of (fault_of o) → IsSome o
+stopped_fault None f e = cc
+stopped_fault (Some o) f e = refl
+
+-- an engine that answers Running holds a stream with no fault
+pub is_running : (p : List ℕ) → Running ≡ status_of (fault_of (cut p).stop) → IsRunning p
+is_running p e = running_fault (cut p).stop e
+
+-- an engine that answers Stopped holds a stream with a fault
+pub is_stopped : (p : List ℕ) (f : _) → Stopped f ≡ status_of (fault_of (cut p).stop) → IsStopped p
+is_stopped p f e = stopped_fault (cut p).stop f e
+
+not_both : (o : Option (ℕ × StreamFault)) → o ≡ None → IsSome o → ⊥
+not_both None n s = cc
+not_both (Some o) n s = cc
+
+-- no stream goes on and is stopped
+pub runs_or_stops : (p : List ℕ) → IsRunning p → IsStopped p → ⊥
+runs_or_stops p r s = not_both (cut p).stop r s

@@ -1,0 +1,27 @@
+-- What the engine's clauses say of a piece, answer by answer.
+use Rattle.std.proofs.Common.{◌++◌, sym, ◌∙◌}
+use Rattle.giopdump.specs.Running.{adds}
+use Rattle.giopdump.proofs.TextLemmas.{is_running, is_stopped}
+use Rattle.giopdump.proofs.running.feed.Goals as goal
+
+pub returns-in-Ok-Running-clause-fed : goal.returns-in-Ok-Running-clause-fed
+unfolding adds
+returns-in-Ok-Running-clause-fed g c =
+    λ p h.
+    let e = c.in-Ok-Running.ensures in (
+      record { holds = e.held p h; written = e.text p h },
+      is_running (p ++ c.args.piece.now) (sym c.in-Ok-Running.field-0-is ∙ e.status p h),
+    )
+
+pub returns-in-Ok-Stopped-clause-fed : goal.returns-in-Ok-Stopped-clause-fed
+unfolding adds
+returns-in-Ok-Stopped-clause-fed g c =
+    λ p h.
+    let e = c.in-Ok-Stopped.ensures in (
+      record { holds = e.held p h; written = e.text p h },
+      is_stopped (p ++ c.args.piece.now) c.in-Ok-Stopped.field-0-0 (sym c.in-Ok-Stopped.field-0-is ∙ e.status p h),
+    )
+
+pub returns-in-Err-Out-clause-fed : goal.returns-in-Err-Out-clause-fed
+unfolding adds
+returns-in-Err-Out-clause-fed g c = λ p h. rw c.in-Err-Out.field-0-is at (c.in-Err-Out.ensures.text p h)

@@ -1,0 +1,26 @@
+-- What a source tells of itself, and what a read does to it (meaning).
+use Rattle.std.specs.Prelude.{◌≡◌, ℕ, ◌≤◌, List, length, take, Option, ◌==◌, ◌&&◌, nat_lt, if◌then◌else◌}
+use Rattle.std.specs.Io.KnownBytes.{Consumes, Keeps}
+use Rattle.giop_stream.specs.Output.{counted}
+
+-- the octets that are left, where they are told, and how many reads, failures and ends there were
+pub record SourceLog : Type 0 where
+  pub left : Option (List ℕ)
+  pub reads : ℕ
+  pub failures : ℕ
+  pub ends : ℕ
+
+-- a read put `given` octets at the front of what it was handed; of none into some room the count of ends rises
+pub record Gave (before after : SourceLog) (into : List ℕ) (given : ℕ) : Type 0 where
+  pub within : given ≤ length into
+  pub left : Consumes before.left after.left (take given into)
+  pub reads : after.reads ≡ counted before.reads
+  pub failures : after.failures ≡ before.failures
+  pub ends : after.ends ≡ (if given == 0 && nat_lt 0 (length into) then counted before.ends else before.ends)
+
+-- a read failed and gave nothing
+pub record ReadFailed (before after : SourceLog) : Type 0 where
+  pub left : Keeps before.left after.left
+  pub reads : after.reads ≡ counted before.reads
+  pub failures : after.failures ≡ counted before.failures
+  pub ends : after.ends ≡ before.ends

@@ -1,0 +1,78 @@
+-- What each turn of a run did (steps): private clauses alone cite these.
+use Rattle.std.specs.Prelude.{◌≡◌, ℕ, ◌+◌, ◌^◌, ◌≤◌, ◌<◌, List, ◌++◌, length, None, Result, Ok, Err, Bool, true, false}
+use Rattle.std.specs.Io.KnownBytes.{Consumes}
+use Rattle.giop_cdr.specs.Numbers.{AreOctets}
+use Rattle.giop_stream.specs.Output.{OutLog, counted, Wrote, WroteFront}
+use Rattle.giop_stream.specs.Framing.{cut}
+use Rattle.giop_stream.specs.Stream.{closing, final}
+use Rattle.giop_stream.specs.Holding.{Holds}
+use Rattle.giop_stream.specs.Remembering.{EngineMemory}
+use Rattle.giopdump.specs.SourceLog.{SourceLog}
+use Rattle.giopdump.specs.Running.{adds, IsStopped, IsOver}
+use Rattle.giopdump.specs.declared.running.Report.{Report}
+use Rattle.giopdump.specs.declared.fault.RunFault.{RunFault}
+use Rattle.giopdump.specs.declared.fault.RunFault.TheVariants as fault
+
+-- the stream p has no fault
+abbrev pub IsRunning : List ℕ → Type 0
+IsRunning p = (cut p).stop ≡ None
+
+-- the octets s went into an engine that held p, and their lines were written
+pub record Took (p s : List ℕ) (e : EngineMemory) (x y : OutLog) : Type 0 where
+  pub holds : Holds e (p ++ s)
+  pub written : Wrote x y (adds p s)
+
+-- what feeding the octets s to an engine that held p did: true where the stream goes on
+abbrev pub Fed : Result Bool RunFault → List ℕ → List ℕ → EngineMemory → OutLog → OutLog → Type 0
+Fed (Ok true) p s e x y = Took p s e x y × IsRunning (p ++ s)
+Fed (Ok false) p s e x y = Took p s e x y × IsStopped (p ++ s)
+Fed (Err fault.Out) p s e x y = WroteFront x y (adds p s)
+Fed (Err fault.Read) p s e x y = ⊥
+Fed (Err fault.Turns) p s e x y = ⊥
+Fed (Err fault.Failed) p s e x y = ⊥
+
+-- one read, of at most 4096 octets, gave the octets s
+pub record OneRead (s : List ℕ) (before after : SourceLog) : Type 0 where
+  pub left : Consumes before.left after.left s
+  pub octets : AreOctets s
+  pub within : length s ≤ 4096
+  pub reads : after.reads ≡ counted before.reads
+
+-- what one read and its feed did on an engine that held p: true where the stream goes on
+abbrev pub Turned : Result Bool RunFault → List ℕ → List ℕ → EngineMemory → SourceLog → SourceLog → OutLog → OutLog → Type 0
+Turned (Ok true) p s e before after x y =
+    OneRead s before after × (after.failures ≡ before.failures) × (after.ends ≡ before.ends) × Took p s e x y × IsRunning (p ++ s)
+Turned (Ok false) p s e before after x y =
+    OneRead s before after × (after.failures ≡ before.failures) × IsOver (p ++ s) before after × Took p s e x y
+Turned (Err fault.Read) p s e before after x y =
+    OneRead s before after × (after.failures ≡ counted before.failures) × Wrote x y (adds p s)
+Turned (Err fault.Out) p s e before after x y =
+    OneRead s before after × (after.failures ≡ before.failures) × WroteFront x y (adds p s)
+Turned (Err fault.Turns) p s e before after x y = ⊥
+Turned (Err fault.Failed) p s e before after x y = ⊥
+
+-- the closing of p was written, and the report has its totals
+pub record Ended (report : Report) (p : List ℕ) (x y : OutLog) : Type 0 where
+  pub written : Wrote x y (closing p)
+  pub totals : report.totals ≡ final p
+  pub saved : report.saved ≡ 0
+
+-- what the close of an engine that held p did
+abbrev pub Closed : Result Report RunFault → List ℕ → OutLog → OutLog → Type 0
+Closed (Ok report) p x y = Ended report p x y
+Closed (Err fault.Out) p x y = WroteFront x y (closing p)
+Closed (Err fault.Read) p x y = ⊥
+Closed (Err fault.Turns) p x y = ⊥
+Closed (Err fault.Failed) p x y = ⊥
+
+-- k turns, after all of which the stream goes on, did this to a stream p that the engine held
+pub record Going (p s : List ℕ) (e : EngineMemory) (k : ℕ) (before after : SourceLog) (x y : OutLog) : Type 0 where
+  pub began : IsRunning p
+  pub running : IsRunning (p ++ s)
+  pub took : Took p s e x y
+  pub left : Consumes before.left after.left s
+  pub octets : AreOctets s
+  pub reads : after.reads ≤ before.reads + k
+  pub exact : before.reads + k < 2 ^ 64 → after.reads ≡ before.reads + k
+  pub failures : after.failures ≡ before.failures
+  pub ends : after.ends ≡ before.ends
