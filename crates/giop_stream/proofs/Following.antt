@@ -10,7 +10,8 @@ use Rattle.giop_stream.specs.Headers.{wrong, size}
 use Rattle.giop_stream.specs.Framing.{Message, with_payload, limit, fault_of}
 use Rattle.giop_stream.specs.Events.{place}
 use Rattle.giop_stream.specs.Lines.{Line, stop_line}
-use Rattle.giop_stream.specs.Text.{start_line, stream_word, stream_fault_line, line_text, lines_text}
+use Rattle.giop_print.specs.Lines.{stream_fault_line}
+use Rattle.giop_stream.specs.Text.{start_line, stream_word, line_text, lines_text}
 use Rattle.giop_stream.specs.FirstReading.{is_short, first_closes, reading}
 use Rattle.giop_stream.specs.Stream.{fault_count}
 use Rattle.giop_stream.specs.Remembering.{MessageMemory, Memory}

@@ -9,7 +9,8 @@ use Rattle.giop_stream.specs.declared.status.Totals.{Totals}
 use Rattle.giop_cdr.specs.Numbers.{AreOctets}
 use Rattle.giop_stream.specs.Framing.{Message, Cut, cut, messages, read_of, fault_of}
 use Rattle.giop_stream.specs.Lines.{lines}
-use Rattle.giop_stream.specs.Text.{lines_text, truncated_line, unfinished_line, total_line}
+use Rattle.giop_print.specs.Lines.{unfinished_line, total_line}
+use Rattle.giop_stream.specs.Text.{lines_text, truncated_line}
 use Rattle.giop_stream.specs.FirstReading.{reading}
 use Rattle.giop_stream.specs.Stream.{text, fault_count, tally, tally_of, is_inside, is_truncated, unfinished, final, closing}
 use Rattle.giop_stream.specs.Remembering.{MessageMemory, Memory, EngineMemory}

@@ -1,5 +1,5 @@
-pub mod Writing
 pub mod Run
+pub mod Saying
 pub mod Lists
 pub mod Cutting
 pub mod Happenings

@@ -13,7 +13,7 @@ use Rattle.giop_stream.specs.Events.{events, joined}
 use Rattle.giop_stream.specs.Reading.{Reading}
 use Rattle.giop_stream.specs.FirstReading.{id_part, rest_part, whole_part, last_part, reading}
 use Rattle.giop_stream.specs.Stream.{tally, is_over}
-use Rattle.giop_stream.specs.Output.{OutLog, Wrote, WroteFront}
+use Rattle.giop_print.specs.Output.{OutLog, Wrote, WroteFront}
 use Rattle.giop_stream.specs.Remembering.{MessageMemory, Memory, EngineMemory}
 
 -- A message of this number and header follows its octets xs.

@@ -6,9 +6,6 @@ pub mod Lines
 pub mod Text
 pub mod FirstReading
 pub mod Stream
-pub mod Output
-pub mod Sheets
-pub mod Writers
 pub mod Remembering
 pub mod Holding
 pub mod Machine

@@ -8,7 +8,8 @@ use Rattle.giop_cdr.specs.Numbers.{num}
 use Rattle.giop_stream.specs.Headers.{wrong, order, size}
 use Rattle.giop_stream.specs.Framing.{limit}
 use Rattle.giop_stream.specs.FirstReading.{has_id}
-use Rattle.giop_stream.specs.Text.{start_line, said_line, fault_line, unfinished_line, id_text, rest_text, stream_word, stream_fault_line, truncated_line, total_line}
+use Rattle.giop_print.specs.Lines.{fault_line, stream_fault_line, unfinished_line, total_line}
+use Rattle.giop_stream.specs.Text.{start_line, said_line, id_text, rest_text, stream_word, truncated_line}
 use Rattle.giop_stream.specs.Remembering.{MessageMemory, Memory}
 
 -- ---- The current message.

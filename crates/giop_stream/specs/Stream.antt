@@ -6,7 +6,8 @@ use Rattle.giop_stream.specs.declared.status.Totals.{Totals}
 use Rattle.giop_stream.specs.Framing.{Message, Cut, cut, messages, read_of}
 use Rattle.giop_stream.specs.Reading.{Saying, Value, Call, Rest, Fault, End, Reading}
 use Rattle.giop_stream.specs.Lines.{Content, Started, Said, Stopped, Line, is_last_of, said, lines}
-use Rattle.giop_stream.specs.Text.{lines_text, truncated_line, unfinished_line, total_line}
+use Rattle.giop_print.specs.Lines.{unfinished_line, total_line}
+use Rattle.giop_stream.specs.Text.{lines_text, truncated_line}
 use Rattle.giop_stream.specs.FirstReading.{reading}
 
 -- what is written of the stream p

@@ -7,8 +7,8 @@ ghost use Rattle.giop_stream.specs.Holding.{Holds, StopWrites, Leaves, status_of
 
 use crate::fault::Stop;
 use crate::framing::Framing;
-use crate::sink::Out;
 use crate::status::{Status, Totals};
+use giop_print::Out;
 use std::marker::Model;
 
 /// Reads one direction of a connection in pieces of any size, and writes its lines, each at the octet that completes it.

@@ -1,11 +1,7 @@
-//! The refusals of an out and of an engine.
+//! What ends a stream, and the refusals of an engine.
 
+use giop_print::OutFault;
 use thiserror::Error;
-
-/// A put that failed. It wrote nothing.
-#[derive(Clone, Copy, Debug, PartialEq, Eq, Error)]
-#[error("write failed")]
-pub struct OutFault;
 
 /// What ends the reading of a stream, at its offending octet. `Display` is the word of its line.
 #[derive(Clone, Copy, Debug, PartialEq, Eq, Error)]

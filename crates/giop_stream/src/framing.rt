@@ -4,13 +4,13 @@ ghost use Rattle.std.specs.Prelude.{◌≡◌, ◌+◌, ◌++◌, ◌^◌, ◌�
 ghost use Rattle.arrayvec.specs.ArrayVec.{array_vec_len};
 ghost use Rattle.giop_stream.specs.Reach.{reach_of};
 
-use crate::fault::{OutFault, StreamFault};
+use crate::fault::StreamFault;
 use crate::header::{size_of, wrong_in};
-use crate::lines::{start_line, stream_fault_line, total_line, truncated_line, unfinished_line};
+use crate::lines::{start_line, stream_fault_line, truncated_line};
 use crate::message::Message;
-use crate::sink::Out;
 use crate::status::{Status, Totals};
 use arrayvec::ArrayVec;
+use giop_print::{Out, OutFault, total_line, unfinished_line};
 
 /// The number of octets that are read of a stream.
 const LIMIT: u64 = 281_474_976_710_656;
@@ -34,9 +34,9 @@ pub struct Framing {
 }
 
 impl Framing {
-    ghost use Rattle.giop_stream.specs.Output.{Writes};
+    ghost use Rattle.giop_print.specs.Output.{Writes};
     ghost use Rattle.giop_stream.specs.Steps.{idle, stop, close, close_if_done, start, head, taken, pay, step, steps, first_memory, is_cut_short, final_totals, truncation, unfinished_by, finish_text};
-    ghost use Rattle.giop_stream.specs.Text.{total_line};
+    ghost use Rattle.giop_print.specs.Lines.{total_line};
     ghost use Rattle.giop_stream.specs.Holding.{status_of};
     ghost use Rattle.giop_stream.specs.Shown.{shown, message_shown};
     ghost use Rattle.std.specs.Option.{option_map};
@@ -120,7 +120,7 @@ impl Framing {
     }
 
     /// After a header's last octet.
-    #[tactic(auto, unfolding(crate::specs::Steps::start), using(crate::proofs::Writing::writes_then, crate::proofs::Writing::writes_err))]
+    #[tactic(auto, unfolding(crate::specs::Steps::start), using(giop_print::proofs::Writing::writes_then, giop_print::proofs::Writing::writes_err))]
     fn start<O: Out>(&mut self, out: &mut O) -> Result<(), OutFault>
         requires full { length self.old.header.items ≡ 12 }
         requires messages { self.old.totals.messages < self.old.totals.octets }
@@ -173,7 +173,7 @@ impl Framing {
     }
 
     /// An octet of a payload.
-    #[tactic(auto, unfolding(crate::specs::Steps::pay), using(crate::proofs::Writing::writes_then, crate::proofs::Writing::writes_err))]
+    #[tactic(auto, unfolding(crate::specs::Steps::pay), using(giop_print::proofs::Writing::writes_then, giop_print::proofs::Writing::writes_err))]
     fn pay<O: Out>(&mut self, octet: u8, out: &mut O) -> Result<(), OutFault>
         requires limit { self.old.totals.octets < 2 ^ 48 }
         ensures state { OnOk result (shown self.new ≡ (pay (shown self.old) octet).memory) }
@@ -262,7 +262,7 @@ impl Framing {
         }
     }
 
-    #[tactic(auto, using(crate::proofs::Writing::writes_then, crate::proofs::Writing::writes_err))]
+    #[tactic(auto, using(giop_print::proofs::Writing::writes_then, giop_print::proofs::Writing::writes_err))]
     fn ending<O: Out>(&self, out: &mut O) -> Result<(), OutFault>
         ensures { Writes result (O.log out.old) (O.log out.new)
             (unfinished_by (shown self.now).message ++ total_line (final_totals (shown self.now)).messages (final_totals (shown self.now)).faults (final_totals (shown self.now)).octets) }
@@ -273,7 +273,7 @@ impl Framing {
     }
 
     /// The lines of the finish.
-    #[tactic(auto, unfolding(crate::specs::Steps::finish_text), using(crate::proofs::Writing::writes_then, crate::proofs::Writing::writes_err))]
+    #[tactic(auto, unfolding(crate::specs::Steps::finish_text), using(giop_print::proofs::Writing::writes_then, giop_print::proofs::Writing::writes_err))]
     pub fn finish<O: Out>(&self, out: &mut O) -> Result<(), OutFault>
         ensures { Writes result (O.log out.old) (O.log out.new) (finish_text (shown self.now)) }
     {

@@ -7,14 +7,8 @@ mod framing;
 mod header;
 mod lines;
 mod message;
-mod sheet;
-mod sink;
 mod status;
-mod written;
 
 pub use engine::{Engine, text_begins};
-pub use fault::{OutFault, Stop, StreamFault};
-pub use sheet::Sheet;
-pub use sink::{Out, put_all};
+pub use fault::{Stop, StreamFault};
 pub use status::{Status, Totals};
-pub use written::Written;

@@ -3,12 +3,11 @@
 ghost use Rattle.std.specs.Prelude.{◌≡◌, ◌+◌, ◌^◌, ◌≤◌, ◌<◌, ℕ, List, length, OnOk, IfOk, Some};
 ghost use Rattle.arrayvec.specs.ArrayVec.{array_vec_len};
 
-use crate::fault::OutFault;
 use crate::header::{kind_of, order_of, unsigned_long};
 use crate::lines::{end_line, id_line, rest_line, short_line};
-use crate::sink::Out;
 use arrayvec::ArrayVec;
 use giop_cdr::Carry;
+use giop_print::{Out, OutFault};
 
 /// One message that isn't over: the octets that its next line still needs.
 #[derive(Drop)]
@@ -25,7 +24,7 @@ pub struct Message {
 }
 
 impl Message {
-    ghost use Rattle.giop_stream.specs.Output.{Writes};
+    ghost use Rattle.giop_print.specs.Output.{Writes};
     ghost use Rattle.giop_stream.specs.Steps.{message_start, message_take, id_take, rest_take, message_close, last_rest, in_id};
     ghost use Rattle.giop_stream.specs.Shown.{message_shown};
     ghost use Rattle.giop_stream.specs.Reach.{reach};
@@ -104,7 +103,7 @@ impl Message {
     }
 
     /// Closes the message at a place: writes what is left of the rest, and the end or the fault. True says that it was short.
-    #[tactic(auto, unfolding(crate::specs::Steps::message_close), using(crate::proofs::Writing::writes_then, crate::proofs::Writing::writes_err))]
+    #[tactic(auto, unfolding(crate::specs::Steps::message_close), using(giop_print::proofs::Writing::writes_then, giop_print::proofs::Writing::writes_err))]
     pub fn close<O: Out>(&self, place: u64, out: &mut O) -> Result<bool, OutFault>
         ensures short { IfOk result (λ short. short ≡ in_id (message_shown self.now)) }
         ensures text { Writes result (O.log out.old) (O.log out.new) (message_close (message_shown self.now) place) }

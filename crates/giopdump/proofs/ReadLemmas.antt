@@ -3,7 +3,7 @@ use Rattle.std.proofs.Common.{◌≡◌, ℕ, ◌+◌, ◌<◌, ◌≤◌, List,
 use Rattle.std.specs.Io.KnownBytes.{Consumes, Keeps}
 use Rattle.std.proofs.lemmas.Bool.{eq-eqb, ne_eqb, lt-ltb}
 use Rattle.std.proofs.lemmas.List.Elements.{All-nil, All-take}
-use Rattle.giop_stream.specs.Output.{counted}
+use Rattle.giop_print.specs.Output.{counted}
 use Rattle.giop_cdr.specs.Numbers.{AreOctets}
 use Rattle.giopdump.specs.SourceLog.{SourceLog, Gave, ReadFailed}
 use Rattle.giopdump.specs.Turns.{OneRead}

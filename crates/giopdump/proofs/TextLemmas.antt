@@ -1,14 +1,14 @@
 -- What octets add to a stream's text, piece by piece, and what an engine's status says of the stream.
 use Rattle.std.proofs.Common.{◌≡◌, List, ℕ, [], ◌++◌, length, drop, Option, Some, None, refl, sym, ap, ◌∙◌, append-nil, append_assoc, IsSome}
 use Rattle.std.proofs.Math.Seq.{drop-length, drop-append_seam}
-use Rattle.giop_stream.specs.Output.{OutLog, Wrote}
+use Rattle.giop_print.specs.Output.{OutLog, Wrote}
 use Rattle.giop_stream.specs.Framing.{cut, fault_of}
 use Rattle.giop_stream.specs.Stream.{text}
 use Rattle.giop_stream.specs.Holding.{status_of}
 use Rattle.giop_stream.specs.declared.fault.StreamFault.{StreamFault}
 use Rattle.giop_stream.specs.declared.status.Status.TheVariants.{Running, Stopped}
 use Rattle.giop_stream.proofs.Held.{text_begins}
-use Rattle.giop_stream.proofs.Writing.{wrote-nil}
+use Rattle.giop_print.proofs.Writing.{wrote-nil}
 use Rattle.giopdump.specs.Running.{adds, IsStopped}
 use Rattle.giopdump.specs.Turns.{IsRunning}
 

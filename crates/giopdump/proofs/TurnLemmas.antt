@@ -1,11 +1,11 @@
 -- Turn after turn, to the end of a run.
 use Rattle.std.proofs.Common.{◌≡◌, ℕ, ◌+◌, ◌^◌, ◌<◌, List, [], ◌++◌, refl, sym, ap, ◌∙◌, append-nil, append_assoc, arith, Bool, Result, Ok, Err, true, false, inl, inr}
 use Rattle.std.proofs.lemmas.List.Elements.{All-nil, All-append}
-use Rattle.giop_stream.specs.Output.{OutLog, counted}
+use Rattle.giop_print.specs.Output.{OutLog, counted}
 use Rattle.giop_stream.specs.Stream.{closing}
 use Rattle.giop_stream.specs.Holding.{Holds}
 use Rattle.giop_stream.specs.Remembering.{EngineMemory}
-use Rattle.giop_stream.proofs.Writing.{wrote-append, wrote-front, front-append}
+use Rattle.giop_print.proofs.Writing.{wrote-append, wrote-front, front-append}
 use Rattle.giopdump.specs.SourceLog.{SourceLog}
 use Rattle.giopdump.specs.Running.{adds, Given, IsOver, Ran}
 use Rattle.giopdump.specs.Turns.{Took, Fed, OneRead, Turned, Closed, Going}

@@ -2,7 +2,7 @@
 use Rattle.std.specs.Prelude.{◌≡◌, ℕ, ◌+◌, ◌^◌, ◌≤◌, ◌<◌, List, [], ◌++◌, length, drop, IsSome, Result, Ok, Err, ◌⊎◌}
 use Rattle.std.specs.Io.KnownBytes.{Consumes}
 use Rattle.giop_cdr.specs.Numbers.{AreOctets}
-use Rattle.giop_stream.specs.Output.{OutLog, counted, Wrote, WroteFront}
+use Rattle.giop_print.specs.Output.{OutLog, counted, Wrote, WroteFront}
 use Rattle.giop_stream.specs.Framing.{cut}
 use Rattle.giop_stream.specs.Stream.{text, closing, final}
 use Rattle.giopdump.specs.SourceLog.{SourceLog}

@@ -1,7 +1,7 @@
 -- What a source tells of itself, and what a read does to it (meaning).
 use Rattle.std.specs.Prelude.{◌≡◌, ℕ, ◌≤◌, List, length, take, Option, ◌==◌, ◌&&◌, nat_lt, if◌then◌else◌}
 use Rattle.std.specs.Io.KnownBytes.{Consumes, Keeps}
-use Rattle.giop_stream.specs.Output.{counted}
+use Rattle.giop_print.specs.Output.{counted}
 
 -- the octets that are left, where they are told, and how many reads, failures and ends there were
 pub record SourceLog : Type 0 where

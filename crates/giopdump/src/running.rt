@@ -1,7 +1,7 @@
 //! A run: octets from a source go through an engine to an out, up to the stream's end.
 
 ghost use Rattle.std.specs.Prelude.{◌≡◌, ◌+◌, ◌^◌, ◌≤◌, Err, true, false, List, ℕ, MatchResult, OnOk};
-ghost use Rattle.giop_stream.specs.Output.{counted};
+ghost use Rattle.giop_print.specs.Output.{counted};
 ghost use Rattle.giop_cdr.specs.Numbers.{AreOctets};
 ghost use Rattle.giop_stream.specs.Holding.{Holds};
 ghost use Rattle.giopdump.specs.SourceLog.{Gave, ReadFailed};
@@ -10,7 +10,8 @@ ghost use Rattle.giopdump.specs.Turns.{Fed, Turned, Closed};
 
 use super::fault::{RunFault, SourceFault};
 use super::source::Source;
-use giop_stream::{Engine, Out, Status, Stop, Totals};
+use giop_print::Out;
+use giop_stream::{Engine, Status, Stop, Totals};
 
 /// The greatest number of reads: 2^40.
 const TURNS: u64 = 1 << 40;

@@ -1,7 +1,7 @@
 //! Where a run gets its octets: a source gives some at each read, and counts its reads.
 
 ghost use Rattle.std.specs.Prelude.{◌≡◌, MatchResult};
-ghost use Rattle.giop_stream.specs.Output.{counted};
+ghost use Rattle.giop_print.specs.Output.{counted};
 ghost use Rattle.giopdump.specs.SourceLog.{SourceLog, Gave, ReadFailed};
 
 use super::fault::SourceFault;
@@ -19,7 +19,7 @@ pub trait Source {
 }
 
 /// One more, in a count that stays at its greatest.
-#[tactic(auto, unfolding(giop_stream::specs::Output::counted))]
+#[tactic(auto, unfolding(giop_print::specs::Output::counted))]
 pub(crate) fn one_more(count: u64) -> u64
     ensures { result ≡ counted count }
 {

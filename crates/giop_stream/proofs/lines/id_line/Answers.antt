@@ -1,8 +1,6 @@
-use Rattle.std.proofs.Common.{append-nil, decimal}
-use Rattle.giop_stream.specs.Text.{said_line, id_text}
+use Rattle.giop_stream.proofs.Saying.{id_said}
 use Rattle.giop_stream.proofs.lines.id_line.Goals as goal
 
 pub returns : goal.returns
-unfolding said_line id_text
 returns g c =
-    rw (append-nil (decimal c.args.id)) (rw (c.as_bytes.ensures.value, c.format.ensures.text, c.as_bytes-2.ensures.value, c.format-2.ensures.text) at c.put_parts.ensures)
+    rw (← id_said c.args.number c.args.id) (rw (c.push_name.ensures.text, c.new-path.ensures, c.from.ensures) at c.value_line.ensures)

@@ -1,5 +1,5 @@
 use Rattle.giop_stream.specs.Shown.{shown}
-use Rattle.giop_stream.proofs.Writing.{writes_err, wrote-append, wrote-front}
+use Rattle.giop_print.proofs.Writing.{writes_err, wrote-append, wrote-front}
 use Rattle.giop_stream.proofs.Run.{steps-take, steps-split}
 use Rattle.giop_stream.proofs.framing.Framing.steps.Goals as goal
 

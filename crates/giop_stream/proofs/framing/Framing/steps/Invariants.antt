@@ -1,5 +1,5 @@
 use Rattle.std.proofs.Common.{◌≡◌, take}
-use Rattle.giop_stream.specs.Output.{Wrote}
+use Rattle.giop_print.specs.Output.{Wrote}
 use Rattle.giop_stream.specs.Steps.{steps}
 use Rattle.giop_stream.specs.Shown.{shown}
 use Rattle.giop_stream.proofs.framing.Framing.steps.Given as goal

@@ -1,0 +1,6 @@
+pub mod Output
+pub mod Sheet
+pub mod Written
+pub mod Text
+pub mod Paths
+pub mod Lines

@@ -1,0 +1,146 @@
+-- The text of each line (docs/FORMATS.md).
+use Rattle.std.specs.Prelude.{ℕ, ◌*◌, List, [], ◌∷◌, ◌++◌, Bool, true, false, ◌==◌, if◌then◌else◌, codes, decimal}
+use Rattle.std.specs.Fmt.{signed_decimal}
+use Rattle.giop_cdr.specs.declared.order.Order.{Order}
+use Rattle.giop_cdr.specs.declared.order.Order.TheVariants.{Big, Little}
+use Rattle.giop_cdr.specs.declared.prim.Primitive.{Primitive}
+use Rattle.giop_cdr.specs.declared.prim.Primitive.TheVariants as prims
+use Rattle.giop_cdr.specs.declared.number.Number.{Number}
+use Rattle.giop_cdr.specs.declared.number.Number.TheVariants.{Unsigned, Signed, Bits, Truth, Char}
+use Rattle.giop_cdr.specs.Primitives.{size_of}
+use Rattle.giop_print.specs.declared.value.Value.{Value}
+use Rattle.giop_print.specs.declared.value.Value.TheVariants as values
+use Rattle.giop_print.specs.declared.value.Piece.{Piece}
+use Rattle.giop_print.specs.declared.value.Piece.TheVariants as pieces
+use Rattle.giop_print.specs.Text.{hex, hex_number, quoted, joined}
+
+abbrev pub order_word : Order → List ℕ
+order_word Big = codes "big"
+order_word Little = codes "little"
+
+-- the word of a message type, or above 7 its number
+unfoldable pub type_word : ℕ → List ℕ
+type_word t =
+    if t == 0 then codes "Request"
+    else (if t == 1 then codes "Reply"
+    else (if t == 2 then codes "CancelRequest"
+    else (if t == 3 then codes "LocateRequest"
+    else (if t == 4 then codes "LocateReply"
+    else (if t == 5 then codes "CloseConnection"
+    else (if t == 6 then codes "MessageError"
+    else (if t == 7 then codes "Fragment"
+    else decimal t)))))))
+
+abbrev pub more_word : Bool → List ℕ
+more_word true = codes " more"
+more_word false = []
+
+abbrev pub truth_word : Bool → List ℕ
+truth_word true = codes "true"
+truth_word false = codes "false"
+
+-- the word of a primitive's kind
+abbrev pub kind_word : Primitive → List ℕ
+kind_word prims.Octet = codes "octet"
+kind_word prims.Char = codes "char"
+kind_word prims.Boolean = codes "boolean"
+kind_word prims.Short = codes "short"
+kind_word prims.UShort = codes "ushort"
+kind_word prims.Long = codes "long"
+kind_word prims.ULong = codes "ulong"
+kind_word prims.LongLong = codes "longlong"
+kind_word prims.ULongLong = codes "ulonglong"
+kind_word prims.Float = codes "float"
+kind_word prims.Double = codes "double"
+
+-- a number of a primitive of this size: bits have two digits for each octet
+abbrev pub number_text : ℕ → Number → List ℕ
+number_text size (Unsigned n) = decimal n
+number_text size (Signed z) = signed_decimal z
+number_text size (Bits n) = hex_number (2 * size) n
+number_text size (Truth truth) = truth_word truth
+number_text size (Char c) = quoted (c ∷ [])
+
+-- a word between spaces
+abbrev pub spaced : List ℕ → List ℕ
+spaced word = codes " " ++ word ++ codes " "
+
+-- a value of a kind, whose word has its spaces
+unfoldable pub kind_line : ℕ → List ℕ → List ℕ → List ℕ → List ℕ
+kind_line message path kind text =
+    joined (codes "m" ∷ decimal message ∷ codes " " ∷ path ∷ kind ∷ text ∷ codes "\n" ∷ [])
+
+abbrev pub value_line : ℕ → List ℕ → Value → List ℕ
+value_line message path (values.Primitive prim number) = kind_line message path (spaced (kind_word prim)) (number_text (size_of prim) number)
+value_line message path (values.Enum name) = kind_line message path (codes " enum ") name.now
+value_line message path (values.Count count) = kind_line message path (codes " count ") (decimal count)
+
+-- the octets of a piece
+abbrev pub piece_octets : Piece → List ℕ
+piece_octets (pieces.Text octets) = octets.now
+piece_octets (pieces.Octets octets) = octets.now
+
+abbrev pub piece_word : Piece → List ℕ
+piece_word (pieces.Text octets) = codes " string @"
+piece_word (pieces.Octets octets) = codes " octets @"
+
+-- a space and the digits of some octets
+abbrev pub spaced_hex : List ℕ → List ℕ
+spaced_hex [] = []
+spaced_hex (x ∷ xs) = codes " " ++ hex (x ∷ xs)
+
+abbrev pub piece_text : Piece → List ℕ
+piece_text (pieces.Text octets) = codes " " ++ quoted octets.now
+piece_text (pieces.Octets octets) = spaced_hex octets.now
+
+-- a part of a content: where it stands there, its text, and whether more comes
+unfoldable pub content_line : ℕ → List ℕ → List ℕ → ℕ → List ℕ → List ℕ → List ℕ
+content_line message path word offset text more =
+    joined (codes "m" ∷ decimal message ∷ codes " " ∷ path ∷ word ∷ decimal offset ∷ text ∷ more
+    ∷ codes "\n" ∷ [])
+
+abbrev pub piece_line : ℕ → List ℕ → Piece → ℕ → Bool → List ℕ
+piece_line message path piece offset more = content_line message path (piece_word piece) offset (piece_text piece) (more_word more)
+
+unfoldable pub rest_line : ℕ → ℕ → List ℕ → List ℕ
+rest_line message offset octets =
+    joined (codes "m" ∷ decimal message ∷ codes " rest @" ∷ decimal offset ∷ codes " " ∷ hex octets
+    ∷ codes "\n" ∷ [])
+
+unfoldable pub start_line : ℕ → ℕ → Order → ℕ → ℕ → Bool → List ℕ
+start_line message minor order kind size more =
+    joined (codes "m" ∷ decimal message ∷ codes " start 1." ∷ decimal minor ∷ codes " "
+    ∷ order_word order ∷ codes " " ∷ type_word kind ∷ codes " size " ∷ decimal size ∷ more_word more
+    ∷ codes "\n" ∷ [])
+
+unfoldable pub call_line : ℕ → ℕ → List ℕ → List ℕ
+call_line message id name =
+    joined (codes "m" ∷ decimal message ∷ codes " call " ∷ decimal id ∷ codes " " ∷ name ∷ codes "\n" ∷ [])
+
+unfoldable pub continues_line : ℕ → ℕ → List ℕ
+continues_line fragment opener =
+    joined (codes "m" ∷ decimal fragment ∷ codes " continues m" ∷ decimal opener ∷ codes "\n" ∷ [])
+
+unfoldable pub cancelled_line : ℕ → ℕ → List ℕ
+cancelled_line message by =
+    joined (codes "m" ∷ decimal message ∷ codes " cancelled by m" ∷ decimal by ∷ codes "\n" ∷ [])
+
+unfoldable pub fault_line : ℕ → List ℕ → ℕ → List ℕ
+fault_line message word place =
+    joined (codes "m" ∷ decimal message ∷ codes " fault " ∷ word ∷ codes " at " ∷ decimal place
+    ∷ codes "\n" ∷ [])
+
+unfoldable pub end_line : ℕ → List ℕ
+end_line message = joined (codes "m" ∷ decimal message ∷ codes " end\n" ∷ [])
+
+unfoldable pub stream_fault_line : List ℕ → ℕ → List ℕ
+stream_fault_line word place =
+    joined (codes "stream fault " ∷ word ∷ codes " at " ∷ decimal place ∷ codes "\n" ∷ [])
+
+unfoldable pub unfinished_line : ℕ → List ℕ
+unfinished_line message = joined (codes "m" ∷ decimal message ∷ codes " unfinished\n" ∷ [])
+
+unfoldable pub total_line : ℕ → ℕ → ℕ → List ℕ
+total_line messages faults octets =
+    joined (codes "total messages " ∷ decimal messages ∷ codes " faults " ∷ decimal faults
+    ∷ codes " octets " ∷ decimal octets ∷ codes "\n" ∷ [])

@@ -1,0 +1,44 @@
+-- What an out tells, and what writing to it did.
+use Rattle.std.specs.Prelude.{◌≡◌, ℕ, ◌+◌, ◌-◌, ◌^◌, ◌≤◌, ◌<◌, List, length, take, Option, Result, min, MatchResult}
+use Rattle.std.specs.Io.KnownBytes.{Appends, Keeps}
+
+-- what was written, where that is told, and how many puts and failures there were
+pub record OutLog : Type 0 where
+  pub written : Option (List ℕ)
+  pub puts : ℕ
+  pub failures : ℕ
+
+-- one more, in a count that stays at its greatest
+unfoldable pub counted : ℕ → ℕ
+counted n = min (n + 1) (2 ^ 64 - 1)
+
+-- a put took the first n octets of what it was handed, at least one of some
+pub record Took (before after : OutLog) (octets : List ℕ) (n : ℕ) : Type 0 where
+  pub some : 0 < length octets → 0 < n
+  pub within : n ≤ length octets
+  pub written : Appends before.written after.written (take n octets)
+  pub puts : after.puts ≡ counted before.puts
+  pub failures : after.failures ≡ before.failures
+
+-- a put failed and wrote nothing
+pub record Failed (before after : OutLog) : Type 0 where
+  pub written : Keeps before.written after.written
+  pub puts : after.puts ≡ counted before.puts
+  pub failures : after.failures ≡ counted before.failures
+
+-- all that was due was written, by no more puts than octets, and none failed
+pub record Wrote (before after : OutLog) (due : List ℕ) : Type 0 where
+  pub written : Appends before.written after.written due
+  pub puts : after.puts ≤ before.puts + length due
+  pub failures : after.failures ≡ before.failures
+
+-- a front of what was due was written, and then a put failed
+pub record WroteFront (before after : OutLog) (due : List ℕ) : Type 0 where
+  pub size : ℕ
+  pub written : Appends before.written after.written (take size due)
+  pub puts : after.puts ≤ before.puts + length due
+  pub failures : after.failures ≡ counted before.failures
+
+-- what writing did: all that was due, or a front of it and a failed put
+abbrev pub Writes : {A E : Type 0} → Result A E → OutLog → OutLog → List ℕ → Type 0
+Writes r before after due = MatchResult r (λ _. Wrote before after due) (λ _. WroteFront before after due)

@@ -1,0 +1,22 @@
+-- Where a value stands in its message: a root and what is added for each part on the way (docs/FORMATS.md).
+use Rattle.std.specs.Prelude.{ℕ, List, ◌++◌, codes, decimal}
+use Rattle.giop_print.specs.declared.path.Root.{Root}
+use Rattle.giop_print.specs.declared.path.Root.TheVariants.{Header, Exception, Body}
+
+-- what a contract sees of a path
+pub record PathText : Type 0 where
+  pub text : List ℕ
+  pub segments : ℕ
+
+abbrev pub root_word : Root → List ℕ
+root_word Header = codes "header"
+root_word Exception = codes "exception"
+root_word Body = codes "body"
+
+-- a member
+abbrev pub name_segment : List ℕ → List ℕ
+name_segment name = codes "." ++ name
+
+-- an element
+abbrev pub index_segment : ℕ → List ℕ
+index_segment index = codes "[" ++ decimal index ++ codes "]"

@@ -1,0 +1,23 @@
+//! The lines of a dump: their text, and where they are written.
+#![tactic(auto)]
+
+mod lines;
+mod path;
+mod sheet;
+mod sink;
+#[cfg(test)]
+mod tests;
+mod text;
+mod value;
+mod words;
+mod written;
+
+pub use lines::{
+    call_line, cancelled_line, continues_line, end_line, fault_line, piece_line, rest_line,
+    start_line, stream_fault_line, total_line, unfinished_line, value_line,
+};
+pub use path::{Path, Root};
+pub use sheet::Sheet;
+pub use sink::{Out, OutFault, put_all, put_parts};
+pub use value::{Piece, Value};
+pub use written::Written;

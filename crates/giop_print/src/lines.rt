@@ -1,0 +1,362 @@
+//! The lines of a dump, over any out (docs/FORMATS.md). A writer answers Ok where its whole line was written; else a
+//! put failed, and a front of the line was written. Messages are named by their numbers.
+
+ghost use Rattle.std.specs.Prelude.{◌≤◌, length};
+ghost use Rattle.giop_cdr.specs.Primitives.{size_of};
+ghost use Rattle.giop_print.specs.Output.{Writes};
+ghost use Rattle.giop_print.specs.Lines.{kind_line, kind_word, spaced, number_text, piece_octets, value_line, content_line, piece_line, rest_line, start_line, call_line, continues_line, cancelled_line, fault_line, end_line, stream_fault_line, unfinished_line, total_line};
+
+use crate::path::Path;
+use crate::sink::{Out, OutFault, put_parts};
+use crate::text::{hex_number, hex_piece, piece_text, quoted_octet};
+use crate::value::{Piece, Value};
+use crate::words::{kind_word, more_word, order_word, piece_word, truth_word, type_word};
+use giop_cdr::{Number, Order, Prim, size};
+use itoa::Buffer;
+
+/// The line of a value: a number, an enum's name or a count.
+pub fn value_line<O: Out>(
+    out: &mut O,
+    message: u64,
+    path: &Path,
+    value: Value<'_>,
+) -> Result<(), OutFault>
+    ensures { Writes result (O.log out.old) (O.log out.new)
+        (value_line message path.now.text value.entry) }
+{
+    let mut digits = Buffer::new();
+    match value {
+        Value::Primitive(prim, number) => number_line(out, message, path, prim, number),
+        Value::Enum(name) => kind_line(out, message, path, b" enum ", name),
+        Value::Count(count) => {
+            let count = digits.format(count).as_bytes();
+            kind_line(out, message, path, b" count ", count)
+        }
+    }
+}
+
+/// The line of a primitive's number.
+fn number_line<O: Out>(
+    out: &mut O,
+    message: u64,
+    path: &Path,
+    prim: Prim,
+    number: Number,
+) -> Result<(), OutFault>
+    ensures { Writes result (O.log out.old) (O.log out.new)
+        (kind_line message path.now.text (spaced (kind_word prim)) (number_text (size_of prim) number)) }
+{
+    let mut digits = Buffer::new();
+    let kind = kind_word(prim);
+    match number {
+        Number::Unsigned(n) => kind_line(out, message, path, kind, digits.format(n).as_bytes()),
+        Number::Signed(n) => kind_line(out, message, path, kind, digits.format(n).as_bytes()),
+        Number::Truth(truth) => kind_line(out, message, path, kind, truth_word(truth)),
+        Number::Char(octet) => kind_line(out, message, path, kind, &quoted_octet(octet)),
+        Number::Bits(bits) => {
+            kind_line(out, message, path, kind, &hex_number(bits, 2 * size(prim)))
+        }
+    }
+}
+
+/// The line of a value of a kind, whose word has its spaces.
+#[tactic(auto, unfolding(crate::specs::Lines::kind_line))]
+fn kind_line<'a, O: Out>(
+    out: &mut O,
+    message: u64,
+    path: &'a Path,
+    kind: &'a [u8],
+    text: &'a [u8],
+) -> Result<(), OutFault>
+    ensures { Writes result (O.log out.old) (O.log out.new)
+        (kind_line message path.now.text kind.now text.now) }
+{
+    let mut message_digits = Buffer::new();
+    put_parts(
+        out,
+        &[
+            b"m",
+            message_digits.format(message).as_bytes(),
+            b" ",
+            path.text(),
+            kind,
+            text,
+            b"\n",
+        ],
+    )
+}
+
+/// The line of a piece, which stands at this offset in its content, and whether more comes.
+pub fn piece_line<O: Out>(
+    out: &mut O,
+    message: u64,
+    path: &Path,
+    piece: Piece<'_>,
+    offset: u64,
+    more: bool,
+) -> Result<(), OutFault>
+    requires { length (piece_octets piece) ≤ 32 }
+    ensures { Writes result (O.log out.old) (O.log out.new)
+        (piece_line message path.now.text piece.entry offset more) }
+{
+    let text = piece_text(piece);
+    content_line(
+        out,
+        message,
+        path,
+        piece_word(piece),
+        offset,
+        &text,
+        more_word(more),
+    )
+}
+
+/// The line of a part of a content.
+#[tactic(auto, unfolding(crate::specs::Lines::content_line))]
+fn content_line<'a, O: Out>(
+    out: &mut O,
+    message: u64,
+    path: &'a Path,
+    word: &'a [u8],
+    offset: u64,
+    text: &'a [u8],
+    more: &'a [u8],
+) -> Result<(), OutFault>
+    ensures { Writes result (O.log out.old) (O.log out.new)
+        (content_line message path.now.text word.now offset text.now more.now) }
+{
+    let mut message_digits = Buffer::new();
+    let mut offset_digits = Buffer::new();
+    put_parts(
+        out,
+        &[
+            b"m",
+            message_digits.format(message).as_bytes(),
+            b" ",
+            path.text(),
+            word,
+            offset_digits.format(offset).as_bytes(),
+            text,
+            more,
+            b"\n",
+        ],
+    )
+}
+
+/// The line of octets that stand at this offset in the rest.
+#[tactic(auto, unfolding(crate::specs::Lines::rest_line))]
+pub fn rest_line<O: Out>(
+    out: &mut O,
+    message: u64,
+    offset: u64,
+    octets: &[u8],
+) -> Result<(), OutFault>
+    requires { length octets.now ≤ 32 }
+    ensures { Writes result (O.log out.old) (O.log out.new) (rest_line message offset octets.now) }
+{
+    let mut message_digits = Buffer::new();
+    let mut offset_digits = Buffer::new();
+    let text = hex_piece(octets);
+    put_parts(
+        out,
+        &[
+            b"m",
+            message_digits.format(message).as_bytes(),
+            b" rest @",
+            offset_digits.format(offset).as_bytes(),
+            b" ",
+            text.as_slice(),
+            b"\n",
+        ],
+    )
+}
+
+/// The line of a header: the minor version, the order, the message type, the size, and whether fragments follow.
+#[tactic(auto, unfolding(crate::specs::Lines::start_line))]
+pub fn start_line<O: Out>(
+    out: &mut O,
+    message: u64,
+    minor: u8,
+    order: Order,
+    kind: u8,
+    size: u32,
+    more: bool,
+) -> Result<(), OutFault>
+    ensures { Writes result (O.log out.old) (O.log out.new)
+        (start_line message minor order kind size more) }
+{
+    let mut message_digits = Buffer::new();
+    let mut minor_digits = Buffer::new();
+    let mut kind_digits = Buffer::new();
+    let mut size_digits = Buffer::new();
+    put_parts(
+        out,
+        &[
+            b"m",
+            message_digits.format(message).as_bytes(),
+            b" start 1.",
+            minor_digits.format(minor).as_bytes(),
+            b" ",
+            order_word(order),
+            b" ",
+            type_word(kind, &mut kind_digits),
+            b" size ",
+            size_digits.format(size).as_bytes(),
+            more_word(more),
+            b"\n",
+        ],
+    )
+}
+
+/// The line of a Request's id and operation.
+#[tactic(auto, unfolding(crate::specs::Lines::call_line))]
+pub fn call_line<O: Out>(out: &mut O, message: u64, id: u32, name: &[u8]) -> Result<(), OutFault>
+    ensures { Writes result (O.log out.old) (O.log out.new) (call_line message id name.now) }
+{
+    let mut message_digits = Buffer::new();
+    let mut id_digits = Buffer::new();
+    put_parts(
+        out,
+        &[
+            b"m",
+            message_digits.format(message).as_bytes(),
+            b" call ",
+            id_digits.format(id).as_bytes(),
+            b" ",
+            name,
+            b"\n",
+        ],
+    )
+}
+
+/// The line of a Fragment and the message that it continues.
+#[tactic(auto, unfolding(crate::specs::Lines::continues_line))]
+pub fn continues_line<O: Out>(out: &mut O, fragment: u64, opener: u64) -> Result<(), OutFault>
+    ensures { Writes result (O.log out.old) (O.log out.new) (continues_line fragment opener) }
+{
+    let mut fragment_digits = Buffer::new();
+    let mut opener_digits = Buffer::new();
+    put_parts(
+        out,
+        &[
+            b"m",
+            fragment_digits.format(fragment).as_bytes(),
+            b" continues m",
+            opener_digits.format(opener).as_bytes(),
+            b"\n",
+        ],
+    )
+}
+
+/// The line of a message and the CancelRequest that cancels it.
+#[tactic(auto, unfolding(crate::specs::Lines::cancelled_line))]
+pub fn cancelled_line<O: Out>(out: &mut O, message: u64, by: u64) -> Result<(), OutFault>
+    ensures { Writes result (O.log out.old) (O.log out.new) (cancelled_line message by) }
+{
+    let mut message_digits = Buffer::new();
+    let mut by_digits = Buffer::new();
+    put_parts(
+        out,
+        &[
+            b"m",
+            message_digits.format(message).as_bytes(),
+            b" cancelled by m",
+            by_digits.format(by).as_bytes(),
+            b"\n",
+        ],
+    )
+}
+
+/// The line of a message's fault: its word, and the number of stream octets up to the octet that has it.
+#[tactic(auto, unfolding(crate::specs::Lines::fault_line))]
+pub fn fault_line<O: Out>(out: &mut O, message: u64, word: &str, place: u64) -> Result<(), OutFault>
+    ensures { Writes result (O.log out.old) (O.log out.new) (fault_line message word.now place) }
+{
+    let mut message_digits = Buffer::new();
+    let mut place_digits = Buffer::new();
+    put_parts(
+        out,
+        &[
+            b"m",
+            message_digits.format(message).as_bytes(),
+            b" fault ",
+            word.as_bytes(),
+            b" at ",
+            place_digits.format(place).as_bytes(),
+            b"\n",
+        ],
+    )
+}
+
+/// The line of a message's end.
+#[tactic(auto, unfolding(crate::specs::Lines::end_line))]
+pub fn end_line<O: Out>(out: &mut O, message: u64) -> Result<(), OutFault>
+    ensures { Writes result (O.log out.old) (O.log out.new) (end_line message) }
+{
+    let mut message_digits = Buffer::new();
+    put_parts(
+        out,
+        &[b"m", message_digits.format(message).as_bytes(), b" end\n"],
+    )
+}
+
+/// The line of the stream's fault: its word, and the number of octets up to the octet that has it.
+#[tactic(auto, unfolding(crate::specs::Lines::stream_fault_line))]
+pub fn stream_fault_line<O: Out>(out: &mut O, word: &str, place: u64) -> Result<(), OutFault>
+    ensures { Writes result (O.log out.old) (O.log out.new) (stream_fault_line word.now place) }
+{
+    let mut place_digits = Buffer::new();
+    put_parts(
+        out,
+        &[
+            b"stream fault ",
+            word.as_bytes(),
+            b" at ",
+            place_digits.format(place).as_bytes(),
+            b"\n",
+        ],
+    )
+}
+
+/// The line of a message that the stream leaves open.
+#[tactic(auto, unfolding(crate::specs::Lines::unfinished_line))]
+pub fn unfinished_line<O: Out>(out: &mut O, message: u64) -> Result<(), OutFault>
+    ensures { Writes result (O.log out.old) (O.log out.new) (unfinished_line message) }
+{
+    let mut message_digits = Buffer::new();
+    put_parts(
+        out,
+        &[
+            b"m",
+            message_digits.format(message).as_bytes(),
+            b" unfinished\n",
+        ],
+    )
+}
+
+/// The line of the whole stream: how many messages began, how many faults there were, and how many octets.
+#[tactic(auto, unfolding(crate::specs::Lines::total_line))]
+pub fn total_line<O: Out>(
+    out: &mut O,
+    messages: u64,
+    faults: u64,
+    octets: u64,
+) -> Result<(), OutFault>
+    ensures { Writes result (O.log out.old) (O.log out.new) (total_line messages faults octets) }
+{
+    let mut messages_digits = Buffer::new();
+    let mut faults_digits = Buffer::new();
+    let mut octets_digits = Buffer::new();
+    put_parts(
+        out,
+        &[
+            b"total messages ",
+            messages_digits.format(messages).as_bytes(),
+            b" faults ",
+            faults_digits.format(faults).as_bytes(),
+            b" octets ",
+            octets_digits.format(octets).as_bytes(),
+            b"\n",
+        ],
+    )
+}

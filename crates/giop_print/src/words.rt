@@ -1,0 +1,79 @@
+//! The words of the lines.
+
+ghost use Rattle.std.specs.Prelude.{◌≡◌};
+ghost use Rattle.giop_print.specs.Lines.{order_word, type_word, more_word, truth_word, kind_word, piece_word, spaced};
+
+use crate::value::Piece;
+use giop_cdr::{Order, Prim};
+use itoa::Buffer;
+
+/// The word of an order.
+pub fn order_word(order: Order) -> &'static [u8]
+    ensures { result.now ≡ order_word order }
+{
+    match order {
+        Order::Big => b"big",
+        Order::Little => b"little",
+    }
+}
+
+/// The word of a message type, or above 7 its number.
+#[tactic(auto, unfolding(crate::specs::Lines::type_word))]
+pub fn type_word(kind: u8, digits: &mut Buffer) -> &[u8]
+    ensures { result.now ≡ type_word kind }
+{
+    match kind {
+        0 => b"Request",
+        1 => b"Reply",
+        2 => b"CancelRequest",
+        3 => b"LocateRequest",
+        4 => b"LocateReply",
+        5 => b"CloseConnection",
+        6 => b"MessageError",
+        7 => b"Fragment",
+        _ => digits.format(kind).as_bytes(),
+    }
+}
+
+/// What ends a line after which more comes.
+pub fn more_word(more: bool) -> &'static [u8]
+    ensures { result.now ≡ more_word more }
+{
+    if more { b" more" } else { b"" }
+}
+
+/// The word of a truth.
+pub fn truth_word(truth: bool) -> &'static [u8]
+    ensures { result.now ≡ truth_word truth }
+{
+    if truth { b"true" } else { b"false" }
+}
+
+/// The word of a primitive's kind, between spaces.
+pub fn kind_word(prim: Prim) -> &'static [u8]
+    ensures { result.now ≡ spaced (kind_word prim) }
+{
+    match prim {
+        Prim::Octet => b" octet ",
+        Prim::Char => b" char ",
+        Prim::Boolean => b" boolean ",
+        Prim::Short => b" short ",
+        Prim::UShort => b" ushort ",
+        Prim::Long => b" long ",
+        Prim::ULong => b" ulong ",
+        Prim::LongLong => b" longlong ",
+        Prim::ULongLong => b" ulonglong ",
+        Prim::Float => b" float ",
+        Prim::Double => b" double ",
+    }
+}
+
+/// The word of a piece's kind, up to its offset.
+pub fn piece_word(piece: Piece<'_>) -> &'static [u8]
+    ensures { result.now ≡ piece_word piece.entry }
+{
+    match piece {
+        Piece::Text(_) => b" string @",
+        Piece::Octets(_) => b" octets @",
+    }
+}
