@@ -1,0 +1,17 @@
+pub mod TreeLaws
+pub mod Nodes
+pub mod Depths
+pub mod Formed
+pub mod Kept
+pub mod Finds
+pub mod Solid
+pub mod Tables
+pub mod Builtins
+pub mod HeaderLaws
+pub mod Added
+pub mod ListNumbers
+pub mod ListLines
+pub mod ListEntries
+pub mod OneToOne
+pub mod ListKept
+pub mod OneList

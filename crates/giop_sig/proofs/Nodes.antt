@@ -1,0 +1,100 @@
+-- A node and its tree say the same of a type's form, names, parts and selection.
+use Rattle.std.proofs.Common.{◌≡◌, ℕ, zero, suc, ◌<◌, Bool, true, false, cond, nat_lt, List, [], ◌∷◌, length, Some, None, refl, sym, ap, ◌∙◌, arith, lt-ltb, le-ltb}
+use Rattle.std.proofs.lemmas.Bool.{ltb-true, ltb-false}
+use Rattle.std.specs.Prelude.{slice_get}
+use Rattle.giop_cdr.specs.declared.number.Number.{Number}
+use Rattle.giop_sig.specs.Types.{Plain, Enum, Ty, Single, Text, Octets, Struct, Union, Sequence, Array, shape_in, HasShape, HasMember, HasPlace, part_of, name_in, enum_name_in, switch_of, select_in, taken_in}
+use Rattle.giop_sig.specs.Table.{Node, Part, Case, shape_of, part_at, type_of, name_of, name_at, switch_at, selected, case_part}
+use Rattle.giop_sig.specs.Table as nodes
+use Rattle.giop_sig.specs.Trees.{grow, selected_by, name_or}
+
+pub shape_grown : (tree : ℕ → Ty) (node : Node) → shape_in (grow tree node) ≡ shape_of node
+shape_grown tree (nodes.prim p) = refl
+shape_grown tree (nodes.enumeration names) = refl
+shape_grown tree (nodes.text bound) = refl
+shape_grown tree (nodes.octets bound) = refl
+shape_grown tree (nodes.members parts) = refl
+shape_grown tree (nodes.union switch cases otherwise) = refl
+shape_grown tree (nodes.sequence bound element) = refl
+shape_grown tree (nodes.array count element) = refl
+
+pub has_shape : (T : Ty) → HasShape T (shape_in T)
+has_shape (Single (Plain p)) = refl
+has_shape (Single (Enum count names)) = (names, refl)
+has_shape (Text bound) = refl
+has_shape (Octets bound) = refl
+has_shape (Struct count names parts) = (names, parts, refl)
+has_shape (Union count scalar select names cases) = (scalar, select, names, cases, refl)
+has_shape (Sequence bound T) = (T, refl)
+has_shape (Array count T) = (T, refl)
+
+read_below : (ps : List Part) (i : ℕ) → i < length ps → (p : Part) × (slice_get ps i ≡ Some p)
+read_below [] i lt = absurd (omega arith)
+read_below (p ∷ ps) zero lt = (p, refl)
+read_below (p ∷ ps) (suc i) lt = read_below ps i (omega arith)
+
+case_below : (cs : List Case) (i : ℕ) → i < length cs → (p : Part) × (case_part (slice_get cs i) ≡ Some p)
+case_below [] i lt = absurd (omega arith)
+case_below (c ∷ cs) zero lt = (c.part, refl)
+case_below (c ∷ cs) (suc i) lt = case_below cs i (omega arith)
+
+-- the part in a place is there
+pub part_there : (node : Node) (i : ℕ) → HasPlace (shape_of node) i → (p : Part) × (part_at node i ≡ Some p)
+part_there (nodes.prim p) i has = absurd has
+part_there (nodes.enumeration names) i has = absurd has
+part_there (nodes.text bound) i has = absurd has
+part_there (nodes.octets bound) i has = absurd has
+part_there (nodes.members parts) i has = read_below parts i has
+part_there (nodes.union switch cases otherwise) i has = case_below cases i has
+part_there (nodes.sequence bound element) i has = (nodes.element_part element, refl)
+part_there (nodes.array count element) i has = (nodes.element_part element, refl)
+
+pub part_grown : (tree : ℕ → Ty) (node : Node) (i : ℕ) → HasPlace (shape_of node) i → tree (type_of (part_at node i)) ≡ part_of (grow tree node) i
+part_grown tree (nodes.prim p) i has = absurd has
+part_grown tree (nodes.enumeration names) i has = absurd has
+part_grown tree (nodes.text bound) i has = absurd has
+part_grown tree (nodes.octets bound) i has = absurd has
+part_grown tree (nodes.members parts) i has = let p = read_below parts i has in rw (p.1) refl
+part_grown tree (nodes.union switch cases otherwise) i has = let p = case_below cases i has in rw (p.1) refl
+part_grown tree (nodes.sequence bound element) i has = refl
+part_grown tree (nodes.array count element) i has = refl
+
+pub name_grown : (tree : ℕ → Ty) (node : Node) (i : ℕ) → HasMember (shape_of node) i → name_of (part_at node i) ≡ name_in (grow tree node) i
+name_grown tree (nodes.prim p) i has = absurd has
+name_grown tree (nodes.enumeration names) i has = absurd has
+name_grown tree (nodes.text bound) i has = absurd has
+name_grown tree (nodes.octets bound) i has = absurd has
+name_grown tree (nodes.members parts) i has = refl
+name_grown tree (nodes.union switch cases otherwise) i has = refl
+name_grown tree (nodes.sequence bound element) i has = absurd has
+name_grown tree (nodes.array count element) i has = absurd has
+
+ltb_suc_by : (v : Bool) (a b : ℕ) → nat_lt a b ≡ v → nat_lt (suc a) (suc b) ≡ v
+ltb_suc_by true a b e = lt-ltb (suc a) (suc b) (let h = ltb-true a b e in omega arith)
+ltb_suc_by false a b e = le-ltb (suc a) (suc b) (let h = ltb-false a b e in omega arith)
+
+names_read : (names : List (List ℕ)) (n : ℕ) → slice_get names n ≡ cond (nat_lt n (length names)) (Some (name_or (slice_get names n))) None
+names_read [] n = rw (le-ltb n 0 (omega arith)) refl
+names_read (x ∷ xs) zero = rw (lt-ltb 0 (suc (length xs)) (omega arith)) refl
+names_read (x ∷ xs) (suc n) = names_read xs n ∙ ap (λ b. cond b (Some (name_or (slice_get xs n))) None) (sym (ltb_suc_by (nat_lt n (length xs)) n (length xs) refl))
+
+pub enum_name_grown : (tree : ℕ → Ty) (node : Node) (n : ℕ) → name_at node n ≡ enum_name_in (grow tree node) n
+enum_name_grown tree (nodes.prim p) n = refl
+enum_name_grown tree (nodes.enumeration names) n = names_read names n
+enum_name_grown tree (nodes.text bound) n = refl
+enum_name_grown tree (nodes.octets bound) n = refl
+enum_name_grown tree (nodes.members parts) n = refl
+enum_name_grown tree (nodes.union switch cases otherwise) n = refl
+enum_name_grown tree (nodes.sequence bound element) n = refl
+enum_name_grown tree (nodes.array count element) n = refl
+
+-- a value that the octets spell selects as their whole number does
+pub select_grown : (tree : ℕ → Ty) (node : Node) (number : Number) (n : ℕ) → taken_in (switch_of (grow tree node)) n ≡ Some number → selected node number ≡ select_in (grow tree node) n
+select_grown tree (nodes.prim p) number n e = refl
+select_grown tree (nodes.enumeration names) number n e = refl
+select_grown tree (nodes.text bound) number n e = refl
+select_grown tree (nodes.octets bound) number n e = refl
+select_grown tree (nodes.members parts) number n e = refl
+select_grown tree (nodes.union switch cases otherwise) number n e = ap (selected_by (selected (nodes.union switch cases otherwise))) (sym e)
+select_grown tree (nodes.sequence bound element) number n e = refl
+select_grown tree (nodes.array count element) number n e = refl

@@ -1,0 +1,120 @@
+-- Types of a table take some octet, but for the empty struct, and a reader has room for them.
+use Rattle.std.proofs.Common.{◌≡◌, ℕ, zero, suc, ◌<◌, ◌≤◌, max, List, [], ◌∷◌, length, Option, Some, None, refl, sym, ap, subst, ◌∙◌, ◌⊎◌, inl, inr, arith}
+use Rattle.std.specs.List.{list_any}
+use Rattle.std.proofs.lemmas.List.Quantifiers.{position-Some}
+use Rattle.std.proofs.lemmas.Bool.{cases_lt}
+use Rattle.giop_cdr.specs.declared.number.Number.{Number}
+use Rattle.giop_sig.specs.declared.types.Selected.{Selected}
+use Rattle.giop_sig.specs.declared.types.Selected.TheVariants as selecteds
+use Rattle.giop_sig.specs.Types.{taken_by, Ty, Single, Text, Octets, Struct, Union, Sequence, Array, depth, most, HasMember}
+use Rattle.giop_sig.specs.Fits.{IsSolid, IsFit, IsEmptyStruct, IsRoot}
+use Rattle.giop_sig.specs.Table.{Node, Part, Case, node_in, shape_of, part_at, type_of, selected, case_with, case_or, same_number, no_case, IsFormed, IsInner, IsCaseBelow, TakesOctet}
+use Rattle.giop_sig.specs.Table as nodes
+use Rattle.giop_sig.specs.Trees.{grow, scalar_of, selected_by, type_in, AreTypes}
+use Rattle.giop_sig.proofs.TreeLaws.{tree_of_parts}
+use Rattle.giop_sig.proofs.Nodes.{part_grown}
+use Rattle.giop_sig.proofs.Formed.{part_formed}
+use Rattle.giop_sig.proofs.Depths.{depth_within}
+
+-- ---- what is selected is a case that is there
+
+case_of_below : (count : ℕ) (found : Option ℕ) (otherwise : Selected) (i : ℕ) → ((k : ℕ) → found ≡ Some k → k < count) → IsCaseBelow count otherwise → case_or found otherwise ≡ selecteds.Case i → i < count
+case_of_below count (Some k) otherwise i found below e = let same : k ≡ i = cc in let lt = found k refl in omega arith
+case_of_below count None otherwise i found below e = subst (IsCaseBelow count) e below
+
+pub selected_below : (types : List Node) (n : ℕ) (node : Node) (number : Number) (i : ℕ) → IsFormed types n node → selected node number ≡ selecteds.Case i → HasMember (shape_of node) i
+selected_below types n (nodes.prim p) number i formed e = absurd cc
+selected_below types n (nodes.enumeration names) number i formed e = absurd cc
+selected_below types n (nodes.text bound) number i formed e = absurd cc
+selected_below types n (nodes.octets bound) number i formed e = absurd cc
+selected_below types n (nodes.members parts) number i formed e = absurd cc
+selected_below types n (nodes.union switch cases otherwise) number i formed e =
+    case_of_below (length cases) (case_with number cases) otherwise i (λ k at. (position-Some (λ c. list_any (λ label. same_number label number) c.labels) cases k no_case at).0) formed.3 e
+selected_below types n (nodes.sequence bound element) number i formed e = absurd cc
+selected_below types n (nodes.array count element) number i formed e = absurd cc
+
+taken_below : (types : List Node) (n switch : ℕ) (cases : List Case) (otherwise : Selected) (o : Option Number) (i : ℕ) → IsFormed types n (nodes.union switch cases otherwise)
+    → selected_by (selected (nodes.union switch cases otherwise)) o ≡ selecteds.Case i → i < length cases
+taken_below types n switch cases otherwise None i formed e = absurd cc
+taken_below types n switch cases otherwise (Some number) i formed e = selected_below types n (nodes.union switch cases otherwise) number i formed e
+
+-- ---- solid types
+
+some_part : (p : Part) (ps : List Part) → 0 < length (p ∷ ps)
+some_part p ps = omega arith
+
+grown_solid : (types : List Node) (n : ℕ) (node : Node) → IsFormed types n node → TakesOctet node → ((i : ℕ) → IsInner types n i → IsSolid (type_in types i)) → IsSolid (grow (type_in types) node)
+unfolding IsSolid
+grown_solid types n (nodes.prim p) formed takes inner = tt
+grown_solid types n (nodes.enumeration names) formed takes inner = tt
+grown_solid types n (nodes.text bound) formed takes inner = tt
+grown_solid types n (nodes.octets bound) formed takes inner = tt
+grown_solid types n (nodes.members []) formed takes inner = absurd takes
+grown_solid types n (nodes.members (p ∷ ps)) formed takes inner =
+    (some_part p ps, λ i lt. subst IsSolid (part_grown (type_in types) (nodes.members (p ∷ ps)) i lt) (inner (type_of (part_at (nodes.members (p ∷ ps)) i)) (part_formed types n (nodes.members (p ∷ ps)) i formed lt)))
+grown_solid types n (nodes.union switch cases otherwise) formed takes inner = (
+  λ k i e. taken_below types n switch cases otherwise (taken_by (scalar_of (type_in types switch)) k) i formed e,
+  λ i lt. subst IsSolid (part_grown (type_in types) (nodes.union switch cases otherwise) i lt) (inner (type_of (part_at (nodes.union switch cases otherwise) i)) (part_formed types n (nodes.union switch cases otherwise) i formed lt)),
+)
+grown_solid types n (nodes.sequence bound element) formed takes inner = inner element formed
+grown_solid types n (nodes.array count element) formed takes inner = (formed.0, inner element formed.1)
+
+solid_below : (types : List Node) (fuel i : ℕ) → AreTypes types → i < fuel → i < length types → TakesOctet (node_in types i) → IsSolid (type_in types i)
+solid_below types zero i are lt known takes = absurd (omega arith)
+solid_below types (suc fuel) i are lt known takes =
+    subst IsSolid (sym (tree_of_parts types i are known))
+    (grown_solid types i (node_in types i) (are.formed i known) takes (λ k is. solid_below types fuel k are (let b = is.below in omega arith) (let b = is.below in omega arith) is.takes))
+
+pub solid_at : (types : List Node) (i : ℕ) → AreTypes types → i < length types → TakesOctet (node_in types i) → IsSolid (type_in types i)
+solid_at types i are known takes = solid_below types (suc i) i are (omega arith) known takes
+
+-- ---- room for a type
+
+most_last : (n : ℕ) (f : ℕ → ℕ) (i : ℕ) → (i < n → f i ≤ most n f) → i < suc n → (i < n) ⊎ (n ≤ i) → f i ≤ max (most n f) (f n)
+most_last n f i rest lt (inl h) = omega (arith, rest h)
+most_last n f i rest lt (inr h) = let e : i ≡ n = omega arith in omega (arith, ap f e)
+
+most_above : (n : ℕ) (f : ℕ → ℕ) (i : ℕ) → i < n → f i ≤ most n f
+most_above zero f i lt = absurd (omega arith)
+most_above (suc n) f i lt = most_last n f i (most_above n f i) lt (cases_lt i n)
+
+pub fit_by : (T : Ty) (d : ℕ) → IsSolid T → depth T ≤ d → IsFit d T
+unfolding IsSolid IsFit depth
+fit_by (Single scalar) zero solid le = absurd (omega arith)
+fit_by (Single scalar) (suc d) solid le = tt
+fit_by (Text bound) zero solid le = absurd (omega arith)
+fit_by (Text bound) (suc d) solid le = tt
+fit_by (Octets bound) zero solid le = absurd (omega arith)
+fit_by (Octets bound) (suc d) solid le = tt
+fit_by (Struct count names parts) zero solid le = absurd (omega arith)
+fit_by (Struct count names parts) (suc d) solid le =
+    (solid.0, λ i lt. fit_by (parts i) d (solid.1 i lt) (omega (arith, most_above count (λ k. depth (parts k)) i lt)))
+fit_by (Union count scalar select names cases) zero solid le = absurd (omega arith)
+fit_by (Union count scalar select names cases) (suc d) solid le =
+    (solid.0, λ i lt. fit_by (cases i) d (solid.1 i lt) (omega (arith, most_above count (λ k. depth (cases k)) i lt)))
+fit_by (Sequence bound T) zero solid le = absurd (omega arith)
+fit_by (Sequence bound T) (suc d) solid le = fit_by T d solid (omega arith)
+fit_by (Array count T) zero solid le = absurd (omega arith)
+fit_by (Array count T) (suc d) solid le = (solid.0, fit_by T d solid.1 (omega arith))
+
+pub fit_at : (types : List Node) (i : ℕ) → AreTypes types → i < length types → TakesOctet (node_in types i) → IsFit 24 (type_in types i)
+fit_at types i are known takes = fit_by (type_in types i) 24 (solid_at types i are known takes) (let shallow = are.shallow in omega (arith, depth_within types i known))
+
+takes_or_empty : (node : Node) → TakesOctet node ⊎ (node ≡ nodes.members [])
+takes_or_empty (nodes.prim p) = inl tt
+takes_or_empty (nodes.enumeration names) = inl tt
+takes_or_empty (nodes.text bound) = inl tt
+takes_or_empty (nodes.octets bound) = inl tt
+takes_or_empty (nodes.members []) = inr refl
+takes_or_empty (nodes.members (p ∷ ps)) = inl tt
+takes_or_empty (nodes.union switch cases otherwise) = inl tt
+takes_or_empty (nodes.sequence bound element) = inl tt
+takes_or_empty (nodes.array count element) = inl tt
+
+-- each type of a table can stand at the root of a message
+pub root_at : (types : List Node) (i : ℕ) → AreTypes types → i < length types → IsRoot (type_in types i)
+root_at types i are known = by (takes_or_empty (node_in types i))
+  where
+    by : TakesOctet (node_in types i) ⊎ (node_in types i ≡ nodes.members []) → IsRoot (type_in types i)
+    by (inl takes) = inl (fit_at types i are known takes)
+    by (inr e) = inr (subst IsEmptyStruct (sym (tree_of_parts types i are known ∙ ap (grow (type_in types)) e)) tt)

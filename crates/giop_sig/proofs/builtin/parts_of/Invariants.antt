@@ -1,0 +1,7 @@
+use Rattle.std.proofs.Common.{◌≡◌, map, take}
+use Rattle.giop_sig.specs.Views.{part_view}
+use Rattle.giop_sig.specs.Literals.{literal_part}
+use Rattle.giop_sig.proofs.builtin.parts_of.Given as goal
+
+abbrev pub invariant-loop-part : goal.invariant-loop-part
+invariant-loop-part l = map part_view l.all.items ≡ map literal_part (take l.part-index l.parts)

@@ -1,0 +1,6 @@
+use Rattle.std.proofs.Common.{◌≤◌, sym, subst}
+use Rattle.giop_sig.proofs.Builtins.{least_depth}
+use Rattle.giop_sig.proofs.catalogue.Catalogue.depth.Goals as goal
+
+pub returns-clause-least : goal.returns-clause-least
+returns-clause-least c = subst (λ n. 7 ≤ n) (sym c.deepest.ensures.depth) (least_depth _ c.self.invariant)

@@ -1,0 +1,8 @@
+use Rattle.std.proofs.Common.{◌≡◌, ◌≤◌}
+use Rattle.giop_sig.specs.Types.{most}
+use Rattle.giop_sig.specs.Trees.{part_depth}
+use Rattle.giop_sig.specs.Views.{node_view}
+use Rattle.giop_sig.proofs.entries.Types.deepest_part.Given as goal
+
+abbrev pub invariant-loop-place : goal.invariant-loop-place
+invariant-loop-place l = record { depth : l.deepest ≡ most l.place (part_depth l.self (node_view l.entry)); shallow : l.deepest ≤ 24 }

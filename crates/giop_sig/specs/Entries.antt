@@ -1,0 +1,16 @@
+-- What a caller sees of a catalogue's fields.
+use Rattle.std.specs.Prelude.{ℕ, List, map}
+use Rattle.arrayvec.specs.ArrayVec.{ArrayVec}
+use Rattle.giop_sig.specs.declared.types.TypeId.{TypeId}
+use Rattle.giop_sig.specs.declared.catalogue.Signature.{Signature}
+use Rattle.giop_sig.specs.Table.{Node, Operation, Exception, Table}
+
+abbrev pub operation_view : ArrayVec ℕ × Signature → Operation
+operation_view e = record { name = e.0.items; request = e.1.request.0; reply = e.1.reply.0 }
+
+abbrev pub exception_view : ArrayVec ℕ × TypeId → Exception
+exception_view e = record { repository = e.0.items; members = e.1.0 }
+
+abbrev pub table_view : List Node → List (ArrayVec ℕ × Signature) → List (ArrayVec ℕ × TypeId) → ℕ → Table
+table_view types operations exceptions declared =
+    record { types = types; operations = map operation_view operations; exceptions = map exception_view exceptions; declared = declared }

@@ -1,0 +1,35 @@
+-- Types that a reader has room for, and whose parts each take some octet.
+use Rattle.std.specs.Prelude.{◌≡◌, ℕ, zero, suc, ◌<◌, ◌⊎◌}
+use Rattle.giop_sig.specs.declared.types.Selected.{Selected}
+use Rattle.giop_sig.specs.declared.types.Selected.TheVariants.{Case}
+use Rattle.giop_sig.specs.Types.{Ty, Struct, Union, Sequence, Array}
+
+-- each case that is selected is one of so many
+abbrev pub SelectsBelow : ℕ → (ℕ → Selected) → Type 0
+SelectsBelow count select = (n i : ℕ) → select n ≡ Case i → i < count
+
+-- the type takes some octet, and so does each of its parts
+unfoldable pub IsSolid : Ty → Type 0
+IsSolid (Struct count names parts) = (0 < count) × ((i : ℕ) → i < count → IsSolid (parts i))
+IsSolid (Array count T) = (0 < count) × IsSolid T
+IsSolid (Sequence bound T) = IsSolid T
+IsSolid (Union count scalar select names cases) = SelectsBelow count select × ((i : ℕ) → i < count → IsSolid (cases i))
+IsSolid T = Unit {0}
+
+-- no deeper than d, and each part takes some octet
+unfoldable pub IsFit : ℕ → Ty → Type 0
+IsFit (suc d) (Struct count names parts) = (0 < count) × ((i : ℕ) → i < count → IsFit d (parts i))
+IsFit (suc d) (Array count T) = (0 < count) × IsFit d T
+IsFit (suc d) (Sequence bound T) = IsFit d T
+IsFit (suc d) (Union count scalar select names cases) = SelectsBelow count select × ((i : ℕ) → i < count → IsFit d (cases i))
+IsFit (suc d) T = Unit {0}
+IsFit zero T = ⊥
+
+-- the struct without members, which takes no octet
+abbrev pub IsEmptyStruct : Ty → Type 0
+IsEmptyStruct (Struct zero names parts) = Unit {0}
+IsEmptyStruct T = ⊥
+
+-- what can stand at the root of a message: an empty struct stands nowhere else
+abbrev pub IsRoot : Ty → Type 0
+IsRoot T = IsFit 24 T ⊎ IsEmptyStruct T

@@ -1,0 +1,11 @@
+pub mod Types
+pub mod Table
+pub mod Trees
+pub mod Fits
+pub mod Builtin
+pub mod Views
+pub mod Headers
+pub mod Entries
+pub mod Literals
+pub mod Faults
+pub mod RequestList

@@ -1,0 +1,26 @@
+-- What the built-in table as it is written spells.
+use Rattle.std.specs.Prelude.{[], ◌∷◌, map, None}
+use Rattle.giop_cdr.specs.declared.number.Number.TheVariants.{Signed}
+use Rattle.giop_sig.specs.declared.types.Selected.TheVariants.{Refused}
+use Rattle.giop_sig.specs.declared.builtin.Literal.{Literal}
+use Rattle.giop_sig.specs.declared.builtin.Literal.TheVariants as literals
+use Rattle.giop_sig.specs.declared.builtin.Named.{Named}
+use Rattle.giop_sig.specs.declared.builtin.Labelled.{Labelled}
+use Rattle.giop_sig.specs.Table.{Node, Part, Case}
+use Rattle.giop_sig.specs.Table as nodes
+
+abbrev pub literal_part : Named → Part
+literal_part p = record { name = p.0.now; type = p.1 }
+
+abbrev pub literal_case : Labelled → Case
+literal_case c = record { labels = Signed c.0 ∷ []; part = record { name = c.1.now; type = c.2 } }
+
+abbrev pub literal_node : Literal → Node
+literal_node (literals.Prim p) = nodes.prim p
+literal_node literals.Text = nodes.text None
+literal_node literals.Octets = nodes.octets None
+literal_node (literals.Names names) = nodes.enumeration (map (λ n. n.now) names.now)
+literal_node (literals.Members parts) = nodes.members (map literal_part parts.now)
+literal_node (literals.Target switch cases) = nodes.union switch (map literal_case cases.now) Refused
+literal_node (literals.Sequence element) = nodes.sequence None element
+literal_node (literals.Array count element) = nodes.array count element

@@ -1,0 +1,227 @@
+-- The table that a catalogue is: one node for each type, which names the types of its parts by their numbers, and the operations
+-- and exceptions by their names.
+use Rattle.std.specs.Prelude.{ℕ, ◌+◌, ◌<◌, ◌≤◌, ◌==◌, Bool, false, List, [], ◌∷◌, ◌++◌, length, Option, Some, None, slice_index_or, slice_get, position}
+use Rattle.std.specs.Ordering.{int_eq}
+use mathlib.Core.Bool.{beq}
+use Rattle.std.specs.List.{list_any, All}
+use Rattle.std.specs.Option.{option_map}
+use Rattle.std.specs.Str.{bytes_eq}
+use Rattle.giop_cdr.specs.declared.prim.Primitive.{Primitive}
+use Rattle.giop_cdr.specs.declared.prim.Primitive.TheVariants as prims
+use Rattle.giop_cdr.specs.declared.number.Number.{Number}
+use Rattle.giop_cdr.specs.declared.number.Number.TheVariants as numbers
+use Rattle.giop_sig.specs.declared.types.TypeId.{TypeId}
+use Rattle.giop_sig.specs.declared.types.OpId.{OpId}
+use Rattle.giop_sig.specs.declared.types.Shape.{Shape}
+use Rattle.giop_sig.specs.declared.types.Shape.TheVariants as shapes
+use Rattle.giop_sig.specs.declared.types.Selected.{Selected}
+use Rattle.giop_sig.specs.declared.types.Selected.TheVariants as selecteds
+
+-- ---- nodes
+
+-- a member of a struct or a case of a union: its name, and the number of its type
+pub record Part : Type 0 where
+  pub name : List ℕ
+  pub type : ℕ
+
+-- a case of a union, with the labels that select it
+pub record Case : Type 0 where
+  pub labels : List Number
+  pub part : Part
+
+pub data Node : Type 0 where
+  prim : Primitive → Node
+  enumeration : List (List ℕ) → Node
+  text : Option ℕ → Node
+  octets : Option ℕ → Node
+  members : List Part → Node
+  -- the discriminator's type, the cases, and what is selected where no label is the number
+  union : ℕ → List Case → Selected → Node
+  sequence : Option ℕ → ℕ → Node
+  array : ℕ → ℕ → Node
+
+-- the node of a type
+abbrev pub node_in : List Node → ℕ → Node
+node_in types i = slice_index_or types i (prim prims.Octet)
+
+abbrev pub shape_of : Node → Shape
+shape_of (prim p) = shapes.Prim p
+shape_of (enumeration names) = shapes.Enumeration (length names)
+shape_of (text bound) = shapes.Text bound
+shape_of (octets bound) = shapes.Octets bound
+shape_of (members parts) = shapes.Members (length parts)
+shape_of (union switch cases otherwise) = shapes.Union (length cases)
+shape_of (sequence bound element) = shapes.Sequence bound
+shape_of (array count element) = shapes.Array count
+
+abbrev pub no_case : Case
+no_case = record { labels = []; part = record { name = []; type = 0 } }
+
+abbrev pub case_part : Option Case → Option Part
+case_part None = None
+case_part (Some c) = Some c.part
+
+abbrev pub element_part : ℕ → Part
+element_part element = record { name = []; type = element }
+
+-- the part at a place; an element stands at any place and has no name
+abbrev pub part_at : Node → ℕ → Option Part
+part_at (members parts) i = slice_get parts i
+part_at (union switch cases otherwise) i = case_part (slice_get cases i)
+part_at (sequence bound element) i = Some (element_part element)
+part_at (array count element) i = Some (element_part element)
+part_at node i = None
+
+abbrev pub type_of : Option Part → ℕ
+type_of None = 0
+type_of (Some p) = p.type
+
+abbrev pub name_of : Option Part → List ℕ
+name_of None = []
+name_of (Some p) = p.name
+
+-- the name of an enum's number
+abbrev pub name_at : Node → ℕ → Option (List ℕ)
+name_at (enumeration names) n = slice_get names n
+name_at node n = None
+
+abbrev pub switch_at : Node → ℕ
+switch_at (union switch cases otherwise) = switch
+switch_at node = 0
+
+-- ---- selection
+
+-- the same value of one type
+abbrev pub same_number : Number → Number → Bool
+same_number (numbers.Unsigned m) (numbers.Unsigned n) = m == n
+same_number (numbers.Signed m) (numbers.Signed n) = int_eq m n
+same_number (numbers.Bits m) (numbers.Bits n) = m == n
+same_number (numbers.Truth m) (numbers.Truth n) = beq m n
+same_number (numbers.Char m) (numbers.Char n) = m == n
+same_number _ _ = false
+
+-- the first case with the number among its labels
+abbrev pub case_with : Number → List Case → Option ℕ
+case_with n cases = position (λ c. list_any (λ label. same_number label n) c.labels) cases
+
+abbrev pub case_or : Option ℕ → Selected → Selected
+case_or (Some i) otherwise = selecteds.Case i
+case_or None otherwise = otherwise
+
+-- what the discriminator's value selects
+abbrev pub selected : Node → Number → Selected
+selected (union switch cases otherwise) n = case_or (case_with n cases) otherwise
+selected node n = selecteds.Nothing
+
+-- ---- the table
+
+-- an operation: its name, and the structs of its requests and of its replies
+pub record Operation : Type 0 where
+  pub name : List ℕ
+  pub request : ℕ
+  pub reply : ℕ
+
+-- an exception: its repository id, and the struct of its members
+pub record Exception : Type 0 where
+  pub repository : List ℕ
+  pub members : ℕ
+
+-- the built-in types stand first; declared says how many enums, structs and unions a signature file added
+pub record Table : Type 0 where
+  pub types : List Node
+  pub operations : List Operation
+  pub exceptions : List Exception
+  pub declared : ℕ
+
+abbrev pub node_at : Table → ℕ → Node
+node_at t i = node_in t.types i
+
+-- the number of a part's type
+abbrev pub part_number : Table → ℕ → ℕ → ℕ
+part_number t id i = type_of (part_at (node_at t id) i)
+
+abbrev pub op_id : ℕ → OpId
+op_id i = record { 0 = i }
+
+abbrev pub type_id : ℕ → TypeId
+type_id i = record { 0 = i }
+
+-- the number of the operation of a name: its place among the operations
+abbrev pub operation_number : Table → List ℕ → Option ℕ
+operation_number t name = position (λ o. bytes_eq name o.name) t.operations
+
+-- the operation of a name
+abbrev pub operation_in : Table → List ℕ → Option OpId
+operation_in t name = option_map op_id (operation_number t name)
+
+abbrev pub no_operation : Operation
+no_operation = record { name = []; request = 0; reply = 0 }
+
+abbrev pub operation_at : Table → ℕ → Operation
+operation_at t i = slice_index_or t.operations i no_operation
+
+abbrev pub no_exception : Exception
+no_exception = record { repository = []; members = 0 }
+
+abbrev pub members_at : Table → ℕ → TypeId
+members_at t i = type_id (slice_index_or t.exceptions i no_exception).members
+
+-- the struct of the exception with a repository id
+abbrev pub exception_in : Table → List ℕ → Option TypeId
+exception_in t repository = option_map (members_at t) (position (λ e. bytes_eq repository e.repository) t.exceptions)
+
+-- ---- what is added to a table
+
+abbrev pub with_type : Table → Node → Table
+with_type t node = record t { types = t.types ++ node ∷ [] }
+
+abbrev pub with_operation : Table → Operation → Table
+with_operation t o = record t { operations = t.operations ++ o ∷ [] }
+
+abbrev pub with_exception : Table → Exception → Table
+with_exception t e = record t { exceptions = t.exceptions ++ e ∷ [] }
+
+-- one enum, struct or union more is counted
+abbrev pub with_declared : Table → Table
+with_declared t = record t { declared = t.declared + 1 }
+
+-- ---- what holds of a table
+
+-- a type that takes some octet
+abbrev pub TakesOctet : Node → Type 0
+TakesOctet (members []) = ⊥
+TakesOctet node = Unit {0}
+
+-- a type that one number has for a part: it has a smaller number, and takes some octet
+pub record IsInner (types : List Node) (n i : ℕ) : Type 0 where
+  pub below : i < n
+  pub takes : TakesOctet (node_in types i)
+
+abbrev pub IsScalarNode : Node → Type 0
+IsScalarNode (prim p) = Unit {0}
+IsScalarNode (enumeration names) = Unit {0}
+IsScalarNode node = ⊥
+
+pub record IsSwitch (types : List Node) (n i : ℕ) : Type 0 where
+  pub below : i < n
+  pub scalar : IsScalarNode (node_in types i)
+
+pub record IsPart (types : List Node) (n : ℕ) (p : Part) : Type 0 where
+  pub inner : IsInner types n p.type
+  pub short : length p.name ≤ 64
+
+-- what is selected otherwise is one of so many cases
+abbrev pub IsCaseBelow : ℕ → Selected → Type 0
+IsCaseBelow count (selecteds.Case i) = i < count
+IsCaseBelow count s = Unit {0}
+
+-- a node that can stand at a number
+abbrev pub IsFormed : List Node → ℕ → Node → Type 0
+IsFormed types n (prim p) = Unit {0}
+IsFormed types n (enumeration names) = (length names ≤ 1024) × All (λ name. length name ≤ 64) names
+IsFormed types n (text bound) = Unit {0}
+IsFormed types n (octets bound) = Unit {0}
+IsFormed types n (members parts) = (length parts ≤ 256) × All (IsPart types n) parts
+IsFormed types n (union switch cases otherwise) = IsSwitch types n switch × (length cases ≤ 256) × All (λ c. IsPart types n c.part) cases × IsCaseBelow (length cases) otherwise
+IsFormed types n (sequence bound element) = IsInner types n element
+IsFormed types n (array count element) = (0 < count) × IsInner types n element

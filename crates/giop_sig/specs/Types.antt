@@ -1,0 +1,136 @@
+-- CDR's types as finite trees (CDR Transfer Syntax, Constructed Types). The parts of a type are named by their places, from 0.
+-- What a union's discriminator selects is told by the whole number that its octets spell: a label of a signed type is compared
+-- with that number taken in two's complement, so that -1 of a short is selected by the octets of 65535.
+use Rattle.std.specs.Prelude.{◌≡◌, ℕ, zero, suc, ◌+◌, ◌<◌, max, cond, nat_lt, List, [], Option, Some, None}
+use Rattle.giop_cdr.specs.declared.prim.Primitive.{Primitive}
+use Rattle.giop_cdr.specs.declared.number.Number.{Number}
+use Rattle.giop_cdr.specs.declared.number.Number.TheVariants as numbers
+use Rattle.giop_cdr.specs.Primitives.{size_of}
+use Rattle.giop_cdr.specs.Numbers.{taken_as}
+use Rattle.giop_sig.specs.declared.types.Selected.{Selected}
+use Rattle.giop_sig.specs.declared.types.Selected.TheVariants.{Nothing}
+use Rattle.giop_sig.specs.declared.types.Shape.{Shape}
+use Rattle.giop_sig.specs.declared.types.Shape.TheVariants as shapes
+
+-- A type of one number: a primitive, or an enum of so many names.
+pub data Scalar : Type 0 where
+  Plain : Primitive → Scalar
+  Enum : ℕ → (ℕ → List ℕ) → Scalar
+
+-- how many octets its number takes
+abbrev pub width : Scalar → ℕ
+width (Plain p) = size_of p
+width (Enum count names) = 4
+
+-- what a whole number is as a value of such a type: none for a boolean above 1
+abbrev pub taken_by : Scalar → ℕ → Option Number
+taken_by (Plain p) n = taken_as p n
+taken_by (Enum count names) n = Some (numbers.Unsigned n)
+
+pub data Ty : Type 0 where
+  Single : Scalar → Ty
+  -- a string, perhaps with a bound
+  Text : Option ℕ → Ty
+  -- a sequence of octets, perhaps with a bound
+  Octets : Option ℕ → Ty
+  -- how many parts, their names, their types
+  Struct : ℕ → (ℕ → List ℕ) → (ℕ → Ty) → Ty
+  -- how many cases, the discriminator, what each of its numbers selects, the cases' names and types
+  Union : ℕ → Scalar → (ℕ → Selected) → (ℕ → List ℕ) → (ℕ → Ty) → Ty
+  Sequence : Option ℕ → Ty → Ty
+  Array : ℕ → Ty → Ty
+
+-- ---- what stands in a type
+
+-- the part in a place; an element's for any place
+abbrev pub part_of : Ty → ℕ → Ty
+part_of (Struct count names parts) i = parts i
+part_of (Union count scalar select names cases) i = cases i
+part_of (Array count T) i = T
+part_of (Sequence bound T) i = T
+part_of T i = T
+
+-- the name of the part in a place; an element has none
+abbrev pub name_in : Ty → ℕ → List ℕ
+name_in (Struct count names parts) i = names i
+name_in (Union count scalar select names cases) i = names i
+name_in T i = []
+
+-- the name of an enum's number
+abbrev pub enum_name_in : Ty → ℕ → Option (List ℕ)
+enum_name_in (Single (Enum count names)) n = cond (nat_lt n count) (Some (names n)) None
+enum_name_in T n = None
+
+-- the type of a union's discriminator
+abbrev pub switch_of : Ty → Ty
+switch_of (Union count scalar select names cases) = Single scalar
+switch_of T = T
+
+-- what the whole number of a union's discriminator selects
+abbrev pub select_in : Ty → ℕ → Selected
+select_in (Union count scalar select names cases) n = select n
+select_in T n = Nothing
+
+-- what a discriminator's number is as a value, for a type of one number
+abbrev pub taken_in : Ty → ℕ → Option Number
+taken_in (Single scalar) n = taken_by scalar n
+taken_in T n = None
+
+-- ---- shapes and places
+
+-- what a type's outermost form is
+abbrev pub shape_in : Ty → Shape
+shape_in (Single (Plain p)) = shapes.Prim p
+shape_in (Single (Enum count names)) = shapes.Enumeration count
+shape_in (Text bound) = shapes.Text bound
+shape_in (Octets bound) = shapes.Octets bound
+shape_in (Struct count names parts) = shapes.Members count
+shape_in (Union count scalar select names cases) = shapes.Union count
+shape_in (Sequence bound T) = shapes.Sequence bound
+shape_in (Array count T) = shapes.Array count
+
+-- a type has that outermost form
+abbrev pub HasShape : Ty → Shape → Type 0
+HasShape T (shapes.Prim p) = T ≡ Single (Plain p)
+HasShape T (shapes.Enumeration count) = (names : ℕ → List ℕ) × (T ≡ Single (Enum count names))
+HasShape T (shapes.Text bound) = T ≡ Text bound
+HasShape T (shapes.Octets bound) = T ≡ Octets bound
+HasShape T (shapes.Members count) = (names : ℕ → List ℕ) × (parts : ℕ → Ty) × (T ≡ Struct count names parts)
+HasShape T (shapes.Union count) = (scalar : Scalar) × (select : ℕ → Selected) × (names : ℕ → List ℕ) × (cases : ℕ → Ty) × (T ≡ Union count scalar select names cases)
+HasShape T (shapes.Sequence bound) = (E : Ty) × (T ≡ Sequence bound E)
+HasShape T (shapes.Array count) = (E : Ty) × (T ≡ Array count E)
+
+-- a shape whose parts have names has a part in that place
+abbrev pub HasMember : Shape → ℕ → Type 0
+HasMember (shapes.Members count) i = i < count
+HasMember (shapes.Union count) i = i < count
+HasMember s i = ⊥
+
+-- a shape has a part in that place; elements stand in any place
+abbrev pub HasPlace : Shape → ℕ → Type 0
+HasPlace (shapes.Members count) i = i < count
+HasPlace (shapes.Union count) i = i < count
+HasPlace (shapes.Sequence bound) i = Unit {0}
+HasPlace (shapes.Array count) i = Unit {0}
+HasPlace s i = ⊥
+
+abbrev pub IsUnion : Shape → Type 0
+IsUnion (shapes.Union count) = Unit {0}
+IsUnion s = ⊥
+
+-- ---- depth
+
+-- the greatest of the first so many numbers, or 0
+abbrev pub most : ℕ → (ℕ → ℕ) → ℕ
+most zero f = 0
+most (suc n) f = max (most n f) (f n)
+
+-- 1 for a leaf, and 1 more than the deepest part; a union's discriminator is one of its parts
+unfoldable pub depth : Ty → ℕ
+depth (Single scalar) = 1
+depth (Text bound) = 1
+depth (Octets bound) = 1
+depth (Struct count names parts) = 1 + most count (λ i. depth (parts i))
+depth (Union count scalar select names cases) = 1 + max 1 (most count (λ i. depth (cases i)))
+depth (Sequence bound T) = 1 + depth T
+depth (Array count T) = 1 + depth T

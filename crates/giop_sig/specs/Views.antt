@@ -1,0 +1,41 @@
+-- What a caller sees of the entries that are kept.
+use Rattle.std.specs.Prelude.{◌≡◌, ℕ, ◌≤◌, List, length, map}
+use Rattle.giop_sig.specs.declared.entries.PartEntry.{PartEntry}
+use Rattle.giop_sig.specs.declared.entries.CaseEntry.{CaseEntry}
+use Rattle.giop_sig.specs.declared.entries.Entry.{Entry}
+use Rattle.giop_sig.specs.declared.entries.Entry.TheVariants as entries
+use Rattle.giop_sig.specs.declared.entries.Placed.{Placed}
+use Rattle.giop_sig.specs.Table.{Node, Part, Case, prim, enumeration, text, octets, members, union, sequence, array}
+use Rattle.giop_sig.specs.Trees.{AreTypes, trees_of, depths, depth_of}
+
+abbrev pub part_view : PartEntry → Part
+part_view p = record { name = p.name.items; type = p.type_id.0 }
+
+abbrev pub case_view : CaseEntry → Case
+case_view c = record { labels = c.labels.items; part = part_view c.part }
+
+abbrev pub node_view : Entry → Node
+node_view (entries.Prim p) = prim p
+node_view (entries.Enumeration names) = enumeration (map (λ n. n.items) names.items)
+node_view (entries.Text bound) = text bound
+node_view (entries.Octets bound) = octets bound
+node_view (entries.Members parts) = members (map part_view parts.items)
+node_view (entries.Union switch cases otherwise) = union switch.0 (map case_view cases.items) otherwise
+node_view (entries.Sequence bound element) = sequence bound element.0
+node_view (entries.Array count element) = array count element.0
+
+-- an entry whose parts or names are few enough to be counted in a shape
+abbrev pub IsSized : Entry → Type 0
+IsSized (entries.Enumeration names) = length names.items ≤ 1024
+IsSized (entries.Members parts) = length parts.items ≤ 256
+IsSized (entries.Union switch cases otherwise) = length cases.items ≤ 256
+IsSized entry = Unit {0}
+
+abbrev pub nodes_view : List Placed → List Node
+nodes_view ps = map (λ p. node_view p.entry) ps
+
+-- entries with the depths of their types, and the greatest of these
+pub record IsKept (ps : List Placed) (deepest : ℕ) : Type 0 where
+  pub types : AreTypes (nodes_view ps)
+  pub each : map (λ p. p.depth) ps ≡ depths (trees_of (nodes_view ps))
+  pub greatest : deepest ≡ depth_of (nodes_view ps)

@@ -1,0 +1,342 @@
+//! The catalogue: the types of a signature file with the built-in ones, and its operations and exceptions by name.
+ghost use Rattle.std.specs.Prelude.{◌≡◌, ℕ, ◌<◌, ◌≤◌, ◌↔◌, length, IsTrue, IfSome, IfOk, IfErr, OnOk, OnErr, None, MatchOption};
+ghost use Rattle.std.specs.Option.{option_map};
+ghost use Rattle.giop_sig.specs.Types.{depth, part_of, name_in, enum_name_in, switch_of, select_in, taken_in, shape_in, HasShape, HasMember, HasPlace, IsUnion};
+ghost use Rattle.giop_sig.specs.Fits.{IsFit, IsRoot};
+ghost use Rattle.giop_sig.specs.Table.{node_at, shape_of, part_number, part_at, name_of, name_at, switch_at, selected, operation_in, operation_at, exception_in, IsFormed, with_type, with_declared, with_operation, with_exception};
+ghost use Rattle.giop_sig.specs.Trees.{tree, grow, depth_of};
+ghost use Rattle.giop_sig.specs.Headers.{header_number, header_type, fixed_number, fixed_type, IdStandsFirst, BeginsWithId, IsTable};
+
+use crate::builtin::{builtin_list, fixed_id, header_id};
+use crate::entries::{Entry, Types};
+use crate::fault::SigFault;
+use crate::types::{Counts, Fixed, OpId, Selected, Shape, TypeId};
+use arrayvec::ArrayVec;
+use giop_cdr::Number;
+use indexmap::IndexMap;
+use std::alloc::Global;
+use std::marker::Model;
+
+/// The octets of an operation's name or of a repository id.
+pub(crate) type Name = ArrayVec<u8, 128>;
+
+/// The structs of an operation's requests and of its replies.
+#[derive(Clone, Copy, Debug)]
+pub(crate) struct Signature {
+    pub(crate) request: TypeId,
+    pub(crate) reply: TypeId,
+}
+
+/// A table of types, in which every part has a smaller number than its whole, with the operations and exceptions
+/// of a signature file. A contract sees the whole `Table`.
+#[derive(Drop)]
+pub struct Catalogue {
+    types: Types,
+    operations: IndexMap<Name, Signature>,
+    exceptions: IndexMap<Name, TypeId>,
+    declared: u32,
+}
+
+impl Model for Catalogue {
+    ghost use Rattle.giop_sig.specs.Table.{Table};
+    ghost use Rattle.giop_sig.specs.Headers.{IsTable};
+    ghost use Rattle.giop_sig.specs.Entries.{table_view};
+
+    ghost Value = { Table };
+
+    ghost view = { λ a. table_view a.types a.operations.entries a.exceptions.entries a.declared };
+
+    ghost invariant = { λ a. IsTable (table_view a.types a.operations.entries a.exceptions.entries a.declared) };
+}
+
+impl Catalogue {
+    ghost use Rattle.giop_sig.specs.Builtin.{builtin_table};
+    ghost use Rattle.giop_sig.specs.Faults.{no_memory};
+    ghost use Rattle.giop_sig.specs.Views.{node_view};
+
+    /// The catalogue of no declarations: the built-in types alone. Refused only for memory.
+    pub fn builtin(alloc: Global) -> Result<Catalogue, SigFault>
+        ensures ok { IfOk result (λ catalogue. catalogue ≡ builtin_table) }
+        ensures err { IfErr result (λ fault. fault ≡ no_memory) }
+    {
+        let types = builtin_list(alloc)?;
+        Ok(Catalogue {
+            types,
+            operations: IndexMap::new(alloc),
+            exceptions: IndexMap::new(alloc),
+            declared: 0,
+        })
+    }
+
+    /// What holds of every catalogue: it has no body, and is called for its contract.
+    pub fn laws(&self)
+        ensures { IsTable self.now }
+    {
+        let _types = &self.types;
+    }
+
+    /// The depth of the deepest type, the built-in ones included: 7 to 24.
+    pub fn depth(&self) -> u8
+        ensures depth { result ≡ depth_of self.now.types }
+        ensures least { 7 ≤ result }
+        ensures most { result ≤ 24 }
+    {
+        self.types.deepest()
+    }
+
+    /// How much the signature file has.
+    pub fn counts(&self) -> Counts
+        ensures types { result.types ≡ self.now.declared }
+        ensures operations { result.operations ≡ length self.now.operations }
+        ensures exceptions { result.exceptions ≡ length self.now.exceptions }
+    {
+        Counts {
+            types: self.declared,
+            operations: self.operations.len() as u32,
+            exceptions: self.exceptions.len() as u32,
+        }
+    }
+
+    /// Whether there is a type of this number.
+    pub fn has(&self, t: TypeId) -> bool
+        ensures { IsTrue result ↔ (t.0 < length self.now.types) }
+    {
+        t.0 < self.types.len()
+    }
+
+    /// The outermost form of a type.
+    pub fn shape(&self, t: TypeId) -> Shape
+        requires { t.0 < length self.now.types }
+        ensures is { result ≡ shape_of (node_at self.now t.0) }
+        ensures tree { result ≡ shape_in (tree self.now t.0) }
+        ensures shape { HasShape (tree self.now t.0) result }
+        ensures root { IsRoot (tree self.now t.0) }
+    {
+        self.types.entry(t).shape()
+    }
+
+    /// The type of the part at a place: of a member or a case by its place from 0, of an element for any place.
+    pub fn part(&self, t: TypeId, place: u32) -> TypeId
+        requires known { t.0 < length self.now.types }
+        requires place { HasPlace (shape_in (tree self.now t.0)) place }
+        ensures number { result.0 ≡ part_number self.now t.0 place }
+        ensures below { result.0 < t.0 }
+        ensures tree { tree self.now result.0 ≡ part_of (tree self.now t.0) place }
+    {
+        self.types.entry(t).part(place)
+    }
+
+    /// The name of the member or case at a place.
+    pub fn part_name(&self, t: TypeId, place: u32) -> &[u8]
+        requires known { t.0 < length self.now.types }
+        requires place { HasMember (shape_in (tree self.now t.0)) place }
+        ensures name { result.now ≡ name_of (part_at (node_at self.now t.0) place) }
+        ensures tree { result.now ≡ name_in (tree self.now t.0) place }
+        ensures short { length result.now ≤ 64 }
+    {
+        self.types.entry(t).part_name(place)
+    }
+
+    /// The name of an enum's number; None where the type is no enum, or has fewer names.
+    pub fn enum_name(&self, t: TypeId, number: u32) -> Option<&[u8]>
+        requires { t.0 < length self.now.types }
+        ensures name { option_map (λ x. x.now) result ≡ name_at (node_at self.now t.0) number }
+        ensures tree { option_map (λ x. x.now) result ≡ enum_name_in (tree self.now t.0) number }
+        ensures short { IfSome result (λ x. length x.now ≤ 64) }
+    {
+        self.types.entry(t).enum_name(number)
+    }
+
+    /// The type of a union's discriminator.
+    pub fn switch_type(&self, t: TypeId) -> TypeId
+        requires known { t.0 < length self.now.types }
+        requires union { IsUnion (shape_in (tree self.now t.0)) }
+        ensures number { result.0 ≡ switch_at (node_at self.now t.0) }
+        ensures below { result.0 < t.0 }
+        ensures tree { tree self.now result.0 ≡ switch_of (tree self.now t.0) }
+    {
+        self.types.entry(t).switch_type()
+    }
+
+    /// What a discriminator's value selects; Nothing where the type is no union. Only the built-in target refuses one.
+    pub fn select(&self, t: TypeId, number: Number) -> Selected
+        requires { t.0 < length self.now.types }
+        ensures is { result ≡ selected (node_at self.now t.0) number }
+        // By the whole number that the discriminator's octets spell.
+        ensures tree { (n : ℕ) → taken_in (switch_of (tree self.now t.0)) n ≡ Some number → result ≡ select_in (tree self.now t.0) n }
+        ensures place { (i : ℕ) → result ≡ Selected.Case i → HasMember (shape_in (tree self.now t.0)) i }
+    {
+        self.types.entry(t).select(number)
+    }
+
+    /// The header type of a message: of its minor version, and of the number of its message type. None for a message
+    /// without a header type, and where there is no such version or type.
+    pub fn header(&self, minor: u8, kind: u8) -> Option<TypeId>
+        ensures number { option_map (λ t. t.0) result ≡ header_number minor kind }
+        ensures known { IfSome result (λ t. t.0 < length self.now.types) }
+        ensures tree { option_map (λ t. tree self.now t.0) result ≡ header_type minor kind }
+        ensures fit { IfSome result (λ t. IsFit 24 (tree self.now t.0)) }
+        // A reader that knows no type finds the request id at the front.
+        ensures id { IdStandsFirst minor kind → IfSome result (λ t. BeginsWithId (tree self.now t.0)) }
+    {
+        self.laws();
+        header_id(minor, kind)
+    }
+
+    /// The type of a body that no signature file declares.
+    pub fn fixed(&self, fixed: Fixed) -> TypeId
+        ensures number { result.0 ≡ fixed_number fixed }
+        ensures known { result.0 < length self.now.types }
+        ensures tree { tree self.now result.0 ≡ fixed_type fixed }
+        ensures fit { IsFit 24 (tree self.now result.0) }
+    {
+        self.laws();
+        fixed_id(fixed)
+    }
+
+    /// The operation of a name. It takes no memory; a name of more than 128 octets has none.
+    pub fn operation(&self, name: &[u8]) -> Option<OpId>
+        ensures is { result ≡ operation_in self.now name.now }
+        ensures known { IfSome result (λ o. o.0 < length self.now.operations) }
+    {
+        let operations = &self.operations;
+        let key = key_of(name)?;
+        let place = operations.get_index_of(&key)?;
+        Some(OpId(place as u32))
+    }
+
+    /// The struct of the exception with a repository id. It takes no memory; an id of more than 128 octets has none.
+    pub fn exception(&self, repository: &[u8]) -> Option<TypeId>
+        ensures is { result ≡ exception_in self.now repository.now }
+        ensures known { IfSome result (λ t. t.0 < length self.now.types) }
+    {
+        let exceptions = &self.exceptions;
+        let key = key_of(repository)?;
+        let found = exceptions.get_full(&key)?;
+        Some(*found.2)
+    }
+
+    /// Whether there is an operation of this number.
+    pub fn has_operation(&self, operation: OpId) -> bool
+        ensures { IsTrue result ↔ (operation.0 < length self.now.operations) }
+    {
+        (operation.0 as usize) < self.operations.len()
+    }
+
+    /// The struct of an operation's requests.
+    pub fn request_of(&self, operation: OpId) -> TypeId
+        requires { operation.0 < length self.now.operations }
+        ensures is { result.0 ≡ (operation_at self.now operation.0).request }
+        ensures known { result.0 < length self.now.types }
+    {
+        self.signature(operation).request
+    }
+
+    /// The struct of an operation's replies.
+    pub fn reply_of(&self, operation: OpId) -> TypeId
+        requires { operation.0 < length self.now.operations }
+        ensures is { result.0 ≡ (operation_at self.now operation.0).reply }
+        ensures known { result.0 < length self.now.types }
+    {
+        self.signature(operation).reply
+    }
+
+    /// The depth of a type.
+    pub(crate) fn depth_at(&self, t: TypeId) -> u8
+        requires { t.0 < length self.now.types }
+        ensures { result ≡ depth (tree self.now t.0) }
+    {
+        self.types.depth_at(t)
+    }
+
+    /// The depth that an entry's type would have.
+    pub(crate) fn depth_above(&self, entry: &Entry) -> u8
+        requires { IsFormed self.now.types (length self.now.types) (node_view entry.now) }
+        ensures depth { result ≡ depth (grow (tree self.now) (node_view entry.now)) }
+        ensures shallow { result ≤ 25 }
+    {
+        self.types.depth_above(entry)
+    }
+
+    /// Adds a type, of an entry that is no deeper than 24. An `Err` changes nothing.
+    pub(crate) fn add_type(&mut self, entry: Entry) -> Result<TypeId, SigFault>
+        requires formed { IsFormed self.old.types (length self.old.types) (node_view entry) }
+        requires shallow { depth (grow (tree self.old) (node_view entry)) ≤ 24 }
+        ensures number { IfOk result (λ t. t.0 ≡ length self.old.types) }
+        ensures added { OnOk result (self.new ≡ with_type self.old (node_view entry)) }
+        ensures memory { IfErr result (λ fault. fault ≡ no_memory) }
+        ensures err { OnErr result (self.new ≡ self.old) }
+    {
+        let t = self.types.add(entry)?;
+        self.types.laws();
+        Ok(t)
+    }
+
+    /// Counts one enum, struct or union more.
+    pub(crate) fn count_declared(&mut self)
+        requires { self.old.declared < 4096 }
+        ensures { self.new ≡ with_declared self.old }
+    {
+        self.declared += 1;
+    }
+
+    /// Adds an operation of a new name. An `Err` changes nothing.
+    pub(crate) fn add_operation(
+        &mut self,
+        name: &[u8],
+        request: TypeId,
+        reply: TypeId,
+    ) -> Result<(), SigFault>
+        requires short { length name.now ≤ 128 }
+        requires new { operation_in self.old name.now ≡ None }
+        requires few { length self.old.operations < 4096 }
+        requires request { request.0 < length self.old.types }
+        requires reply { reply.0 < length self.old.types }
+        ensures added { OnOk result (self.new ≡ with_operation self.old (record { name = name.now; request = request.0; reply = reply.0 })) }
+        ensures memory { IfErr result (λ fault. fault ≡ no_memory) }
+        ensures err { OnErr result (self.new ≡ self.old) }
+    {
+        let key: Name = ArrayVec::try_from(name).unwrap();
+        self.operations.insert(key, Signature { request, reply })?;
+        Ok(())
+    }
+
+    /// Adds an exception of a new repository id. An `Err` changes nothing.
+    pub(crate) fn add_exception(
+        &mut self,
+        repository: &[u8],
+        members: TypeId,
+    ) -> Result<(), SigFault>
+        requires short { length repository.now ≤ 128 }
+        requires new { exception_in self.old repository.now ≡ None }
+        requires few { length self.old.exceptions < 4096 }
+        requires members { members.0 < length self.old.types }
+        ensures added { OnOk result (self.new ≡ with_exception self.old (record { repository = repository.now; members = members.0 })) }
+        ensures memory { IfErr result (λ fault. fault ≡ no_memory) }
+        ensures err { OnErr result (self.new ≡ self.old) }
+    {
+        let key: Name = ArrayVec::try_from(repository).unwrap();
+        self.exceptions.insert(key, members)?;
+        Ok(())
+    }
+
+    // What is kept of an operation.
+    fn signature(&self, operation: OpId) -> Signature
+        requires { operation.0 < length self.now.operations }
+        ensures request { result.request.0 ≡ (operation_at self.now operation.0).request }
+        ensures reply { result.reply.0 ≡ (operation_at self.now operation.0).reply }
+        ensures known { (result.request.0 < length self.now.types) × (result.reply.0 < length self.now.types) }
+    {
+        match self.operations.get_index(operation.0 as usize) {
+            Some((_, signature)) => *signature,
+            None => unreachable!(),
+        }
+    }
+}
+
+// The key of a name; None for one of more than 128 octets.
+fn key_of(name: &[u8]) -> Option<Name>
+    ensures { MatchOption result (128 < length name.now) (λ key. key.items ≡ name.now) }
+{
+    ArrayVec::try_from(name).ok()
+}

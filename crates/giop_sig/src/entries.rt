@@ -1,0 +1,286 @@
+//! The types of a catalogue as they are kept: an entry for each, with its depth.
+ghost use Rattle.std.specs.Prelude.{◌≡◌, ℕ, ◌<◌, ◌≤◌, ◌++◌, ◌∷◌, [], length, map, IfOk, OnOk, OnErr, IfSome, max};
+ghost use Rattle.std.specs.Option.{option_map};
+ghost use Rattle.std.specs.List.{list_any};
+ghost use Rattle.giop_sig.specs.Types.{depth, most, HasPlace, HasMember, IsUnion};
+ghost use Rattle.giop_sig.specs.Table.{node_in, IsFormed, shape_of, part_at, type_of, name_of, name_at, switch_at, selected, same_number, case_with};
+ghost use Rattle.giop_sig.specs.Trees.{grow, type_in, depth_of, part_depth, AreTypes};
+ghost use Rattle.giop_sig.specs.Views.{part_view, case_view};
+
+use crate::types::{Selected, Shape, TypeId};
+use giop_cdr::{Number, Prim};
+use std::alloc::{AllocError, Global};
+use std::marker::Model;
+
+/// A member of a struct, or a case of a union.
+#[derive(Drop)]
+pub(crate) struct PartEntry {
+    pub(crate) name: Vec<u8>,
+    pub(crate) type_id: TypeId,
+}
+
+/// A case of a union, with the labels that select it.
+#[derive(Drop)]
+pub(crate) struct CaseEntry {
+    pub(crate) labels: Vec<Number>,
+    pub(crate) part: PartEntry,
+}
+
+/// A type, by the numbers of its parts.
+#[derive(Drop)]
+pub(crate) enum Entry {
+    /// One number.
+    Prim(Prim),
+    /// An enum, by its names.
+    Enumeration(Vec<Vec<u8>>),
+    /// A string, perhaps with a bound.
+    Text(Option<u32>),
+    /// A sequence of octets, perhaps with a bound.
+    Octets(Option<u32>),
+    /// A struct.
+    Members(Vec<PartEntry>),
+    /// A union: its discriminator, its cases, and what is selected where no label is the number.
+    Union(TypeId, Vec<CaseEntry>, Selected),
+    /// A sequence, perhaps with a bound, of elements.
+    Sequence(Option<u32>, TypeId),
+    /// An array of so many elements.
+    Array(u32, TypeId),
+}
+
+impl Entry {
+    ghost use Rattle.giop_sig.specs.Views.{node_view, IsSized};
+
+    /// The outermost form of the type.
+    pub(crate) fn shape(&self) -> Shape
+        requires { IsSized self.now }
+        ensures { result ≡ shape_of (node_view self.now) }
+    {
+        match self {
+            Entry::Prim(p) => Shape::Prim(*p),
+            Entry::Enumeration(names) => Shape::Enumeration(names.len() as u32),
+            Entry::Text(bound) => Shape::Text(*bound),
+            Entry::Octets(bound) => Shape::Octets(*bound),
+            Entry::Members(parts) => Shape::Members(parts.len() as u32),
+            Entry::Union(_, cases, _) => Shape::Union(cases.len() as u32),
+            Entry::Sequence(bound, _) => Shape::Sequence(*bound),
+            Entry::Array(count, _) => Shape::Array(*count),
+        }
+    }
+
+    /// The type of the part at a place, of an element for any place.
+    pub(crate) fn part(&self, place: u32) -> TypeId
+        requires { HasPlace (shape_of (node_view self.now)) place }
+        ensures { result.0 ≡ type_of (part_at (node_view self.now) place) }
+    {
+        match self {
+            Entry::Members(parts) => parts[place as usize].type_id,
+            Entry::Union(_, cases, _) => cases[place as usize].part.type_id,
+            Entry::Sequence(_, element) => *element,
+            Entry::Array(_, element) => *element,
+            _ => unreachable!(),
+        }
+    }
+
+    /// The name of the member or case at a place.
+    pub(crate) fn part_name(&self, place: u32) -> &[u8]
+        requires { HasMember (shape_of (node_view self.now)) place }
+        ensures { result.now ≡ name_of (part_at (node_view self.now) place) }
+    {
+        match self {
+            Entry::Members(parts) => &parts[place as usize].name,
+            Entry::Union(_, cases, _) => &cases[place as usize].part.name,
+            _ => unreachable!(),
+        }
+    }
+
+    /// The name of an enum's number.
+    pub(crate) fn enum_name(&self, number: u32) -> Option<&[u8]>
+        ensures { option_map (λ x. x.now) result ≡ name_at (node_view self.now) number }
+    {
+        match self {
+            Entry::Enumeration(names) => match names.get(number as usize) {
+                Some(name) => Some(name.as_slice()),
+                None => None,
+            },
+            _ => None,
+        }
+    }
+
+    /// The type of a union's discriminator.
+    pub(crate) fn switch_type(&self) -> TypeId
+        requires { IsUnion (shape_of (node_view self.now)) }
+        ensures { result.0 ≡ switch_at (node_view self.now) }
+    {
+        match self {
+            Entry::Union(switch, _, _) => *switch,
+            _ => unreachable!(),
+        }
+    }
+
+    /// What a discriminator's value selects.
+    pub(crate) fn select(&self, number: Number) -> Selected
+        requires { IsSized self.now }
+        ensures { result ≡ selected (node_view self.now) number }
+    {
+        match self {
+            Entry::Union(_, cases, otherwise) => match case_of(cases, number) {
+                Some(place) => Selected::Case(place),
+                None => *otherwise,
+            },
+            _ => Selected::Nothing,
+        }
+    }
+}
+
+// Whether the number is among the labels.
+fn has_label(labels: &[Number], number: Number) -> bool
+    ensures { result ≡ list_any (λ label. same_number label number) labels.now }
+{
+    labels.contains(&number)
+}
+
+// The first case with the number among its labels.
+fn case_of(cases: &[CaseEntry], number: Number) -> Option<u32>
+    requires { length cases.now ≤ 256 }
+    ensures { result ≡ case_with number (map case_view cases.now) }
+{
+    match cases
+        .iter()
+        .position(|case| has_label(&case.labels, number))
+    {
+        None => None,
+        Some(place) => Some(place as u32),
+    }
+}
+
+/// An entry with the depth of its type.
+#[derive(Drop)]
+pub(crate) struct Placed {
+    pub(crate) entry: Entry,
+    pub(crate) depth: u8,
+}
+
+/// Types, each numbered by its place, every part below its whole.
+#[derive(Drop)]
+pub(crate) struct Types {
+    placed: Vec<Placed>,
+    deepest: u8,
+}
+
+impl Model for Types {
+    ghost use Rattle.std.specs.Prelude.{List};
+    ghost use Rattle.giop_sig.specs.Table.{Node};
+    ghost use Rattle.giop_sig.specs.Views.{nodes_view, IsKept};
+
+    ghost Value = { List Node };
+
+    ghost view = { λ a. nodes_view a.placed.items };
+
+    ghost invariant = { λ a. IsKept a.placed.items a.deepest };
+}
+
+impl Types {
+    ghost use Rattle.giop_sig.specs.Views.{node_view, IsSized};
+
+    /// No types.
+    pub(crate) fn new(alloc: Global) -> Types
+        ensures { result ≡ [] }
+    {
+        Types {
+            placed: Vec::new(alloc),
+            deepest: 0,
+        }
+    }
+
+    /// What holds of every list of types: it has no body, and is called for its contract.
+    pub(crate) fn laws(&self)
+        ensures { AreTypes self.now }
+    {
+        let _placed = &self.placed;
+    }
+
+    /// How many types there are.
+    pub(crate) fn len(&self) -> u32
+        ensures { result ≡ length self.now }
+    {
+        self.placed.len() as u32
+    }
+
+    /// The entry of a type.
+    pub(crate) fn entry(&self, t: TypeId) -> &Entry
+        requires { t.0 < length self.now }
+        ensures node { node_view result.now ≡ node_in self.now t.0 }
+        ensures formed { IsFormed self.now t.0 (node_view result.now) }
+        ensures sized { IsSized result.now }
+    {
+        &self.placed[t.0 as usize].entry
+    }
+
+    /// The depth of a type.
+    pub(crate) fn depth_at(&self, t: TypeId) -> u8
+        requires { t.0 < length self.now }
+        ensures depth { result ≡ depth (type_in self.now t.0) }
+        ensures shallow { result ≤ 24 }
+    {
+        self.placed[t.0 as usize].depth
+    }
+
+    /// The greatest depth of a type, 0 where there is none.
+    pub(crate) fn deepest(&self) -> u8
+        ensures depth { result ≡ depth_of self.now }
+        ensures shallow { result ≤ 24 }
+    {
+        self.deepest
+    }
+
+    /// The depth that an entry's type would have: 1 for a leaf, and 1 more than its deepest part.
+    pub(crate) fn depth_above(&self, entry: &Entry) -> u8
+        requires { IsFormed self.now (length self.now) (node_view entry.now) }
+        ensures depth { result ≡ depth (grow (type_in self.now) (node_view entry.now)) }
+        ensures shallow { result ≤ 25 }
+    {
+        match entry.shape() {
+            Shape::Prim(_) => 1,
+            Shape::Enumeration(_) => 1,
+            Shape::Text(_) => 1,
+            Shape::Octets(_) => 1,
+            Shape::Members(count) => 1 + self.deepest_part(entry, count),
+            Shape::Union(count) => 1 + self.deepest_part(entry, count).max(1),
+            Shape::Sequence(_) => 1 + self.depth_at(entry.part(0)),
+            Shape::Array(_) => 1 + self.depth_at(entry.part(0)),
+        }
+    }
+
+    // The depth of the deepest of an entry's first so many parts, 0 where there is none.
+    fn deepest_part(&self, entry: &Entry, count: u32) -> u8
+        requires place { (i : ℕ) → i < count → HasPlace (shape_of (node_view entry.now)) i }
+        requires below { (i : ℕ) → i < count → type_of (part_at (node_view entry.now) i) < length self.now }
+        ensures depth { result ≡ most count (part_depth self.now (node_view entry.now)) }
+        ensures shallow { result ≤ 24 }
+    {
+        let mut deepest = 0;
+        for place in 0..count {
+            deepest = self.depth_at(entry.part(place)).max(deepest);
+        }
+        deepest
+    }
+
+    /// Adds a type at the end, of an entry that is no deeper than 24. An `Err` changes nothing: memory was refused, or
+    /// all numbers of types are used up.
+    pub(crate) fn add(&mut self, entry: Entry) -> Result<TypeId, AllocError>
+        requires formed { IsFormed self.old (length self.old) (node_view entry) }
+        requires shallow { depth (grow (type_in self.old) (node_view entry)) ≤ 24 }
+        ensures number { IfOk result (λ t. t.0 ≡ length self.old) }
+        ensures added { OnOk result (self.new ≡ self.old ++ node_view entry ∷ []) }
+        ensures err { OnErr result (self.new ≡ self.old) }
+    {
+        let number = self.len();
+        if number == u32::MAX {
+            return Err(AllocError);
+        }
+        let depth = self.depth_above(&entry);
+        self.placed.push(Placed { entry, depth })?;
+        self.deepest = self.deepest.max(depth);
+        Ok(TypeId(number))
+    }
+}
