@@ -1,0 +1,103 @@
+-- A decoder before and after an octet.
+use Rattle.std.proofs.Common.{◌≡◌, ℕ, suc, ◌-◌, ◌<◌, List, [], ◌∷◌, ◌++◌, length, Option, Some, None, refl, sym, ◌∙◌, ap, subst, append-nil, arith}
+use Rattle.giop_cdr.specs.declared.order.Order.{Order}
+use Rattle.giop_decode.specs.declared.leaf.Turn.{Turn}
+use Rattle.giop_decode.specs.declared.leaf.Turn.TheVariants as turns
+use Rattle.giop_decode.specs.declared.progress.Progress.{Progress}
+use Rattle.giop_decode.specs.Spine.{Seg, Line, Place, Part, Member, Read, Done, Short, Fault, within, lines_of}
+use Rattle.giop_decode.specs.Reading.{parts_from}
+use Rattle.giop_decode.specs.Begins.{start_outer, start_leaf}
+use Rattle.giop_decode.specs.Steps.{around, part_at, seg_of}
+use Rattle.giop_decode.proofs.Now.{Quiet, quiet_followed, quiet_within, parts_quiet}
+use Rattle.giop_decode.proofs.Resuming.{lines_front}
+use Rattle.giop_decode.proofs.Settling.{around_done}
+use Rattle.giop_sig.specs.Types.{Ty, part_of}
+use Rattle.giop_print.specs.Output.{OutLog, WroteFront, Writes}
+use Rattle.std.specs.Prelude.{Result, IsErr}
+use Rattle.std.proofs.Common.{Ok, Err}
+use Rattle.giop_decode.specs.declared.decoder.Decoder.{Decoder}
+use Rattle.giop_decode.specs.declared.leaf.Leaf.{Leaf as Innermost}
+use Rattle.giop_decode.specs.declared.leaf.Leaf.TheVariants as innermost
+use Rattle.giop_decode.specs.Fits.{FitsIn, OpenFrom, leaf_ty}
+use Rattle.giop_decode.specs.Turns.{places, leaf_of, leaf_type, turned}
+use Rattle.giop_decode.specs.Holding.{Fits, standing, settled, Comes, GoesOn, IsProgress}
+use Rattle.giop_decode.proofs.Around.{fit_room, around-fault, around-short}
+use Rattle.giop_decode.proofs.Going.{length_places}
+use Rattle.giop_decode.proofs.Leaving.{leaf_at}
+use Rattle.giop_sig.specs.Fits.{IsFit}
+use Rattle.giop_sig.specs.Table.{Table}
+use Rattle.giop_sig.specs.Trees.{tree}
+
+leaf_ty-leaf_of : (C : Table) (leaf : Innermost) (carry piece : List ℕ) → leaf_ty (leaf_of C leaf carry piece) ≡ tree C (leaf_type leaf)
+leaf_ty-leaf_of C (innermost.Number of) carry piece = refl
+leaf_ty-leaf_of C (innermost.Content of total offset) carry piece = refl
+
+pub record Stands (C : Table) (d : Decoder) (leaf : Innermost) : Type 0 where
+  pub are_open : OpenFrom 24 (places C d.outer.items)
+  pub fits : FitsIn (tree C (leaf_type leaf)) [] (leaf_of C leaf d.carry d.piece.items)
+  pub fit : IsFit (24 - length d.outer.items) (tree C (leaf_type leaf))
+  pub room : length d.outer.items < 24
+
+pub stands : (C : Table) (d : Decoder) (f : Fits C d) → Stands C d f.leaf
+stands C d f =
+    let l = leaf_at 24 (tree C f.root) (places C d.outer.items) (leaf_of C f.leaf d.carry d.piece.items) f.fits f.fit in
+    let ty = leaf_ty-leaf_of C f.leaf d.carry d.piece.items in
+    let left : l.left ≡ 24 - length d.outer.items = omega (arith, l.depth, length_places C d.outer.items) in
+    let some : 0 < l.left = fit_room l.left (leaf_ty (leaf_of C f.leaf d.carry d.piece.items)) l.fit in
+    record {
+      are_open = l.are_open;
+      fits = rw ty at l.fits;
+      fit = rw (← left, ← ty) l.fit;
+      room = omega arith;
+    }
+
+same_some : (a b : Innermost) → Some a ≡ Some b → a ≡ b
+same_some a b e = cc
+
+pub stands_at : (C : Table) (d : Decoder) (f : Fits C d) (leaf : Innermost) → d.leaf ≡ Some leaf → Stands C d leaf
+stands_at C d f leaf e = subst (Stands C d) (same_some f.leaf leaf (sym f.goes_on ∙ e)) (stands C d f)
+
+goes_by : (C : Table) (T : Ty) (d : Decoder) (leaf : Option Innermost) (lines : List Line) (at : ℕ) (p : Progress) (r : Read) → d.leaf ≡ leaf → r ≡ standing C d lines at → GoesOn leaf p → Comes C d p at r
+goes_by C T d None lines at p r is e h = rw h (lines, (e, is))
+goes_by C T d (Some leaf) lines at p r is e h = rw h (lines, (e, (leaf, is)))
+
+pub comes_by : (C : Table) (T : Ty) (d : Decoder) (turn : Turn) (lines : List Line) (at : ℕ) (p : Progress) (r : Read) → r ≡ settled C T d turn lines at → IsProgress turn d.leaf p → Comes C d p at r
+comes_by C T d (turns.Refused kind) lines at p r e h = rw h (lines, (T, e))
+comes_by C T d (turns.More leaf) lines at p r e h = goes_by C T d d.leaf lines at p r refl e h
+comes_by C T d turns.Ended lines at p r e h = goes_by C T d d.leaf lines at p r refl e h
+comes_by C T d (turns.Opened count) lines at p r e h = goes_by C T d d.leaf lines at p r refl e h
+comes_by C T d (turns.Selected i) lines at p r e h = goes_by C T d d.leaf lines at p r refl e h
+
+around_quiet : (n : ℕ) (order : Order) (path : List Seg) (outer : List Place) (r : Read) → Quiet n r → Quiet n (around order path outer r)
+around_quiet n order path [] r h = h
+around_quiet n order path (Part T i count ∷ outer) r h =
+    let inner = around order (path ++ seg_of T i ∷ []) outer r in
+    quiet_followed n (within (Part T i count) inner) (parts_from (part_at order path T count) (count - suc i) (suc i))
+    (quiet_within n (Part T i count) inner (around_quiet n order (path ++ seg_of T i ∷ []) outer r h))
+    (parts_quiet order path T count n (count - suc i) (suc i))
+around_quiet n order path (Member T i ∷ outer) r h =
+    quiet_within n (Member T i) (around order (path ++ seg_of T i ∷ []) outer r) (around_quiet n order (path ++ seg_of T i ∷ []) outer r h)
+
+quiet_lines : (n : ℕ) (r : Read) → Quiet n r → lines_of r ≡ []
+quiet_lines n (Done lines at rest) h = h.0
+quiet_lines n (Short lines at outer leaf) h = h.0
+quiet_lines n (Fault lines at kind S) h = absurd h
+
+-- nothing is said but by the innermost part
+pub lines_turned : (C : Table) (order : Order) (path : List Seg) (ps : List Place) (T : Ty) (turn : Turn) (carry piece : List ℕ) (lines : List Line) (at : ℕ) →
+    lines_of (around order path ps (turned C T turn carry piece lines at)) ≡ lines
+lines_turned C order path ps T (turns.Refused kind) carry piece lines at = ap lines_of (around-fault order path ps lines at kind T)
+lines_turned C order path ps T (turns.More leaf) carry piece lines at = ap lines_of (around-short order path ps lines at [] (leaf_of C leaf carry piece))
+lines_turned C order path ps T (turns.Opened count) carry piece lines at =
+    ap lines_of (around-short order path ps lines at (Part T 0 count ∷ start_outer (part_of T 0)) (start_leaf (part_of T 0)))
+lines_turned C order path ps T (turns.Selected i) carry piece lines at =
+    ap lines_of (around-short order path ps lines at (Member T i ∷ start_outer (part_of T i)) (start_leaf (part_of T i)))
+lines_turned C order path ps T turns.Ended carry piece lines at =
+    let inner = around order path ps (Done [] at []) in
+    let none : lines_of inner ≡ [] = quiet_lines at inner (around_quiet at order path ps (Done [] at []) (refl, refl, refl)) in
+    ap lines_of (around_done order path ps lines at) ∙ (lines_front lines inner ∙ (ap (λ ls. lines ++ ls) none ∙ append-nil lines))
+
+-- a front, where the answer is an error
+pub err_writes : {A E : Type 0} (r : Result A E) (a b : OutLog) (due : List ℕ) → IsErr r → WroteFront a b due → Writes r a b due
+err_writes (Ok x) a b due is h = cc
+err_writes (Err e) a b due is h = h

@@ -1,0 +1,70 @@
+-- How a type begins.
+use Rattle.std.proofs.Common.{◌≡◌, ℕ, zero, suc, pred, ◌<◌, List, [], ◌∷◌, ◌++◌, map, refl, sym, ◌∙◌, ap, arith, append_assoc}
+use Rattle.std.specs.List.{AllByRecursion}
+use Rattle.giop_decode.specs.Spine.{Place, Part, Head}
+use Rattle.giop_decode.specs.Fits.{HasHead, HasParts}
+use Rattle.giop_decode.specs.Begins.{start_outer, start_leaf}
+use Rattle.giop_decode.specs.Turns.{IsWhole, place_in}
+use Rattle.giop_sig.specs.Types.{Ty, Single, Text, Octets, Struct, Union, Sequence, Array, part_of, shape_in, HasPlace, IsUnion}
+use Rattle.giop_sig.specs.Fits.{IsFit}
+
+pub record Begins (d : ℕ) (T : Ty) (count : ℕ) : Type 0 where
+  pub room : 0 < d
+  pub some : 0 < count
+  pub parts : HasParts T count
+  pub outer : start_outer T ≡ place_in T 0 count ∷ start_outer (part_of T 0)
+  pub leaf : start_leaf T ≡ start_leaf (part_of T 0)
+  pub fit : IsFit (pred d) (part_of T 0)
+  pub placed : HasPlace (shape_in T) 0
+  pub uncounted : IsUnion (shape_in T) → count ≡ 0
+
+pub begins : (d : ℕ) (T : Ty) (count : ℕ) → IsFit d T → IsWhole T count → Begins d T count
+unfolding IsFit
+begins zero T count fit is = absurd fit
+begins (suc d) (Struct n names parts) count fit is =
+    record {
+      room = omega arith;
+      some = rw is fit.0;
+      parts = is;
+      outer = ap (λ k. Part (Struct n names parts) 0 k ∷ start_outer (parts 0)) (sym is);
+      leaf = refl;
+      fit = fit.1 0 fit.0;
+      placed = fit.0;
+      uncounted = λ h. absurd h;
+    }
+begins (suc d) (Array n E) count fit is =
+    record {
+      room = omega arith;
+      some = rw is fit.0;
+      parts = is;
+      outer = ap (λ k. Part (Array n E) 0 k ∷ start_outer E) (sym is);
+      leaf = refl;
+      fit = fit.1;
+      placed = tt;
+      uncounted = λ h. absurd h;
+    }
+begins (suc d) (Single scalar) count fit is = absurd is
+begins (suc d) (Text bound) count fit is = absurd is
+begins (suc d) (Octets bound) count fit is = absurd is
+begins (suc d) (Union n scalar select names cases) count fit is = absurd is
+begins (suc d) (Sequence bound E) count fit is = absurd is
+
+pub begins-number : (T : Ty) → HasHead T → (start_outer T ≡ []) × (start_leaf T ≡ Head T [])
+begins-number (Struct n names parts) h = absurd h
+begins-number (Array n E) h = absurd h
+begins-number (Single scalar) h = (refl, refl)
+begins-number (Text bound) h = (refl, refl)
+begins-number (Octets bound) h = (refl, refl)
+begins-number (Union n scalar select names cases) h = (refl, refl)
+begins-number (Sequence bound E) h = (refl, refl)
+
+pub all_push : {X : Type 0} (P : X → Type 0) (xs : List X) (x : X) → AllByRecursion P xs → P x → AllByRecursion P (xs ++ x ∷ [])
+all_push P [] x h p = (p, tt)
+all_push P (y ∷ xs) x h p = (h.0, all_push P xs x h.1 p)
+
+pub map_push : {X Y : Type 0} (f : X → Y) (xs : List X) (x : X) → map f (xs ++ x ∷ []) ≡ map f xs ++ f x ∷ []
+map_push f [] x = refl
+map_push f (y ∷ xs) x = ap (λ ys. f y ∷ ys) (map_push f xs x)
+
+pub begins_places : (d : ℕ) (ps : List Place) (T : Ty) (count : ℕ) → Begins d T count → (ps ++ place_in T 0 count ∷ []) ++ start_outer (part_of T 0) ≡ ps ++ start_outer T
+begins_places d ps T count b = append_assoc ps (place_in T 0 count ∷ []) (start_outer (part_of T 0)) ∙ ap (λ qs. ps ++ qs) (sym b.outer)

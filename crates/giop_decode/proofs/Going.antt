@@ -1,0 +1,122 @@
+-- Behind a part that has ended.
+use Rattle.std.proofs.Common.{◌≡◌, ℕ, zero, suc, ◌+◌, ◌<◌, ◌≤◌, List, [], ◌∷◌, ◌++◌, length, refl, sym, ◌∙◌, ap, subst, arith, append_assoc}
+use Rattle.std.specs.List.{AllByRecursion}
+use Rattle.giop_cdr.specs.declared.order.Order.{Order}
+use Rattle.giop_decode.specs.Spine.{Seg, Place, Part, Member, Done, Short}
+use Rattle.giop_decode.specs.Steps.{around, path_in}
+use Rattle.giop_decode.specs.Fits.{HasParts, HasCase, IsOpen, OpenFrom}
+use Rattle.giop_decode.specs.Begins.{start_outer, start_leaf}
+use Rattle.giop_decode.specs.Turns.{place_in, place, places, IsKnown, AreKnown}
+use Rattle.giop_decode.specs.declared.frame.Frame.{Frame}
+use Rattle.giop_decode.proofs.Beginning.{map_push}
+use Rattle.giop_decode.proofs.Around.{around-append, around-short, next_part, last_part}
+use Rattle.giop_sig.specs.Types.{Ty, Single, Text, Octets, Struct, Union, Sequence, Array, part_of, shape_in, HasPlace, IsUnion}
+use Rattle.giop_sig.specs.Fits.{IsFit}
+use Rattle.giop_sig.specs.Table.{Table}
+
+-- the innermost place, and how much depth is left at it
+pub record Innermost (d : ℕ) (ps : List Place) (p : Place) : Type 0 where
+  pub front : OpenFrom d ps
+  pub left : ℕ
+  pub depth : d ≡ length ps + suc left
+  pub «open» : IsOpen (suc left) p
+
+innermost_deeper : (d : ℕ) (q : Place) (ps : List Place) (p : Place) → IsOpen (suc d) q → Innermost d ps p → Innermost (suc d) (q ∷ ps) p
+innermost_deeper d q ps p is i = record { front = (is, i.front); left = i.left; depth = omega (arith, i.depth); «open» = i.«open» }
+
+pub innermost : (d : ℕ) (ps : List Place) (p : Place) → OpenFrom d (ps ++ p ∷ []) → Innermost d ps p
+innermost zero [] p h = absurd h
+innermost zero (q ∷ ps) p h = absurd h
+innermost (suc d) [] p h = record { front = tt; left = d; depth = omega arith; «open» = h.0 }
+innermost (suc d) (q ∷ ps) p h = innermost_deeper d q ps p h.0 (innermost d ps p h.1)
+
+-- a place with more parts behind it is one of several
+pub record Next (d : ℕ) (T : Ty) (i count : ℕ) : Type 0 where
+  pub is : place_in T i count ≡ Part T i count
+  pub then : place_in T (suc i) count ≡ Part T (suc i) count
+  pub parts : HasParts T count
+  pub fit : IsFit d T
+  pub placed : HasPlace (shape_in T) (suc i)
+
+pub next_in : (d : ℕ) (T : Ty) (i count : ℕ) → IsOpen d (place_in T i count) → (IsUnion (shape_in T) → count ≡ 0) → suc i < count → Next d T i count
+next_in d (Struct n names parts) i count h none below = record { is = refl; then = refl; parts = h.0; fit = h.2; placed = rw h.0 at below }
+next_in d (Array n E) i count h none below = record { is = refl; then = refl; parts = h.0; fit = h.2; placed = tt }
+next_in d (Sequence bound E) i count h none below = record { is = refl; then = refl; parts = h.0; fit = h.2; placed = tt }
+next_in d (Single scalar) i count h none below = absurd h.0
+next_in d (Text bound) i count h none below = absurd h.0
+next_in d (Octets bound) i count h none below = absurd h.0
+next_in d (Union n scalar select names cases) i count h none below = absurd (let e : count ≡ 0 = none tt in omega arith)
+
+pub goes_next : (order : Order) (path : List Seg) (ps : List Place) (T : Ty) (i count at e : ℕ) → Next (suc e) T i count → suc i < count →
+    around order path (ps ++ place_in T i count ∷ []) (Done [] at [])
+    ≡ Short [] at ((ps ++ place_in T (suc i) count ∷ []) ++ start_outer (part_of T (suc i))) (start_leaf (part_of T (suc i)))
+goes_next order path ps T i count at e next below = rw (next.is, next.then)
+    (around-append order path ps (Part T i count) (Done [] at [])
+    ∙ (ap (around order path ps) (next_part order (path_in path ps) e T i count at next.fit next.parts below)
+    ∙ (around-short order path ps [] at (Part T (suc i) count ∷ start_outer (part_of T (suc i))) (start_leaf (part_of T (suc i)))
+    ∙ ap (λ qs. Short [] at qs (start_leaf (part_of T (suc i)))) (sym (append_assoc ps (Part T (suc i) count ∷ []) (start_outer (part_of T (suc i))))))))
+
+part_out : (order : Order) (path : List Seg) (ps : List Place) (T : Ty) (i count at : ℕ) → count ≤ suc i →
+    around order path (ps ++ Part T i count ∷ []) (Done [] at []) ≡ around order path ps (Done [] at [])
+part_out order path ps T i count at h =
+    around-append order path ps (Part T i count) (Done [] at []) ∙ ap (around order path ps) (last_part order (path_in path ps) T i count at h)
+
+pub goes_out : (order : Order) (path : List Seg) (ps : List Place) (T : Ty) (i count at : ℕ) → count ≤ suc i →
+    around order path (ps ++ place_in T i count ∷ []) (Done [] at []) ≡ around order path ps (Done [] at [])
+goes_out order path ps (Union n scalar select names cases) i count at h = around-append order path ps (Member (Union n scalar select names cases) i) (Done [] at [])
+goes_out order path ps (Struct n names parts) i count at h = part_out order path ps (Struct n names parts) i count at h
+goes_out order path ps (Array n E) i count at h = part_out order path ps (Array n E) i count at h
+goes_out order path ps (Sequence bound E) i count at h = part_out order path ps (Sequence bound E) i count at h
+goes_out order path ps (Single scalar) i count at h = part_out order path ps (Single scalar) i count at h
+goes_out order path ps (Text bound) i count at h = part_out order path ps (Text bound) i count at h
+goes_out order path ps (Octets bound) i count at h = part_out order path ps (Octets bound) i count at h
+
+pub all_pop : {X : Type 0} (P : X → Type 0) (xs : List X) (x : X) → AllByRecursion P (xs ++ x ∷ []) → AllByRecursion P xs × P x
+all_pop P [] x h = (tt, h.0)
+all_pop P (y ∷ xs) x h = let r = all_pop P xs x h.1 in ((h.0, r.0), r.1)
+
+pub record Popped (C : Table) (rest : List Frame) (f : Frame) : Type 0 where
+  pub known_rest : AreKnown C rest
+  pub known : IsKnown C f
+  pub inner : Innermost 24 (places C rest) (place C f)
+
+pub popped : (C : Table) (items rest : List Frame) (f : Frame) → AreKnown C items → OpenFrom 24 (places C items) → items ≡ rest ++ f ∷ [] → Popped C rest f
+popped C items rest f known are_open e =
+    let k = all_pop (IsKnown C) rest f (subst (AreKnown C) e known) in
+    record {
+      known_rest = k.0;
+      known = k.1;
+      inner = innermost 24 (places C rest) (place C f) (subst (OpenFrom 24) (ap (places C) e ∙ map_push (place C) rest f) are_open);
+    }
+
+pub length_places : (C : Table) (frames : List Frame) → length (places C frames) ≡ length frames
+length_places C [] = refl
+length_places C (f ∷ frames) = ap suc (length_places C frames)
+
+pub place_part : (T : Ty) (i count : ℕ) → HasParts T count → place_in T i count ≡ Part T i count
+place_part (Struct n names parts) i count h = refl
+place_part (Array n E) i count h = refl
+place_part (Sequence bound E) i count h = refl
+place_part (Single scalar) i count h = refl
+place_part (Text bound) i count h = refl
+place_part (Octets bound) i count h = refl
+place_part (Union n scalar select names cases) i count h = absurd h
+
+pub place_case : (T : Ty) (i count : ℕ) → HasCase T i → place_in T i count ≡ Member T i
+place_case (Union n scalar select names cases) i count h = refl
+place_case (Struct n names parts) i count h = absurd h
+place_case (Array n E) i count h = absurd h
+place_case (Sequence bound E) i count h = absurd h
+place_case (Single scalar) i count h = absurd h
+place_case (Text bound) i count h = absurd h
+place_case (Octets bound) i count h = absurd h
+
+-- a type of several parts is no union
+pub parts_uncounted : (T : Ty) (count : ℕ) → HasParts T count → IsUnion (shape_in T) → count ≡ 0
+parts_uncounted (Struct n names parts) count h u = absurd u
+parts_uncounted (Array n E) count h u = absurd u
+parts_uncounted (Sequence bound E) count h u = absurd u
+parts_uncounted (Single scalar) count h u = absurd h
+parts_uncounted (Text bound) count h u = absurd h
+parts_uncounted (Octets bound) count h u = absurd h
+parts_uncounted (Union n scalar select names cases) count h u = absurd h

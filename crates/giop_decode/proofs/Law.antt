@@ -1,0 +1,330 @@
+-- Reading a list with one octet more is one step on the parts that reading the list has begun.
+use Rattle.std.proofs.Common.{◌≡◌, ℕ, zero, suc, ◌+◌, ◌-◌, ◌/◌, ◌%◌, ◌<◌, ◌≤◌, true, false, List, [], ◌∷◌, ◌++◌, length, take, drop, Option, Some, None, refl, sym, ◌∙◌, ap, append_assoc, arith, length-append, ◌⊎◌, inl, inr, ◌*◌, add_assoc, add-zero, div-add-mod', mod-lt, mod-eq_of_lt, lt-ltb, le-ltb, le_of_eq, lit<}
+use Rattle.std.proofs.lemmas.Nat.{mod-mul-add}
+use Rattle.std.proofs.Math.Nat.{mul-mod_left, mod_self, sub-zero}
+use Rattle.std.proofs.Math.Seq.{take-length, drop-length}
+use Rattle.std.proofs.lemmas.List.{take-append-le, drop-append-le, drop_all}
+use Rattle.std.proofs.lemmas.Bool.{cases_lt}
+use Rattle.giop_cdr.specs.Alignment.{padding}
+use Rattle.giop_cdr.specs.Numbers.{num}
+use Rattle.giop_cdr.specs.Primitives.{size_of}
+use Rattle.giop_cdr.specs.declared.order.Order.{Order}
+use Rattle.giop_cdr.specs.declared.prim.Primitive.{Primitive}
+use Rattle.giop_decode.specs.Pieces.{Got, Grab, Waiting, block, content, ends, full_piece, full_pieces, last_piece, number, octets, over, tail, text, unless}
+use Rattle.giop_decode.specs.Reading.{headed, member, parts_from, read, refused, single, wrong}
+use Rattle.giop_decode.specs.Spine.{Content, Count, Done, Fault, Head, Index, Leaf, Line, Member, Name, Part, Piece, Place, Read, Seg, Short, Switch, followed, line, with_front, within}
+use Rattle.giop_decode.specs.Steps.{advance, after, block_step, head_width, number_step, part_at, seg_of, step}
+use Rattle.giop_decode.specs.declared.progress.Kind.{Kind}
+use Rattle.giop_sig.specs.Types.{Array, Enum, Octets, Plain, Scalar, Sequence, Single, Struct, Text, Ty, Union, part_of, width}
+use Rattle.giop_sig.specs.declared.types.Selected.{Selected}
+use Rattle.giop_sig.specs.declared.types.Selected.TheVariants.{Case, Nothing, Refused}
+use Rattle.giop_cdr.specs.declared.prim.Primitive.TheVariants as prims
+use Rattle.giop_decode.specs.Spine
+
+-- a reader that goes on as the machine does
+abbrev pub Goes : Order → List Seg → (ℕ → List ℕ → Read) → Type 0
+Goes order path reader = (at : ℕ) (s : List ℕ) (b : ℕ) → reader at (s ++ b ∷ []) ≡ advance order path (reader at s) b
+
+-- with_front
+
+pub with_front_twice : (front mid : List Line) (r : Read) → with_front front (with_front mid r) ≡ with_front (front ++ mid) r
+with_front_twice front mid (Done lines at rest) = ap (λ ls. Done ls at rest) (sym (append_assoc front mid lines))
+with_front_twice front mid (Short lines at outer leaf) = ap (λ ls. Short ls at outer leaf) (sym (append_assoc front mid lines))
+with_front_twice front mid (Fault lines at kind S) = ap (λ ls. Fault ls at kind S) (sym (append_assoc front mid lines))
+
+pub with_front_none : (r : Read) → with_front [] r ≡ r
+with_front_none (Done lines at rest) = refl
+with_front_none (Short lines at outer leaf) = refl
+with_front_none (Fault lines at kind S) = refl
+
+pub with_front-advance : (order : Order) (path : List Seg) (front : List Line) (r : Read) (b : ℕ) → with_front front (advance order path r b) ≡ advance order path (with_front front r) b
+with_front-advance order path front (Done lines at rest) b = refl
+with_front-advance order path front (Short lines at outer leaf) b = with_front_twice front lines (step order path outer leaf at b)
+with_front-advance order path front (Fault lines at kind S) b = refl
+
+pub with_front-followed : (front : List Line) (r : Read) (next : ℕ → List ℕ → Read) → followed (with_front front r) next ≡ with_front front (followed r next)
+with_front-followed front (Done lines at rest) next = sym (with_front_twice front lines (next at rest))
+with_front-followed front (Short lines at outer leaf) next = refl
+with_front-followed front (Fault lines at kind S) next = refl
+
+pub with_front-within : (front : List Line) (place : Place) (r : Read) → within place (with_front front r) ≡ with_front front (within place r)
+with_front-within front place (Done lines at rest) = refl
+with_front-within front place (Short lines at outer leaf) = refl
+with_front-within front place (Fault lines at kind S) = refl
+
+-- a part, and what follows it
+
+-- the path inside a part
+abbrev pub inner_path : List Seg → Ty → ℕ → List Seg
+inner_path path T i = path ++ seg_of T i ∷ []
+
+pub part_goes : (order : Order) (path : List Seg) (T : Ty) (count i more : ℕ) → more ≡ count - suc i →
+    Goes order path (parts_from (part_at order path T count) more (suc i)) → (r : Read) (b : ℕ) →
+    followed (within (Part T i count) (advance order (inner_path path T i) r b)) (parts_from (part_at order path T count) more (suc i))
+    ≡ advance order path (followed (within (Part T i count) r) (parts_from (part_at order path T count) more (suc i))) b
+part_goes order path T count i more is goes (Done lines at rest) b =
+    ap (with_front lines) (goes at rest b) ∙ with_front-advance order path lines (parts_from (part_at order path T count) more (suc i) at rest) b
+part_goes order path T count i more is goes (Short lines at outer leaf) b =
+    let r = step order (inner_path path T i) outer leaf at b in
+    let next = parts_from (part_at order path T count) more (suc i) in
+    ap (λ x. followed x next) (with_front-within lines (Part T i count) r)
+    ∙ (with_front-followed lines (within (Part T i count) r) next
+    ∙ ap (λ m. with_front lines (followed (within (Part T i count) r) (parts_from (part_at order path T count) m (suc i)))) is)
+part_goes order path T count i more is goes (Fault lines at kind S) b = refl
+
+-- parts, one from where the other ended
+pub parts_go : (order : Order) (path : List Seg) (T : Ty) (count : ℕ) →
+    ((i : ℕ) → Goes order (inner_path path T i) (read order (inner_path path T i) (part_of T i))) →
+    (more i : ℕ) → more ≡ count - i → Goes order path (parts_from (part_at order path T count) more i)
+parts_go order path T count each zero i is at s b = refl
+parts_go order path T count each (suc more) i is at s b =
+    let next = parts_from (part_at order path T count) more (suc i) in
+    let is_next : more ≡ count - suc i = omega arith in
+    ap (λ r. followed (within (Part T i count) r) next) (each i at s b)
+    ∙ part_goes order path T count i more is_next (parts_go order path T count each more (suc i) is_next) (read order (inner_path path T i) (part_of T i) at s) b
+
+-- a union's member, behind which nothing follows
+pub member_goes : (order : Order) (path : List Seg) (T : Ty) (i : ℕ) (r : Read) (b : ℕ) →
+    within (Member T i) (advance order (inner_path path T i) r b) ≡ advance order path (within (Member T i) r) b
+member_goes order path T i (Done lines at rest) b = refl
+member_goes order path T i (Short lines at outer leaf) b = with_front-within lines (Member T i) (step order (inner_path path T i) outer leaf at b)
+member_goes order path T i (Fault lines at kind S) b = refl
+
+-- octets
+
+-- octets taken, after one more
+abbrev pub more_of : (ℕ → List ℕ → ℕ → Grab) → Grab → ℕ → Grab
+more_of on (Waiting held at) b = on at held b
+more_of on (Got octets at rest) b = Got octets at (rest ++ b ∷ [])
+
+pub block_waits : (n at : ℕ) (s : List ℕ) → length s < n → block n at s ≡ Waiting s (at + length s)
+unfolding block
+block_waits n at s h = rw lt-ltb refl
+
+pub block_got : (n at : ℕ) (s : List ℕ) → n ≤ length s → block n at s ≡ Got (take n s) (at + n) (drop n s)
+unfolding block
+block_got n at s h = rw le-ltb refl
+
+pub block_step_waits : (n at : ℕ) (held : List ℕ) (b : ℕ) → length held + 1 < n → block_step n at held b ≡ Waiting (held ++ b ∷ []) (at + 1)
+unfolding block_step
+block_step_waits n at held b h = rw lt-ltb refl
+
+pub block_step_got : (n at : ℕ) (held : List ℕ) (b : ℕ) → n ≤ length held + 1 → block_step n at held b ≡ Got (held ++ b ∷ []) (at + 1) []
+unfolding block_step
+block_step_got n at held b h = rw le-ltb refl
+
+pub length_one_more : (s : List ℕ) (b : ℕ) → length (s ++ b ∷ []) ≡ length s + 1
+length_one_more s b = length-append s (b ∷ [])
+
+pub block_goes : (n at : ℕ) (s : List ℕ) (b : ℕ) → block n at (s ++ b ∷ []) ≡ more_of (block_step n) (block n at s) b
+block_goes n at s b = go (cases_lt (length s) n) (cases_lt (length s + 1) n)
+  where
+    go : (length s < n) ⊎ (n ≤ length s) → (length s + 1 < n) ⊎ (n ≤ length s + 1) → block n at (s ++ b ∷ []) ≡ more_of (block_step n) (block n at s) b
+    go (inl h) (inl k) =
+        let l : length (s ++ b ∷ []) < n = rw length_one_more k in
+        block_waits n at (s ++ b ∷ []) l ∙ (ap (Waiting (s ++ b ∷ [])) (omega (arith, length_one_more s b))
+        ∙ (sym (block_step_waits n (at + length s) s b k) ∙ ap (λ g. more_of (block_step n) g b) (sym (block_waits n at s h))))
+    go (inl h) (inr k) =
+        let l : n ≡ length (s ++ b ∷ []) = omega (arith, length_one_more s b) in
+        block_got n at (s ++ b ∷ []) (le_of_eq l) ∙ (rw (l, take-length, drop-length, length_one_more, ← add_assoc) refl
+        ∙ (sym (block_step_got n (at + length s) s b k) ∙ ap (λ g. more_of (block_step n) g b) (sym (block_waits n at s h))))
+    go (inr h) _ =
+        let l : n ≤ length (s ++ b ∷ []) = omega (arith, length_one_more s b) in
+        block_got n at (s ++ b ∷ []) l ∙ (rw (take-append-le, drop-append-le) refl ∙ ap (λ g. more_of (block_step n) g b) (sym (block_got n at s h)))
+
+-- padding is what is left up to the next multiple
+pad_at : (q r n : ℕ) → 0 < r → r < n → padding (q * n + r) n ≡ n - r
+unfolding padding
+pad_at q r n l h = rw mod-mul-add (mod-eq_of_lt (omega arith))
+
+pad_at_multiple : (q n : ℕ) → 0 < n → padding (q * n) n ≡ 0
+unfolding padding
+pad_at_multiple q n h = rw (mul-mod_left, sub-zero) (mod_self n)
+
+pub pad_more : (at k n : ℕ) → 0 < n → k < padding at n → 0 < padding (at + k) n
+pad_more at k n h l = go (at % n) refl
+  where
+    is : (q r : ℕ) → at ≡ q * n + r → r < n → k < padding (q * n + r) n → 0 < padding (at + k) n
+    is q zero e below k_below = absurd (omega (arith, pad_at_multiple q n h, rw add-zero at k_below))
+    is q (suc r) e below k_below =
+        let p = pad_at q (suc r) n (omega arith) below in
+        let room : suc r + k < n = omega arith in
+        rw (e, add_assoc, pad_at q (suc r + k) n (omega arith) room) (omega arith)
+
+    go : (r : ℕ) → at % n ≡ r → 0 < padding (at + k) n
+    go r e = is (at / n) r (rw (← e) (sym (div-add-mod' at n))) (rw (← e) (mod-lt at h)) (rw (← e, div-add-mod' at n) l)
+
+pub pad_end : (at n : ℕ) → 0 < n → padding (at + padding at n) n ≡ 0
+pad_end at n h = go (at % n) refl
+  where
+    is : (q r : ℕ) → at ≡ q * n + r → r < n → padding (at + padding at n) n ≡ 0
+    is q zero e below = rw (e, add-zero, pad_at_multiple q n h, add-zero) (pad_at_multiple q n h)
+    is q (suc r) e below =
+        let whole : (q * n + suc r) + (n - suc r) ≡ suc q * n = omega arith in
+        rw (e, pad_at q (suc r) n (omega arith) below, whole) (pad_at_multiple (suc q) n h)
+
+    go : (r : ℕ) → at % n ≡ r → padding (at + padding at n) n ≡ 0
+    go r e = is (at / n) r (rw (← e) (sym (div-add-mod' at n))) (rw (← e) (mod-lt at h))
+
+pub number_waits : (n at : ℕ) (s : List ℕ) → length s < padding at n → number n at s ≡ Waiting [] (at + length s)
+unfolding number
+number_waits n at s h = rw lt-ltb refl
+
+pub number_blocks : (n at : ℕ) (s : List ℕ) → padding at n ≤ length s → number n at s ≡ block n (at + padding at n) (drop (padding at n) s)
+unfolding number
+number_blocks n at s h = rw le-ltb refl
+
+pub number_step_pads : (n at b : ℕ) → 0 < padding at n → number_step n at [] b ≡ Waiting [] (at + 1)
+unfolding number_step
+number_step_pads n at b h = rw lt-ltb refl
+
+pub number_step_blocks : (n at : ℕ) (carry : List ℕ) (b : ℕ) → (0 < length carry) ⊎ (padding at n ≡ 0) → number_step n at carry b ≡ block_step n at carry b
+unfolding number_step
+number_step_blocks n at [] b (inl h) = absurd (omega arith)
+number_step_blocks n at (x ∷ xs) b (inl h) = refl
+number_step_blocks n at [] b (inr h) = rw h refl
+number_step_blocks n at (x ∷ xs) b (inr h) = refl
+
+pub number_goes : (n at : ℕ) (s : List ℕ) (b : ℕ) → 0 < n → number n at (s ++ b ∷ []) ≡ more_of (number_step n) (number n at s) b
+number_goes n at s b pos = go (cases_lt (length s) (padding at n)) (cases_lt (length s + 1) (padding at n))
+  where
+    -- past the padding, a block's step is the number's
+    same : (t : List ℕ) → (length t < n) ⊎ (n ≤ length t) → more_of (block_step n) (block n (at + padding at n) t) b ≡ more_of (number_step n) (block n (at + padding at n) t) b
+    same [] (inl h) = rw (block_waits n (at + padding at n) [] h, add-zero) (sym (number_step_blocks n (at + padding at n) [] b (inr (pad_end at n pos))))
+    same (x ∷ t) (inl h) = rw (block_waits n (at + padding at n) (x ∷ t) h) (sym (number_step_blocks n _ (x ∷ t) b (inl (omega arith))))
+    same t (inr h) = rw (block_got n (at + padding at n) t h) refl
+
+    go : (length s < padding at n) ⊎ (padding at n ≤ length s) → (length s + 1 < padding at n) ⊎ (padding at n ≤ length s + 1) → number n at (s ++ b ∷ []) ≡ more_of (number_step n) (number n at s) b
+    go (inl h) (inl k) =
+        let l : length (s ++ b ∷ []) < padding at n = rw length_one_more k in
+        rw (number_waits n at s h, number_waits n at (s ++ b ∷ []) l, number_step_pads n (at + length s) b (pad_more at (length s) n pos h), length_one_more, add_assoc) refl
+    go (inl h) (inr k) =
+        let l : padding at n ≡ length (s ++ b ∷ []) = omega (arith, length_one_more s b) in
+        rw (number_waits n at s h, number_blocks n at (s ++ b ∷ []) (le_of_eq l), number_step_pads n (at + length s) b (pad_more at (length s) n pos h), drop_all (padding at n) (s ++ b ∷ []) (le_of_eq (sym l)), block_waits n (at + padding at n) [] pos) (ap (Waiting []) (omega (arith, length_one_more s b)))
+    go (inr h) _ =
+        let l : padding at n ≤ length (s ++ b ∷ []) = omega (arith, length_one_more s b) in
+        rw (number_blocks n at s h, number_blocks n at (s ++ b ∷ []) l, drop-append-le)
+        (block_goes n (at + padding at n) (drop (padding at n) s) b ∙ same (drop (padding at n) s) (cases_lt (length (drop (padding at n) s)) n))
+
+-- content
+
+pub unless_goes : (order : Order) (path : List Seg) (T : Ty) (why : Option Kind) (at : ℕ) (r : Read) (b : ℕ) → unless T why at (advance order path r b) ≡ advance order path (unless T why at r) b
+unless_goes order path T None at r b = refl
+unless_goes order path T (Some kind) at r b = refl
+
+last_piece_goes : (order : Order) (path : List Seg) (T : Ty) (total offset : ℕ) → total - offset ≤ 32 → (g : Grab) (b : ℕ) →
+    last_piece T path total offset (more_of (block_step (total - offset + tail T)) g b) ≡ advance order path (last_piece T path total offset g) b
+last_piece_goes order path T total offset h (Waiting piece at) b =
+    rw (le-ltb, with_front_none (last_piece T path total offset (block_step (total - offset + tail T) at piece b))) refl
+last_piece_goes order path T total offset h (Got xs at rest) b =
+    unless_goes order path T (ends T (total - offset) xs) at (Done (line at path (Piece T offset (take (total - offset) xs) false) ∷ []) at rest) b
+
+full_piece_goes : (order : Order) (path : List Seg) (T : Ty) (total offset full : ℕ) → suc full ≡ full_pieces (total - offset) →
+    Goes order path (content T path total full (offset + 32)) → (g : Grab) (b : ℕ) →
+    full_piece T path total offset (content T path total full (offset + 32)) (more_of (block_step 32) g b)
+    ≡ advance order path (full_piece T path total offset (content T path total full (offset + 32)) g) b
+full_piece_goes order path T total offset full is goes (Waiting piece at) b =
+    let more : 32 < total - offset = omega arith in
+    let rest : full_pieces (total - (offset + 32)) ≡ full = omega arith in
+    rw (lt-ltb, rest, with_front_none (full_piece T path total offset (content T path total full (offset + 32)) (block_step 32 at piece b))) refl
+full_piece_goes order path T total offset full is goes (Got xs at rest) b =
+    let front = line at path (Piece T offset xs true) ∷ [] in
+    ap (with_front front) (goes at rest b) ∙ with_front-advance order path front (content T path total full (offset + 32) at rest) b
+
+pub content_goes : (order : Order) (path : List Seg) (T : Ty) (total full offset : ℕ) → full ≡ full_pieces (total - offset) → Goes order path (content T path total full offset)
+content_goes order path T total zero offset is at s b =
+    ap (last_piece T path total offset) (block_goes (total - offset + tail T) at s b)
+    ∙ last_piece_goes order path T total offset (omega arith) (block (total - offset + tail T) at s) b
+content_goes order path T total (suc full) offset is at s b =
+    ap (full_piece T path total offset (content T path total full (offset + 32))) (block_goes 32 at s b)
+    ∙ full_piece_goes order path T total offset full is (content_goes order path T total full (offset + 32) (omega arith)) (block 32 at s) b
+
+pub text_goes : (order : Order) (path : List Seg) (bound : Option ℕ) (n : ℕ) → Goes order path (text bound path n)
+text_goes order path bound zero at s b = refl
+text_goes order path bound (suc n) at s b =
+    ap (unless (Text bound) (over bound n) at) (content_goes order path (Text bound) n (full_pieces n) 0 (omega arith) at s b)
+    ∙ unless_goes order path (Text bound) (over bound n) at (content (Text bound) path n (full_pieces n) 0 at s) b
+
+pub octets_goes : (order : Order) (path : List Seg) (bound : Option ℕ) (n : ℕ) → Goes order path (octets bound path n)
+octets_goes order path bound n at s b =
+    ap (unless (Octets bound) (over bound n) at) (content_goes order path (Octets bound) n (full_pieces n) 0 (omega arith) at s b)
+    ∙ unless_goes order path (Octets bound) (over bound n) at (content (Octets bound) path n (full_pieces n) 0 at s) b
+
+-- what begins with a number
+
+pub headed_goes : (order : Order) (path : List Seg) (T : Ty) → 0 < head_width T → ((n : ℕ) → Goes order path (after order path T n)) →
+    Goes order path (λ at s. headed T (λ xs at rest. after order path T (num order xs) at rest) (number (head_width T) at s))
+headed_goes order path T pos goes at s b =
+    ap (headed T (λ xs at rest. after order path T (num order xs) at rest)) (number_goes (head_width T) at s b pos)
+    ∙ go (number (head_width T) at s)
+  where
+    go : (g : Grab) → headed T (λ xs at rest. after order path T (num order xs) at rest) (more_of (number_step (head_width T)) g b)
+        ≡ advance order path (headed T (λ xs at rest. after order path T (num order xs) at rest) g) b
+    go (Waiting carry at) = sym (with_front_none (headed T (λ xs at rest. after order path T (num order xs) at rest) (number_step (head_width T) at carry b)))
+    go (Got xs at rest) = goes (num order xs) at rest b
+
+pub single_goes : (order : Order) (path inner : List Seg) (scalar : Scalar) (n : ℕ) → Goes order path (single inner scalar n)
+single_goes order path inner scalar n at s b = unless_goes order path (Single scalar) (wrong scalar n) at (Done (line at inner (Spine.Number scalar n) ∷ []) at s) b
+
+pub size_pos : (p : Primitive) → 0 < size_of p
+size_pos prims.Octet = lit< tt
+size_pos prims.Char = lit< tt
+size_pos prims.Boolean = lit< tt
+size_pos prims.Short = lit< tt
+size_pos prims.UShort = lit< tt
+size_pos prims.Long = lit< tt
+size_pos prims.ULong = lit< tt
+size_pos prims.LongLong = lit< tt
+size_pos prims.ULongLong = lit< tt
+size_pos prims.Float = lit< tt
+size_pos prims.Double = lit< tt
+
+pub width_pos : (scalar : Scalar) → 0 < width scalar
+width_pos (Plain p) = size_pos p
+width_pos (Enum count names) = lit< tt
+
+pub counted_goes : (order : Order) (path : List Seg) (bound : Option ℕ) (T : Ty) (n : ℕ) →
+    Goes order path (parts_from (part_at order path (Sequence bound T) n) n 0) → Goes order path (after order path (Sequence bound T) n)
+counted_goes order path bound T n goes at s b =
+    let front = line at path (Count n) ∷ [] in
+    let elements = parts_from (part_at order path (Sequence bound T) n) n 0 in
+    ap (λ r. unless (Sequence bound T) (over bound n) at (with_front front r)) (goes at s b)
+    ∙ (ap (unless (Sequence bound T) (over bound n) at) (with_front-advance order path front (elements at s) b)
+    ∙ unless_goes order path (Sequence bound T) (over bound n) at (with_front front (elements at s)) b)
+
+pub selected_goes : (order : Order) (path : List Seg) (T : Ty) (selected : Selected) →
+    ((i : ℕ) → Goes order (inner_path path T i) (read order (inner_path path T i) (part_of T i))) →
+    Goes order path (member selected (λ i at s. within (Member T i) (read order (inner_path path T i) (part_of T i) at s)))
+selected_goes order path T (Case i) each at s b =
+    ap (within (Member T i)) (each i at s b) ∙ member_goes order path T i (read order (inner_path path T i) (part_of T i) at s) b
+selected_goes order path T Nothing each at s b = refl
+selected_goes order path T Refused each at s b = refl
+
+pub union_goes : (order : Order) (path : List Seg) (count : ℕ) (scalar : Scalar) (select : ℕ → Selected) (names : ℕ → List ℕ) (cases : ℕ → Ty) (n : ℕ) →
+    ((i : ℕ) → Goes order (path ++ Name (names i) ∷ []) (read order (path ++ Name (names i) ∷ []) (cases i))) →
+    Goes order path (after order path (Union count scalar select names cases) n)
+union_goes order path count scalar select names cases n each at s b =
+    let T = Union count scalar select names cases in
+    let next : ℕ → List ℕ → Read = member (select n) (λ i at' s'. within (Member T i) (read order (inner_path path T i) (part_of T i) at' s')) in
+    let front : List Line = line at (path ++ Switch ∷ []) (Spine.Number scalar n) ∷ [] in
+    ap (λ r. unless T (wrong scalar n) at (unless T (refused (select n)) at (with_front front r))) (selected_goes order path T (select n) each at s b)
+    ∙ (ap (λ r. unless T (wrong scalar n) at (unless T (refused (select n)) at r)) (with_front-advance order path front (next at s) b)
+    ∙ (ap (unless T (wrong scalar n) at) (unless_goes order path T (refused (select n)) at (with_front front (next at s)) b)
+    ∙ unless_goes order path T (wrong scalar n) at (unless T (refused (select n)) at (with_front front (next at s))) b))
+
+-- any type
+
+pub read_goes : (order : Order) (path : List Seg) (T : Ty) → Goes order path (read order path T)
+read_goes order path (Single scalar) = headed_goes order path (Single scalar) (width_pos scalar) (λ n. single_goes order path path scalar n)
+read_goes order path (Text bound) = headed_goes order path (Text bound) (lit< tt) (λ n. text_goes order path bound n)
+read_goes order path (Octets bound) = headed_goes order path (Octets bound) (lit< tt) (λ n. octets_goes order path bound n)
+read_goes order path (Struct count names parts) =
+    parts_go order path (Struct count names parts) count (λ i. read_goes order (path ++ Name (names i) ∷ []) (parts i)) count 0 (omega arith)
+read_goes order path (Array count T) =
+    parts_go order path (Array count T) count (λ i. read_goes order (path ++ Index i ∷ []) T) count 0 (omega arith)
+read_goes order path (Sequence bound T) =
+    headed_goes order path (Sequence bound T) (lit< tt) (λ n. counted_goes order path bound T n
+    (parts_go order path (Sequence bound T) n (λ i. read_goes order (path ++ Index i ∷ []) T) n 0 (omega arith)))
+read_goes order path (Union count scalar select names cases) =
+    headed_goes order path (Union count scalar select names cases) (width_pos scalar) (λ n. union_goes order path count scalar select names cases n
+    (λ i. read_goes order (path ++ Name (names i) ∷ []) (cases i)))

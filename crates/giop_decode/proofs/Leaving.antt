@@ -1,0 +1,113 @@
+-- What fits inside a type, and what one octet more leaves of it.
+use Rattle.std.proofs.Common.{◌≡◌, ℕ, zero, suc, ◌+◌, ◌-◌, ◌<◌, ◌≤◌, List, [], ◌∷◌, ◌++◌, length, refl, subst, arith, ◌⊎◌, inl, inr, lt-ltb, le-ltb}
+use Rattle.std.proofs.lemmas.Bool.{cases_lt}
+use Rattle.giop_cdr.specs.Alignment.{padding}
+use Rattle.giop_cdr.specs.Numbers.{num}
+use Rattle.giop_cdr.specs.declared.order.Order.{Order}
+use Rattle.giop_decode.specs.Fits.{leaf_ty, Sound, FitsIn, HasCase, HasContent, HasHead, IsOpen, OpenFrom}
+use Rattle.giop_decode.specs.Pieces.{Got, Grab, Waiting, content, full_pieces, tail}
+use Rattle.giop_decode.specs.Reading.{headed, parts_from}
+use Rattle.giop_decode.specs.Spine.{Content, Head, Leaf, Member, Part, Place, Seg, within}
+use Rattle.giop_decode.specs.Steps.{after, block_step, content_step, head_width, leaf_step, number_step, part_at, seg_of, step}
+use Rattle.giop_sig.specs.Fits.{IsFit}
+use Rattle.giop_sig.specs.Types.{Array, Octets, Sequence, Single, Struct, Text, Ty, Union, part_of}
+use Rattle.giop_decode.proofs.Law.{block_step_waits, block_step_got, number_step_pads, number_step_blocks, length_one_more}
+use Rattle.giop_decode.proofs.Around.{fit_none, fit_part}
+use Rattle.giop_decode.proofs.Sound.{Takes, sound_followed, sound_part, sound_member, parts_keep, after_keeps, read_keeps, full_piece_sound, last_piece_sound, content_keeps}
+
+-- the leaf, with how much depth is left at it
+pub record LeafAt (d : ℕ) (outer : List Place) (leaf : Leaf) : Type 0 where
+  pub are_open : OpenFrom d outer
+  pub left : ℕ
+  pub depth : d ≡ length outer + left
+  pub fit : IsFit left (leaf_ty leaf)
+  pub fits : FitsIn (leaf_ty leaf) [] leaf
+
+pub fit_case : (d : ℕ) (T : Ty) (i : ℕ) → IsFit (suc d) T → HasCase T i → IsFit d (part_of T i)
+unfolding IsFit
+fit_case d (Union count scalar select names cases) i fit kind = fit.1 i kind
+fit_case d (Struct n names parts) i fit kind = absurd kind
+fit_case d (Array n T) i fit kind = absurd kind
+fit_case d (Sequence bound T) i fit kind = absurd kind
+fit_case d (Single scalar) i fit kind = absurd kind
+fit_case d (Text bound) i fit kind = absurd kind
+fit_case d (Octets bound) i fit kind = absurd kind
+
+deeper : (d : ℕ) (place : Place) (outer : List Place) (leaf : Leaf) → IsOpen (suc d) place → LeafAt d outer leaf → LeafAt (suc d) (place ∷ outer) leaf
+deeper d place outer leaf is l = record { are_open = (is, l.are_open); left = l.left; depth = omega (arith, l.depth); fit = l.fit; fits = l.fits }
+
+pub leaf_at : (d : ℕ) (T : Ty) (outer : List Place) (leaf : Leaf) → FitsIn T outer leaf → IsFit d T → LeafAt d outer leaf
+unfolding IsFit
+leaf_at d T [] (Head U carry) fits fit =
+    record { are_open = tt; left = d; depth = omega arith; fit = rw fits.same fit; fits = record { same = refl; kind = rw fits.same fits.kind; room = rw fits.same fits.room } }
+leaf_at d T [] (Content U total offset piece) fits fit =
+    record {
+      are_open = tt;
+      left = d;
+      depth = omega arith;
+      fit = rw fits.same fit;
+      fits = record { same = refl; kind = rw fits.same fits.kind; ahead = fits.ahead; room_full = fits.room_full; room_last = rw fits.same fits.room_last };
+    }
+leaf_at zero T (Part U i count ∷ outer) leaf fits fit = absurd fit
+leaf_at (suc d) T (Part U i count ∷ outer) leaf fits fit =
+    deeper d (Part U i count) outer leaf (rw fits.0.same (fits.0.kind, fits.0.below, fit)) (leaf_at d (part_of T i) outer leaf fits.1 (fit_part d T i count fit fits.0.kind fits.0.below))
+leaf_at zero T (Member U i ∷ outer) leaf fits fit = absurd fit
+leaf_at (suc d) T (Member U i ∷ outer) leaf fits fit =
+    deeper d (Member U i) outer leaf (rw fits.0.same (fits.0.kind, fit)) (leaf_at d (part_of T i) outer leaf fits.1 (fit_case d T i fit fits.0.kind))
+
+-- one octet more
+
+block_step_takes : (n at : ℕ) (held : List ℕ) (b : ℕ) → length held < n → Takes n (at + 1) (block_step n at held b)
+block_step_takes n at held b room = go (cases_lt (length held + 1) n)
+  where
+    go : (length held + 1 < n) ⊎ (n ≤ length held + 1) → Takes n (at + 1) (block_step n at held b)
+    go (inl h) = rw (block_step_waits n at held b h) (refl, omega (arith, length_one_more held b))
+    go (inr h) = rw (block_step_got n at held b h) (omega arith, omega (arith, length_one_more held b))
+
+number_step_takes : (n at : ℕ) (carry : List ℕ) (b : ℕ) → length carry < n → Takes n (at + 1) (number_step n at carry b)
+number_step_takes n at [] b room = go (cases_lt 0 (padding at n))
+  where
+    go : (0 < padding at n) ⊎ (padding at n ≤ 0) → Takes n (at + 1) (number_step n at [] b)
+    go (inl h) = rw (number_step_pads n at b h) (refl, room)
+    go (inr h) = rw (number_step_blocks n at [] b (inr (omega arith))) (block_step_takes n at [] b room)
+number_step_takes n at (x ∷ xs) b room = rw (number_step_blocks n at (x ∷ xs) b (inl (omega arith))) (block_step_takes n at (x ∷ xs) b room)
+
+headed_sound : (d : ℕ) (order : Order) (path : List Seg) (T : Ty) (end : ℕ) → IsFit d T → HasHead T → (g : Grab) → Takes (head_width T) end g →
+    Sound T end (headed T (λ xs at rest. after order path T (num order xs) at rest) g)
+headed_sound d order path T end fit kind (Waiting carry at) h = (h.0, record { same = refl; kind = kind; room = h.1 })
+headed_sound d order path T end fit kind (Got xs at rest) h =
+    subst (λ e. Sound T e (after order path T (num order xs) at rest)) h.0 (after_keeps d order path T (num order xs) fit at rest)
+
+content_step_sound : (T : Ty) (path : List Seg) (total offset at : ℕ) (piece : List ℕ) (b : ℕ) → HasContent T → offset ≤ total →
+    (32 < total - offset → length piece < 32) → (total - offset ≤ 32 → length piece < total - offset + tail T) → Sound T (at + 1) (content_step T path total offset at piece b)
+content_step_sound T path total offset at piece b kind ahead room_full room_last = go (cases_lt 32 (total - offset))
+  where
+    go : (32 < total - offset) ⊎ (total - offset ≤ 32) → Sound T (at + 1) (content_step T path total offset at piece b)
+    go (inl h) = rw lt-ltb (full_piece_sound T path total offset (at + 1) kind h (content T path total (full_pieces (total - (offset + 32))) (offset + 32))
+        (content_keeps T path total kind (full_pieces (total - (offset + 32))) (offset + 32) refl (omega arith)) (block_step 32 at piece b) (block_step_takes 32 at piece b (room_full h)))
+    go (inr h) = rw le-ltb (last_piece_sound T path total offset (at + 1) kind h ahead (block_step (total - offset + tail T) at piece b)
+        (block_step_takes (total - offset + tail T) at piece b (room_last h)))
+
+leaf_step_sound : (d : ℕ) (order : Order) (path : List Seg) (T : Ty) (leaf : Leaf) (at b : ℕ) → IsFit d T → FitsIn T [] leaf → Sound T (at + 1) (leaf_step order path leaf at b)
+leaf_step_sound d order path T (Head U carry) at b fit fits =
+    rw fits.same (headed_sound d order path T (at + 1) fit fits.kind (number_step (head_width T) at carry b) (number_step_takes (head_width T) at carry b fits.room))
+leaf_step_sound d order path T (Content U total offset piece) at b fit fits =
+    rw fits.same (content_step_sound T path total offset at piece b fits.kind fits.ahead fits.room_full fits.room_last)
+
+-- What one octet more leaves fits as well.
+pub step_keeps : (d : ℕ) (order : Order) (path : List Seg) (T : Ty) (outer : List Place) (leaf : Leaf) (at b : ℕ) → IsFit d T → FitsIn T outer leaf →
+    Sound T (at + 1) (step order path outer leaf at b)
+step_keeps d order path T [] leaf at b fit fits = leaf_step_sound d order path T leaf at b fit fits
+step_keeps zero order path T (Part U i count ∷ outer) leaf at b fit fits = absurd (fit_none T fit)
+step_keeps (suc d) order path T (Part U i count ∷ outer) leaf at b fit fits =
+    let inner = step order (path ++ seg_of T i ∷ []) outer leaf at b in
+    let part_fits : (j : ℕ) → j < count → IsFit d (part_of T j) = λ j below. fit_part d T j count fit fits.0.kind below in
+    rw fits.0.same (sound_followed T (at + 1) (within (Part T i count) inner) (parts_from (part_at order path T count) (count - suc i) (suc i))
+    (sound_part T (at + 1) i count inner fits.0.kind fits.0.below
+    (step_keeps d order (path ++ seg_of T i ∷ []) (part_of T i) outer leaf at b (part_fits i fits.0.below) fits.1))
+    (parts_keep order path T count fits.0.kind (λ j below. read_keeps d order (path ++ seg_of T j ∷ []) (part_of T j) (part_fits j below)) (count - suc i) (suc i) refl))
+step_keeps zero order path T (Member U i ∷ outer) leaf at b fit fits = absurd (fit_none T fit)
+step_keeps (suc d) order path T (Member U i ∷ outer) leaf at b fit fits =
+    let inner = step order (path ++ seg_of T i ∷ []) outer leaf at b in
+    rw fits.0.same (sound_member T (at + 1) i inner fits.0.kind
+    (step_keeps d order (path ++ seg_of T i ∷ []) (part_of T i) outer leaf at b (fit_case d T i fit fits.0.kind) fits.1))

@@ -1,0 +1,17 @@
+pub mod Law
+pub mod Now
+pub mod Around
+pub mod Sound
+pub mod Leaving
+pub mod Resuming
+pub mod Rows
+pub mod Shapes
+pub mod Padding
+pub mod Linking
+pub mod Beginning
+pub mod Going
+pub mod Turning
+pub mod PieceLaws
+pub mod Segments
+pub mod Settling
+pub mod Advancing

@@ -1,0 +1,210 @@
+-- The lines of a step stand at its octet, and the reading of no octets has none.
+use Rattle.std.proofs.Common.{◌≡◌, ℕ, zero, suc, ◌+◌, ◌-◌, ◌<◌, ◌≤◌, Bool, true, false, List, [], ◌∷◌, ◌++◌, length, take, drop, Option, Some, None, refl, append-nil, arith, add-zero, ◌⊎◌, inl, inr, lit<}
+use Rattle.std.specs.Prelude.{cond, ltb}
+use Rattle.std.specs.List.{AllByRecursion as Each}
+use Rattle.std.proofs.lemmas.Bool.{cases_lt, lt-ltb, le-ltb}
+use Rattle.giop_cdr.specs.Alignment.{padding}
+use Rattle.giop_cdr.specs.Numbers.{num}
+use Rattle.giop_cdr.specs.declared.order.Order.{Order}
+use Rattle.giop_decode.specs.Pieces.{Got, Grab, Waiting, block, content, ends, full_piece, full_pieces, last_piece, number, over, tail, unless}
+use Rattle.giop_decode.specs.Reading.{headed, member, parts_from, read, refused, single, wrong}
+use Rattle.giop_decode.specs.Spine.{Content, Count, Done, Fault, Head, Index, Leaf, Line, Member, Name, Part, Piece, Place, Read, Seg, Short, Switch, followed, line, with_front, within}
+use Rattle.giop_decode.specs.Steps.{OneAt, Now, after, around, block_step, head_width, leaf_step, number_step, part_at, path_in, seg_of, step}
+use Rattle.giop_decode.specs.declared.progress.Kind.{Kind}
+use Rattle.giop_sig.specs.Types.{Array, Octets, Scalar, Sequence, Single, Struct, Text, Ty, Union, part_of, width}
+use Rattle.giop_sig.specs.declared.types.Selected.{Selected}
+use Rattle.giop_sig.specs.declared.types.Selected.TheVariants.{Case, Nothing, Refused}
+use Rattle.giop_decode.specs.Spine
+use Rattle.giop_decode.proofs.Law.{inner_path, block_waits, number_waits, number_blocks, width_pos}
+
+pub each_append : {A : Type 0} (P : A → Type 0) (xs ys : List A) → Each P xs → Each P ys → Each P (xs ++ ys)
+each_append P [] ys h k = k
+each_append P (x ∷ xs) ys h k = (h.0, each_append P xs ys h.1 k)
+
+abbrev pub Quiet : ℕ → Read → Type 0
+Quiet n (Done lines at rest) = (lines ≡ []) × (at ≡ n) × (rest ≡ [])
+Quiet n (Short lines at outer leaf) = (lines ≡ []) × (at ≡ n)
+Quiet n (Fault lines at why S) = ⊥
+
+none_at : (n : ℕ) (lines : List Line) → lines ≡ [] → OneAt n lines
+none_at n lines e = rw e tt
+
+pub quiet_now : (n : ℕ) (r : Read) → Quiet n r → Now n r
+quiet_now n (Done lines at rest) h = (none_at n lines h.0, h.1, h.2)
+quiet_now n (Short lines at outer leaf) h = (none_at n lines h.0, h.1)
+quiet_now n (Fault lines at why S) h = absurd h
+
+now_front : (n : ℕ) (front : List Line) (r : Read) → OneAt n front → Quiet n r → Now n (with_front front r)
+now_front n front (Done lines at rest) h k = rw (k.0, append-nil front) (h, k.1, k.2)
+now_front n front (Short lines at outer leaf) h k = rw (k.0, append-nil front) (h, k.1)
+now_front n front (Fault lines at why S) h k = absurd k
+
+quiet_front : (n : ℕ) (r : Read) → Quiet n r → Quiet n (with_front [] r)
+quiet_front n (Done lines at rest) h = h
+quiet_front n (Short lines at outer leaf) h = h
+quiet_front n (Fault lines at why S) h = h
+
+now_followed : (n : ℕ) (r : Read) (next : ℕ → List ℕ → Read) → Now n r → Quiet n (next n []) → Now n (followed r next)
+now_followed n (Done lines at rest) next h k = now_front n lines (next at rest) h.0 (rw (h.1, h.2) k)
+now_followed n (Short lines at outer leaf) next h k = h
+now_followed n (Fault lines at why S) next h k = h
+
+pub quiet_followed : (n : ℕ) (r : Read) (next : ℕ → List ℕ → Read) → Quiet n r → Quiet n (next n []) → Quiet n (followed r next)
+quiet_followed n (Done lines at rest) next h k = rw (h.0, h.1, h.2) (quiet_front n (next n []) k)
+quiet_followed n (Short lines at outer leaf) next h k = h
+quiet_followed n (Fault lines at why S) next h k = h
+
+now_within : (n : ℕ) (place : Place) (r : Read) → Now n r → Now n (within place r)
+now_within n place (Done lines at rest) h = h
+now_within n place (Short lines at outer leaf) h = h
+now_within n place (Fault lines at why S) h = h
+
+pub quiet_within : (n : ℕ) (place : Place) (r : Read) → Quiet n r → Quiet n (within place r)
+quiet_within n place (Done lines at rest) h = h
+quiet_within n place (Short lines at outer leaf) h = h
+quiet_within n place (Fault lines at why S) h = h
+
+now_unless : (n : ℕ) (T : Ty) (why : Option Kind) (r : Read) → Now n r → Now n (unless T why n r)
+now_unless n T None r h = h
+now_unless n T (Some kind) r h = (refl, refl)
+
+-- no octets
+
+pub number_none : (w n : ℕ) → 0 < w → number w n [] ≡ Waiting [] n
+number_none w n pos = go (cases_lt 0 (padding n w))
+  where
+    go : (0 < padding n w) ⊎ (padding n w ≤ 0) → number w n [] ≡ Waiting [] n
+    go (inl h) = rw (number_waits w n [] h, add-zero) refl
+    go (inr h) = let e : padding n w ≡ 0 = omega arith in rw (number_blocks w n [] h, e, block_waits w (n + 0) [] pos, add-zero, add-zero) refl
+
+pub quiet_parts : (n : ℕ) (part : ℕ → ℕ → List ℕ → Read) → ((i : ℕ) → Quiet n (part i n [])) → (more i : ℕ) → Quiet n (parts_from part more i n [])
+quiet_parts n part h zero i = (refl, refl, refl)
+quiet_parts n part h (suc more) i = quiet_followed n (part i n []) (parts_from part more (suc i)) (h i) (quiet_parts n part h more (suc i))
+
+pub read_quiet : (order : Order) (path : List Seg) (T : Ty) (n : ℕ) → Quiet n (read order path T n [])
+read_quiet order path (Single scalar) n = rw (number_none (width scalar) n (width_pos scalar)) (refl, refl)
+read_quiet order path (Text bound) n = rw (number_none 4 n (lit< tt)) (refl, refl)
+read_quiet order path (Octets bound) n = rw (number_none 4 n (lit< tt)) (refl, refl)
+read_quiet order path (Struct count names parts) n =
+    quiet_parts n (part_at order path (Struct count names parts) count)
+    (λ i. quiet_within n (Part (Struct count names parts) i count) (read order (path ++ Name (names i) ∷ []) (parts i) n []) (read_quiet order (path ++ Name (names i) ∷ []) (parts i) n)) count 0
+read_quiet order path (Array count T) n =
+    quiet_parts n (part_at order path (Array count T) count)
+    (λ i. quiet_within n (Part (Array count T) i count) (read order (path ++ Index i ∷ []) T n []) (read_quiet order (path ++ Index i ∷ []) T n)) count 0
+read_quiet order path (Sequence bound T) n = rw (number_none 4 n (lit< tt)) (refl, refl)
+read_quiet order path (Union count scalar select names cases) n = rw (number_none (width scalar) n (width_pos scalar)) (refl, refl)
+
+pub part_quiet : (order : Order) (path : List Seg) (T : Ty) (count n i : ℕ) → Quiet n (part_at order path T count i n [])
+part_quiet order path T count n i = quiet_within n (Part T i count) (read order (inner_path path T i) (part_of T i) n []) (read_quiet order (inner_path path T i) (part_of T i) n)
+
+pub parts_quiet : (order : Order) (path : List Seg) (T : Ty) (count n more i : ℕ) → Quiet n (parts_from (part_at order path T count) more i n [])
+parts_quiet order path T count n more i = quiet_parts n (part_at order path T count) (part_quiet order path T count n) more i
+
+-- one octet
+
+abbrev GrabNow : ℕ → Grab → Type 0
+GrabNow n (Waiting held at) = at ≡ n
+GrabNow n (Got xs at rest) = (at ≡ n) × (rest ≡ [])
+
+grab_by : (n : ℕ) (test : Bool) (xs : List ℕ) → GrabNow n (cond test (Waiting xs n) (Got xs n []))
+grab_by n true xs = refl
+grab_by n false xs = (refl, refl)
+
+block_none_now : (w n : ℕ) → GrabNow n (block w n [])
+unfolding block
+block_none_now w n = go (cases_lt 0 w)
+  where
+    go : (0 < w) ⊎ (w ≤ 0) → GrabNow n (cond (ltb 0 w) (Waiting [] (n + 0)) (Got (take w []) (n + w) (drop w [])))
+    go (inl h) = rw (lt-ltb 0 w h) (add-zero n)
+    go (inr h) = let e : w ≡ 0 = omega arith in rw e (add-zero n, refl)
+
+block_now : (w at : ℕ) (held : List ℕ) (b : ℕ) → GrabNow (at + 1) (block_step w at held b)
+unfolding block_step
+block_now w at held b = grab_by (at + 1) (ltb (length held + 1) w) (held ++ b ∷ [])
+
+number_by : (w at : ℕ) (test : Bool) (b : ℕ) → GrabNow (at + 1) (cond test (Waiting [] (at + 1)) (block_step w at [] b))
+number_by w at true b = refl
+number_by w at false b = block_now w at [] b
+
+number_now : (w at : ℕ) (carry : List ℕ) (b : ℕ) → GrabNow (at + 1) (number_step w at carry b)
+unfolding number_step
+number_now w at [] b = number_by w at (ltb 0 (padding at w)) b
+number_now w at (x ∷ carry) b = block_now w at (x ∷ carry) b
+
+last_now : (n : ℕ) (T : Ty) (path : List Seg) (total offset : ℕ) (g : Grab) → GrabNow n g → Now n (last_piece T path total offset g)
+last_now n T path total offset (Waiting piece at) h = (tt, h)
+last_now n T path total offset (Got xs at rest) h =
+    rw (h.0, h.1) (now_unless n T (ends T (total - offset) xs) (Done (line n path (Piece T offset (take (total - offset) xs) false) ∷ []) n []) (refl, refl, refl))
+
+full_now : (n : ℕ) (T : Ty) (path : List Seg) (total offset : ℕ) (next : ℕ → List ℕ → Read) (g : Grab) → GrabNow n g → Quiet n (next n []) → Now n (full_piece T path total offset next g)
+full_now n T path total offset next (Waiting piece at) h k = (tt, h)
+full_now n T path total offset next (Got xs at rest) h k = rw (h.0, h.1) (now_front n (line n path (Piece T offset xs true) ∷ []) (next n []) refl k)
+
+-- a content of which some octet is to come
+content_quiet : (n : ℕ) (T : Ty) (path : List Seg) (total full offset : ℕ) → offset < total → Quiet n (content T path total full offset n [])
+content_quiet n T path total zero offset h = rw (block_waits (total - offset + tail T) n [] (omega arith)) (refl, add-zero n)
+content_quiet n T path total (suc full) offset h = rw (block_waits 32 n [] (lit< tt)) (refl, add-zero n)
+
+content_now : (n : ℕ) (T : Ty) (path : List Seg) (total full offset : ℕ) → Now n (content T path total full offset n [])
+content_now n T path total zero offset = last_now n T path total offset (block (total - offset + tail T) n []) (block_none_now (total - offset + tail T) n)
+content_now n T path total (suc full) offset = rw (block_waits 32 n [] (lit< tt)) (tt, add-zero n)
+
+single_now : (n : ℕ) (path : List Seg) (scalar : Scalar) (k : ℕ) → Now n (single path scalar k n [])
+single_now n path scalar k = now_unless n (Single scalar) (wrong scalar k) (Done (line n path (Spine.Number scalar k) ∷ []) n []) (refl, refl, refl)
+
+member_quiet : (n : ℕ) (order : Order) (path : List Seg) (T : Ty) (selected : Selected) →
+    Quiet n (member selected (λ i at s. within (Member T i) (read order (inner_path path T i) (part_of T i) at s)) n [])
+member_quiet n order path T (Case i) = quiet_within n (Member T i) (read order (inner_path path T i) (part_of T i) n []) (read_quiet order (inner_path path T i) (part_of T i) n)
+member_quiet n order path T Nothing = (refl, refl, refl)
+member_quiet n order path T Refused = (refl, refl, refl)
+
+after_now : (n : ℕ) (order : Order) (path : List Seg) (T : Ty) (k : ℕ) → Now n (after order path T k n [])
+after_now n order path (Single scalar) k = single_now n path scalar k
+after_now n order path (Text bound) zero = (refl, refl, refl)
+after_now n order path (Text bound) (suc k) = now_unless n (Text bound) (over bound k) (content (Text bound) path k (full_pieces k) 0 n []) (content_now n (Text bound) path k (full_pieces k) 0)
+after_now n order path (Octets bound) k = now_unless n (Octets bound) (over bound k) (content (Octets bound) path k (full_pieces k) 0 n []) (content_now n (Octets bound) path k (full_pieces k) 0)
+after_now n order path (Struct count names parts) k = (tt, refl, refl)
+after_now n order path (Array count T) k = (tt, refl, refl)
+after_now n order path (Sequence bound T) k =
+    let elements = parts_from (part_at order path (Sequence bound T) k) k 0 n [] in
+    now_unless n (Sequence bound T) (over bound k) (with_front (line n path (Count k) ∷ []) elements)
+    (now_front n (line n path (Count k) ∷ []) elements refl (parts_quiet order path (Sequence bound T) k n k 0))
+after_now n order path (Union count scalar select names cases) k =
+    let T = Union count scalar select names cases in
+    let next : ℕ → List ℕ → Read = member (select k) (λ i at s. within (Member T i) (read order (inner_path path T i) (part_of T i) at s)) in
+    let front : List Line = line n (path ++ Switch ∷ []) (Spine.Number scalar k) ∷ [] in
+    now_unless n T (wrong scalar k) (unless T (refused (select k)) n (with_front front (next n [])))
+    (now_unless n T (refused (select k)) (with_front front (next n [])) (now_front n front (next n []) refl (member_quiet n order path T (select k))))
+
+headed_now : (n : ℕ) (order : Order) (path : List Seg) (T : Ty) (g : Grab) → GrabNow n g → Now n (headed T (λ xs at rest. after order path T (num order xs) at rest) g)
+headed_now n order path T (Waiting carry at) h = (tt, h)
+headed_now n order path T (Got xs at rest) h = rw (h.0, h.1) (after_now n order path T (num order xs))
+
+leaf_now : (order : Order) (path : List Seg) (leaf : Leaf) (at b : ℕ) → Now (at + 1) (leaf_step order path leaf at b)
+leaf_now order path (Head T carry) at b = headed_now (at + 1) order path T (number_step (head_width T) at carry b) (number_now (head_width T) at carry b)
+leaf_now order path (Content T total offset piece) at b = go (cases_lt 32 (total - offset))
+  where
+    full : Read
+    full = full_piece T path total offset (content T path total (full_pieces (total - (offset + 32))) (offset + 32)) (block_step 32 at piece b)
+
+    last : Read
+    last = last_piece T path total offset (block_step (total - offset + tail T) at piece b)
+
+    go : (32 < total - offset) ⊎ (total - offset ≤ 32) → Now (at + 1) (cond (ltb 32 (total - offset)) full last)
+    go (inl h) = rw (lt-ltb 32 (total - offset) h) (full_now (at + 1) T path total offset (content T path total (full_pieces (total - (offset + 32))) (offset + 32)) (block_step 32 at piece b)
+        (block_now 32 at piece b) (content_quiet (at + 1) T path total (full_pieces (total - (offset + 32))) (offset + 32) (omega arith)))
+    go (inr h) = rw (le-ltb 32 (total - offset) h) (last_now (at + 1) T path total offset (block_step (total - offset + tail T) at piece b) (block_now (total - offset + tail T) at piece b))
+
+around_now : (n : ℕ) (order : Order) (path : List Seg) (outer : List Place) (r : Read) → Now n r → Now n (around order path outer r)
+around_now n order path [] r h = h
+around_now n order path (Part T i count ∷ outer) r h =
+    let inner = around order (path ++ seg_of T i ∷ []) outer r in
+    now_followed n (within (Part T i count) inner) (parts_from (part_at order path T count) (count - suc i) (suc i))
+    (now_within n (Part T i count) inner (around_now n order (path ++ seg_of T i ∷ []) outer r h))
+    (parts_quiet order path T count n (count - suc i) (suc i))
+around_now n order path (Member T i ∷ outer) r h =
+    let inner = around order (path ++ seg_of T i ∷ []) outer r in
+    now_within n (Member T i) inner (around_now n order (path ++ seg_of T i ∷ []) outer r h)
+
+pub step_now : (order : Order) (path : List Seg) (outer : List Place) (leaf : Leaf) (at b : ℕ) → Now (at + 1) (step order path outer leaf at b)
+step_now order path outer leaf at b = around_now (at + 1) order path outer (leaf_step order (path_in path outer) leaf at b) (leaf_now order (path_in path outer) leaf at b)

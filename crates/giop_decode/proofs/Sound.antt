@@ -1,0 +1,171 @@
+-- What a reading leaves: the offset at its end, and places that fit the type.
+use Rattle.std.proofs.Common.{◌≡◌, ℕ, zero, suc, ◌+◌, ◌-◌, ◌<◌, ◌≤◌, true, List, [], ◌∷◌, ◌++◌, length, drop, Option, Some, None, refl, subst, arith, length-drop, ◌⊎◌, inl, inr, lit<, length-take-le}
+use Rattle.std.proofs.lemmas.Bool.{cases_lt}
+use Rattle.giop_cdr.specs.Alignment.{padding}
+use Rattle.giop_cdr.specs.Numbers.{num}
+use Rattle.giop_cdr.specs.declared.order.Order.{Order}
+use Rattle.giop_decode.specs.Fits.{Sound, HasCase, HasContent, HasHead, HasParts}
+use Rattle.giop_decode.specs.Pieces.{Got, Grab, Waiting, block, content, ends, full_piece, full_pieces, last_piece, number, octets, over, tail, text, unless}
+use Rattle.giop_decode.specs.Reading.{headed, member, parts_from, read, refused, single, wrong}
+use Rattle.giop_decode.specs.Spine
+use Rattle.giop_decode.specs.Spine.{Count, Done, Fault, Index, Line, Member, Name, Part, Piece, Read, Seg, Short, Switch, followed, line, with_front, within}
+use Rattle.giop_decode.specs.Steps.{after, head_width, part_at}
+use Rattle.giop_decode.specs.declared.progress.Kind.{Kind}
+use Rattle.giop_sig.specs.Fits.{IsFit, SelectsBelow}
+use Rattle.giop_sig.specs.Types.{Array, Octets, Scalar, Sequence, Single, Struct, Text, Ty, Union, part_of}
+use Rattle.giop_sig.specs.declared.types.Selected.{Selected}
+use Rattle.giop_sig.specs.declared.types.Selected.TheVariants.{Case, Nothing, Refused}
+use Rattle.giop_decode.proofs.Law.{inner_path, block_waits, block_got, number_waits, number_blocks, width_pos}
+
+abbrev pub Keeps : Ty → (ℕ → List ℕ → Read) → Type 0
+Keeps T reader = (at : ℕ) (s : List ℕ) → Sound T (at + length s) (reader at s)
+
+sound_front : (T : Ty) (end : ℕ) (front : List Line) (r : Read) → Sound T end r → Sound T end (with_front front r)
+sound_front T end front (Done lines at rest) h = h
+sound_front T end front (Short lines at outer leaf) h = h
+sound_front T end front (Fault lines at kind S) h = h
+
+sound_unless : (T : Ty) (end : ℕ) (U : Ty) (why : Option Kind) (at : ℕ) (r : Read) → Sound T end r → Sound T end (unless U why at r)
+sound_unless T end U None at r h = h
+sound_unless T end U (Some kind) at r h = tt
+
+pub sound_followed : (T : Ty) (end : ℕ) (r : Read) (next : ℕ → List ℕ → Read) → Sound T end r → Keeps T next → Sound T end (followed r next)
+sound_followed T end (Done lines at rest) next h keeps =
+    sound_front T end lines (next at rest) (subst (λ e. Sound T e (next at rest)) h (keeps at rest))
+sound_followed T end (Short lines at outer leaf) next h keeps = h
+sound_followed T end (Fault lines at kind S) next h keeps = h
+
+pub sound_part : (T : Ty) (end i count : ℕ) (r : Read) → HasParts T count → i < count → Sound (part_of T i) end r → Sound T end (within (Part T i count) r)
+sound_part T end i count (Done lines at rest) kind below h = h
+sound_part T end i count (Short lines at outer leaf) kind below h = (h.0, (record { same = refl; kind = kind; below = below }, h.1))
+sound_part T end i count (Fault lines at k S) kind below h = tt
+
+pub sound_member : (T : Ty) (end i : ℕ) (r : Read) → HasCase T i → Sound (part_of T i) end r → Sound T end (within (Member T i) r)
+sound_member T end i (Done lines at rest) kind h = h
+sound_member T end i (Short lines at outer leaf) kind h = (h.0, (record { same = refl; kind = kind }, h.1))
+sound_member T end i (Fault lines at k S) kind h = tt
+
+-- octets taken: the offset at the end, and how many
+abbrev pub Takes : ℕ → ℕ → Grab → Type 0
+Takes n end (Waiting held at) = (at ≡ end) × (length held < n)
+Takes n end (Got xs at rest) = (at + length rest ≡ end) × (length xs ≡ n)
+
+block_takes : (n at : ℕ) (s : List ℕ) → Takes n (at + length s) (block n at s)
+block_takes n at s = go (cases_lt (length s) n)
+  where
+    go : (length s < n) ⊎ (n ≤ length s) → Takes n (at + length s) (block n at s)
+    go (inl h) = rw (block_waits n at s h) (refl, h)
+    go (inr h) = rw (block_got n at s h) (omega (arith, length-drop n s), length-take-le n s h)
+
+number_takes : (n at : ℕ) (s : List ℕ) → 0 < n → Takes n (at + length s) (number n at s)
+number_takes n at s pos = go (cases_lt (length s) (padding at n))
+  where
+    go : (length s < padding at n) ⊎ (padding at n ≤ length s) → Takes n (at + length s) (number n at s)
+    go (inl h) = rw (number_waits n at s h) (refl, pos)
+    go (inr h) =
+        let e : (at + padding at n) + length (drop (padding at n) s) ≡ at + length s = omega (arith, length-drop (padding at n) s) in
+        rw (number_blocks n at s h) (subst (λ end. Takes n end (block n (at + padding at n) (drop (padding at n) s))) e (block_takes n (at + padding at n) (drop (padding at n) s)))
+
+pub parts_keep : (order : Order) (path : List Seg) (T : Ty) (count : ℕ) → HasParts T count →
+    ((i : ℕ) → i < count → Keeps (part_of T i) (read order (inner_path path T i) (part_of T i))) →
+    (more i : ℕ) → more ≡ count - i → Keeps T (parts_from (part_at order path T count) more i)
+parts_keep order path T count kind each zero i is at s = refl
+parts_keep order path T count kind each (suc more) i is at s =
+    let below : i < count = omega arith in
+    sound_followed T (at + length s) _ (parts_from (part_at order path T count) more (suc i))
+    (sound_part T (at + length s) i count (read order (inner_path path T i) (part_of T i) at s) kind below (each i below at s))
+    (parts_keep order path T count kind each more (suc i) (omega arith))
+
+headed_keeps : (order : Order) (path : List Seg) (T : Ty) → HasHead T → 0 < head_width T → ((n : ℕ) → Keeps T (after order path T n)) →
+    Keeps T (λ at s. headed T (λ xs at rest. after order path T (num order xs) at rest) (number (head_width T) at s))
+headed_keeps order path T kind pos keeps at s = go (number (head_width T) at s) (number_takes (head_width T) at s pos)
+  where
+    go : (g : Grab) → Takes (head_width T) (at + length s) g → Sound T (at + length s) (headed T (λ xs at rest. after order path T (num order xs) at rest) g)
+    go (Waiting carry at') h = (h.0, record { same = refl; kind = kind; room = h.1 })
+    go (Got xs at' rest) h = subst (λ e. Sound T e (after order path T (num order xs) at' rest)) h.0 (keeps (num order xs) at' rest)
+
+pub last_piece_sound : (T : Ty) (path : List Seg) (total offset end : ℕ) → HasContent T → total - offset ≤ 32 → offset ≤ total → (g : Grab) →
+    Takes (total - offset + tail T) end g → Sound T end (last_piece T path total offset g)
+last_piece_sound T path total offset end kind small ahead (Waiting piece at) h =
+    (h.0, record { same = refl; kind = kind; ahead = ahead; room_full = λ more. absurd (omega arith); room_last = λ _. h.1 })
+last_piece_sound T path total offset end kind small ahead (Got xs at rest) h =
+    sound_unless T end T (ends T (total - offset) xs) at _ h.0
+
+pub full_piece_sound : (T : Ty) (path : List Seg) (total offset end : ℕ) → HasContent T → 32 < total - offset → (next : ℕ → List ℕ → Read) → Keeps T next → (g : Grab) →
+    Takes 32 end g → Sound T end (full_piece T path total offset next g)
+full_piece_sound T path total offset end kind large next keeps (Waiting piece at) h =
+    (h.0, record { same = refl; kind = kind; ahead = omega arith; room_full = λ _. h.1; room_last = λ small. absurd (omega arith) })
+full_piece_sound T path total offset end kind large next keeps (Got xs at rest) h =
+    sound_front T end (line at path (Piece T offset xs true) ∷ []) (next at rest) (subst (λ e. Sound T e (next at rest)) h.0 (keeps at rest))
+
+pub content_keeps : (T : Ty) (path : List Seg) (total : ℕ) → HasContent T → (full offset : ℕ) → full ≡ full_pieces (total - offset) → offset ≤ total → Keeps T (content T path total full offset)
+content_keeps T path total kind zero offset is ahead at s =
+    last_piece_sound T path total offset (at + length s) kind (omega arith) ahead (block (total - offset + tail T) at s) (block_takes (total - offset + tail T) at s)
+content_keeps T path total kind (suc full) offset is ahead at s =
+    full_piece_sound T path total offset (at + length s) kind (omega arith) (content T path total full (offset + 32))
+    (content_keeps T path total kind full (offset + 32) (omega arith) (omega arith)) (block 32 at s) (block_takes 32 at s)
+
+text_keeps : (path : List Seg) (bound : Option ℕ) (n : ℕ) → Keeps (Text bound) (text bound path n)
+text_keeps path bound zero at s = refl
+text_keeps path bound (suc n) at s =
+    sound_unless (Text bound) (at + length s) _ (over bound n) at _ (content_keeps (Text bound) path n tt (full_pieces n) 0 (omega arith) (omega arith) at s)
+
+octets_keeps : (path : List Seg) (bound : Option ℕ) (n : ℕ) → Keeps (Octets bound) (octets bound path n)
+octets_keeps path bound n at s =
+    sound_unless (Octets bound) (at + length s) _ (over bound n) at _ (content_keeps (Octets bound) path n tt (full_pieces n) 0 (omega arith) (omega arith) at s)
+
+single_keeps : (T : Ty) (path : List Seg) (scalar : Scalar) (n : ℕ) → Keeps T (single path scalar n)
+single_keeps T path scalar n at s = sound_unless T (at + length s) _ (wrong scalar n) at _ refl
+
+selected_keeps : (order : Order) (path : List Seg) (T : Ty) (selected : Selected) → ((i : ℕ) → selected ≡ Case i → HasCase T i) →
+    ((i : ℕ) → HasCase T i → Keeps (part_of T i) (read order (inner_path path T i) (part_of T i))) →
+    Keeps T (member selected (λ i at s. within (Member T i) (read order (inner_path path T i) (part_of T i) at s)))
+selected_keeps order path T (Case i) kind each at s =
+    sound_member T (at + length s) i (read order (inner_path path T i) (part_of T i) at s) (kind i refl) (each i (kind i refl) at s)
+selected_keeps order path T Nothing kind each at s = refl
+selected_keeps order path T Refused kind each at s = refl
+
+-- what follows a number, where the parts' readings keep
+pub elements_keep : (order : Order) (path : List Seg) (bound : Option ℕ) (T : Ty) (n : ℕ) → ((i : ℕ) → Keeps T (read order (path ++ Index i ∷ []) T)) →
+    Keeps (Sequence bound T) (after order path (Sequence bound T) n)
+elements_keep order path bound T n each at s = sound_unless (Sequence bound T) (at + length s) _ (over bound n) at _
+    (sound_front (Sequence bound T) (at + length s) (line at path (Count n) ∷ []) _
+    (parts_keep order path (Sequence bound T) n tt (λ i below. each i) n 0 (omega arith) at s))
+
+pub cases_keep : (order : Order) (path : List Seg) (count : ℕ) (scalar : Scalar) (select : ℕ → Selected) (names : ℕ → List ℕ) (cases : ℕ → Ty) (n : ℕ) →
+    SelectsBelow count select → ((i : ℕ) → i < count → Keeps (cases i) (read order (path ++ Name (names i) ∷ []) (cases i))) →
+    Keeps (Union count scalar select names cases) (after order path (Union count scalar select names cases) n)
+cases_keep order path count scalar select names cases n below each at s =
+    let T = Union count scalar select names cases in
+    sound_unless T (at + length s) T (wrong scalar n) at _
+    (sound_unless T (at + length s) T (refused (select n)) at _
+    (sound_front T (at + length s) (line at (path ++ Switch ∷ []) (Spine.Number scalar n) ∷ []) _
+    (selected_keeps order path T (select n) (λ i e. below n i e) each at s)))
+
+pub read_keeps : (d : ℕ) (order : Order) (path : List Seg) (T : Ty) → IsFit d T → Keeps T (read order path T)
+unfolding IsFit
+read_keeps zero order path T fit = absurd fit
+read_keeps (suc d) order path (Single scalar) fit = headed_keeps order path (Single scalar) tt (width_pos scalar) (λ n. single_keeps (Single scalar) path scalar n)
+read_keeps (suc d) order path (Text bound) fit = headed_keeps order path (Text bound) tt (lit< tt) (λ n. text_keeps path bound n)
+read_keeps (suc d) order path (Octets bound) fit = headed_keeps order path (Octets bound) tt (lit< tt) (λ n. octets_keeps path bound n)
+read_keeps (suc d) order path (Struct count names parts) fit =
+    parts_keep order path (Struct count names parts) count refl (λ i below. read_keeps d order (path ++ Name (names i) ∷ []) (parts i) (fit.1 i below)) count 0 (omega arith)
+read_keeps (suc d) order path (Array count T) fit =
+    parts_keep order path (Array count T) count refl (λ i below. read_keeps d order (path ++ Index i ∷ []) T fit.1) count 0 (omega arith)
+read_keeps (suc d) order path (Sequence bound T) fit =
+    headed_keeps order path (Sequence bound T) tt (lit< tt) (λ n. elements_keep order path bound T n (λ i. read_keeps d order (path ++ Index i ∷ []) T fit))
+read_keeps (suc d) order path (Union count scalar select names cases) fit =
+    headed_keeps order path (Union count scalar select names cases) tt (width_pos scalar) (λ n. cases_keep order path count scalar select names cases n fit.0
+    (λ i below. read_keeps d order (path ++ Name (names i) ∷ []) (cases i) (fit.1 i below)))
+
+pub after_keeps : (d : ℕ) (order : Order) (path : List Seg) (T : Ty) (n : ℕ) → IsFit d T → Keeps T (after order path T n)
+unfolding IsFit
+after_keeps zero order path T n fit = absurd fit
+after_keeps (suc d) order path (Single scalar) n fit = single_keeps (Single scalar) path scalar n
+after_keeps (suc d) order path (Text bound) n fit = text_keeps path bound n
+after_keeps (suc d) order path (Octets bound) n fit = octets_keeps path bound n
+after_keeps (suc d) order path (Struct count names parts) n fit = λ at s. refl
+after_keeps (suc d) order path (Array count T) n fit = λ at s. refl
+after_keeps (suc d) order path (Sequence bound T) n fit = elements_keep order path bound T n (λ i. read_keeps d order (path ++ Index i ∷ []) T fit)
+after_keeps (suc d) order path (Union count scalar select names cases) n fit =
+    cases_keep order path count scalar select names cases n fit.0 (λ i below. read_keeps d order (path ++ Name (names i) ∷ []) (cases i) (fit.1 i below))

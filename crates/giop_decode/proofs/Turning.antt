@@ -1,0 +1,157 @@
+-- What the number that begins a type comes to, before any octet behind it.
+use Rattle.std.proofs.Common.{◌≡◌, ℕ, zero, suc, ◌+◌, ◌-◌, ◌<◌, ◌≤◌, ◌⊎◌, inl, inr, false, List, [], ◌∷◌, ◌++◌, Option, Some, None, refl, ap, arith, add-zero, lit<, lt-ltb, ne_eqb}
+use Rattle.std.proofs.lemmas.Bool.{cases_lt}
+use Rattle.giop_cdr.specs.Numbers.{taken_as}
+use Rattle.giop_cdr.specs.declared.number.Number.{Number as Taken}
+use Rattle.giop_cdr.specs.declared.number.Number.TheVariants as numbers
+use Rattle.giop_cdr.specs.declared.order.Order.{Order}
+use Rattle.giop_cdr.specs.declared.prim.Primitive.{Primitive}
+use Rattle.giop_cdr.specs.declared.prim.Primitive.TheVariants as prims
+use Rattle.giop_decode.specs.declared.leaf.Turn.TheVariants as turns
+use Rattle.giop_decode.specs.declared.progress.Kind.TheVariants as kinds
+use Rattle.giop_decode.specs.declared.leaf.Spoken.TheVariants as spokens
+use Rattle.giop_decode.specs.Spine
+use Rattle.giop_decode.specs.Spine.{Seg, Switch, line, Count, Piece, Part, Member, Content, Done, Short, with_front, within}
+use Rattle.giop_decode.specs.Pieces.{over, full_pieces, tail, content}
+use Rattle.giop_decode.specs.Reading.{wrong}
+use Rattle.giop_decode.specs.Steps.{after}
+use Rattle.giop_decode.specs.Begins.{start_outer, start_leaf}
+use Rattle.giop_decode.specs.Fits.{HasCase}
+use Rattle.giop_decode.specs.Turns.{IsNumberOf, Turns, over_by}
+use Rattle.giop_decode.proofs.Law.{inner_path, block_got}
+use Rattle.giop_decode.proofs.Around.{block_none, first_part, read_none}
+use Rattle.giop_sig.specs.Types.{Scalar, Plain, Enum, Ty, Single, Text, Octets, Struct, Union, Sequence, Array, part_of, switch_of, shape_in, select_in, taken_in, IsUnion, HasMember}
+use Rattle.giop_sig.specs.declared.types.Selected.TheVariants.{Case, Nothing, Refused}
+use Rattle.giop_sig.specs.Fits.{IsFit}
+use Rattle.giop_sig.specs.Table.{Table}
+
+-- a content of which something is to come, before its first octet
+pub content_none : (path : List Seg) (U : Ty) (total full offset at : ℕ) → 0 < total - offset + tail U → content U path total full offset at [] ≡ Short [] at [] (Content U total offset [])
+content_none path U total zero offset at pos = rw (block_none (total - offset + tail U) at pos) refl
+content_none path U total (suc full) offset at pos = rw (block_none 32 at (lit< tt)) refl
+
+-- a number that is taken as a value isn't wrong
+pub right_taken : (p : Primitive) (n : ℕ) (number : Taken) → taken_as p n ≡ Some number → wrong (Plain p) n ≡ None
+right_taken prims.Octet n number e = refl
+right_taken prims.Char n number e = refl
+right_taken prims.Boolean n number e = go (cases_lt n 2)
+  where
+    go : (n < 2) ⊎ (2 ≤ n) → wrong (Plain prims.Boolean) n ≡ None
+    go (inl h) = rw lt-ltb refl
+    go (inr h) =
+        let f = rw (ne_eqb n 0 (λ z. absurd (omega arith)), ne_eqb n 1 (λ z. absurd (omega arith))) at e in
+        absurd (cc)
+right_taken prims.Short n number e = refl
+right_taken prims.UShort n number e = refl
+right_taken prims.Long n number e = refl
+right_taken prims.ULong n number e = refl
+right_taken prims.LongLong n number e = refl
+right_taken prims.ULongLong n number e = refl
+right_taken prims.Float n number e = refl
+right_taken prims.Double n number e = refl
+
+abbrev pub number_prim : (T : Ty) (p : Primitive) (n : ℕ) (number : Taken) → T ≡ Single (Plain p) → taken_as p n ≡ Some number → IsNumberOf T number
+number_prim T p n number is taken = record { scalar = Plain p; n = n; is = is; right = right_taken p n number taken; taken = taken }
+
+abbrev pub number_enum : (T : Ty) (count : ℕ) (names : ℕ → List ℕ) (n : ℕ) → T ≡ Single (Enum count names) → n < count → IsNumberOf T (numbers.Unsigned n)
+number_enum T count names n is below = record { scalar = Enum count names; n = n; is = is; right = rw lt-ltb refl; taken = refl }
+
+module _ (C : Table) (order : Order) (path : List Seg) (T : Ty) (at : ℕ) where
+  pub turns_number : (number : Taken) (is : IsNumberOf T number) → Turns C T turns.Ended (spokens.Number number) [] [] path at (after order path T is.n at [])
+  turns_number number is = record {
+    lines = line at path (Spine.Number is.scalar is.n) ∷ [];
+    comes = rw (is.is, is.right) refl;
+    says = (is, refl);
+  }
+
+  pub text_open : (bound : Option ℕ) (n : ℕ) → T ≡ Text bound → over bound n ≡ over_by false → after order path T (suc n) at [] ≡ Short [] at [] (Content T n 0 [])
+  text_open bound n is ok = rw (is, ok) (content_none path (Text bound) n (full_pieces n) 0 at (omega arith))
+
+  pub octets_empty : (bound : Option ℕ) (n : ℕ) → T ≡ Octets bound → over bound n ≡ over_by false → n ≡ 0 → after order path T n at [] ≡ Done (line at path (Piece T 0 [] false) ∷ []) at []
+  octets_empty bound n is ok none = rw (none, is, rw none at ok, block_got 0 at [] (omega arith), add-zero) refl
+
+  pub octets_open : (bound : Option ℕ) (n : ℕ) → T ≡ Octets bound → over bound n ≡ over_by false → 0 < n → after order path T n at [] ≡ Short [] at [] (Content T n 0 [])
+  octets_open bound n is ok pos = rw (is, ok) (content_none path (Octets bound) n (full_pieces n) 0 at (omega arith))
+
+  pub sequence_empty : (bound : Option ℕ) (E : Ty) (n : ℕ) → T ≡ Sequence bound E → over bound n ≡ over_by false → n ≡ 0 → after order path T n at [] ≡ Done (line at path (Count n) ∷ []) at []
+  sequence_empty bound E n is ok none = rw (is, ok, none) refl
+
+  pub sequence_open : (d : ℕ) (bound : Option ℕ) (E : Ty) (n : ℕ) → IsFit d T → T ≡ Sequence bound E → over bound n ≡ over_by false → 0 < n →
+      after order path T n at [] ≡ Short (line at path (Count n) ∷ []) at (Part T 0 n ∷ start_outer (part_of T 0)) (start_leaf (part_of T 0))
+  unfolding IsFit
+  sequence_open zero bound E n fit is ok pos = absurd fit
+  sequence_open (suc d) bound E zero fit is ok pos = absurd (omega arith)
+  sequence_open (suc d) bound E (suc n) fit is ok pos =
+      rw (is, ok) (ap (with_front (line at path (Count (suc n)) ∷ [])) (first_part order path (Sequence bound E) (suc n) n 0 at (read_none order (inner_path path (Sequence bound E) 0) d E at (rw is at fit))))
+
+pub member_case : (T : Ty) (i : ℕ) → IsUnion (shape_in T) → HasMember (shape_in T) i → HasCase T i
+member_case (Union n scalar select names cases) i u h = h
+member_case (Struct n names parts) i u h = absurd u
+member_case (Array n T) i u h = absurd u
+member_case (Sequence bound T) i u h = absurd u
+member_case (Single (Plain p)) i u h = absurd u
+member_case (Single (Enum n names)) i u h = absurd u
+member_case (Text bound) i u h = absurd u
+member_case (Octets bound) i u h = absurd u
+
+same_scalar : (s t : Scalar) → Single s ≡ Single t → s ≡ t
+same_scalar s t e = cc
+
+-- a union behind a discriminator that is a value
+module _ (C : Table) (order : Order) (path : List Seg) (at : ℕ) (number : Taken) where
+  pub turns_case : (d : ℕ) (T : Ty) (i : ℕ) (is : IsNumberOf (switch_of T) number) → IsFit d T → IsUnion (shape_in T) → select_in T is.n ≡ Case i → HasCase T i →
+      Turns C T (turns.Selected i) (spokens.Switch number) [] [] path at (after order path T is.n at [])
+  unfolding IsFit
+  turns_case zero T i is fit u e h = absurd fit
+  turns_case (suc d) (Union n scalar select names cases) i is fit u e h =
+      let s : scalar ≡ is.scalar = same_scalar scalar is.scalar is.is in
+      let w : wrong scalar is.n ≡ None = rw s is.right in
+      record {
+        lines = line at (path ++ Switch ∷ []) (Spine.Number is.scalar is.n) ∷ [];
+        comes = rw (w, e, read_none order (inner_path path (Union n scalar select names cases) i) d (cases i) at (fit.1 i h)) (ap (λ k. Short (line at (path ++ Switch ∷ []) (Spine.Number k is.n) ∷ []) at
+            (Member (Union n scalar select names cases) i ∷ start_outer (cases i)) (start_leaf (cases i))) s);
+        says = (is, refl);
+      }
+  turns_case (suc d) (Struct n names parts) i is fit u e h = absurd u
+  turns_case (suc d) (Array n T) i is fit u e h = absurd u
+  turns_case (suc d) (Sequence bound T) i is fit u e h = absurd u
+  turns_case (suc d) (Single (Plain p)) i is fit u e h = absurd u
+  turns_case (suc d) (Single (Enum n names)) i is fit u e h = absurd u
+  turns_case (suc d) (Text bound) i is fit u e h = absurd u
+  turns_case (suc d) (Octets bound) i is fit u e h = absurd u
+
+  pub turns_nothing : (T : Ty) (is : IsNumberOf (switch_of T) number) → IsUnion (shape_in T) → select_in T is.n ≡ Nothing →
+      Turns C T turns.Ended (spokens.Switch number) [] [] path at (after order path T is.n at [])
+  turns_nothing (Union n scalar select names cases) is u e =
+      let s : scalar ≡ is.scalar = same_scalar scalar is.scalar is.is in
+      let w : wrong scalar is.n ≡ None = rw s is.right in
+      record {
+        lines = line at (path ++ Switch ∷ []) (Spine.Number is.scalar is.n) ∷ [];
+        comes = rw (w, e) (ap (λ k. Done (line at (path ++ Switch ∷ []) (Spine.Number k is.n) ∷ []) at []) s);
+        says = (is, refl);
+      }
+  turns_nothing (Struct n names parts) is u e = absurd u
+  turns_nothing (Array n T) is u e = absurd u
+  turns_nothing (Sequence bound T) is u e = absurd u
+  turns_nothing (Single (Plain p)) is u e = absurd u
+  turns_nothing (Single (Enum n names)) is u e = absurd u
+  turns_nothing (Text bound) is u e = absurd u
+  turns_nothing (Octets bound) is u e = absurd u
+
+  pub turns_refused : (T : Ty) (is : IsNumberOf (switch_of T) number) → IsUnion (shape_in T) → select_in T is.n ≡ Refused →
+      Turns C T (turns.Refused kinds.Disposition) spokens.Nothing [] [] path at (after order path T is.n at [])
+  turns_refused (Union n scalar select names cases) is u e =
+      let s : scalar ≡ is.scalar = same_scalar scalar is.scalar is.is in
+      let w : wrong scalar is.n ≡ None = rw s is.right in
+      record { lines = []; comes = rw (w, e) refl; says = refl }
+  turns_refused (Struct n names parts) is u e = absurd u
+  turns_refused (Array n T) is u e = absurd u
+  turns_refused (Sequence bound T) is u e = absurd u
+  turns_refused (Single (Plain p)) is u e = absurd u
+  turns_refused (Single (Enum n names)) is u e = absurd u
+  turns_refused (Text bound) is u e = absurd u
+  turns_refused (Octets bound) is u e = absurd u
+
+-- the number of a union's discriminator is a value of its type
+pub taken_number : (T U : Ty) (number : Taken) (is : IsNumberOf U number) → T ≡ U → taken_in T is.n ≡ Some number
+taken_number T U number is e = rw (e, is.is) is.taken

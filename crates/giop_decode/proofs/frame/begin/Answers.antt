@@ -1,0 +1,38 @@
+use Rattle.std.proofs.Common.{◌≡◌, ◌-◌, length, pred, refl, sym, ◌∙◌, arith}
+use Rattle.giop_sig.specs.Trees.{tree}
+use Rattle.giop_decode.specs.Turns.{places, IsKnown}
+use Rattle.giop_decode.proofs.Beginning.{begins, begins_places, all_push, map_push}
+use Rattle.giop_decode.proofs.Linking.{link_push}
+use Rattle.giop_decode.proofs.frame.begin.Goals as goal
+
+pub loop-count-preserved : goal.loop-count-preserved
+loop-count-preserved c =
+    let t = c.args.catalogue.now in
+    let old = c.loop-count.outer.items in
+    let T = tree t c.loop-count.inner.0 in
+    let d = 24 - length old in
+    let b = begins d T c.in-Some.count c.loop-count.invariant.fit c.in-Some.ensures.whole in
+    let e : pred d ≡ 24 - length c.push.new.self.items = omega (arith, c.push.ensures.len) in
+    record {
+      known = omega (arith, c.part-inner.ensures.below, c.loop-count.invariant.known);
+      known_outer = rw c.push.ensures.items (all_push (IsKnown t) old _ c.loop-count.invariant.known_outer
+          (record { known = c.loop-count.invariant.known; place = b.placed; uncounted = b.uncounted }));
+      fit = rw (← e, c.part-inner.ensures.tree) b.fit;
+      placed = rw (c.push.ensures.items, map_push, c.part-inner.ensures.tree) (begins_places d (places t old) T c.in-Some.count b ∙ c.loop-count.invariant.placed);
+      leaf = rw c.part-inner.ensures.tree (sym b.leaf ∙ c.loop-count.invariant.leaf);
+      linked = λ root h. link_push t root old c.push.new.self.items c.loop-count.inner.0 c.part-inner.result.0 _ refl c.push.ensures.items c.part-inner.ensures.number (c.loop-count.invariant.linked root h);
+    }
+
+pub push-requires : goal.push-requires
+push-requires c =
+    let b = begins (24 - length c.loop-count.outer.items) (tree c.args.catalogue.now c.loop-count.inner.0) c.in-Some.count c.loop-count.invariant.fit c.in-Some.ensures.whole in
+    (omega arith, omega (arith, b.room))
+
+pub part-inner-requires-clause-place : goal.part-inner-requires-clause-place
+part-inner-requires-clause-place c =
+    (begins (24 - length c.loop-count.outer.items) (tree c.args.catalogue.now c.loop-count.inner.0) c.in-Some.count c.loop-count.invariant.fit c.in-Some.ensures.whole).placed
+
+pub loop-count-smaller : goal.loop-count-smaller
+loop-count-smaller c =
+    let b = begins (24 - length c.loop-count.outer.items) (tree c.args.catalogue.now c.loop-count.inner.0) c.in-Some.count c.loop-count.invariant.fit c.in-Some.ensures.whole in
+    omega (arith, b.room, c.push.ensures.len)

@@ -1,0 +1,20 @@
+use Rattle.std.proofs.Common.{◌≡◌, ℕ, ◌-◌, ◌<◌, ◌++◌, length}
+use Rattle.arrayvec.specs.ArrayVec.{array_vec_len}
+use Rattle.giop_decode.specs.Begins.{start_outer, start_leaf}
+use Rattle.giop_decode.specs.Turns.{places, AreKnown, Link}
+use Rattle.giop_sig.specs.Fits.{IsFit}
+use Rattle.giop_sig.specs.Trees.{tree}
+use Rattle.giop_decode.proofs.frame.begin.Given as goal
+
+abbrev pub invariant-loop-count : goal.invariant-loop-count
+invariant-loop-count l = record {
+  known : l.inner.0 < length l.catalogue.types;
+  known_outer : AreKnown l.catalogue l.outer.items;
+  fit : IsFit (24 - array_vec_len l.outer) (tree l.catalogue l.inner.0);
+  placed : places l.catalogue l.outer.items ++ start_outer (tree l.catalogue l.inner.0) ≡ places l.catalogue l.fn.outer.items ++ start_outer (tree l.catalogue l.fn.t.0);
+  leaf : start_leaf (tree l.catalogue l.inner.0) ≡ start_leaf (tree l.catalogue l.fn.t.0);
+  linked : (root : ℕ) → Link l.catalogue root l.fn.outer.items l.fn.t.0 → Link l.catalogue root l.outer.items l.inner.0;
+}
+
+abbrev pub decreases-loop-count : goal.decreases-loop-count
+decreases-loop-count l = 24 - array_vec_len l.outer

@@ -1,0 +1,19 @@
+use Rattle.std.proofs.Common.{◌∙◌, arith}
+use Rattle.giop_sig.specs.Trees.{tree}
+use Rattle.giop_cdr.specs.Numbers.{num}
+use Rattle.giop_decode.proofs.Turning.{number_prim, number_enum, turns_number}
+use Rattle.giop_decode.proofs.leaf.take_value.Goals as goal
+
+pub returns-in-Ok-clause-turns : goal.returns-in-Ok-clause-turns
+returns-in-Ok-clause-turns c path at =
+    let C = c.args.catalogue.now in
+    let T = tree C c.args.of.0 in
+    turns_number C c.args.order path T at c.in-Ok.number (number_prim T c.in-Prim.prim (num c.args.order c.args.carry.now) c.in-Ok.number c.in-Prim.ensures.shape c.in-Ok.ensures.ok)
+
+pub returns-else-n-count-clause-turns : goal.returns-else-n-count-clause-turns
+returns-else-n-count-clause-turns c path at =
+    let C = c.args.catalogue.now in
+    let T = tree C c.args.of.0 in
+    let s = c.in-Enumeration.ensures.shape in
+    let e = c.from.ensures ∙ c.long_of-n.ensures in
+    rw (← e) (turns_number C c.args.order path T at _ (number_enum T c.in-Enumeration.count s.0 c.from.result s.1 (omega arith)))

@@ -1,0 +1,40 @@
+use Rattle.std.proofs.Common.{[], ◌∷◌, ◌++◌}
+use Rattle.giop_decode.specs.Spine.{Switch}
+use Rattle.giop_decode.specs.Steps.{path_in}
+use Rattle.giop_decode.specs.Turns.{places}
+use Rattle.giop_decode.proofs.Segments.{said_one, said_none, path_switch}
+use Rattle.giop_decode.proofs.line.say.Goals as goal
+use Rattle.giop_print.proofs.Writing.{wrote-nil}
+
+pub returns-in-Nothing : goal.returns-in-Nothing
+returns-in-Nothing g c at lines h = rw (said_none c.args.message c.args.root lines (rw c.in-Nothing.is at h)) (wrote-nil _)
+
+pub returns-in-Length : goal.returns-in-Length
+returns-in-Length g c at lines h = rw (said_none c.args.message c.args.root lines (rw c.in-Length.is at h)) (wrote-nil _)
+
+pub returns-in-Number : goal.returns-in-Number
+returns-in-Number g c at lines h =
+    let path = path_in [] (places c.args.catalogue.now c.args.outer.now) in
+    let k = rw c.in-Number.is at h in
+    rw (← said_one c.args.message c.args.root at path _ _ lines c.path_of-path.ensures.text k.1) (c.number_line.ensures k.0)
+
+pub returns-in-Count : goal.returns-in-Count
+returns-in-Count g c at lines h =
+    let path = path_in [] (places c.args.catalogue.now c.args.outer.now) in
+    let k = rw c.in-Count.is at h in
+    rw (← said_one c.args.message c.args.root at path _ _ lines c.path_of-path-in-Count.ensures.text k) c.value_line.ensures
+
+pub returns-in-Piece : goal.returns-in-Piece
+returns-in-Piece g c at lines h =
+    let path = path_in [] (places c.args.catalogue.now c.args.outer.now) in
+    let k = rw c.in-Piece.is at h in
+    let w = rw c.deref.ensures.0 at c.octets_line.ensures in
+    rw (← said_one c.args.message c.args.root at path _ _ lines c.path_of-path-in-Piece.ensures.text k) w
+
+pub returns-in-Switch : goal.returns-in-Switch
+returns-in-Switch g c at lines h =
+    let path = path_in [] (places c.args.catalogue.now c.args.outer.now) in
+    let k = rw c.in-Switch.is at h in
+    let f = rw c.switch_type-switch.ensures.tree at c.number_line-in-Switch.ensures in
+    let text = path_switch c.args.root path _ _ c.path_of-path-in-Switch.ensures.text c.push_name.ensures.text in
+    rw (← said_one c.args.message c.args.root at (path ++ Switch ∷ []) _ _ lines text k.1) (f k.0)

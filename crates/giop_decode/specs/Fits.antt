@@ -1,0 +1,79 @@
+-- Which places and leaf can stand inside a type.
+use Rattle.std.specs.Prelude.{◌≡◌, ℕ, zero, suc, ◌+◌, ◌-◌, ◌<◌, ◌≤◌, List, [], ◌∷◌, length}
+use Rattle.giop_decode.specs.Spine.{Place, Part, Member, Leaf, Head, Content, Read, Done, Short, Fault}
+use Rattle.giop_decode.specs.Pieces.{tail}
+use Rattle.giop_decode.specs.Steps.{head_width}
+use Rattle.giop_sig.specs.Types.{Ty, Text, Octets, Struct, Union, Sequence, Array, part_of}
+use Rattle.giop_sig.specs.Fits.{IsFit}
+
+-- a type that begins with a number
+abbrev pub HasHead : Ty → Type 0
+HasHead (Struct count names parts) = ⊥
+HasHead (Array count T) = ⊥
+HasHead T = Unit {0}
+
+abbrev pub HasContent : Ty → Type 0
+HasContent (Text bound) = Unit {0}
+HasContent (Octets bound) = Unit {0}
+HasContent T = ⊥
+
+-- a type of so many parts
+abbrev pub HasParts : Ty → ℕ → Type 0
+HasParts (Struct n names parts) count = count ≡ n
+HasParts (Array n T) count = count ≡ n
+HasParts (Sequence bound T) count = Unit {0}
+HasParts T count = ⊥
+
+-- a union with a case in that place
+abbrev pub HasCase : Ty → ℕ → Type 0
+HasCase (Union count scalar select names cases) i = i < count
+HasCase T i = ⊥
+
+pub record HeadFits (T U : Ty) (carry : List ℕ) : Type 0 where
+  pub same : U ≡ T
+  pub kind : HasHead T
+  pub room : length carry < head_width T
+
+pub record ContentFits (T U : Ty) (total offset : ℕ) (piece : List ℕ) : Type 0 where
+  pub same : U ≡ T
+  pub kind : HasContent T
+  pub ahead : offset ≤ total
+  -- the piece isn't whole: it is a full one, or the last with what ends it
+  pub room_full : 32 < total - offset → length piece < 32
+  pub room_last : total - offset ≤ 32 → length piece < total - offset + tail T
+
+pub record PartFits (T U : Ty) (i count : ℕ) : Type 0 where
+  pub same : U ≡ T
+  pub kind : HasParts T count
+  pub below : i < count
+
+pub record MemberFits (T U : Ty) (i : ℕ) : Type 0 where
+  pub same : U ≡ T
+  pub kind : HasCase T i
+
+abbrev pub FitsIn : Ty → List Place → Leaf → Type 0
+FitsIn T [] (Head U carry) = HeadFits T U carry
+FitsIn T [] (Content U total offset piece) = ContentFits T U total offset piece
+FitsIn T (Part U i count ∷ outer) leaf = PartFits T U i count × FitsIn (part_of T i) outer leaf
+FitsIn T (Member U i ∷ outer) leaf = MemberFits T U i × FitsIn (part_of T i) outer leaf
+
+-- a place at which so much depth is left: its whole fits, and has that part
+abbrev pub IsOpen : ℕ → Place → Type 0
+IsOpen d (Part T i count) = HasParts T count × (i < count) × IsFit d T
+IsOpen d (Member T i) = HasCase T i × IsFit d T
+
+abbrev pub OpenFrom : ℕ → List Place → Type 0
+OpenFrom d [] = Unit {0}
+OpenFrom zero (place ∷ outer) = ⊥
+OpenFrom (suc d) (place ∷ outer) = IsOpen (suc d) place × OpenFrom d outer
+
+-- the type of a leaf
+abbrev pub leaf_ty : Leaf → Ty
+leaf_ty (Head T carry) = T
+leaf_ty (Content T total offset piece) = T
+
+-- What a reading whose last octet stands in front of this offset leaves: that offset, and places and a leaf that fit.
+abbrev pub Sound : Ty → ℕ → Read → Type 0
+Sound T end (Done lines at rest) = at + length rest ≡ end
+Sound T end (Short lines at outer leaf) = (at ≡ end) × FitsIn T outer leaf
+Sound T end (Fault lines at kind S) = Unit {0}

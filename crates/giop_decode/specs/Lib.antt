@@ -1,0 +1,10 @@
+pub mod Spine
+pub mod Pieces
+pub mod Reading
+pub mod Begins
+pub mod Steps
+pub mod Fits
+pub mod Heard
+pub mod Spelling
+pub mod Turns
+pub mod Holding

@@ -1,0 +1,66 @@
+-- Octets that are taken together: numbers behind their padding (CDR Transfer Syntax, Alignment), and the contents of strings and
+-- octet sequences in pieces of 32 (docs/FORMATS.md).
+use Rattle.std.specs.Prelude.{ℕ, zero, suc, ◌+◌, ◌-◌, ◌/◌, false, true, cond, ltb, eqb, List, [], ◌∷◌, length, take, drop, get_or, Option, Some, None}
+use Rattle.giop_cdr.specs.Alignment.{padding}
+use Rattle.giop_decode.specs.declared.progress.Kind.{Kind}
+use Rattle.giop_decode.specs.declared.progress.Kind.TheVariants as kinds
+use Rattle.giop_decode.specs.Spine.{Seg, Piece, line, Content, Read, Done, Short, Fault, with_front}
+use Rattle.giop_sig.specs.Types.{Ty, Text, Octets}
+
+-- so many octets, the offset behind them, and what follows; or too few of them
+pub data Grab : Type 0 where
+  Waiting : List ℕ → ℕ → Grab
+  Got : List ℕ → ℕ → List ℕ → Grab
+
+unfoldable pub block : ℕ → ℕ → List ℕ → Grab
+block n at s = cond (ltb (length s) n) (Waiting s (at + length s)) (Got (take n s) (at + n) (drop n s))
+
+-- a number of n octets, after its padding
+unfoldable pub number : ℕ → ℕ → List ℕ → Grab
+number n at s = cond (ltb (length s) (padding at n)) (Waiting [] (at + length s)) (block n (at + padding at n) (drop (padding at n) s))
+
+-- a fault takes the place of a value
+abbrev pub unless : Ty → Option Kind → ℕ → Read → Read
+unless T None at read = read
+unless T (Some kind) at read = Fault [] at kind T
+
+-- why a count, or the length of a content, is too great
+abbrev pub over : Option ℕ → ℕ → Option Kind
+over None n = None
+over (Some bound) n = cond (ltb bound n) (Some kinds.Bound) None
+
+-- how many of a content's pieces aren't its last
+abbrev pub full_pieces : ℕ → ℕ
+full_pieces n = (n - 1) / 32
+
+-- a string's content has one octet behind it, a zero
+abbrev pub tail : Ty → ℕ
+tail (Text bound) = 1
+tail T = 0
+
+abbrev pub ends : Ty → ℕ → List ℕ → Option Kind
+ends (Text bound) n octets = cond (eqb (get_or octets n 0) 0) None (Some kinds.StringEnd)
+ends T n octets = None
+
+abbrev pub last_piece : Ty → List Seg → ℕ → ℕ → Grab → Read
+last_piece T path total offset (Waiting piece at) = Short [] at [] (Content T total offset piece)
+last_piece T path total offset (Got octets at rest) = unless T (ends T (total - offset) octets) at
+    (Done (line at path (Piece T offset (take (total - offset) octets) false) ∷ []) at rest)
+
+abbrev pub full_piece : Ty → List Seg → ℕ → ℕ → (ℕ → List ℕ → Read) → Grab → Read
+full_piece T path total offset next (Waiting piece at) = Short [] at [] (Content T total offset piece)
+full_piece T path total offset next (Got octets at rest) = with_front (line at path (Piece T offset octets true) ∷ []) (next at rest)
+
+-- a content of so many octets, of which so many pieces more aren't the last, from an offset in it on
+abbrev pub content : Ty → List Seg → ℕ → ℕ → ℕ → ℕ → List ℕ → Read
+content T path total zero offset at s = last_piece T path total offset (block (total - offset + tail T) at s)
+content T path total (suc full) offset at s = full_piece T path total offset (content T path total full (offset + 32)) (block 32 at s)
+
+-- behind the length of a string, which counts its zero: a string of length 0 is the empty one, and ends there
+abbrev pub text : Option ℕ → List Seg → ℕ → ℕ → List ℕ → Read
+text bound path zero at rest = Done (line at path (Piece (Text bound) 0 [] false) ∷ []) at rest
+text bound path (suc n) at rest = unless (Text bound) (over bound n) at (content (Text bound) path n (full_pieces n) 0 at rest)
+
+-- behind the length of an octet sequence
+abbrev pub octets : Option ℕ → List Seg → ℕ → ℕ → List ℕ → Read
+octets bound path n at rest = unless (Octets bound) (over bound n) at (content (Octets bound) path n (full_pieces n) 0 at rest)

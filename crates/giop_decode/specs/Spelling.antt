@@ -1,0 +1,44 @@
+-- The text of a reading's lines, in a message and below a root (docs/FORMATS.md).
+use Rattle.std.specs.Prelude.{ℕ, List, [], ◌∷◌, ◌++◌, Option, Some, None, codes, decimal}
+use Rattle.giop_cdr.specs.Numbers.{taken_as}
+use Rattle.giop_cdr.specs.Primitives.{size_of}
+use Rattle.giop_cdr.specs.declared.number.Number.{Number as Taken}
+use Rattle.giop_cdr.specs.declared.prim.Primitive.{Primitive}
+use Rattle.giop_decode.specs.Spine.{Seg, Name, Index, Switch, Value, Number, Count, Piece, Line}
+use Rattle.giop_print.specs.Lines.{kind_line, kind_word, spaced, number_text, content_line, spaced_hex, more_word}
+use Rattle.giop_print.specs.Paths.{root_word, name_segment, index_segment}
+use Rattle.giop_print.specs.Text.{quoted}
+use Rattle.giop_print.specs.declared.path.Root.{Root}
+use Rattle.giop_sig.specs.Types.{Plain, Enum, Text, Octets}
+
+abbrev pub seg_text : Seg → List ℕ
+seg_text (Name name) = name_segment name
+seg_text (Index i) = index_segment i
+seg_text Switch = name_segment (codes "switch")
+
+abbrev pub segs_text : List Seg → List ℕ
+segs_text [] = []
+segs_text (s ∷ ss) = seg_text s ++ segs_text ss
+
+unfoldable pub path_text : Root → List Seg → List ℕ
+path_text root path = root_word root ++ segs_text path
+
+-- a number that is a value of its primitive
+abbrev pub primitive_line : ℕ → List ℕ → Primitive → Option Taken → List ℕ
+primitive_line message path p None = []
+primitive_line message path p (Some number) = kind_line message path (spaced (kind_word p)) (number_text (size_of p) number)
+
+abbrev pub value_text : ℕ → List ℕ → Value → List ℕ
+value_text message path (Number (Plain p) n) = primitive_line message path p (taken_as p n)
+value_text message path (Number (Enum count names) n) = kind_line message path (codes " enum ") (names n)
+value_text message path (Count n) = kind_line message path (codes " count ") (decimal n)
+value_text message path (Piece (Text bound) offset octets more) = content_line message path (codes " string @") offset (codes " " ++ quoted octets) (more_word more)
+value_text message path (Piece (Octets bound) offset octets more) = content_line message path (codes " octets @") offset (spaced_hex octets) (more_word more)
+value_text message path value = []
+
+abbrev pub line_text : ℕ → Root → Line → List ℕ
+line_text message root l = value_text message (path_text root l.path) l.value
+
+unfoldable pub lines_text : ℕ → Root → List Line → List ℕ
+lines_text message root [] = []
+lines_text message root (l ∷ ls) = line_text message root l ++ lines_text message root ls

@@ -1,0 +1,76 @@
+-- What the reading of a value says, and what it leaves: its lines, and the parts that it has begun and not ended.
+use Rattle.std.specs.Prelude.{ℕ, Bool, List, ◌∷◌, ◌++◌}
+use Rattle.giop_decode.specs.declared.progress.Kind.{Kind}
+use Rattle.giop_sig.specs.Types.{Scalar, Ty}
+
+-- ---- lines
+
+-- one step of a path: a member, an element, or a union's discriminator
+pub data Seg : Type 0 where
+  Name : List ℕ → Seg
+  Index : ℕ → Seg
+  Switch : Seg
+
+pub data Value : Type 0 where
+  -- the whole number that the octets of a primitive or of an enum spell
+  Number : Scalar → ℕ → Value
+  -- of a sequence's elements
+  Count : ℕ → Value
+  -- of a string or an octet sequence: where in the content, what, and whether more follows
+  Piece : Ty → ℕ → List ℕ → Bool → Value
+
+-- a line: the offset just past the last octet of its value, its path below the root, and what stands there
+pub record Line : Type 0 where
+  pub at : ℕ
+  pub path : List Seg
+  pub value : Value
+
+abbrev pub line : ℕ → List Seg → Value → Line
+line at path value = record { at = at; path = path; value = value }
+
+-- ---- parts begun and not ended
+
+-- a part that has parts of its own: which of them is being read
+pub data Place : Type 0 where
+  -- in which of how many members or elements
+  Part : Ty → ℕ → ℕ → Place
+  -- in which case of a union
+  Member : Ty → ℕ → Place
+
+-- the innermost part
+pub data Leaf : Type 0 where
+  -- the number that it begins with: the octets that are there, without padding
+  Head : Ty → List ℕ → Leaf
+  -- the content of a string or an octet sequence: how long it is, where the piece begins, and what is there of the piece
+  Content : Ty → ℕ → ℕ → List ℕ → Leaf
+
+-- ---- readings
+
+-- What a reading comes to: its lines, the offset at its end, and what follows it,
+-- or the parts begun and not ended, the outermost first, or the fault, the offset just past its octet, and the type whose value has it.
+pub data Read : Type 0 where
+  Done : List Line → ℕ → List ℕ → Read
+  Short : List Line → ℕ → List Place → Leaf → Read
+  Fault : List Line → ℕ → Kind → Ty → Read
+
+abbrev pub lines_of : Read → List Line
+lines_of (Done lines at rest) = lines
+lines_of (Short lines at outer leaf) = lines
+lines_of (Fault lines at kind S) = lines
+
+abbrev pub with_front : List Line → Read → Read
+with_front front (Done lines at rest) = Done (front ++ lines) at rest
+with_front front (Short lines at outer leaf) = Short (front ++ lines) at outer leaf
+with_front front (Fault lines at kind S) = Fault (front ++ lines) at kind S
+
+-- what comes next is read from where this ended
+abbrev pub followed : Read → (ℕ → List ℕ → Read) → Read
+followed (Done lines at rest) next = with_front lines (next at rest)
+followed (Short lines at outer leaf) next = Short lines at outer leaf
+followed (Fault lines at kind S) next = Fault lines at kind S
+
+-- what is read inside a part
+abbrev pub within : Place → Read → Read
+within place (Done lines at rest) = Done lines at rest
+within place (Short lines at outer leaf) = Short lines at (place ∷ outer) leaf
+within place (Fault lines at kind S) = Fault lines at kind S

@@ -1,0 +1,38 @@
+//! The laws of reading: what one octet more, or many, do to the reading of a list.
+
+ghost use Rattle.std.specs.Prelude.{◌≡◌, ℕ, ◌+◌, List, [], ◌∷◌, ◌++◌, length};
+ghost use Rattle.giop_cdr.specs.declared.order.Order.{Order as ByteOrder};
+ghost use Rattle.giop_sig.specs.Types.{Ty};
+ghost use Rattle.giop_sig.specs.Fits.{IsFit};
+ghost use Rattle.giop_decode.specs.Spine.{Seg, Line, Place, Leaf, Short, lines_of};
+ghost use Rattle.giop_decode.specs.Reading.{read};
+ghost use Rattle.giop_decode.specs.Begins.{start_outer, start_leaf};
+ghost use Rattle.giop_decode.specs.Steps.{step, advance, resumes, Now};
+ghost use Rattle.giop_decode.specs.Fits.{FitsIn, Sound};
+
+/// The reading of a list is told by the parts that the reading of a front of it has begun and not ended. It has no body,
+/// and is called for its contract.
+
+pub fn reading_laws()
+    // One octet more is one step on those parts.
+    ensures step { (order : ByteOrder) (path : List Seg) (T : Ty) (at : ℕ) (s : List ℕ) (b : ℕ) →
+        read order path T at (s ++ b ∷ []) ≡ advance order path (read order path T at s) b }
+    // Many octets more are as many steps: a reading may be left and resumed anywhere.
+    ensures resumption { (order : ByteOrder) (path : List Seg) (T : Ty) (at : ℕ) (s t : List ℕ) →
+        read order path T at (s ++ t) ≡ resumes order path (read order path T at s) t }
+    // The lines of a longer list begin with those of a shorter.
+    ensures lines { (order : ByteOrder) (path : List Seg) (T : Ty) (at : ℕ) (s t : List ℕ) →
+        (more : List Line) × (lines_of (read order path T at (s ++ t)) ≡ lines_of (read order path T at s) ++ more) }
+    // A step has at most one line, which stands at its octet, and none where that is refused.
+    ensures prompt { (order : ByteOrder) (path : List Seg) (outer : List Place) (leaf : Leaf) (at b : ℕ) →
+        Now (at + 1) (step order path outer leaf at b) }
+    // Where each part takes some octet, the parts begun before the first octet are those that stand first in their wholes.
+    ensures begins { (d : ℕ) (order : ByteOrder) (path : List Seg) (T : Ty) (at : ℕ) → IsFit d T →
+        read order path T at [] ≡ Short [] at (start_outer T) (start_leaf T) }
+    // The parts begun and not ended fit in the type, each in the one before,
+    ensures sound { (d : ℕ) (order : ByteOrder) (path : List Seg) (T : Ty) (at : ℕ) (s : List ℕ) → IsFit d T →
+        Sound T (at + length s) (read order path T at s) }
+    // and a step from any parts that fit leaves parts that fit.
+    ensures kept { (d : ℕ) (order : ByteOrder) (path : List Seg) (T : Ty) (outer : List Place) (leaf : Leaf) (at b : ℕ) → IsFit d T →
+        FitsIn T outer leaf → Sound T (at + 1) (step order path outer leaf at b) }
+{}

@@ -1,0 +1,15 @@
+//! The resumable decoder of typed values: recursive reading of a whole list of octets, an octet at a time.
+#![tactic(auto)]
+
+mod decoder;
+mod frame;
+mod laws;
+mod leaf;
+mod line;
+mod progress;
+
+pub use decoder::Decoder;
+pub use frame::Frame;
+pub use laws::reading_laws;
+pub use leaf::{Leaf, Spoken, Step, Turn};
+pub use progress::{Kind, Progress};
