@@ -1,6 +1,7 @@
 //! Tables of streams and their lines, run whole, in pieces, and over sources and outs that fail at each call in turn.
 
 use super::console::{Lines, dump, status};
+use super::fakes::{FailingReader, FailingWriter};
 use super::fault::RunFault;
 use super::piecewise::Piecewise;
 use super::reading::Reading;
@@ -10,7 +11,7 @@ use giop_stream::{Engine, Status, Stop, Totals};
 use std::alloc::{AllocError, Global};
 use std::cell::{Cell, RefCell};
 use std::io;
-use std::io::{ErrorKind, Read, Write};
+use std::io::{ErrorKind, Read};
 use std::process::Abort;
 use std::test::Fail;
 
@@ -200,79 +201,6 @@ fn lines_come_from_a_reader(rt: HostRuntime) -> Result<(), Fail> {
         assert_eq!(rt; sheet.held(), want.as_slice(), "{}", row.name);
     }
     Ok(())
-}
-
-/// A reader that gives one octet a read, counts its reads, and fails at read number `fails_at`, counted from 0.
-#[derive(Drop)]
-struct FailingReader<'a> {
-    left: &'a [u8],
-    reads: &'a Cell<usize>,
-    fails_at: usize,
-}
-
-impl<'a> FailingReader<'a> {
-    fn new(left: &'a [u8], reads: &'a Cell<usize>, fails_at: usize) -> FailingReader<'a> {
-        FailingReader {
-            left,
-            reads,
-            fails_at,
-        }
-    }
-}
-
-impl Read for FailingReader<'_> {
-    fn read(&mut self, into: &mut [u8]) -> io::Result<usize> {
-        let reads = self.reads.get();
-        self.reads.set(reads.saturating_add(1));
-        if reads == self.fails_at {
-            return Err(io::Error::from(ErrorKind::Other));
-        }
-        match (self.left.split_first(), into.first_mut()) {
-            (Some((octet, left)), Some(place)) => {
-                *place = *octet;
-                self.left = left;
-                Ok(1)
-            }
-            _ => Ok(0),
-        }
-    }
-}
-
-/// A writer that takes at most 16 octets a write, keeps them, and fails at write number `fails_at`, counted from 0.
-#[derive(Drop)]
-struct FailingWriter<'a> {
-    held: &'a RefCell<Vec<u8>>,
-    writes: usize,
-    fails_at: usize,
-}
-
-impl<'a> FailingWriter<'a> {
-    fn new(held: &'a RefCell<Vec<u8>>, fails_at: usize) -> FailingWriter<'a> {
-        FailingWriter {
-            held,
-            writes: 0,
-            fails_at,
-        }
-    }
-}
-
-impl Write for FailingWriter<'_> {
-    fn write(&mut self, bytes: &[u8]) -> io::Result<usize> {
-        let writes = self.writes;
-        self.writes = writes.saturating_add(1);
-        if writes == self.fails_at {
-            return Err(io::Error::from(ErrorKind::Other));
-        }
-        let taken = bytes.len().min(16);
-        self.held
-            .try_borrow_mut()?
-            .extend_from_slice(&bytes[..taken])?;
-        Ok(taken)
-    }
-
-    fn flush(&mut self) -> io::Result<()> {
-        Ok(())
-    }
 }
 
 #[test]
