@@ -1,13 +1,14 @@
 -- A decoder before and after an octet.
-use Rattle.std.proofs.Common.{◌≡◌, ℕ, suc, ◌-◌, ◌<◌, List, [], ◌∷◌, ◌++◌, length, Option, Some, None, refl, sym, ◌∙◌, ap, subst, append-nil, arith}
+use Rattle.std.proofs.Common.{◌≡◌, ℕ, suc, ◌+◌, ◌-◌, ◌%◌, ◌<◌, Bool, true, false, List, [], ◌∷◌, ◌++◌, length, Option, Some, None, refl, sym, ◌∙◌, ap, subst, append-nil, arith}
 use Rattle.giop_cdr.specs.declared.order.Order.{Order}
 use Rattle.giop_decode.specs.declared.leaf.Turn.{Turn}
 use Rattle.giop_decode.specs.declared.leaf.Turn.TheVariants as turns
 use Rattle.giop_decode.specs.declared.progress.Progress.{Progress}
+use Rattle.giop_decode.specs.declared.progress.Progress.TheVariants as progress
 use Rattle.giop_decode.specs.Spine.{Seg, Line, Place, Part, Member, Read, Done, Short, Fault, within, lines_of}
 use Rattle.giop_decode.specs.Reading.{parts_from}
 use Rattle.giop_decode.specs.Begins.{start_outer, start_leaf}
-use Rattle.giop_decode.specs.Steps.{around, part_at, seg_of}
+use Rattle.giop_decode.specs.Steps.{around, part_at, seg_of, step}
 use Rattle.giop_decode.proofs.Now.{Quiet, quiet_followed, quiet_within, parts_quiet}
 use Rattle.giop_decode.proofs.Resuming.{lines_front}
 use Rattle.giop_decode.proofs.Settling.{around_done}
@@ -18,12 +19,14 @@ use Rattle.std.proofs.Common.{Ok, Err}
 use Rattle.giop_decode.specs.declared.decoder.Decoder.{Decoder}
 use Rattle.giop_decode.specs.declared.leaf.Leaf.{Leaf as Innermost}
 use Rattle.giop_decode.specs.declared.leaf.Leaf.TheVariants as innermost
-use Rattle.giop_decode.specs.Fits.{FitsIn, OpenFrom, leaf_ty}
-use Rattle.giop_decode.specs.Turns.{places, leaf_of, leaf_type, turned}
-use Rattle.giop_decode.specs.Holding.{Fits, standing, settled, Comes, GoesOn, IsProgress}
+use Rattle.giop_decode.specs.Fits.{FitsIn, OpenFrom, Sound, leaf_ty}
+use Rattle.giop_decode.specs.Turns.{places, leaf_of, leaf_type, turned, AreKnown, Link, IsClean}
+use Rattle.giop_decode.specs.Heard.{is_header_root, names_operation}
+use Rattle.giop_decode.specs.Holding.{Fits, GoesOn, standing, standing_in}
+use Rattle.giop_decode.specs.Moves.{settled, stepped, leaf_in, Comes, IsGoing, IsProgress, IsMoved}
 use Rattle.giop_decode.proofs.Around.{fit_room, around-fault, around-short}
 use Rattle.giop_decode.proofs.Going.{length_places}
-use Rattle.giop_decode.proofs.Leaving.{leaf_at}
+use Rattle.giop_decode.proofs.Leaving.{leaf_at, step_keeps}
 use Rattle.giop_sig.specs.Fits.{IsFit}
 use Rattle.giop_sig.specs.Table.{Table}
 use Rattle.giop_sig.specs.Trees.{tree}
@@ -51,22 +54,70 @@ stands C d f =
       room = omega arith;
     }
 
-same_some : (a b : Innermost) → Some a ≡ Some b → a ≡ b
+pub same_some : (a b : Innermost) → Some a ≡ Some b → a ≡ b
 same_some a b e = cc
 
 pub stands_at : (C : Table) (d : Decoder) (f : Fits C d) (leaf : Innermost) → d.leaf ≡ Some leaf → Stands C d leaf
 stands_at C d f leaf e = subst (Stands C d) (same_some f.leaf leaf (sym f.goes_on ∙ e)) (stands C d f)
 
-goes_by : (C : Table) (T : Ty) (d : Decoder) (leaf : Option Innermost) (lines : List Line) (at : ℕ) (p : Progress) (r : Read) → d.leaf ≡ leaf → r ≡ standing C d lines at → GoesOn leaf p → Comes C d p at r
-goes_by C T d None lines at p r is e h = rw h (lines, (e, is))
-goes_by C T d (Some leaf) lines at p r is e h = rw h (lines, (e, (leaf, is)))
+going_by : (C : Table) (d : Decoder) (named : Bool) (leaf : Option Innermost) (lines : List Line) (at : ℕ) (p : Progress) (r : Read) →
+    named ≡ names_operation (is_header_root d.root) lines → d.leaf ≡ leaf → r ≡ standing C d lines at → IsGoing named leaf p → Comes C d p at r
+going_by C d named None lines at p r n is e h = rw h (lines, (e, is))
+going_by C d true (Some leaf) lines at p r n is e h = rw h (lines, (e, (leaf, is), sym n))
+going_by C d false (Some leaf) lines at p r n is e h = rw h (lines, (e, (leaf, is), sym n))
 
-pub comes_by : (C : Table) (T : Ty) (d : Decoder) (turn : Turn) (lines : List Line) (at : ℕ) (p : Progress) (r : Read) → r ≡ settled C T d turn lines at → IsProgress turn d.leaf p → Comes C d p at r
-comes_by C T d (turns.Refused kind) lines at p r e h = rw h (lines, (T, e))
-comes_by C T d (turns.More leaf) lines at p r e h = goes_by C T d d.leaf lines at p r refl e h
-comes_by C T d turns.Ended lines at p r e h = goes_by C T d d.leaf lines at p r refl e h
-comes_by C T d (turns.Opened count) lines at p r e h = goes_by C T d d.leaf lines at p r refl e h
-comes_by C T d (turns.Selected i) lines at p r e h = goes_by C T d d.leaf lines at p r refl e h
+pub comes_by : (C : Table) (T : Ty) (d : Decoder) (named : Bool) (turn : Turn) (lines : List Line) (at : ℕ) (p : Progress) (r : Read) →
+    named ≡ names_operation (is_header_root d.root) lines → r ≡ settled C T d turn lines at → IsProgress named turn d.leaf p → Comes C d p at r
+comes_by C T d named (turns.Refused kind) lines at p r n e h = rw h (lines, (T, e))
+comes_by C T d named (turns.More leaf) lines at p r n e h = going_by C d named d.leaf lines at p r n refl e h
+comes_by C T d named turns.Ended lines at p r n e h = going_by C d named d.leaf lines at p r n refl e h
+comes_by C T d named (turns.Opened count) lines at p r n e h = going_by C d named d.leaf lines at p r n refl e h
+comes_by C T d named (turns.Selected i) lines at p r n e h = going_by C d named d.leaf lines at p r n refl e h
+
+-- a decoder that goes on, behind its lines
+pub record Goes (C : Table) (d : Decoder) (at : ℕ) (r : Read) : Type 0 where
+  pub lines : List Line
+  pub is : r ≡ standing C d lines at
+  pub leaf : Innermost
+  pub goes_on : d.leaf ≡ Some leaf
+
+pub goes : (C : Table) (d : Decoder) (p : Progress) (at : ℕ) (r : Read) → Comes C d p at r → GoesOn p → Goes C d at r
+goes C d progress.More at r c h = record { lines = c.0; is = c.1.0; leaf = c.1.1.0; goes_on = c.1.1.1 }
+goes C d progress.Named at r c h = record { lines = c.0; is = c.1.0; leaf = c.1.1.0; goes_on = c.1.1.1 }
+goes C d progress.Done at r c h = absurd h
+goes C d (progress.Fault kind) at r c h = absurd h
+
+pub moved : (named : Bool) (turn : Turn) (leaf : Option Innermost) (p : Progress) → IsProgress named turn leaf p → GoesOn p → IsMoved turn
+moved named (turns.Refused kind) leaf p h g = rw h at g
+moved named (turns.More leaf') leaf p h g = tt
+moved named turns.Ended leaf p h g = tt
+moved named (turns.Opened count) leaf p h g = tt
+moved named (turns.Selected i) leaf p h g = tt
+
+fits_in : (T : Ty) (end at : ℕ) (C : Table) (d : Decoder) (lines : List Line) (leaf : Innermost) (r : Read) → Sound T end r → r ≡ standing C d lines at → d.leaf ≡ Some leaf →
+    FitsIn T (places C d.outer.items) (leaf_of C leaf d.carry d.piece.items)
+fits_in T end at C d lines leaf r sound is goes_on = (subst (Sound T end) (is ∙ ap (λ l. standing_in C d l lines at) goes_on) sound).1
+
+-- What a step leaves of a decoder that fits, fits as well.
+pub step_fits : (C : Table) (d new : Decoder) (f : Fits C d) (octet : ℕ) (g : Goes C new (d.at + 1) (stepped C d d.at octet)) → new.at ≡ (d.at + 1) % 8 →
+    Link C f.root new.outer.items (leaf_type g.leaf) → AreKnown C new.outer.items → leaf_type g.leaf < length C.types → IsClean g.leaf new.carry new.piece.items → Fits C new
+step_fits C d new f octet g at link known_outer known clean =
+    let sound : Sound (tree C f.root) (d.at + 1) (stepped C d d.at octet) =
+        subst (λ l. Sound (tree C f.root) (d.at + 1) (step d.order [] (places C d.outer.items) (leaf_in C d l) d.at octet)) (sym f.goes_on)
+        (step_keeps 24 d.order [] (tree C f.root) (places C d.outer.items) (leaf_of C f.leaf d.carry d.piece.items) d.at octet f.fit f.fits) in
+    record {
+      leaf = g.leaf;
+      goes_on = g.goes_on;
+      root = f.root;
+      known_root = f.known_root;
+      link = link;
+      fit = f.fit;
+      fits = fits_in (tree C f.root) (d.at + 1) (d.at + 1) C new g.lines g.leaf (stepped C d d.at octet) sound g.is g.goes_on;
+      known_outer = known_outer;
+      known = known;
+      clean = clean;
+      at = omega (arith, at);
+    }
 
 around_quiet : (n : ℕ) (order : Order) (path : List Seg) (outer : List Place) (r : Read) → Quiet n r → Quiet n (around order path outer r)
 around_quiet n order path [] r h = h

@@ -15,3 +15,6 @@ pub mod PieceLaws
 pub mod Segments
 pub mod Settling
 pub mod Advancing
+pub mod Starting
+pub mod Hearing
+pub mod Taking

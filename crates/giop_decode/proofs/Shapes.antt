@@ -1,11 +1,12 @@
 -- What a shape says of its type.
-use Rattle.std.proofs.Common.{ℕ, ◌<◌, refl, inl, inr}
+use Rattle.std.proofs.Common.{◌≡◌, ℕ, zero, suc, ◌<◌, Option, refl, inl, inr}
 use Rattle.giop_cdr.specs.Alignment.{IsAlignment}
 use Rattle.giop_cdr.specs.Primitives.{size_of}
 use Rattle.giop_cdr.specs.declared.prim.Primitive.{Primitive}
 use Rattle.giop_cdr.specs.declared.prim.Primitive.TheVariants as prims
 use Rattle.giop_decode.specs.Fits.{HasHead, HasParts, HasCase}
 use Rattle.giop_decode.specs.Turns.{IsWhole}
+use Rattle.giop_sig.specs.Fits.{IsEmptyStruct}
 use Rattle.giop_sig.specs.Types.{Ty, Single, Text, Octets, Struct, Union, Sequence, Array, HasShape, HasPlace, shape_in}
 use Rattle.giop_sig.specs.declared.types.Shape.TheVariants as shapes
 
@@ -56,3 +57,40 @@ aligned prims.LongLong = inr (inr (inr refl))
 aligned prims.ULongLong = inr (inr (inr refl))
 aligned prims.Float = inr (inr (inl refl))
 aligned prims.Double = inr (inr (inr refl))
+
+-- the struct without members is told by its shape
+pub empty_is : (T : Ty) (n : ℕ) → HasShape T (shapes.Members n) → n ≡ 0 → IsEmptyStruct T
+empty_is T n h e = rw (h.2, e) tt
+
+pub some_is : (T : Ty) (n : ℕ) → HasShape T (shapes.Members n) → IsEmptyStruct T → n ≡ 0
+some_is (Struct zero names parts) n h empty = let e = h.2 in cc
+some_is (Struct (suc m) names parts) n h empty = absurd empty
+some_is (Array m T) n h empty = absurd empty
+some_is (Single scalar) n h empty = absurd empty
+some_is (Text bound) n h empty = absurd empty
+some_is (Octets bound) n h empty = absurd empty
+some_is (Union m scalar select names cases) n h empty = absurd empty
+some_is (Sequence bound T) n h empty = absurd empty
+
+pub some_array : (T : Ty) (n : ℕ) → HasShape T (shapes.Array n) → IsEmptyStruct T → ⊥
+some_array T n h empty = rw h.1 at empty
+
+pub some_prim : (T : Ty) (p : Primitive) → HasShape T (shapes.Prim p) → IsEmptyStruct T → ⊥
+some_prim T p h empty = rw h at empty
+
+pub some_enum : (T : Ty) (n : ℕ) → HasShape T (shapes.Enumeration n) → IsEmptyStruct T → ⊥
+some_enum T n h empty = rw h.1 at empty
+
+pub some_text : (T : Ty) (bound : Option ℕ) → HasShape T (shapes.Text bound) → IsEmptyStruct T → ⊥
+some_text T bound h empty = rw h at empty
+
+pub some_octets : (T : Ty) (bound : Option ℕ) → HasShape T (shapes.Octets bound) → IsEmptyStruct T → ⊥
+some_octets T bound h empty = rw h at empty
+
+pub some_union : (T : Ty) (n : ℕ) → HasShape T (shapes.Union n) → IsEmptyStruct T → ⊥
+some_union T n h empty = rw h.4 at empty
+
+pub some_sequence : (T : Ty) (bound : Option ℕ) → HasShape T (shapes.Sequence bound) → IsEmptyStruct T → ⊥
+some_sequence T bound h empty = rw h.1 at empty
+
+pub ruleset empty_laws = (empty_is, some_is, some_array, some_prim, some_enum, some_text, some_octets, some_union, some_sequence)

@@ -1,7 +1,9 @@
 -- What the number that begins a type comes to, before any octet behind it.
-use Rattle.std.proofs.Common.{◌≡◌, ℕ, zero, suc, ◌+◌, ◌-◌, ◌<◌, ◌≤◌, ◌⊎◌, inl, inr, false, List, [], ◌∷◌, ◌++◌, Option, Some, None, refl, ap, arith, add-zero, lit<, lt-ltb, ne_eqb}
+use Rattle.std.proofs.Common.{◌≡◌, ℕ, zero, suc, ◌+◌, ◌-◌, ◌^◌, ◌<◌, ◌≤◌, ◌⊎◌, inl, inr, false, List, [], ◌∷◌, ◌++◌, length, Option, Some, None, refl, ap, subst, arith, add-zero, lit<, lt-ltb, ne_eqb}
 use Rattle.std.proofs.lemmas.Bool.{cases_lt}
-use Rattle.giop_cdr.specs.Numbers.{taken_as}
+use Rattle.giop_cdr.proofs.NumberLaws.{num_bound}
+use Rattle.giop_cdr.specs.Numbers.{AreOctets, num, taken_as}
+use Rattle.giop_cdr.specs.Primitives.{size_of}
 use Rattle.giop_cdr.specs.declared.number.Number.{Number as Taken}
 use Rattle.giop_cdr.specs.declared.number.Number.TheVariants as numbers
 use Rattle.giop_cdr.specs.declared.order.Order.{Order}
@@ -14,7 +16,7 @@ use Rattle.giop_decode.specs.Spine
 use Rattle.giop_decode.specs.Spine.{Seg, Switch, line, Count, Piece, Part, Member, Content, Done, Short, with_front, within}
 use Rattle.giop_decode.specs.Pieces.{over, full_pieces, tail, content}
 use Rattle.giop_decode.specs.Reading.{wrong}
-use Rattle.giop_decode.specs.Steps.{after}
+use Rattle.giop_decode.specs.Steps.{after, head_width}
 use Rattle.giop_decode.specs.Begins.{start_outer, start_leaf}
 use Rattle.giop_decode.specs.Fits.{HasCase}
 use Rattle.giop_decode.specs.Turns.{IsNumberOf, Turns, over_by}
@@ -50,11 +52,34 @@ right_taken prims.ULongLong n number e = refl
 right_taken prims.Float n number e = refl
 right_taken prims.Double n number e = refl
 
-abbrev pub number_prim : (T : Ty) (p : Primitive) (n : ℕ) (number : Taken) → T ≡ Single (Plain p) → taken_as p n ≡ Some number → IsNumberOf T number
-number_prim T p n number is taken = record { scalar = Plain p; n = n; is = is; right = right_taken p n number taken; taken = taken }
+-- octets spell a number below 256 to the primitive's size
+pub prim_bound : (T : Ty) (p : Primitive) (order : Order) (octets : List ℕ) → T ≡ Single (Plain p) → length octets ≡ head_width T → AreOctets octets → num order octets < 256 ^ size_of p
+prim_bound T p order octets is whole are = subst (λ k. num order octets < 256 ^ k) (rw is at whole) (num_bound order octets are)
 
-abbrev pub number_enum : (T : Ty) (count : ℕ) (names : ℕ → List ℕ) (n : ℕ) → T ≡ Single (Enum count names) → n < count → IsNumberOf T (numbers.Unsigned n)
-number_enum T count names n is below = record { scalar = Enum count names; n = n; is = is; right = rw lt-ltb refl; taken = refl }
+same_scalar : (s t : Scalar) → Single s ≡ Single t → s ≡ t
+same_scalar s t e = cc
+
+pub switch_bound : (T : Ty) (p : Primitive) (order : Order) (octets : List ℕ) → IsUnion (shape_in T) → switch_of T ≡ Single (Plain p) → length octets ≡ head_width T → AreOctets octets →
+    num order octets < 256 ^ size_of p
+switch_bound (Union n scalar select names cases) p order octets u is whole are =
+    prim_bound (Single scalar) p order octets is whole are
+switch_bound (Struct n names parts) p order octets u is whole are = absurd u
+switch_bound (Array n T) p order octets u is whole are = absurd u
+switch_bound (Sequence bound T) p order octets u is whole are = absurd u
+switch_bound (Single (Plain q)) p order octets u is whole are = absurd u
+switch_bound (Single (Enum n names)) p order octets u is whole are = absurd u
+switch_bound (Text bound) p order octets u is whole are = absurd u
+switch_bound (Octets bound) p order octets u is whole are = absurd u
+
+abbrev pub number_prim : (T : Ty) (p : Primitive) (n : ℕ) (number : Taken) → T ≡ Single (Plain p) → taken_as p n ≡ Some number → n < 256 ^ size_of p → IsNumberOf T number
+number_prim T p n number is taken within = record { scalar = Plain p; n = n; is = is; right = right_taken p n number taken; taken = taken; within = within }
+
+abbrev pub number_switch : (T : Ty) (p : Primitive) (order : Order) (octets : List ℕ) (number : Taken) → IsUnion (shape_in T) → switch_of T ≡ Single (Plain p) →
+    taken_as p (num order octets) ≡ Some number → length octets ≡ head_width T → AreOctets octets → IsNumberOf (switch_of T) number
+number_switch T p order octets number u is taken whole are = number_prim (switch_of T) p (num order octets) number is taken (switch_bound T p order octets u is whole are)
+
+abbrev pub number_enum : (T : Ty) (count : ℕ) (names : ℕ → List ℕ) (n : ℕ) → T ≡ Single (Enum count names) → n < count → n < 256 ^ 4 → IsNumberOf T (numbers.Unsigned n)
+number_enum T count names n is below within = record { scalar = Enum count names; n = n; is = is; right = rw lt-ltb refl; taken = refl; within = within }
 
 module _ (C : Table) (order : Order) (path : List Seg) (T : Ty) (at : ℕ) where
   pub turns_number : (number : Taken) (is : IsNumberOf T number) → Turns C T turns.Ended (spokens.Number number) [] [] path at (after order path T is.n at [])
@@ -93,9 +118,6 @@ member_case (Single (Plain p)) i u h = absurd u
 member_case (Single (Enum n names)) i u h = absurd u
 member_case (Text bound) i u h = absurd u
 member_case (Octets bound) i u h = absurd u
-
-same_scalar : (s t : Scalar) → Single s ≡ Single t → s ≡ t
-same_scalar s t e = cc
 
 -- a union behind a discriminator that is a value
 module _ (C : Table) (order : Order) (path : List Seg) (at : ℕ) (number : Taken) where

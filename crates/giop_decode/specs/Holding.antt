@@ -1,16 +1,17 @@
 -- What a decoder holds of the list of octets that it has taken, one field a clause.
-use Rattle.std.specs.Prelude.{◌≡◌, ℕ, ◌+◌, ◌%◌, ◌<◌, List, [], length, Option, Some, None}
+use Rattle.std.specs.Prelude.{◌≡◌, ℕ, ◌+◌, ◌%◌, ◌<◌, ◌≤◌, Bool, true, false, List, [], ◌∷◌, ◌++◌, length, drop, Option, Some, None}
 use Rattle.giop_cdr.specs.declared.order.Order.{Order}
 use Rattle.giop_decode.specs.declared.decoder.Decoder.{Decoder}
 use Rattle.giop_decode.specs.declared.leaf.Leaf.{Leaf as Innermost}
-use Rattle.giop_decode.specs.declared.leaf.Turn.{Turn}
-use Rattle.giop_decode.specs.declared.leaf.Turn.TheVariants as turns
+use Rattle.giop_decode.specs.declared.memory.Memory.{Memory}
+use Rattle.giop_decode.specs.declared.memory.Buffer.{Buffer}
+use Rattle.giop_decode.specs.declared.memory.Buffer.TheVariants as buffers
 use Rattle.giop_decode.specs.declared.progress.Progress.{Progress}
 use Rattle.giop_decode.specs.declared.progress.Progress.TheVariants as progress
-use Rattle.giop_decode.specs.Steps.{step}
-use Rattle.giop_decode.specs.Spine.{Line, Leaf, Head, Read, Done, Short, Fault}
+use Rattle.giop_decode.specs.Spine.{Line, Read, Done, Short, Fault, lines_of}
 use Rattle.giop_decode.specs.Reading.{read}
 use Rattle.giop_decode.specs.Fits.{FitsIn}
+use Rattle.giop_decode.specs.Heard.{Heard, heard_of, is_header_root, names_operation}
 use Rattle.giop_decode.specs.Turns.{places, AreKnown, Link, leaf_of, leaf_type, IsClean}
 use Rattle.giop_print.specs.declared.path.Root.{Root}
 use Rattle.giop_sig.specs.Types.{Ty}
@@ -18,18 +19,7 @@ use Rattle.giop_sig.specs.Fits.{IsFit}
 use Rattle.giop_sig.specs.Table.{Table}
 use Rattle.giop_sig.specs.Trees.{tree}
 
--- what a decoder's fields stand for
-abbrev pub standing_in : Table → Decoder → Option Innermost → List Line → ℕ → Read
-standing_in C d None lines at = Done lines at []
-standing_in C d (Some leaf) lines at = Short lines at (places C d.outer.items) (leaf_of C leaf d.carry d.piece.items)
-
-abbrev pub standing : Table → Decoder → List Line → ℕ → Read
-standing C d lines at = standing_in C d d.leaf lines at
-
--- what an innermost part's turn comes to
-abbrev pub settled : Table → Ty → Decoder → Turn → List Line → ℕ → Read
-settled C T d (turns.Refused kind) lines at = Fault lines at kind T
-settled C T d turn lines at = standing C d lines at
+-- ---- a decoder of a catalogue
 
 -- A decoder that is neither done nor faulted: its frames name types of the table, each the part of the one before at its place.
 pub record Fits (C : Table) (d : Decoder) : Type 0 where
@@ -45,38 +35,71 @@ pub record Fits (C : Table) (d : Decoder) : Type 0 where
   pub clean : IsClean leaf d.carry d.piece.items
   pub at : d.at < 8
 
--- The decoder's fields are what reading the list has begun and not ended.
+-- the value has ended
+abbrev pub IsDone : Decoder → Type 0
+IsDone d = d.leaf ≡ None
+
+-- ---- a decoder of a list
+
+-- what a decoder's fields stand for, behind these lines and at this offset
+abbrev pub standing_in : Table → Decoder → Option Innermost → List Line → ℕ → Read
+standing_in C d None lines at = Done lines at []
+standing_in C d (Some leaf) lines at = Short lines at (places C d.outer.items) (leaf_of C leaf d.carry d.piece.items)
+
+abbrev pub standing : Table → Decoder → List Line → ℕ → Read
+standing C d lines at = standing_in C d d.leaf lines at
+
+-- what the name buffer has: the last name, or the pieces of a string that hasn't ended, unless these are too many octets
+abbrev pub IsHeld : Buffer → List ℕ → Option (List ℕ) → List ℕ → Type 0
+IsHeld buffers.Whole octets name so_far = (name ≡ Some octets) × (so_far ≡ [])
+IsHeld buffers.Begun octets name so_far = (name ≡ None) × (so_far ≡ octets) × (length octets ≤ 128)
+IsHeld buffers.TooLong octets name so_far = (name ≡ None) × (octets ≡ []) × (128 < length so_far)
+
+pub record Recalls (m : Memory) (h : Heard) : Type 0 where
+  pub request_id : m.request_id ≡ h.request_id
+  pub status : m.status ≡ h.status
+  pub name : IsHeld m.buffer m.name.items h.name h.so_far
+
+-- what a decoder has in mind of a reading, whether that goes on, has ended or is faulted
+abbrev pub Minds : Root → Decoder → Read → Type 0
+Minds root d r = Recalls d.memory (heard_of (is_header_root root) r)
+
+-- The decoder's fields are what reading the list has begun and not ended, and what it leaves in mind.
 pub record Reads (C : Table) (T : Ty) (order : Order) (at message : ℕ) (root : Root) (d : Decoder) (s : List ℕ) : Type 0 where
   pub lines : List Line
   pub is : read order [] T at s ≡ standing C d lines (at + length s)
+  pub minds : Minds root d (read order [] T at s)
   pub same_order : d.order ≡ order
   pub same_message : d.message ≡ message
   pub same_root : d.root ≡ root
   pub offset : d.at ≡ (at + length s) % 8
 
--- the innermost part that a decoder stands in
-abbrev pub leaf_in : Table → Decoder → Option Innermost → Leaf
-leaf_in C d None = Head (tree C 0) []
-leaf_in C d (Some leaf) = leaf_of C leaf d.carry d.piece.items
+-- ---- one octet more
 
--- one octet more, on a decoder's fields
-abbrev pub stepped : Table → Decoder → ℕ → ℕ → Read
-stepped C d here octet = step d.order [] (places C d.outer.items) (leaf_in C d d.leaf) here octet
+-- the lines that it gives
+abbrev pub due : Order → Ty → ℕ → List ℕ → ℕ → List Line
+due order T at s octet = drop (length (lines_of (read order [] T at s))) (lines_of (read order [] T at (s ++ octet ∷ [])))
 
-abbrev pub progressed : Table → Decoder → Progress → List Line → ℕ → Read → Type 0
-progressed C d progress.More lines at r = (r ≡ standing C d lines at) × ((leaf : Innermost) × (d.leaf ≡ Some leaf))
-progressed C d progress.Done lines at r = (r ≡ standing C d lines at) × (d.leaf ≡ None)
-progressed C d (progress.Fault kind) lines at r = (T : Ty) × (r ≡ Fault lines at kind T)
+-- What has come of a list that ends at this offset, and whose last octet does or doesn't name an operation: the value goes on,
+-- has ended at its last octet, or is faulted there.
+abbrev pub IsAnswer : ℕ → Bool → Progress → Read → Type 0
+IsAnswer end named progress.More (Short lines at outer leaf) = named ≡ false
+IsAnswer end named progress.Named (Short lines at outer leaf) = named ≡ true
+IsAnswer end named progress.Done (Done lines at rest) = rest ≡ []
+IsAnswer end named (progress.Fault kind) (Fault lines at why T) = (kind ≡ why) × (at ≡ end)
+IsAnswer end named p r = ⊥
 
--- a step comes to this
-abbrev pub Comes : Table → Decoder → Progress → ℕ → Read → Type 0
-Comes C d p at r = (lines : List Line) × progressed C d p lines at r
+abbrev pub GoesOn : Progress → Type 0
+GoesOn progress.More = Unit {0}
+GoesOn progress.Named = Unit {0}
+GoesOn p = ⊥
 
--- a value goes on as long as it has an innermost part
-abbrev pub GoesOn : Option Innermost → Progress → Type 0
-GoesOn None p = p ≡ progress.Done
-GoesOn (Some leaf) p = p ≡ progress.More
+abbrev pub IsFault : Progress → Type 0
+IsFault (progress.Fault kind) = Unit {0}
+IsFault p = ⊥
 
-abbrev pub IsProgress : Turn → Option Innermost → Progress → Type 0
-IsProgress (turns.Refused kind) leaf p = p ≡ progress.Fault kind
-IsProgress turn leaf p = GoesOn leaf p
+-- A decoder that read a list has come to this with one octet more: it reads the longer list, unless that is faulted.
+pub record Takes (C : Table) (T : Ty) (order : Order) (at message : ℕ) (root : Root) (d : Decoder) (s : List ℕ) (octet : ℕ) (p : Progress) : Type 0 where
+  pub answer : IsAnswer (at + length (s ++ octet ∷ [])) (names_operation (is_header_root root) (due order T at s octet)) p (read order [] T at (s ++ octet ∷ []))
+  pub reads : (IsFault p → ⊥) → Reads C T order at message root d (s ++ octet ∷ [])
+  pub minds : Minds root d (read order [] T at (s ++ octet ∷ []))

@@ -1,5 +1,5 @@
 -- What the fields of a decoder stand for, and what one octet turns its innermost part into.
-use Rattle.std.specs.Prelude.{◌≡◌, ℕ, ◌<◌, Bool, true, false, List, [], ◌∷◌, ◌++◌, length, map, Option, Some, None}
+use Rattle.std.specs.Prelude.{◌≡◌, ℕ, ◌<◌, ◌^◌, Bool, true, false, List, [], ◌∷◌, ◌++◌, length, map, Option, Some, None}
 use Rattle.std.specs.List.{AllByRecursion}
 use Rattle.giop_cdr.specs.declared.number.Number.{Number as Taken}
 use Rattle.giop_decode.specs.declared.frame.Frame.{Frame}
@@ -16,7 +16,7 @@ use Rattle.giop_decode.specs.Pieces.{Grab, Waiting, Got}
 use Rattle.giop_decode.specs.Reading.{wrong}
 use Rattle.giop_decode.specs.Begins.{start_outer, start_leaf}
 use Rattle.giop_decode.specs.Fits.{HasParts, HasCase, HasContent}
-use Rattle.giop_sig.specs.Types.{Scalar, taken_by, Ty, Single, Struct, Union, Array, part_of, switch_of, shape_in, HasPlace, IsUnion}
+use Rattle.giop_sig.specs.Types.{Scalar, width, taken_by, Ty, Single, Struct, Union, Array, part_of, switch_of, shape_in, HasPlace, IsUnion}
 use Rattle.giop_sig.specs.Table.{Table, part_number}
 use Rattle.giop_sig.specs.Trees.{tree}
 
@@ -96,6 +96,7 @@ pub record IsNumberOf (T : Ty) (number : Taken) : Type 0 where
   pub is : T ≡ Single scalar
   pub right : wrong scalar n ≡ None
   pub taken : taken_by scalar n ≡ Some number
+  pub within : n < 256 ^ width scalar
 
 -- the line that an octet gives, if any
 abbrev pub IsSpoken : Ty → List Seg → ℕ → Spoken → List Line → Type 0

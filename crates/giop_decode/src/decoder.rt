@@ -1,20 +1,28 @@
 //! A decoder of one value: the state that reading a list of octets leaves.
 
-ghost use Rattle.std.specs.Prelude.{◌≡◌, ℕ, ◌+◌, ◌-◌, ◌%◌, ◌<◌, ◌≤◌, List, [], ◌++◌, length, ◌↔◌, IsTrue, IfOk, OnOk, None};
+ghost use Rattle.std.specs.Prelude.{◌≡◌, ℕ, ◌+◌, ◌-◌, ◌%◌, ◌<◌, ◌≤◌, Bool, List, [], ◌++◌, length, ◌↔◌, IsTrue, IfOk, OnOk, None, Some};
+ghost use Rattle.std.specs.Option.{option_map};
 ghost use Rattle.giop_cdr.specs.declared.order.Order.{Order as ByteOrder};
-ghost use Rattle.giop_decode.specs.Spine.{Seg, Line, lines_of};
+ghost use Rattle.giop_decode.specs.declared.leaf.Leaf.{Leaf as Innermost};
+ghost use Rattle.giop_decode.specs.Spine.{Seg, Line, Read, lines_of, with_front};
 ghost use Rattle.giop_decode.specs.Spelling.{lines_text};
 ghost use Rattle.giop_print.specs.Output.{Writes};
+ghost use Rattle.giop_print.specs.declared.path.Root.{Root as PathRoot};
 ghost use Rattle.giop_decode.specs.Steps.{around};
 ghost use Rattle.giop_decode.specs.Fits.{OpenFrom};
-ghost use Rattle.giop_decode.specs.Turns.{places, AreKnown, Link, TurnsIn, turned};
-ghost use Rattle.giop_decode.specs.Holding.{settled, Fits, stepped, Comes, IsProgress, GoesOn};
-ghost use Rattle.giop_sig.specs.Fits.{IsFit};
+ghost use Rattle.giop_decode.specs.Turns.{places, AreKnown, Link, TurnsIn, turned, leaf_type, IsClean};
+ghost use Rattle.giop_decode.specs.Heard.{Heard, heard_of, is_header_root, in_string};
+ghost use Rattle.giop_decode.specs.Recalling.{turn_in_string};
+ghost use Rattle.giop_decode.specs.Holding.{Fits, IsDone, Reads, Takes, Minds, GoesOn, standing, due};
+ghost use Rattle.giop_decode.specs.Moves.{settled, stepped, Comes, IsProgress, IsGoing, IsMoved};
+ghost use Rattle.giop_sig.specs.Types.{Ty};
+ghost use Rattle.giop_sig.specs.Fits.{IsFit, IsEmptyStruct};
 ghost use Rattle.giop_sig.specs.Trees.{tree};
 
-use crate::frame::{Frame, begin, go_on};
+use crate::frame::{Frame, begin, go_on, is_empty};
 use crate::leaf::{Leaf, Turn, take_octet};
 use crate::line::say;
+use crate::memory::Memory;
 use crate::progress::Progress;
 use arrayvec::ArrayVec;
 use giop_cdr::{Carry, Order};
@@ -34,9 +42,93 @@ pub struct Decoder {
     leaf: Option<Leaf>,
     carry: Carry,
     piece: ArrayVec<u8, 32>,
+    memory: Memory,
 }
 
 impl Decoder {
+    /// Begins to read a value of a type, whose first octet stands at this offset of its message.
+    pub fn start(
+        catalogue: &Catalogue,
+        of: TypeId,
+        order: Order,
+        offset: u64,
+        message: u64,
+        root: Root,
+    ) -> Decoder
+        requires { of.0 < length catalogue.now.types }
+        ensures reads { Reads catalogue.now (tree catalogue.now of.0) order offset message root result [] }
+        ensures done { IsDone result ↔ IsEmptyStruct (tree catalogue.now of.0) }
+        ensures fits { (IsEmptyStruct (tree catalogue.now of.0) → ⊥) → Fits catalogue.now result }
+    {
+        let mut decoder = Decoder {
+            order,
+            root,
+            message,
+            at: (offset % 8) as u8,
+            outer: ArrayVec::new(),
+            leaf: None,
+            carry: Carry::new(),
+            piece: ArrayVec::new(),
+            memory: Memory::new(),
+        };
+        if is_empty(catalogue, of) {
+            return decoder;
+        }
+        let first = begin(catalogue, &mut decoder.outer, of);
+        decoder.leaf = Some(Leaf::Number(first));
+        decoder
+    }
+
+    /// Takes an octet of the value, and writes what it gives to say. A decoder that is done or faulted takes no more.
+    pub fn take<O: Out>(
+        &mut self,
+        catalogue: &Catalogue,
+        octet: u8,
+        out: &mut O,
+    ) -> Result<Progress, OutFault>
+        requires { Fits catalogue.now self.old }
+        ensures writes { (T : Ty) (order : ByteOrder) (at message : ℕ) (root : PathRoot) (s : List ℕ) →
+            Reads catalogue.now T order at message root self.old s →
+            Writes result (O.log out.old) (O.log out.new) (lines_text message root (due order T at s octet)) }
+        ensures takes { IfOk result (λ p. (T : Ty) (order : ByteOrder) (at message : ℕ) (root : PathRoot) (s : List ℕ) →
+            Reads catalogue.now T order at message root self.old s →
+            Takes catalogue.now T order at message root self.new s octet p) }
+        ensures fits { IfOk result (λ p. GoesOn p → Fits catalogue.now self.new) }
+        ensures done { IfOk result (λ p. p ≡ Progress.Done → IsDone self.new) }
+    {
+        let progress = self.advance(catalogue, octet, out)?;
+        Ok(progress)
+    }
+
+    /// Whether the value has ended.
+    pub fn is_done(&self) -> bool
+        ensures { IsTrue result ↔ IsDone self.now }
+    {
+        self.leaf.is_none()
+    }
+
+    /// The request id of a header, once that was read.
+    pub fn request_id(&self) -> Option<u32>
+        ensures { (root : PathRoot) (r : Read) → Minds root self.now r → result ≡ (heard_of (is_header_root root) r).request_id }
+    {
+        self.memory.request_id()
+    }
+
+    /// The number of the last enum.
+    pub fn status(&self) -> Option<u32>
+        ensures { (root : PathRoot) (r : Read) → Minds root self.now r → result ≡ (heard_of (is_header_root root) r).status }
+    {
+        self.memory.status()
+    }
+
+    /// The last string that has ended, where that is a name: of at most 128 octets.
+    pub fn name(&self) -> Option<&[u8]>
+        ensures { (root : PathRoot) (r : Read) → Minds root self.now r →
+            option_map (λ octets. octets.now) result ≡ (heard_of (is_header_root root) r).name }
+    {
+        self.memory.name()
+    }
+
     /// Goes on from what the innermost part, of this type, has come to.
     fn settle(&mut self, catalogue: &Catalogue, of: TypeId, turn: Turn)
         requires known { of.0 < length catalogue.now.types }
@@ -45,10 +137,18 @@ impl Decoder {
         requires fit { IsFit (24 - length self.old.outer.items) (tree catalogue.now of.0) }
         requires turns_in { TurnsIn (tree catalogue.now of.0) of.0 turn self.old.carry self.old.piece.items }
         ensures known_outer { AreKnown catalogue.now self.new.outer.items }
+        ensures known { (leaf : Innermost) → IsMoved turn → self.new.leaf ≡ Some leaf → leaf_type leaf < length catalogue.now.types }
+        ensures clean { (leaf : Innermost) → IsMoved turn → self.new.leaf ≡ Some leaf → IsClean leaf self.new.carry self.new.piece.items }
+        ensures link { (root : ℕ) (leaf : Innermost) → IsMoved turn → Link catalogue.now root self.old.outer.items of.0 →
+            self.new.leaf ≡ Some leaf → Link catalogue.now root self.new.outer.items (leaf_type leaf) }
         ensures order { self.new.order ≡ self.old.order }
         ensures root { self.new.root ≡ self.old.root }
         ensures message { self.new.message ≡ self.old.message }
+        ensures memory { self.new.memory ≡ self.old.memory }
         ensures at { self.new.at ≡ self.old.at }
+        ensures inside { (at : ℕ) (lines : List Line) →
+            in_string (settled catalogue.now (tree catalogue.now of.0) self.new turn lines at)
+            ≡ turn_in_string (tree catalogue.now of.0) turn }
         ensures settles { (order : ByteOrder) (path : List Seg) (at : ℕ) (lines : List Line) →
             around order path (places catalogue.now self.old.outer.items)
             (turned catalogue.now (tree catalogue.now of.0) turn self.old.carry self.old.piece.items lines at)
@@ -90,7 +190,7 @@ impl Decoder {
         }
     }
 
-    /// Does one step: what the innermost part gives to say is said, and then the parts around it go on.
+    /// Does one step: what the innermost part gives to say is said and heard, and then the parts around it go on.
     fn advance<O: Out>(
         &mut self,
         catalogue: &Catalogue,
@@ -102,11 +202,15 @@ impl Decoder {
         ensures root { OnOk result (self.new.root ≡ self.old.root) }
         ensures message { OnOk result (self.new.message ≡ self.old.message) }
         ensures at { OnOk result (self.new.at ≡ (self.old.at + 1) % 8) }
+        ensures fits { IfOk result (λ p. GoesOn p → Fits catalogue.now self.new) }
         ensures writes { (here : ℕ) → here % 8 ≡ self.old.at →
             Writes result (O.log out.old) (O.log out.new) (lines_text self.old.message self.old.root
             (lines_of (stepped catalogue.now self.old here octet))) }
         ensures steps { IfOk result (λ p. (here : ℕ) → here % 8 ≡ self.old.at →
             Comes catalogue.now self.new p (here + 1) (stepped catalogue.now self.old here octet)) }
+        ensures minds { OnOk result ((here : ℕ) (front : List Line) → here % 8 ≡ self.old.at →
+            Minds self.old.root self.old (standing catalogue.now self.old front here) →
+            Minds self.old.root self.new (with_front front (stepped catalogue.now self.old here octet))) }
     {
         let Some(leaf) = self.leaf else {
             unreachable!();
@@ -130,39 +234,38 @@ impl Decoder {
             &step.spoken,
             out,
         )?;
+        let named = self.memory.hear(
+            catalogue,
+            self.root,
+            self.outer.as_slice(),
+            of,
+            &step.spoken,
+        );
         self.at = (self.at + 1) % 8;
         self.settle(catalogue, of, step.turn);
-        let progress = progress_of(step.turn, self.leaf);
-        Ok(progress)
-    }
-
-    /// Whether the value has ended.
-    pub fn is_done(&self) -> bool
-        ensures { IsTrue result ↔ (self.now.leaf ≡ None) }
-    {
-        self.leaf.is_none()
+        Ok(progress_of(named, step.turn, self.leaf))
     }
 }
 
 /// What an octet has come to, once the parts around the innermost one have gone on.
-fn progress_of(turn: Turn, leaf: Option<Leaf>) -> Progress
-    ensures { IsProgress turn leaf result }
+fn progress_of(named: bool, turn: Turn, leaf: Option<Leaf>) -> Progress
+    ensures { IsProgress named turn leaf result }
 {
     match turn {
         Turn::Refused(kind) => Progress::Fault(kind),
-        Turn::More(_) => unended(leaf),
-        Turn::Ended => unended(leaf),
-        Turn::Opened(_) => unended(leaf),
-        Turn::Selected(_) => unended(leaf),
+        Turn::More(_) => unended(named, leaf),
+        Turn::Ended => unended(named, leaf),
+        Turn::Opened(_) => unended(named, leaf),
+        Turn::Selected(_) => unended(named, leaf),
     }
 }
 
 /// Whether more is to come.
-fn unended(leaf: Option<Leaf>) -> Progress
-    ensures { GoesOn leaf result }
+fn unended(named: bool, leaf: Option<Leaf>) -> Progress
+    ensures { IsGoing named leaf result }
 {
     match leaf {
-        Some(_) => Progress::More,
+        Some(_) => if named { Progress::Named } else { Progress::More },
         None => Progress::Done,
     }
 }

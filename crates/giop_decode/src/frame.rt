@@ -1,6 +1,6 @@
 //! The parts that are begun and not ended, and have parts of their own.
 
-ghost use Rattle.std.specs.Prelude.{◌≡◌, ℕ, ◌+◌, ◌-◌, ◌<◌, ◌≤◌, List, [], ◌∷◌, ◌++◌, length, IfSome, IfNone};
+ghost use Rattle.std.specs.Prelude.{◌≡◌, ℕ, ◌+◌, ◌-◌, ◌<◌, ◌≤◌, List, [], ◌∷◌, ◌++◌, length, ◌↔◌, IsTrue, IfSome, IfNone};
 ghost use Rattle.std.specs.Option.{option_map};
 ghost use Rattle.arrayvec.specs.ArrayVec.{array_vec_len};
 ghost use Rattle.giop_cdr.specs.declared.order.Order.{Order as ByteOrder};
@@ -9,7 +9,7 @@ ghost use Rattle.giop_decode.specs.Steps.{around};
 ghost use Rattle.giop_decode.specs.Fits.{HasHead, OpenFrom};
 ghost use Rattle.giop_decode.specs.Begins.{start_outer, start_leaf};
 ghost use Rattle.giop_decode.specs.Turns.{places, AreKnown, Link, IsWhole, gone_on};
-ghost use Rattle.giop_sig.specs.Fits.{IsFit};
+ghost use Rattle.giop_sig.specs.Fits.{IsFit, IsEmptyStruct, IsRoot};
 ghost use Rattle.giop_sig.specs.Trees.{tree};
 
 use arrayvec::ArrayVec;
@@ -33,6 +33,25 @@ impl Default for Frame {
             index: 0,
             count: 0,
         }
+    }
+}
+
+/// Whether a type is the struct without members, which takes no octet.
+#[tactic(auto, using(crate::proofs::Shapes::empty_laws))]
+pub(crate) fn is_empty(catalogue: &Catalogue, t: TypeId) -> bool
+    requires { t.0 < length catalogue.now.types }
+    ensures value { IsTrue result ↔ IsEmptyStruct (tree catalogue.now t.0) }
+    ensures root { IsRoot (tree catalogue.now t.0) }
+{
+    match catalogue.shape(t) {
+        Shape::Members(count) => count == 0,
+        Shape::Array(_) => false,
+        Shape::Prim(_) => false,
+        Shape::Enumeration(_) => false,
+        Shape::Text(_) => false,
+        Shape::Octets(_) => false,
+        Shape::Union(_) => false,
+        Shape::Sequence(_) => false,
     }
 }
 

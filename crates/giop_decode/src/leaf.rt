@@ -6,7 +6,9 @@ ghost use Rattle.giop_cdr.specs.Alignment.{IsAlignment};
 ghost use Rattle.giop_cdr.specs.Numbers.{num};
 ghost use Rattle.giop_cdr.specs.declared.order.Order.{Order as ByteOrder};
 ghost use Rattle.giop_decode.specs.Spine.{Seg};
+ghost use Rattle.giop_decode.specs.Heard.{is_text};
 ghost use Rattle.giop_decode.specs.Pieces.{over, tail};
+ghost use Rattle.giop_decode.specs.Recalling.{Voices, leaf_in_string};
 ghost use Rattle.giop_decode.specs.Steps.{after, head_width, number_step, content_step, leaf_step};
 ghost use Rattle.giop_decode.specs.Fits.{HasHead, HasContent, FitsIn};
 ghost use Rattle.giop_decode.specs.Turns.{leaf_of, leaf_type, Turns, TurnsIn, CanSpeak, IsNumberOf, IsClean, over_by, grab_of};
@@ -164,6 +166,7 @@ fn take_length(catalogue: &Catalogue, of: TypeId, bound: Option<u32>, n: u32) ->
     requires { tree catalogue.now of.0 ≡ Text bound }
     ensures turns_in { TurnsIn (tree catalogue.now of.0) of.0 result.turn [] [] }
     ensures speaks { CanSpeak (tree catalogue.now of.0) result.spoken }
+    ensures voices { Voices (tree catalogue.now of.0) false result.turn result.spoken }
     ensures turns { (order : ByteOrder) (path : List Seg) (at : ℕ) →
         Turns catalogue.now (tree catalogue.now of.0) result.turn result.spoken [] [] path at
         (after order path (tree catalogue.now of.0) n at []) }
@@ -196,6 +199,7 @@ fn take_size(catalogue: &Catalogue, of: TypeId, bound: Option<u32>, n: u32) -> S
     requires { tree catalogue.now of.0 ≡ Octets bound }
     ensures turns_in { TurnsIn (tree catalogue.now of.0) of.0 result.turn [] [] }
     ensures speaks { CanSpeak (tree catalogue.now of.0) result.spoken }
+    ensures voices { Voices (tree catalogue.now of.0) false result.turn result.spoken }
     ensures turns { (order : ByteOrder) (path : List Seg) (at : ℕ) →
         Turns catalogue.now (tree catalogue.now of.0) result.turn result.spoken [] [] path at
         (after order path (tree catalogue.now of.0) n at []) }
@@ -226,6 +230,7 @@ fn take_count(catalogue: &Catalogue, of: TypeId, bound: Option<u32>, n: u32) -> 
     requires fit { (d : ℕ) × IsFit d (tree catalogue.now of.0) }
     ensures turns_in { TurnsIn (tree catalogue.now of.0) of.0 result.turn [] [] }
     ensures speaks { CanSpeak (tree catalogue.now of.0) result.spoken }
+    ensures voices { Voices (tree catalogue.now of.0) false result.turn result.spoken }
     ensures turns { (order : ByteOrder) (path : List Seg) (at : ℕ) →
         Turns catalogue.now (tree catalogue.now of.0) result.turn result.spoken [] [] path at
         (after order path (tree catalogue.now of.0) n at []) }
@@ -256,6 +261,7 @@ fn take_selected(catalogue: &Catalogue, of: TypeId, number: Number) -> Step
     requires number { IsNumberOf (switch_of (tree catalogue.now of.0)) number }
     ensures turns_in { TurnsIn (tree catalogue.now of.0) of.0 result.turn [] [] }
     ensures speaks { CanSpeak (tree catalogue.now of.0) result.spoken }
+    ensures voices { Voices (tree catalogue.now of.0) false result.turn result.spoken }
     ensures turns { (is : IsNumberOf (switch_of (tree catalogue.now of.0)) number) (order : ByteOrder) (path : List Seg) (at : ℕ) →
         Turns catalogue.now (tree catalogue.now of.0) result.turn result.spoken [] [] path at
         (after order path (tree catalogue.now of.0) is.n at []) }
@@ -281,6 +287,7 @@ fn take_switch(catalogue: &Catalogue, order: Order, of: TypeId, carry: &Carry) -
     requires whole { length carry.now ≡ head_width (tree catalogue.now of.0) }
     ensures turns_in { TurnsIn (tree catalogue.now of.0) of.0 result.turn [] [] }
     ensures speaks { CanSpeak (tree catalogue.now of.0) result.spoken }
+    ensures voices { Voices (tree catalogue.now of.0) false result.turn result.spoken }
     ensures turns { (path : List Seg) (at : ℕ) →
         Turns catalogue.now (tree catalogue.now of.0) result.turn result.spoken [] [] path at
         (after order path (tree catalogue.now of.0) (num order carry.now) at []) }
@@ -320,6 +327,7 @@ fn take_value(catalogue: &Catalogue, order: Order, of: TypeId, carry: &Carry) ->
     requires whole { length carry.now ≡ head_width (tree catalogue.now of.0) }
     ensures turns_in { TurnsIn (tree catalogue.now of.0) of.0 result.turn [] [] }
     ensures speaks { CanSpeak (tree catalogue.now of.0) result.spoken }
+    ensures voices { Voices (tree catalogue.now of.0) false result.turn result.spoken }
     ensures turns { (path : List Seg) (at : ℕ) →
         Turns catalogue.now (tree catalogue.now of.0) result.turn result.spoken [] [] path at
         (after order path (tree catalogue.now of.0) (num order carry.now) at []) }
@@ -367,6 +375,7 @@ fn take_content(
     requires room_last { total - offset ≤ 32 → array_vec_len piece.old < total - offset + tail (tree catalogue.now of.0) }
     ensures turns_in { TurnsIn (tree catalogue.now of.0) of.0 result.turn [] piece.new.items }
     ensures speaks { CanSpeak (tree catalogue.now of.0) result.spoken }
+    ensures voices { Voices (tree catalogue.now of.0) (is_text (tree catalogue.now of.0)) result.turn result.spoken }
     ensures turns { (path : List Seg) (at : ℕ) →
         Turns catalogue.now (tree catalogue.now of.0) result.turn result.spoken [] piece.new.items path (at + 1)
         (content_step (tree catalogue.now of.0) path total offset at piece.old.items octet) }
@@ -453,6 +462,7 @@ pub(crate) fn take_octet(
     requires clean { IsClean leaf carry.old piece.old.items }
     ensures turns_in { TurnsIn (tree catalogue.now (leaf_type leaf)) (leaf_type leaf) result.turn carry.new piece.new.items }
     ensures speaks { CanSpeak (tree catalogue.now (leaf_type leaf)) result.spoken }
+    ensures voices { Voices (tree catalogue.now (leaf_type leaf)) (leaf_in_string (tree catalogue.now (leaf_type leaf)) leaf) result.turn result.spoken }
     ensures turns { (path : List Seg) (here : ℕ) → here % 8 ≡ at →
         Turns catalogue.now (tree catalogue.now (leaf_type leaf)) result.turn result.spoken carry.new piece.new.items path (here + 1)
         (leaf_step order path (leaf_of catalogue.now leaf carry.old piece.old.items) here octet) }

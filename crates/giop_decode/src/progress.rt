@@ -27,6 +27,8 @@ pub enum Kind {
 pub enum Progress {
     /// The value goes on.
     More,
+    /// The value goes on, and the operation of a Request's header has ended.
+    Named,
     /// The value has ended.
     Done,
     /// The octet breaks a rule.

@@ -1,6 +1,10 @@
-use Rattle.std.proofs.Common.{◌+◌, [], ap, ◌∙◌}
-use Rattle.giop_decode.proofs.Advancing.{stands_at, comes_by, lines_turned, err_writes}
-use Rattle.giop_decode.specs.Holding.{stepped, leaf_in}
+use Rattle.std.proofs.Common.{◌+◌, [], ap, subst, sym, ◌∙◌, arith}
+use Rattle.giop_decode.proofs.Advancing.{stands_at, same_some, comes_by, goes, moved, step_fits, lines_turned, err_writes}
+use Rattle.giop_decode.proofs.Hearing.{heard_on, leaf_inside}
+use Rattle.giop_decode.specs.Heard.{heard, hushed, in_string, is_header_root, nothing}
+use Rattle.giop_decode.specs.Holding.{Recalls}
+use Rattle.giop_decode.specs.Recalling.{leaf_in_string}
+use Rattle.giop_decode.specs.Moves.{stepped, leaf_in}
 use Rattle.giop_decode.specs.Spine.{lines_of}
 use Rattle.giop_decode.specs.Steps.{around, path_in, step}
 use Rattle.giop_decode.specs.Turns.{places, leaf_type}
@@ -31,9 +35,11 @@ returns-clause-steps g c here h =
     let ps = places C d.outer.items in
     let t = c.take_octet-step.ensures.turns (path_in [] ps) here h in
     let s = rw c.of-of.ensures at (c.settle.ensures.settles d.order [] (here + 1) t.lines) in
-    comes_by C T c.settle.new.self c.take_octet-step.result.turn t.lines (here + 1) c.progress_of-progress.result (stepped C d here c.args.octet)
+    let n = rw (c.of-of.ensures, c.as_slice-2.ensures.value) at (c.hear-named.ensures.named (here + 1) t.lines) in
+    comes_by C T c.settle.new.self c.hear-named.result c.take_octet-step.result.turn t.lines (here + 1) c.progress_of.result (stepped C d here c.args.octet)
+    (rw c.settle.ensures.root (n t.says))
     (ap (λ l. step d.order [] ps (leaf_in C d l) here c.args.octet) c.in-Some.is ∙ (ap (around d.order [] ps) t.comes ∙ s))
-    c.progress_of-progress.ensures
+    c.progress_of.ensures
 
 pub returns-in_err-say-clause-writes : goal.returns-in_err-say-clause-writes
 returns-in_err-say-clause-writes g c here h =
@@ -60,3 +66,34 @@ returns-clause-writes g c here h =
     let ls = ap lines_of e ∙ lines_turned C d.order [] ps T c.take_octet-step.result.turn c.take_octet-step.new.carry c.take_octet-step.new.piece.items t.lines (here + 1) in
     let w = rw (c.of-of.ensures, c.as_slice.ensures.value) at (c.in_ok-say.ensures (here + 1) t.lines) in
     rw ls (w t.says)
+
+pub returns-clause-fits : goal.returns-clause-fits
+returns-clause-fits g c goes_on =
+    let C = c.args.catalogue.now in
+    let d = c.args.self.now in
+    let f = c.requires.fits in
+    let k = goes C c.settle.new.self c.progress_of.result (d.at + 1) (stepped C d d.at c.args.octet) (returns-clause-steps g c d.at (omega (arith, f.at))) goes_on in
+    let m = moved c.hear-named.result c.take_octet-step.result.turn c.settle.new.self.leaf c.progress_of.result c.progress_of.ensures goes_on in
+    let same = same_some f.leaf c.in-Some.leaf (sym f.goes_on ∙ c.in-Some.is) in
+    let old = rw (same, ← c.of-of.ensures) at f.link in
+    step_fits C d c.settle.new.self f c.args.octet k c.settle.ensures.at (c.settle.ensures.link f.root k.leaf m old k.goes_on) c.settle.ensures.known_outer
+    (c.settle.ensures.known k.leaf m k.goes_on) (c.settle.ensures.clean k.leaf m k.goes_on)
+
+pub returns-clause-minds : goal.returns-clause-minds
+returns-clause-minds g c here front h old =
+    let C = c.args.catalogue.now in
+    let d = c.args.self.now in
+    let leaf = c.in-Some.leaf in
+    let T = tree C (leaf_type leaf) in
+    let ps = places C d.outer.items in
+    let header = is_header_root d.root in
+    let t = c.take_octet-step.ensures.turns (path_in [] ps) here h in
+    let e = ap (λ l. step d.order [] ps (leaf_in C d l) here c.args.octet) c.in-Some.is ∙ ap (around d.order [] ps) t.comes in
+    let ls = ap lines_of e ∙ lines_turned C d.order [] ps T c.take_octet-step.result.turn c.take_octet-step.new.carry c.take_octet-step.new.piece.items t.lines (here + 1) in
+    let s = rw c.of-of.ensures at (c.settle.ensures.settles d.order [] (here + 1) t.lines) in
+    let i = rw c.of-of.ensures at (c.settle.ensures.inside (here + 1) t.lines) in
+    let before : Recalls d.memory (hushed (leaf_in_string T leaf) (heard header nothing front)) =
+        subst (λ b. Recalls d.memory (hushed b (heard header nothing front))) (leaf_inside C leaf d.carry d.piece.items) (rw c.in-Some.is at old) in
+    let now = rw (c.of-of.ensures, c.as_slice-2.ensures.value) at (c.hear-named.ensures.hears (hushed (leaf_in_string T leaf) (heard header nothing front)) (here + 1) t.lines before) in
+    rw (c.settle.ensures.memory, ← heard_on header C leaf c.take_octet-step.result.turn c.take_octet-step.result.spoken (path_in [] ps) (here + 1) front t.lines (stepped C d here c.args.octet)
+    c.take_octet-step.ensures.voices t.says (ap in_string (e ∙ s) ∙ i) ls) (now t.says)

@@ -1,4 +1,4 @@
-use Rattle.std.proofs.Common.{◌≡◌, pred, ◌-◌, [], length, ap, ◌∙◌, arith, append-nil}
+use Rattle.std.proofs.Common.{◌≡◌, pred, ◌-◌, [], length, refl, ap, ◌∙◌, arith, append-nil}
 use Rattle.giop_decode.specs.Spine.{Part, Member, Head, Done, Short, with_front}
 use Rattle.giop_decode.specs.Begins.{start_outer, start_leaf}
 use Rattle.giop_decode.specs.Turns.{places, leaf_of}
@@ -6,6 +6,7 @@ use Rattle.giop_decode.proofs.Beginning.{map_push}
 use Rattle.giop_decode.proofs.Around.{around-fault, fit_room}
 use Rattle.giop_decode.proofs.Going.{place_part, place_case}
 use Rattle.giop_decode.proofs.Settling.{fit_first, fit_selected, around_done, around_more, around_opened}
+use Rattle.giop_decode.proofs.Linking.{link_number, link_push}
 use Rattle.giop_decode.proofs.decoder.Decoder.settle.Goals as goal
 use Rattle.giop_sig.specs.Types.{part_of}
 use Rattle.giop_sig.specs.Trees.{tree}
@@ -73,3 +74,16 @@ returns-in-None-clause-settles c order path at lines =
     rw c.in-Ended.is
     (around_done order path (places C c.args.self.now.outer.items) lines at
     ∙ (ap (with_front lines) (c.in-None.ensures.gone order path at) ∙ ap (λ ls. Done ls at []) (append-nil lines)))
+
+pub returns-in-Opened-clause-link : goal.returns-in-Opened-clause-link
+returns-in-Opened-clause-link c root leaf moved h e =
+    let C = c.args.catalogue.now in
+    link_number C root c.begin.new.outer.items c.begin.result leaf
+    (c.begin.ensures.linked root (link_push C root c.args.self.now.outer.items c.push.new.self.items c.args.of.0 c.part-part.result.0 _ refl c.push.ensures.items c.part-part.ensures.number h)) e
+
+pub returns-in-Selected-clause-link : goal.returns-in-Selected-clause-link
+returns-in-Selected-clause-link c root leaf moved h e =
+    let C = c.args.catalogue.now in
+    link_number C root c.begin-in-Selected.new.outer.items c.begin-in-Selected.result leaf
+    (c.begin-in-Selected.ensures.linked root
+    (link_push C root c.args.self.now.outer.items c.push-in-Selected.new.self.items c.args.of.0 c.part-part-in-Selected.result.0 _ refl c.push-in-Selected.ensures.items c.part-part-in-Selected.ensures.number h)) e

@@ -1,0 +1,147 @@
+-- What is heard of an octet.
+use Rattle.std.specs.Prelude.{slice_index_or, codes}
+use Rattle.std.specs.Str.{bytes_eq}
+use Rattle.std.proofs.Common.{◌≡◌, ◌≢◌, ℕ, ◌+◌, ◌&&◌, Bool, true, false, List, [], ◌∷◌, ◌++◌, length, refl, sym, ◌∙◌, ap, subst, arith}
+use Rattle.giop_decode.specs.declared.decoder.Decoder.{Decoder}
+use Rattle.giop_decode.specs.declared.leaf.Leaf.{Leaf as Innermost}
+use Rattle.giop_decode.specs.declared.leaf.Leaf.TheVariants as innermost
+use Rattle.giop_decode.specs.declared.leaf.Turn.{Turn}
+use Rattle.giop_decode.specs.declared.leaf.Turn.TheVariants as turns
+use Rattle.giop_decode.specs.declared.leaf.Spoken.{Spoken}
+use Rattle.giop_decode.specs.declared.leaf.Spoken.TheVariants as spokens
+use Rattle.giop_decode.specs.Heard.{Heard, hear_value, ended, with_piece, heard_piece, is_member, heard, heard_of, hushed, in_content, in_string, is_text, nothing}
+use Rattle.giop_decode.specs.Recalling.{Voices, hushes, leaf_in_string, turn_in_string}
+use Rattle.giop_decode.specs.Spine.{Seg, Name, Index, Switch, Line, line, Value, Piece, Place, Content, Read, Done, Short, Fault, lines_of, with_front}
+use Rattle.giop_decode.specs.declared.frame.Frame.{Frame}
+use Rattle.giop_decode.specs.Steps.{path_in, seg_in}
+use Rattle.giop_decode.specs.Turns.{leaf_of, leaf_type, place, place_in, places, AreKnown, IsSpoken}
+use Rattle.giop_decode.proofs.Resuming.{heard-append, lines_front}
+use Rattle.giop_sig.specs.declared.types.Shape.{Shape}
+use Rattle.giop_sig.specs.Table.{Table}
+use Rattle.giop_sig.specs.Trees.{tree}
+use Rattle.giop_sig.specs.Types.{Ty, Single, Text, Octets, Struct, Union, Sequence, Array, Plain, Enum, HasMember, HasPlace, name_in, shape_in}
+
+content_in : (T : Ty) (total offset : ℕ) (piece : List ℕ) → in_content (Content T total offset piece) ≡ is_text T
+content_in (Text bound) total offset piece = refl
+content_in (Single scalar) total offset piece = refl
+content_in (Octets bound) total offset piece = refl
+content_in (Struct n names parts) total offset piece = refl
+content_in (Union n scalar select names cases) total offset piece = refl
+content_in (Sequence bound T) total offset piece = refl
+content_in (Array n T) total offset piece = refl
+
+pub leaf_inside : (C : Table) (leaf : Innermost) (carry piece : List ℕ) → in_content (leaf_of C leaf carry piece) ≡ leaf_in_string (tree C (leaf_type leaf)) leaf
+leaf_inside C (innermost.Number of) carry piece = refl
+leaf_inside C (innermost.Content of total offset) carry piece = content_in (tree C of.0) total offset piece
+
+text_inside : (T : Ty) (leaf : Innermost) → leaf_in_string T leaf ≡ true → is_text T ≡ true
+text_inside T (innermost.Number of) h = cc
+text_inside T (innermost.Content of total offset) h = h
+
+front_inside : (front : List Line) (r : Read) → in_string (with_front front r) ≡ in_string r
+front_inside front (Done lines at rest) = refl
+front_inside front (Short lines at outer leaf) = refl
+front_inside front (Fault lines at kind T) = refl
+
+hushed_twice : (was : Bool) (h : Heard) → hushed true (hushed was h) ≡ hushed true h
+hushed_twice true h = refl
+hushed_twice false h = refl
+
+-- a piece of a string, or of octets, which are in no string
+piece_heard : (header : Bool) (T : Ty) (was more : Bool) (h : Heard) (path : List Seg) (at offset : ℕ) (octets : List ℕ) → (was ≡ true → is_text T ≡ true) →
+    heard header (hushed was h) (line at path (Piece T offset octets more) ∷ []) ≡ hushed (is_text T && more) (heard header h (line at path (Piece T offset octets more) ∷ []))
+piece_heard header (Text bound) true true h path at offset octets k = refl
+piece_heard header (Text bound) true false h path at offset octets k = refl
+piece_heard header (Text bound) false true h path at offset octets k = refl
+piece_heard header (Text bound) false false h path at offset octets k = refl
+piece_heard header (Octets bound) false more h path at offset octets k = refl
+piece_heard header (Octets bound) true more h path at offset octets k = let e = k refl in cc
+piece_heard header (Single scalar) false more h path at offset octets k = refl
+piece_heard header (Single scalar) true more h path at offset octets k = let e = k refl in cc
+piece_heard header (Struct n names parts) false more h path at offset octets k = refl
+piece_heard header (Struct n names parts) true more h path at offset octets k = let e = k refl in cc
+piece_heard header (Union n scalar select names cases) false more h path at offset octets k = refl
+piece_heard header (Union n scalar select names cases) true more h path at offset octets k = let e = k refl in cc
+piece_heard header (Sequence bound T) false more h path at offset octets k = refl
+piece_heard header (Sequence bound T) true more h path at offset octets k = let e = k refl in cc
+piece_heard header (Array n T) false more h path at offset octets k = refl
+piece_heard header (Array n T) true more h path at offset octets k = let e = k refl in cc
+
+spoken_heard : (header : Bool) (T : Ty) (was : Bool) (turn : Turn) (spoken : Spoken) (path : List Seg) (at : ℕ) (lines : List Line) (h : Heard) →
+    Voices T was turn spoken → IsSpoken T path at spoken lines → (was ≡ true → is_text T ≡ true) →
+    hushed (hushes spoken) (heard header (hushed was h) lines) ≡ hushed (turn_in_string T turn) (heard header h lines)
+spoken_heard header T was turn spokens.Nothing path at lines h v says k = rw (says, v) refl
+spoken_heard header T was turn spokens.Length path at lines h v says k = rw (says, v) (hushed_twice was h)
+spoken_heard header T was turn (spokens.Number number) path at lines h v says k = rw (v.0, v.1) refl
+spoken_heard header T was turn (spokens.Switch number) path at lines h v says k = rw (v.0, v.1) refl
+spoken_heard header T was turn (spokens.Count count) path at lines h v says k = rw (v.0, v.1) refl
+spoken_heard header T was turn (spokens.Piece offset octets more) path at lines h v says k = rw (says, v) (piece_heard header T was more h path at offset octets.items k)
+
+-- What a reading leaves in mind, behind the lines of its front and of one octet.
+pub heard_on : (header : Bool) (C : Table) (leaf : Innermost) (turn : Turn) (spoken : Spoken) (path : List Seg) (at : ℕ) (front lines : List Line) (r : Read) →
+    Voices (tree C (leaf_type leaf)) (leaf_in_string (tree C (leaf_type leaf)) leaf) turn spoken → IsSpoken (tree C (leaf_type leaf)) path at spoken lines →
+    in_string r ≡ turn_in_string (tree C (leaf_type leaf)) turn → lines_of r ≡ lines →
+    hushed (hushes spoken) (heard header (hushed (leaf_in_string (tree C (leaf_type leaf)) leaf) (heard header nothing front)) lines) ≡ heard_of header (with_front front r)
+heard_on header C leaf turn spoken path at front lines r v says inside are =
+    let T = tree C (leaf_type leaf) in
+    spoken_heard header T (leaf_in_string T leaf) turn spoken path at lines (heard header nothing front) v says (text_inside T leaf)
+    ∙ rw (front_inside front r, inside, lines_front front r, are, heard-append) refl
+
+-- a piece that isn't the last, and the last
+pub piece_last : (h : Heard) (octets : List ℕ) (more : Bool) → more ≡ false → ended (with_piece h octets) ≡ heard_piece h octets more
+piece_last h octets more last = rw last refl
+
+-- only a part with one whole around it is a member of the root
+deep : (name : List ℕ) (x y : Seg) (zs : List Seg) (ps : List Place) → false ≡ is_member name (path_in (x ∷ y ∷ zs) ps)
+deep name (Name octets) y zs [] = refl
+deep name (Index i) y zs [] = refl
+deep name Switch y zs [] = refl
+deep name x y zs (p ∷ ps) = deep name x y (zs ++ seg_in p ∷ []) ps
+
+pub no_member : (name : List ℕ) (C : Table) (outer : List Frame) → length outer ≢ 1 → false ≡ is_member name (path_in [] (places C outer))
+no_member name C [] h = refl
+no_member name C (f ∷ []) h = absurd (h refl)
+no_member name C (f ∷ g ∷ outer) h = deep name (seg_in (place C f)) (seg_in (place C g)) [] (places C outer)
+
+-- the one part around it
+only : (C : Table) (outer : List Frame) (d : Frame) → length outer ≡ 1 → path_in [] (places C outer) ≡ seg_in (place C (slice_index_or outer 0 d)) ∷ []
+only C [] d h = absurd (omega arith)
+only C (f ∷ []) d h = refl
+only C (f ∷ g ∷ outer) d h = absurd (omega arith)
+
+named_by : (name : List ℕ) (T : Ty) (i count : ℕ) → HasMember (shape_in T) i → is_member name (seg_in (place_in T i count) ∷ []) ≡ bytes_eq name (name_in T i)
+named_by name (Struct n names parts) i count h = refl
+named_by name (Union n scalar select names cases) i count h = refl
+named_by name (Single (Plain p)) i count h = absurd h
+named_by name (Single (Enum n names)) i count h = absurd h
+named_by name (Text bound) i count h = absurd h
+named_by name (Octets bound) i count h = absurd h
+named_by name (Sequence bound T) i count h = absurd h
+named_by name (Array n T) i count h = absurd h
+
+pub member_by : (name text : List ℕ) (C : Table) (outer : List Frame) (d : Frame) (b : Bool) → length outer ≡ 1 →
+    HasMember (shape_in (tree C (slice_index_or outer 0 d).of.0)) (slice_index_or outer 0 d).index →
+    text ≡ name_in (tree C (slice_index_or outer 0 d).of.0) (slice_index_or outer 0 d).index → b ≡ bytes_eq name text → b ≡ is_member name (path_in [] (places C outer))
+member_by name text C outer d b one h is e =
+    let f = slice_index_or outer 0 d in
+    rw (only C outer d one, named_by name (tree C f.of.0) f.index f.count h, ← is) e
+
+pub member_known : (C : Table) (outer : List Frame) (d : Frame) (shape : Shape) → length outer ≡ 1 → AreKnown C outer → shape ≡ shape_in (tree C (slice_index_or outer 0 d).of.0) →
+    ((i : ℕ) → HasPlace shape i → HasMember shape i) → HasMember (shape_in (tree C (slice_index_or outer 0 d).of.0)) (slice_index_or outer 0 d).index
+member_known C [] d shape h known is k = absurd (omega arith)
+member_known C (f ∷ []) d shape h known is k = rw (← is) (k f.index (rw is known.0.place))
+member_known C (f ∷ g ∷ outer) d shape h known is k = absurd (omega arith)
+
+-- a discriminator is no member
+pub switch_member : (name : List ℕ) (path : List Seg) → is_member name (path ++ Switch ∷ []) ≡ false
+switch_member name [] = refl
+switch_member name (Name octets ∷ []) = refl
+switch_member name (Index i ∷ []) = refl
+switch_member name (Switch ∷ []) = refl
+switch_member name (Name octets ∷ y ∷ path) = refl
+switch_member name (Index i ∷ y ∷ path) = refl
+switch_member name (Switch ∷ y ∷ path) = refl
+
+pub switch_heard : (header : Bool) (path : List Seg) (h : Heard) (value : Value) → hear_value false h value ≡ hear_value (header && is_member (codes "request_id") (path ++ Switch ∷ [])) h value
+switch_heard true path h value = rw (switch_member (codes "request_id") path) refl
+switch_heard false path h value = refl

@@ -1,0 +1,84 @@
+-- A decoder before the first octet.
+use Rattle.std.proofs.Common.{◌≡◌, ℕ, zero, suc, ◌+◌, ◌%◌, ◌<◌, List, [], length, Some, None, refl, sym, ◌∙◌, ap, subst, arith, add-zero, inl, inr}
+use Rattle.giop_cdr.specs.declared.order.Order.{Order}
+use Rattle.giop_decode.specs.declared.decoder.Decoder.{Decoder}
+use Rattle.giop_decode.specs.declared.leaf.Leaf.TheVariants as innermost
+use Rattle.giop_decode.specs.Begins.{start_outer, start_leaf}
+use Rattle.giop_decode.specs.Fits.{FitsIn, Sound}
+use Rattle.giop_decode.specs.Heard.{nothing}
+use Rattle.giop_decode.specs.Holding.{Fits, Reads, Recalls, standing, standing_in}
+use Rattle.giop_decode.specs.Reading.{read}
+use Rattle.giop_decode.specs.Spine.{Head, Done, Short}
+use Rattle.giop_decode.specs.Turns.{places, AreKnown, Link}
+use Rattle.giop_decode.proofs.Around.{read_none}
+use Rattle.giop_decode.proofs.Sound.{read_keeps}
+use Rattle.giop_print.specs.declared.path.Root.{Root}
+use Rattle.giop_sig.specs.declared.types.TypeId.{TypeId}
+use Rattle.giop_sig.specs.Fits.{IsFit, IsEmptyStruct, IsRoot}
+use Rattle.giop_sig.specs.Table.{Table}
+use Rattle.giop_sig.specs.Trees.{tree}
+use Rattle.giop_sig.specs.Types.{Ty, Single, Text, Octets, Struct, Union, Sequence, Array}
+
+module _ (C : Table) (T : Ty) (order : Order) (at message : ℕ) (root : Root) (d : Decoder) where
+  -- the empty struct ends before its first octet
+  pub empty_reads : IsEmptyStruct T → d.leaf ≡ None → Recalls d.memory nothing → d.order ≡ order → d.message ≡ message → d.root ≡ root → d.at ≡ at % 8 → Reads C T order at message root d []
+  empty_reads empty none recalls same_order same_message same_root offset = by_type T empty
+    where
+      by_type : (U : Ty) → IsEmptyStruct U → Reads C U order at message root d []
+      by_type (Struct zero names parts) e = record {
+        lines = [];
+        is = sym (ap (λ l. standing_in C d l [] (at + 0)) none ∙ rw (add-zero at) refl);
+        minds = recalls;
+        same_order = same_order;
+        same_message = same_message;
+        same_root = same_root;
+        offset = rw (add-zero at) offset;
+      }
+      by_type (Struct (suc n) names parts) e = absurd e
+      by_type (Single scalar) e = absurd e
+      by_type (Text bound) e = absurd e
+      by_type (Octets bound) e = absurd e
+      by_type (Union n scalar select names cases) e = absurd e
+      by_type (Sequence bound U) e = absurd e
+      by_type (Array n U) e = absurd e
+
+  -- any other type begins with a number
+  pub first_reads : (first : TypeId) → IsFit 24 T → d.leaf ≡ Some (innermost.Number first) → d.carry ≡ [] → places C d.outer.items ≡ start_outer T → start_leaf T ≡ Head (tree C first.0) [] →
+      Recalls d.memory nothing → d.order ≡ order → d.message ≡ message → d.root ≡ root → d.at ≡ at % 8 → Reads C T order at message root d []
+  first_reads first fit goes_on empty are leaf recalls same_order same_message same_root offset =
+      let none : read order [] T at [] ≡ Short [] at (start_outer T) (Head (tree C first.0) []) = read_none order [] 24 T at fit ∙ ap (Short [] at (start_outer T)) leaf in
+      record {
+        lines = [];
+        is = none ∙ sym (ap (λ l. standing_in C d l [] (at + 0)) goes_on ∙ rw (add-zero at, are, empty) refl);
+        minds = rw none recalls;
+        same_order = same_order;
+        same_message = same_message;
+        same_root = same_root;
+        offset = rw (add-zero at) offset;
+      }
+
+pub first_fits : (C : Table) (of : ℕ) (d : Decoder) (first : TypeId) → of < length C.types → IsFit 24 (tree C of) → d.leaf ≡ Some (innermost.Number first) → d.carry ≡ [] → d.piece.items ≡ [] →
+    places C d.outer.items ≡ start_outer (tree C of) → start_leaf (tree C of) ≡ Head (tree C first.0) [] →
+    Link C of d.outer.items first.0 → AreKnown C d.outer.items → first.0 < length C.types → d.at < 8 → Fits C d
+first_fits C of d first known_root fit goes_on empty none are leaf link known_outer known at =
+    let T = tree C of in
+    let sound : Sound T (0 + 0) (Short [] 0 (start_outer T) (start_leaf T)) =
+        subst (Sound T (0 + 0)) (read_none d.order [] 24 T 0 fit) (read_keeps 24 d.order [] T fit 0 []) in
+    record {
+      leaf = innermost.Number first;
+      goes_on = goes_on;
+      root = of;
+      known_root = known_root;
+      link = link;
+      fit = fit;
+      fits = rw (are, empty, ← leaf) sound.1;
+      known_outer = known_outer;
+      known = known;
+      clean = none;
+      at = at;
+    }
+
+-- what can stand at the root, and isn't the empty struct, fits
+pub fit_some : (T : Ty) → IsRoot T → (IsEmptyStruct T → ⊥) → IsFit 24 T
+fit_some T (inl fit) some = fit
+fit_some T (inr empty) some = absurd (some empty)

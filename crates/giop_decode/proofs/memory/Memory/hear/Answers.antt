@@ -1,0 +1,15 @@
+use Rattle.std.proofs.Common.{[], subst}
+use Rattle.giop_decode.specs.Heard.{is_header_root}
+use Rattle.giop_decode.specs.Holding.{Recalls}
+use Rattle.giop_decode.specs.Spine.{Number}
+use Rattle.giop_decode.specs.Steps.{path_in}
+use Rattle.giop_decode.specs.Turns.{places}
+use Rattle.giop_decode.proofs.Hearing.{switch_heard}
+use Rattle.giop_decode.proofs.memory.Memory.hear.Goals as goal
+
+pub returns-in-Switch-clause-hears : goal.returns-in-Switch-clause-hears
+returns-in-Switch-clause-hears c h at lines recalls says =
+    let path = path_in [] (places c.args.catalogue.now c.args.outer.now) in
+    let k = rw c.in-Switch.is at says in
+    let heard = rw c.switch_type.ensures.tree at c.hear_number-in-Switch.ensures in
+    rw (c.in-Switch.is, k.1) (subst (Recalls c.hear_number-in-Switch.new.self) (switch_heard (is_header_root c.args.root) path h (Number k.0.scalar k.0.n)) (heard h k.0 recalls))

@@ -1,0 +1,239 @@
+//! What was last heard of a value: a request id, an enum's number, and the last string as a name.
+
+ghost use Rattle.std.specs.Prelude.{◌≡◌, ℕ, ◌<◌, ◌&&◌, true, List, [], length};
+ghost use Rattle.std.specs.Option.{option_map};
+ghost use Rattle.giop_decode.specs.Heard.{Heard, nothing, with_piece, ended, heard_piece, is_member, is_header_root, hushed, hear_value, heard, names_operation};
+ghost use Rattle.giop_decode.specs.Holding.{Recalls};
+ghost use Rattle.giop_decode.specs.Recalling.{hushes};
+ghost use Rattle.giop_decode.specs.Spine.{Line};
+ghost use Rattle.giop_decode.specs.Spine as spines;
+ghost use Rattle.giop_decode.specs.Steps.{path_in};
+ghost use Rattle.giop_decode.specs.Turns.{places, AreKnown, IsNumberOf, IsSpoken, CanSpeak};
+ghost use Rattle.giop_sig.specs.Trees.{tree};
+
+use crate::frame::Frame;
+use crate::leaf::Spoken;
+use arrayvec::ArrayVec;
+use giop_cdr::{Number, Prim};
+use giop_print::Root;
+use giop_sig::{Catalogue, Shape, TypeId};
+
+/// What the name buffer has.
+#[derive(Clone, Copy, Debug, PartialEq, Eq)]
+pub enum Buffer {
+    /// The pieces of a string that hasn't ended: none where there was no string.
+    Begun,
+    /// The last string.
+    Whole,
+    /// Nothing: the string's pieces are more than a name has room for.
+    TooLong,
+}
+
+/// What was last heard.
+#[derive(Debug, Drop)]
+pub struct Memory {
+    request_id: Option<u32>,
+    status: Option<u32>,
+    name: ArrayVec<u8, 128>,
+    buffer: Buffer,
+}
+
+impl Memory {
+    /// Nothing heard.
+    pub(crate) fn new() -> Memory
+        ensures { Recalls result nothing }
+    {
+        Memory {
+            request_id: None,
+            status: None,
+            name: ArrayVec::new(),
+            buffer: Buffer::Begun,
+        }
+    }
+
+    /// The request id of a header.
+    pub(crate) fn request_id(&self) -> Option<u32>
+        ensures { (h : Heard) → Recalls self.now h → result ≡ h.request_id }
+    {
+        self.request_id
+    }
+
+    /// The number of the last enum.
+    pub(crate) fn status(&self) -> Option<u32>
+        ensures { (h : Heard) → Recalls self.now h → result ≡ h.status }
+    {
+        self.status
+    }
+
+    /// The last string, where that has ended and is a name.
+    pub(crate) fn name(&self) -> Option<&[u8]>
+        ensures { (h : Heard) → Recalls self.now h → option_map (λ octets. octets.now) result ≡ h.name }
+    {
+        match self.buffer {
+            Buffer::Whole => Some(&self.name),
+            Buffer::Begun => None,
+            Buffer::TooLong => None,
+        }
+    }
+
+    /// Lets go of the last name: the length of a string has come.
+    fn forget(&mut self)
+        ensures hears { (h : Heard) → Recalls self.old h → Recalls self.new (hushed true h) }
+        ensures begun { self.new.buffer ≡ Buffer.Whole → ⊥ }
+    {
+        match self.buffer {
+            Buffer::Whole => {
+                self.name.clear();
+                self.buffer = Buffer::Begun;
+            }
+            Buffer::Begun => {}
+            Buffer::TooLong => {}
+        }
+    }
+
+    /// Hears a piece of a string.
+    fn extend(&mut self, octets: &[u8])
+        ensures hears { (h : Heard) → Recalls self.old h → Recalls self.new (with_piece h octets.now) }
+        ensures begun { self.new.buffer ≡ Buffer.Whole → ⊥ }
+    {
+        self.forget();
+        match self.buffer {
+            Buffer::Begun => {
+                if self.name.try_extend_from_slice(octets).is_err() {
+                    self.name.clear();
+                    self.buffer = Buffer::TooLong;
+                }
+            }
+            Buffer::Whole => {}
+            Buffer::TooLong => {}
+        }
+    }
+
+    /// Hears that a string has ended.
+    fn end(&mut self)
+        requires { self.old.buffer ≡ Buffer.Whole → ⊥ }
+        ensures { (h : Heard) → Recalls self.old h → Recalls self.new (ended h) }
+    {
+        match self.buffer {
+            Buffer::Begun => self.buffer = Buffer::Whole,
+            Buffer::Whole => {}
+            Buffer::TooLong => self.buffer = Buffer::Begun,
+        }
+    }
+
+    /// Hears a piece of a string, which may be its last.
+    fn hear_piece(&mut self, octets: &[u8], more: bool)
+        ensures { (h : Heard) → Recalls self.old h → Recalls self.new (heard_piece h octets.now more) }
+    {
+        self.extend(octets);
+        if !more {
+            self.end();
+        }
+    }
+
+    /// Hears the number of a type, which is that of a request id or isn't.
+    fn hear_number(&mut self, catalogue: &Catalogue, t: TypeId, number: Number, is_id: bool)
+        requires known { t.0 < length catalogue.now.types }
+        requires number { IsNumberOf (tree catalogue.now t.0) number }
+        ensures { (h : Heard) (is : IsNumberOf (tree catalogue.now t.0) number) → Recalls self.old h →
+            Recalls self.new (hear_value is_id h (spines.Number is.scalar is.n)) }
+    {
+        match catalogue.shape(t) {
+            Shape::Prim(prim) => match (prim, number) {
+                (Prim::ULong, Number::Unsigned(n)) => {
+                    if is_id {
+                        self.request_id = Some(n as u32);
+                    }
+                }
+                _ => {}
+            },
+            Shape::Enumeration(_) => match number {
+                Number::Unsigned(n) => self.status = Some(n as u32),
+                _ => unreachable!(),
+            },
+            _ => unreachable!(),
+        }
+    }
+
+    /// Hears what an octet gives to say of an innermost part of this type, and answers whether that ends the operation of
+    /// a Request's header.
+    pub(crate) fn hear(
+        &mut self,
+        catalogue: &Catalogue,
+        root: Root,
+        outer: &[Frame],
+        of: TypeId,
+        spoken: &Spoken,
+    ) -> bool
+        requires known { of.0 < length catalogue.now.types }
+        requires known_outer { AreKnown catalogue.now outer.now }
+        requires speaks { CanSpeak (tree catalogue.now of.0) spoken.now }
+        ensures hears { (h : Heard) (at : ℕ) (lines : List Line) → Recalls self.old h →
+            IsSpoken (tree catalogue.now of.0) (path_in [] (places catalogue.now outer.now)) at spoken.now lines →
+            Recalls self.new (hushed (hushes spoken.now) (heard (is_header_root root) h lines)) }
+        ensures named { (at : ℕ) (lines : List Line) →
+            IsSpoken (tree catalogue.now of.0) (path_in [] (places catalogue.now outer.now)) at spoken.now lines →
+            result ≡ names_operation (is_header_root root) lines }
+    {
+        match spoken {
+            Spoken::Nothing => false,
+            Spoken::Count(_) => false,
+            Spoken::Length => {
+                self.forget();
+                false
+            }
+            Spoken::Number(number) => {
+                let is_id = is_header_member(catalogue, root, outer, b"request_id");
+                self.hear_number(catalogue, of, *number, is_id);
+                false
+            }
+            Spoken::Switch(number) => {
+                self.hear_number(catalogue, catalogue.switch_type(of), *number, false);
+                false
+            }
+            Spoken::Piece { octets, more, .. } => match catalogue.shape(of) {
+                Shape::Text(_) => {
+                    self.hear_piece(octets, *more);
+                    !*more && is_header_member(catalogue, root, outer, b"operation")
+                }
+                Shape::Octets(_) => false,
+                _ => unreachable!(),
+            },
+        }
+    }
+}
+
+/// Whether lines of this root are a header's.
+fn is_header(root: Root) -> bool
+    ensures { result ≡ is_header_root root }
+{
+    match root {
+        Root::Header => true,
+        Root::Exception => false,
+        Root::Body => false,
+    }
+}
+
+/// Whether the innermost part is the member of this name of a header.
+fn is_header_member(catalogue: &Catalogue, root: Root, outer: &[Frame], name: &[u8]) -> bool
+    requires { AreKnown catalogue.now outer.now }
+    ensures { result ≡ (is_header_root root && is_member name.now (path_in [] (places catalogue.now outer.now))) }
+{
+    is_header(root) && is_member(catalogue, outer, name)
+}
+
+/// Whether the innermost part is the root's member of this name.
+fn is_member(catalogue: &Catalogue, outer: &[Frame], name: &[u8]) -> bool
+    requires { AreKnown catalogue.now outer.now }
+    ensures { result ≡ is_member name.now (path_in [] (places catalogue.now outer.now)) }
+{
+    if outer.len() != 1 {
+        return false;
+    }
+    let frame = outer[0];
+    match catalogue.shape(frame.of) {
+        Shape::Members(_) => name == catalogue.part_name(frame.of, frame.index),
+        Shape::Union(_) => name == catalogue.part_name(frame.of, frame.index),
+        _ => false,
+    }
+}
