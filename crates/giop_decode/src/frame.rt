@@ -17,13 +17,13 @@ use giop_sig::{Catalogue, Shape, TypeId};
 
 /// A part that is begun and not ended, and which of its own parts is being read.
 #[derive(Clone, Copy, Debug, PartialEq, Eq)]
-pub struct Frame {
+pub(crate) struct Frame {
     /// The part's type.
-    pub of: TypeId,
+    pub(crate) of: TypeId,
     /// The place of the part in it: of a member, an element or a case.
-    pub index: u32,
+    pub(crate) index: u32,
     /// How many members or elements it has; 0 for a union.
-    pub count: u32,
+    pub(crate) count: u32,
 }
 
 impl Default for Frame {

@@ -24,7 +24,7 @@ use std::mem;
 
 /// The innermost part: the number that begins it, or its content, in which the piece on its way begins at an offset.
 #[derive(Clone, Copy, Debug, PartialEq, Eq)]
-pub enum Leaf {
+pub(crate) enum Leaf {
     /// The number that begins a value of this type.
     Number(TypeId),
     /// The content of a string, without its zero, or of an octet sequence.
@@ -52,7 +52,7 @@ impl Leaf {
 
 /// What the innermost part has come to.
 #[derive(Clone, Copy, Debug, PartialEq, Eq)]
-pub enum Turn {
+pub(crate) enum Turn {
     /// It goes on.
     More(Leaf),
     /// It has ended.
@@ -67,7 +67,7 @@ pub enum Turn {
 
 /// What an octet gives to say.
 #[derive(Debug, Drop, PartialEq, Eq)]
-pub enum Spoken {
+pub(crate) enum Spoken {
     /// Nothing.
     Nothing,
     /// Nothing either: the length of a string has come, or was too great.
@@ -91,7 +91,7 @@ pub enum Spoken {
 
 /// What an octet does.
 #[derive(Debug, Drop)]
-pub struct Step {
+pub(crate) struct Step {
     pub(crate) turn: Turn,
     pub(crate) spoken: Spoken,
 }

@@ -10,8 +10,5 @@ mod memory;
 mod progress;
 
 pub use decoder::Decoder;
-pub use frame::Frame;
 pub use laws::reading_laws;
-pub use leaf::{Leaf, Spoken, Step, Turn};
-pub use memory::{Buffer, Memory};
 pub use progress::{Kind, Progress};

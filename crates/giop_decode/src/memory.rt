@@ -20,7 +20,7 @@ use giop_sig::{Catalogue, Shape, TypeId};
 
 /// What the name buffer has.
 #[derive(Clone, Copy, Debug, PartialEq, Eq)]
-pub enum Buffer {
+pub(crate) enum Buffer {
     /// The pieces of a string that hasn't ended: none where there was no string.
     Begun,
     /// The last string.
@@ -31,7 +31,7 @@ pub enum Buffer {
 
 /// What was last heard.
 #[derive(Debug, Drop)]
-pub struct Memory {
+pub(crate) struct Memory {
     request_id: Option<u32>,
     status: Option<u32>,
     name: ArrayVec<u8, 128>,
