@@ -33,18 +33,17 @@ fn push_segment(catalogue: &Catalogue, frame: Frame, path: &mut Path)
     }
 }
 
-/// Where the innermost part stands.
-fn path_of(catalogue: &Catalogue, root: Root, outer: &[Frame]) -> Path
+/// Goes to the innermost part.
+fn go_to(catalogue: &Catalogue, root: Root, outer: &[Frame], path: &mut Path)
     requires known { AreKnown catalogue.now outer.now }
     requires room { length outer.now ≤ 24 }
-    ensures text { result.text ≡ path_text root (path_in [] (places catalogue.now outer.now)) }
-    ensures segments { result.segments ≡ length outer.now }
+    ensures text { path.new.text ≡ path_text root (path_in [] (places catalogue.now outer.now)) }
+    ensures segments { path.new.segments ≡ length outer.now }
 {
-    let mut path = Path::new(root);
+    path.restart(root);
     for frame in outer {
-        push_segment(catalogue, *frame, &mut path);
+        push_segment(catalogue, *frame, path);
     }
-    path
 }
 
 /// The line of a value of a type of one number.
@@ -112,7 +111,7 @@ fn octets_line<O: Out>(
     }
 }
 
-/// Says what an octet of an innermost part of this type gives to say.
+/// Says what an octet of an innermost part of this type gives to say. The path is the memory that it is spelled in.
 pub(crate) fn say<O: Out>(
     catalogue: &Catalogue,
     message: u64,
@@ -120,6 +119,7 @@ pub(crate) fn say<O: Out>(
     outer: &[Frame],
     of: TypeId,
     spoken: &Spoken,
+    path: &mut Path,
     out: &mut O,
 ) -> Result<(), OutFault>
     requires known { of.0 < length catalogue.now.types }
@@ -134,26 +134,26 @@ pub(crate) fn say<O: Out>(
         Spoken::Nothing => Ok(()),
         Spoken::Length => Ok(()),
         Spoken::Number(number) => {
-            let path = path_of(catalogue, root, outer);
-            number_line(catalogue, message, &path, of, *number, out)
+            go_to(catalogue, root, outer, path);
+            number_line(catalogue, message, path, of, *number, out)
         }
         Spoken::Switch(number) => {
-            let mut path = path_of(catalogue, root, outer);
+            go_to(catalogue, root, outer, path);
             path.push_name(b"switch");
             let switch = catalogue.switch_type(of);
-            number_line(catalogue, message, &path, switch, *number, out)
+            number_line(catalogue, message, path, switch, *number, out)
         }
         Spoken::Count(count) => {
-            let path = path_of(catalogue, root, outer);
-            value_line(out, message, &path, Value::Count(*count))
+            go_to(catalogue, root, outer, path);
+            value_line(out, message, path, Value::Count(*count))
         }
         Spoken::Piece {
             offset,
             octets,
             more,
         } => {
-            let path = path_of(catalogue, root, outer);
-            octets_line(catalogue, message, &path, of, octets, *offset, *more, out)
+            go_to(catalogue, root, outer, path);
+            octets_line(catalogue, message, path, of, octets, *offset, *more, out)
         }
     }
 }

@@ -16,25 +16,25 @@ pub returns-in-Number : goal.returns-in-Number
 returns-in-Number g c at lines h =
     let path = path_in [] (places c.args.catalogue.now c.args.outer.now) in
     let k = rw c.in-Number.is at h in
-    rw (← said_one c.args.message c.args.root at path _ _ lines c.path_of-path.ensures.text k.1) (c.number_line.ensures k.0)
+    rw (← said_one c.args.message c.args.root at path _ _ lines c.go_to.ensures.text k.1) (c.number_line.ensures k.0)
 
 pub returns-in-Count : goal.returns-in-Count
 returns-in-Count g c at lines h =
     let path = path_in [] (places c.args.catalogue.now c.args.outer.now) in
     let k = rw c.in-Count.is at h in
-    rw (← said_one c.args.message c.args.root at path _ _ lines c.path_of-path-in-Count.ensures.text k) c.value_line.ensures
+    rw (← said_one c.args.message c.args.root at path _ _ lines c.go_to-in-Count.ensures.text k) c.value_line.ensures
 
 pub returns-in-Piece : goal.returns-in-Piece
 returns-in-Piece g c at lines h =
     let path = path_in [] (places c.args.catalogue.now c.args.outer.now) in
     let k = rw c.in-Piece.is at h in
     let w = rw c.deref.ensures.0 at c.octets_line.ensures in
-    rw (← said_one c.args.message c.args.root at path _ _ lines c.path_of-path-in-Piece.ensures.text k) w
+    rw (← said_one c.args.message c.args.root at path _ _ lines c.go_to-in-Piece.ensures.text k) w
 
 pub returns-in-Switch : goal.returns-in-Switch
 returns-in-Switch g c at lines h =
     let path = path_in [] (places c.args.catalogue.now c.args.outer.now) in
     let k = rw c.in-Switch.is at h in
     let f = rw c.switch_type-switch.ensures.tree at c.number_line-in-Switch.ensures in
-    let text = path_switch c.args.root path _ _ c.path_of-path-in-Switch.ensures.text c.push_name.ensures.text in
+    let text = path_switch c.args.root path _ _ c.go_to-in-Switch.ensures.text c.push_name.ensures.text in
     rw (← said_one c.args.message c.args.root at (path ++ Switch ∷ []) _ _ lines text k.1) (f k.0)

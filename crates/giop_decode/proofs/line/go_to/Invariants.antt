@@ -2,7 +2,7 @@ use Rattle.std.proofs.Common.{◌≡◌, [], take}
 use Rattle.giop_decode.specs.Spelling.{path_text}
 use Rattle.giop_decode.specs.Steps.{path_in}
 use Rattle.giop_decode.specs.Turns.{places}
-use Rattle.giop_decode.proofs.line.path_of.Given as goal
+use Rattle.giop_decode.proofs.line.go_to.Given as goal
 
 abbrev pub invariant-loop-frame : goal.invariant-loop-frame
 invariant-loop-frame l = record {

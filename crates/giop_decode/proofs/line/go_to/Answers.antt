@@ -1,12 +1,12 @@
 use Rattle.std.proofs.Common.{refl, ap, ◌∙◌, arith}
 use Rattle.giop_print.specs.Paths.{PathText}
 use Rattle.giop_decode.proofs.Segments.{path_none, path_step}
-use Rattle.giop_decode.proofs.line.path_of.Goals as goal
+use Rattle.giop_decode.proofs.line.go_to.Goals as goal
 
 pub loop-frame-init : goal.loop-frame-init
 loop-frame-init c = record {
-  text = ap (λ (p : PathText). p.text) c.new-path.ensures ∙ path_none c.args.root;
-  segments = ap (λ (p : PathText). p.segments) c.new-path.ensures;
+  text = ap (λ (p : PathText). p.text) c.restart.ensures ∙ path_none c.args.root;
+  segments = ap (λ (p : PathText). p.segments) c.restart.ensures;
 }
 
 pub loop-frame-preserved : goal.loop-frame-preserved
