@@ -1,0 +1,6 @@
+pub mod ReaderLaws
+pub mod RefusalLaws
+mod Gaps
+mod Digits
+mod LayoutLaws
+mod WrittenLaws

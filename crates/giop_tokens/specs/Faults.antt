@@ -1,0 +1,12 @@
+-- Refusals of a signature file.
+use Rattle.giop_tokens.specs.declared.fault.SigFault.{SigFault}
+use Rattle.giop_tokens.specs.declared.fault.Refusal.{Refusal}
+use Rattle.giop_tokens.specs.declared.fault.SigFaultKind.TheVariants.{OutOfMemory}
+
+-- memory was refused; it has no line
+abbrev pub no_memory : SigFault
+no_memory = record { line = 0; kind = OutOfMemory }
+
+-- the same where places are counted
+abbrev pub out_of_memory : Refusal
+out_of_memory = record { kind = OutOfMemory; left = 0 }

@@ -1,0 +1,33 @@
+-- The marks, each an octet (docs/FORMATS.md, Signature file).
+use Rattle.std.specs.Prelude.{ℕ, Option, Some, None, ◌==◌, if◌then◌else◌}
+use Rattle.giop_tokens.specs.declared.marks.Mark.{Mark}
+use Rattle.giop_tokens.specs.declared.marks.Mark.TheVariants as marks
+
+-- the octet that writes it
+abbrev pub octet_of : Mark → ℕ
+octet_of marks.OpenBrace = 123
+octet_of marks.CloseBrace = 125
+octet_of marks.OpenParenthesis = 40
+octet_of marks.CloseParenthesis = 41
+octet_of marks.OpenAngle = 60
+octet_of marks.CloseAngle = 62
+octet_of marks.OpenBracket = 91
+octet_of marks.CloseBracket = 93
+octet_of marks.Comma = 44
+octet_of marks.Semicolon = 59
+octet_of marks.Colon = 58
+
+-- the mark that an octet writes
+unfoldable pub mark_of : ℕ → Option Mark
+mark_of b =
+    if b == 123 then Some marks.OpenBrace else
+    (if b == 125 then Some marks.CloseBrace else
+    (if b == 40 then Some marks.OpenParenthesis else
+    (if b == 41 then Some marks.CloseParenthesis else
+    (if b == 60 then Some marks.OpenAngle else
+    (if b == 62 then Some marks.CloseAngle else
+    (if b == 91 then Some marks.OpenBracket else
+    (if b == 93 then Some marks.CloseBracket else
+    (if b == 44 then Some marks.Comma else
+    (if b == 59 then Some marks.Semicolon else
+    (if b == 58 then Some marks.Colon else None))))))))))

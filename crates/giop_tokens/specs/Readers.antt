@@ -1,0 +1,117 @@
+-- Readers of one token: what it tells, and what follows it. Each refuses with Token where there is no token, and with
+-- Syntax, at the token, where it is another one or the text ends (docs/FORMATS.md, Signature file).
+use Rattle.std.specs.Prelude.{ℕ, Bool, true, false, List, [], ◌∷◌, length, Option, Some, None, Result, Ok, Err, ◌==◌, if◌then◌else◌, option_and_then}
+use Rattle.std.specs.Str.{bytes_eq}
+use Rattle.giop_tokens.specs.declared.fault.Refusal.{Refusal}
+use Rattle.giop_tokens.specs.declared.fault.SigFaultKind.TheVariants as kinds
+use Rattle.giop_tokens.specs.declared.marks.Mark.{Mark}
+use Rattle.giop_tokens.specs.Marks.{octet_of}
+use Rattle.giop_tokens.specs.Tokens.{Token, word, number, negative, repository, mark, left_of, next}
+use Rattle.giop_tokens.specs.Reading.{◌>>=◌}
+
+-- a refusal of the first token of a text, or of its end
+abbrev pub misplaced : List ℕ → Refusal
+misplaced text = record { kind = kinds.Syntax; left = left_of text }
+
+-- the refusal where a text goes on with no token
+abbrev pub no_token : List ℕ → Refusal
+no_token text = record { kind = kinds.Token; left = left_of text }
+
+-- ---- What a token tells.
+
+abbrev pub as_word : Token → Option (List ℕ)
+as_word (word w) = Some w
+as_word (number n) = None
+as_word (negative n) = None
+as_word (repository r) = None
+as_word (mark m) = None
+
+abbrev pub as_number : Token → Option ℕ
+as_number (number n) = Some n
+as_number (word w) = None
+as_number (negative n) = None
+as_number (repository r) = None
+as_number (mark m) = None
+
+abbrev pub as_repository : Token → Option (List ℕ)
+as_repository (repository r) = Some r
+as_repository (word w) = None
+as_repository (number n) = None
+as_repository (negative n) = None
+as_repository (mark m) = None
+
+abbrev pub is_the_mark : Mark → Token → Bool
+is_the_mark m (mark n) = octet_of n == octet_of m
+is_the_mark m (word w) = false
+is_the_mark m (number n) = false
+is_the_mark m (negative n) = false
+is_the_mark m (repository r) = false
+
+abbrev pub is_the_word : List ℕ → Token → Bool
+is_the_word w (word v) = bytes_eq v w
+is_the_word w (number n) = false
+is_the_word w (negative n) = false
+is_the_word w (repository r) = false
+is_the_word w (mark m) = false
+
+-- ---- The next token.
+
+abbrev pub wanted : {X : Type 0} → Refusal → Option X → List ℕ → Result (X × List ℕ) Refusal
+wanted refusal None rest = Err refusal
+wanted refusal (Some x) rest = Ok (x, rest)
+
+abbrev pub passes : (Token → Bool) → Option Token → Bool
+passes is None = false
+passes is (Some t) = is t
+
+-- what the next token tells, and what follows it
+unfoldable pub next_as : {X : Type 0} → (Token → Option X) → List ℕ → Result (X × List ℕ) Refusal
+next_as tells text = do
+  t ← next text
+  wanted (misplaced text) (option_and_then tells t.0) t.1
+
+-- what follows the next token, which passes the test
+unfoldable pub next_is : (Token → Bool) → List ℕ → Result (List ℕ) Refusal
+next_is is text = do
+  t ← next text
+  if passes is t.0 then Ok t.1 else Err (misplaced text)
+
+-- what follows the next token where it passes the test; nothing where it is another one, or the text ends
+unfoldable pub next_if : (Token → Bool) → List ℕ → Result (Option (List ℕ)) Refusal
+next_if is text = do
+  t ← next text
+  Ok (if passes is t.0 then Some t.1 else None)
+
+-- ---- The readers.
+
+-- any word that doesn't begin with a digit
+abbrev pub word_at : List ℕ → Result (List ℕ × List ℕ) Refusal
+word_at text = next_as as_word text
+
+abbrev pub number_at : List ℕ → Result (ℕ × List ℕ) Refusal
+number_at text = next_as as_number text
+
+abbrev pub repository_at : List ℕ → Result (List ℕ × List ℕ) Refusal
+repository_at text = next_as as_repository text
+
+abbrev pub mark_at : Mark → List ℕ → Result (List ℕ) Refusal
+mark_at m text = next_is (is_the_mark m) text
+
+abbrev pub keyword_at : List ℕ → List ℕ → Result (List ℕ) Refusal
+keyword_at w text = next_is (is_the_word w) text
+
+abbrev pub mark_if : Mark → List ℕ → Result (Option (List ℕ)) Refusal
+mark_if m text = next_if (is_the_mark m) text
+
+abbrev pub keyword_if : List ℕ → List ℕ → Result (Option (List ℕ)) Refusal
+keyword_if w text = next_if (is_the_word w) text
+
+abbrev pub is_end : Option Token → Bool
+is_end None = true
+is_end (Some t) = false
+
+-- whether the text ends
+unfoldable pub end_at : List ℕ → Result Bool Refusal
+end_at text = do
+  t ← next text
+  Ok (is_end t.0)

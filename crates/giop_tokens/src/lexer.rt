@@ -1,0 +1,206 @@
+//! The first token of a text.
+ghost use Rattle.std.specs.Prelude.{◌≡◌, ◌≤◌, false, length, drop, slice_index, option_map};
+ghost use Rattle.std.specs.List.{prefix_len};
+ghost use Rattle.giop_tokens.specs.Tokens.{gap, gap_step, first, is_white, is_word, is_id, next, left_of, token_view, word_token, below_zero, number_of, repository_token, as_token, mark};
+ghost use Rattle.giop_tokens.specs.Marks.{mark_of};
+ghost use Rattle.giop_tokens.specs.Reading.{Gives};
+
+use crate::fault::{Refusal, SigFaultKind};
+use crate::marks::{Mark, mark_of};
+use crate::numbers::{is_digit, number_of};
+
+/// The most octets of a repository id.
+const ID_MAX: usize = 128;
+
+/// A token of a text.
+#[derive(Clone, Copy, Debug, Drop)]
+pub enum Token<'a> {
+    /// A longest run of letters, digits and `_` that doesn't begin with a digit.
+    Word(&'a [u8]),
+    /// A decimal number.
+    Number(u64),
+    /// A number below zero, without its sign; at least 1.
+    Negative(u64),
+    /// A repository id, without its quotation marks.
+    Repository(&'a [u8]),
+    /// A mark.
+    Mark(Mark),
+}
+
+fn is_white(b: u8) -> bool
+    ensures { result ≡ is_white b }
+{
+    b == b' ' || b == b'\t' || b == b'\r' || b == b'\n'
+}
+
+fn is_word(b: u8) -> bool
+    ensures { result ≡ is_word b }
+{
+    b.is_ascii_lowercase() || b.is_ascii_uppercase() || is_digit(b) || b == b'_'
+}
+
+fn is_id(b: u8) -> bool
+    ensures { result ≡ is_id b }
+{
+    b >= 0x21 && b <= 0x7e && b != b'"'
+}
+
+// The octet at a place, 0 past the end.
+fn octet_at(text: &[u8], i: usize) -> u8
+    ensures { result ≡ slice_index text.now i }
+{
+    if i < text.len() { text[i] } else { 0 }
+}
+
+// Whether a comment goes on after an octet, or nothing where a token begins there.
+fn gap_step(comment: bool, octet: u8, after: u8) -> Option<bool>
+    ensures { result ≡ gap_step comment octet after }
+{
+    if comment {
+        return Some(octet != b'\n');
+    }
+    if octet == b'/' && after == b'/' {
+        return Some(true);
+    }
+    if is_white(octet) { Some(false) } else { None }
+}
+
+// What follows white space and comments.
+fn after_gap(text: &[u8]) -> &[u8]
+    ensures { result.now ≡ gap false text.now }
+{
+    let mut comment = false;
+    for i in 0..text.len() {
+        match gap_step(comment, text[i], octet_at(text, i + 1)) {
+            None => return &text[i..],
+            Some(more) => comment = more,
+        }
+    }
+    &text[text.len()..]
+}
+
+// How many of the first octets are a word's.
+fn word_len(text: &[u8]) -> usize
+    ensures len { result ≡ prefix_len is_word text.now }
+    ensures bound { result ≤ length text.now }
+{
+    for (i, b) in text.iter().enumerate() {
+        if !is_word(*b) {
+            return i;
+        }
+    }
+    text.len()
+}
+
+// How many of the first octets are a repository id's.
+fn id_len(text: &[u8]) -> usize
+    ensures len { result ≡ prefix_len is_id text.now }
+    ensures bound { result ≤ length text.now }
+{
+    for (i, b) in text.iter().enumerate() {
+        if !is_id(*b) {
+            return i;
+        }
+    }
+    text.len()
+}
+
+fn word_token(word: &[u8]) -> Option<Token<'_>>
+    ensures { option_map token_view result ≡ word_token word.now }
+{
+    if is_digit(octet_at(word, 0)) {
+        return Some(Token::Number(number_of(word)?));
+    }
+    Some(Token::Word(word))
+}
+
+fn negative_token(word: &[u8]) -> Option<Token<'_>>
+    ensures { option_map token_view result ≡ below_zero (number_of word.now) }
+{
+    match number_of(word)? {
+        0 => None,
+        n => Some(Token::Negative(n)),
+    }
+}
+
+fn repository_token<'a>(id: &'a [u8], after: &[u8]) -> Option<Token<'a>>
+    ensures { option_map token_view result ≡ repository_token id.now after.now }
+{
+    if id.len() >= 1 && id.len() <= ID_MAX && octet_at(after, 0) == b'"' {
+        Some(Token::Repository(id))
+    } else {
+        None
+    }
+}
+
+// A token and what follows it; or no token, at this place.
+fn as_token<'a>(
+    text: &[u8],
+    token: Option<Token<'a>>,
+    rest: &'a [u8],
+) -> Result<(Option<Token<'a>>, &'a [u8]), Refusal>
+    ensures { Gives (λ x. (option_map token_view x.0, x.1.now)) result (as_token text.now (option_map token_view token.entry) rest.now) }
+{
+    match token {
+        None => Err(Refusal {
+            kind: SigFaultKind::Token,
+            left: text.len(),
+        }),
+        Some(token) => Ok((Some(token), rest)),
+    }
+}
+
+#[tactic(auto, unfolding(crate::specs::Tokens::first))]
+fn first(text: &[u8]) -> Result<(Option<Token<'_>>, &[u8]), Refusal>
+    ensures { Gives (λ x. (option_map token_view x.0, x.1.now)) result (first text.now) }
+{
+    match text {
+        [] => Ok((None, text)),
+        [octet, after @ ..] => {
+            if is_word(*octet) {
+                let (word, rest) = text.split_at(word_len(text));
+                return as_token(text, word_token(word), rest);
+            }
+            if *octet == b'-' {
+                let (word, rest) = after.split_at(word_len(after));
+                return as_token(text, negative_token(word), rest);
+            }
+            if *octet == b'"' {
+                let (id, rest) = after.split_at(id_len(after));
+                return as_token(text, repository_token(id, rest), past_mark(rest));
+            }
+            as_token(text, mark_token(*octet), after)
+        }
+    }
+}
+
+fn mark_token(octet: u8) -> Option<Token<'static>>
+    ensures { option_map token_view result ≡ option_map mark (mark_of octet) }
+{
+    Some(Token::Mark(mark_of(octet)?))
+}
+
+// What follows the first octet.
+fn past_mark(text: &[u8]) -> &[u8]
+    ensures { result.now ≡ drop 1 text.now }
+{
+    match text {
+        [] => text,
+        [_, rest @ ..] => rest,
+    }
+}
+
+/// The first token of a text, behind white space and comments, and what follows it; none at the end of the text.
+#[tactic(auto, unfolding(crate::specs::Tokens::next))]
+pub fn next(text: &[u8]) -> Result<(Option<Token<'_>>, &[u8]), Refusal>
+    ensures { Gives (λ x. (option_map token_view x.0, x.1.now)) result (next text.now) }
+{
+    first(after_gap(text))
+}
+
+/// The place of the first token of a text: how many octets are left from it on, 0 at the end of the text.
+pub fn left_of(text: &[u8]) -> usize
+    ensures { result ≡ left_of text.now }
+{
+    after_gap(text).len()
+}

@@ -1,0 +1,24 @@
+//! The tokens of a signature file, and why one is refused (docs/FORMATS.md).
+#![tactic(auto)]
+
+mod fault;
+mod laws;
+mod lexer;
+mod lines;
+mod marks;
+mod names;
+mod numbers;
+mod readers;
+#[cfg(test)]
+mod tests;
+
+pub use fault::{Refusal, SigFault, SigFaultKind};
+pub use laws::{first_token, laid_out, no_list, one_list};
+pub use lexer::{Token, left_of, next};
+pub use lines::{fault_in, line_of};
+pub use marks::Mark;
+pub use names::{identifier, is_reserved, operation_name};
+pub use readers::{
+    ends, keyword, mark, misplaced, number, repository_id, starts_with_keyword, starts_with_mark,
+    word,
+};

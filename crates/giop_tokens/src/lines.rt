@@ -1,0 +1,36 @@
+//! The line of a refusal.
+ghost use Rattle.std.specs.Prelude.{◌≡◌, ◌<◌, ◌^◌, ◌==◌, length, count_by};
+ghost use Rattle.giop_tokens.specs.Lines.{line_at, fault_of};
+
+use crate::fault::{Refusal, SigFault, SigFaultKind};
+
+// How many line feeds there are.
+fn line_feeds(text: &[u8]) -> usize
+    ensures { result ≡ count_by (λ b. b == 10) text.now }
+{
+    text.iter().filter(|b| **b == b'\n').count()
+}
+
+/// The line, from 1, of the octet from which on so many are left, or of the last octet where none is left.
+pub fn line_of(text: &[u8], left: usize) -> u32
+    requires { length text.now < 2 ^ 32 }
+    ensures { result ≡ line_at text.now left }
+{
+    let before = text.len().saturating_sub(left.max(1));
+    1 + line_feeds(&text[..before]) as u32
+}
+
+/// What is told of a refusal of a text.
+pub fn fault_in(text: &[u8], refusal: Refusal) -> SigFault
+    requires { length text.now < 2 ^ 32 }
+    ensures { result ≡ fault_of text.now refusal }
+{
+    let line = match refusal.kind {
+        SigFaultKind::OutOfMemory => 0,
+        _ => line_of(text, refusal.left),
+    };
+    SigFault {
+        line,
+        kind: refusal.kind,
+    }
+}

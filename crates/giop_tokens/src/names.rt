@@ -1,0 +1,74 @@
+//! Names: words that aren't reserved, and not too long.
+ghost use Rattle.std.specs.Prelude.{◌≡◌, map, bytes_eq};
+ghost use Rattle.std.specs.List.{list_any};
+ghost use Rattle.giop_tokens.specs.Reading.{Gives};
+ghost use Rattle.giop_tokens.specs.Names.{is_reserved, too_long, identifier_at, operation_name_at};
+
+use crate::fault::{Refusal, SigFaultKind};
+use crate::lexer::left_of;
+use crate::readers::{misplaced, word};
+
+/// The most octets of a name.
+const NAME_MAX: usize = 64;
+/// The most octets of an operation's name.
+const OPERATION_NAME_MAX: usize = 128;
+
+// Whether a word is one of these.
+fn is_one_of(word: &[u8], others: &[&[u8]]) -> bool
+    ensures { result ≡ list_any (bytes_eq word.now) (map (λ o. o.now) others.now) }
+{
+    others.iter().any(|other| word == *other)
+}
+
+/// Whether a word is no name.
+#[tactic(auto, unfolding(crate::specs::Names::is_reserved))]
+pub fn is_reserved(word: &[u8]) -> bool
+    ensures { result ≡ is_reserved word.now }
+{
+    is_one_of(
+        word,
+        &[
+            b"signatures", b"enum", b"struct", b"union", b"switch", b"case", b"default",
+            b"exception", b"operation", b"void", b"in", b"out", b"inout", b"true", b"false",
+            b"string", b"Object", b"sequence", b"octet", b"char", b"boolean", b"short", b"ushort",
+            b"long", b"ulong", b"longlong", b"ulonglong", b"float", b"double", b"return",
+            b"encapsulation",
+        ],
+    )
+}
+
+fn too_long(text: &[u8]) -> Refusal
+    ensures { result ≡ too_long text.now }
+{
+    Refusal {
+        kind: SigFaultKind::Limit,
+        left: left_of(text),
+    }
+}
+
+/// A name: a word that isn't reserved, of at most 64 octets.
+#[tactic(auto, unfolding(crate::specs::Names::identifier_at))]
+pub fn identifier(text: &[u8]) -> Result<(&[u8], &[u8]), Refusal>
+    ensures { Gives (λ x. (x.0.now, x.1.now)) result (identifier_at text.now) }
+{
+    let (name, rest) = word(text)?;
+    if is_reserved(name) {
+        return Err(misplaced(text));
+    }
+    if name.len() > NAME_MAX {
+        return Err(too_long(text));
+    }
+    Ok((name, rest))
+}
+
+/// An operation's name: any word of at most 128 octets.
+#[tactic(auto, unfolding(crate::specs::Names::operation_name_at))]
+pub fn operation_name(text: &[u8]) -> Result<(&[u8], &[u8]), Refusal>
+    ensures { Gives (λ x. (x.0.now, x.1.now)) result (operation_name_at text.now) }
+{
+    let (name, rest) = word(text)?;
+    if name.len() > OPERATION_NAME_MAX {
+        return Err(too_long(text));
+    }
+    Ok((name, rest))
+}

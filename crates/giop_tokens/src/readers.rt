@@ -1,0 +1,136 @@
+//! Readers of one token. Each gives what follows the token that it reads, and refuses with Token where there is no token
+//! and with Syntax, at the token, where it is another one or the text ends.
+ghost use Rattle.std.specs.Prelude.{◌≡◌, option_map};
+ghost use Rattle.giop_tokens.specs.Reading.{Gives};
+ghost use Rattle.giop_tokens.specs.Readers.{misplaced, mark_at, keyword_at, word_at, number_at, repository_at, mark_if, keyword_if, end_at};
+
+use crate::fault::{Refusal, SigFaultKind};
+use crate::lexer::{Token, left_of, next};
+use crate::marks::Mark;
+
+/// The refusal of the first token of a text, or of its end, where it can't stand.
+pub fn misplaced(text: &[u8]) -> Refusal
+    ensures { result ≡ misplaced text.now }
+{
+    Refusal {
+        kind: SigFaultKind::Syntax,
+        left: left_of(text),
+    }
+}
+
+/// A mark.
+#[tactic(auto, unfolding(crate::specs::Readers::next_is))]
+pub fn mark(text: &[u8], wanted: Mark) -> Result<&[u8], Refusal>
+    ensures { Gives (λ x. x.now) result (mark_at wanted text.now) }
+{
+    let (token, rest) = next(text)?;
+    match token {
+        Some(Token::Mark(found)) => {
+            if found.octet() == wanted.octet() {
+                Ok(rest)
+            } else {
+                Err(misplaced(text))
+            }
+        }
+        _ => Err(misplaced(text)),
+    }
+}
+
+/// A word that the grammar quotes.
+#[tactic(auto, unfolding(crate::specs::Readers::next_is))]
+pub fn keyword<'a>(text: &'a [u8], wanted: &[u8]) -> Result<&'a [u8], Refusal>
+    ensures { Gives (λ x. x.now) result (keyword_at wanted.now text.now) }
+{
+    let (token, rest) = next(text)?;
+    match token {
+        Some(Token::Word(found)) => {
+            if found == wanted {
+                Ok(rest)
+            } else {
+                Err(misplaced(text))
+            }
+        }
+        _ => Err(misplaced(text)),
+    }
+}
+
+/// Any word that doesn't begin with a digit.
+#[tactic(auto, unfolding(crate::specs::Readers::next_as))]
+pub fn word(text: &[u8]) -> Result<(&[u8], &[u8]), Refusal>
+    ensures { Gives (λ x. (x.0.now, x.1.now)) result (word_at text.now) }
+{
+    let (token, rest) = next(text)?;
+    match token {
+        Some(Token::Word(word)) => Ok((word, rest)),
+        _ => Err(misplaced(text)),
+    }
+}
+
+/// A number.
+#[tactic(auto, unfolding(crate::specs::Readers::next_as))]
+pub fn number(text: &[u8]) -> Result<(u64, &[u8]), Refusal>
+    ensures { Gives (λ x. (x.0, x.1.now)) result (number_at text.now) }
+{
+    let (token, rest) = next(text)?;
+    match token {
+        Some(Token::Number(n)) => Ok((n, rest)),
+        _ => Err(misplaced(text)),
+    }
+}
+
+/// A repository id, without its quotation marks.
+#[tactic(auto, unfolding(crate::specs::Readers::next_as))]
+pub fn repository_id(text: &[u8]) -> Result<(&[u8], &[u8]), Refusal>
+    ensures { Gives (λ x. (x.0.now, x.1.now)) result (repository_at text.now) }
+{
+    let (token, rest) = next(text)?;
+    match token {
+        Some(Token::Repository(id)) => Ok((id, rest)),
+        _ => Err(misplaced(text)),
+    }
+}
+
+/// What follows a mark, where the text begins with it; nothing where it begins with another token or ends.
+#[tactic(auto, unfolding(crate::specs::Readers::next_if))]
+pub fn starts_with_mark(text: &[u8], wanted: Mark) -> Result<Option<&[u8]>, Refusal>
+    ensures { Gives (λ x. option_map (λ r. r.now) x) result (mark_if wanted text.now) }
+{
+    let (token, rest) = next(text)?;
+    match token {
+        Some(Token::Mark(found)) => {
+            if found.octet() == wanted.octet() {
+                Ok(Some(rest))
+            } else {
+                Ok(None)
+            }
+        }
+        _ => Ok(None),
+    }
+}
+
+/// What follows a word, where the text begins with it; nothing where it begins with another token or ends.
+#[tactic(auto, unfolding(crate::specs::Readers::next_if))]
+pub fn starts_with_keyword<'a>(text: &'a [u8], wanted: &[u8]) -> Result<Option<&'a [u8]>, Refusal>
+    ensures { Gives (λ x. option_map (λ r. r.now) x) result (keyword_if wanted.now text.now) }
+{
+    let (token, rest) = next(text)?;
+    match token {
+        Some(Token::Word(found)) => {
+            if found == wanted {
+                Ok(Some(rest))
+            } else {
+                Ok(None)
+            }
+        }
+        _ => Ok(None),
+    }
+}
+
+/// Whether the text ends: nothing but white space and comments is left.
+#[tactic(auto, unfolding(crate::specs::Readers::end_at))]
+pub fn ends(text: &[u8]) -> Result<bool, Refusal>
+    ensures { Gives (λ x. x) result (end_at text.now) }
+{
+    let (token, _) = next(text)?;
+    Ok(token.is_none())
+}
