@@ -26,9 +26,9 @@ as_token_refused text rest (Some t) r e = absurd (not_both (Some t, rest) r e)
 
 first_refused_by : (b : ℕ) (bs : List ℕ) (r : Refusal) (u v w : Bool)
     → cond u (as_token (b ∷ bs) (word_token (run is_word (b ∷ bs))) (past is_word (b ∷ bs)))
-        (cond v (as_token (b ∷ bs) (below_zero (number_of (run is_word bs))) (past is_word bs))
-        (cond w (as_token (b ∷ bs) (repository_token (run is_id bs) (past is_id bs)) (drop 1 (past is_id bs)))
-        (as_token (b ∷ bs) (option_map mark (mark_of b)) bs))) ≡ Err r → r ≡ record { kind = kinds.Token; left = length (b ∷ bs) }
+    (cond v (as_token (b ∷ bs) (below_zero (number_of (run is_word bs))) (past is_word bs))
+    (cond w (as_token (b ∷ bs) (repository_token (run is_id bs) (past is_id bs)) (drop 1 (past is_id bs)))
+    (as_token (b ∷ bs) (option_map mark (mark_of b)) bs))) ≡ Err r → r ≡ record { kind = kinds.Token; left = length (b ∷ bs) }
 first_refused_by b bs r true v w h = as_token_refused (b ∷ bs) (past is_word (b ∷ bs)) (word_token (run is_word (b ∷ bs))) r h
 first_refused_by b bs r false true w h = as_token_refused (b ∷ bs) (past is_word bs) (below_zero (number_of (run is_word bs))) r h
 first_refused_by b bs r false false true h = as_token_refused (b ∷ bs) (drop 1 (past is_id bs)) (repository_token (run is_id bs) (past is_id bs)) r h

@@ -272,9 +272,9 @@ begins_mark b bs rest t (Some n) m e =
 
 begins_with : (b : ℕ) (bs rest : List ℕ) (t : Token) (u v w : Bool) → is_word b ≡ u → eqb b 45 ≡ v → eqb b 34 ≡ w
     → cond u (as_token (b ∷ bs) (word_token (run is_word (b ∷ bs))) (past is_word (b ∷ bs)))
-        (cond v (as_token (b ∷ bs) (below_zero (number_of (run is_word bs))) (past is_word bs))
-        (cond w (as_token (b ∷ bs) (repository_token (run is_id bs) (past is_id bs)) (drop 1 (past is_id bs)))
-        (as_token (b ∷ bs) (option_map mark (mark_of b)) bs))) ≡ lexed t rest → Begins (b ∷ bs) t rest
+    (cond v (as_token (b ∷ bs) (below_zero (number_of (run is_word bs))) (past is_word bs))
+    (cond w (as_token (b ∷ bs) (repository_token (run is_id bs) (past is_id bs)) (drop 1 (past is_id bs)))
+    (as_token (b ∷ bs) (option_map mark (mark_of b)) bs))) ≡ lexed t rest → Begins (b ∷ bs) t rest
 begins_with b bs rest t true v w e f g h = begins_run b bs rest t e h
 begins_with b bs rest t false true w e f g h = begins_negative b bs rest t (eqb-true b 45 f) h
 begins_with b bs rest t false false true e f g h = begins_repository b bs rest t (eqb-true b 34 g) h
@@ -297,9 +297,9 @@ first_ended [] e = refl
 first_ended (b ∷ bs) e = absurd (ended_with b bs (is_word b) (eqb b 45) (eqb b 34) e) where
   ended_with : (b : ℕ) (bs : List ℕ) (u v w : Bool)
       → cond u (as_token (b ∷ bs) (word_token (run is_word (b ∷ bs))) (past is_word (b ∷ bs)))
-          (cond v (as_token (b ∷ bs) (below_zero (number_of (run is_word bs))) (past is_word bs))
-          (cond w (as_token (b ∷ bs) (repository_token (run is_id bs) (past is_id bs)) (drop 1 (past is_id bs)))
-          (as_token (b ∷ bs) (option_map mark (mark_of b)) bs))) ≡ Ok (None, []) → ⊥
+      (cond v (as_token (b ∷ bs) (below_zero (number_of (run is_word bs))) (past is_word bs))
+      (cond w (as_token (b ∷ bs) (repository_token (run is_id bs) (past is_id bs)) (drop 1 (past is_id bs)))
+      (as_token (b ∷ bs) (option_map mark (mark_of b)) bs))) ≡ Ok (None, []) → ⊥
   ended_with b bs true v w h = ended_by (b ∷ bs) (past is_word (b ∷ bs)) (word_token (run is_word (b ∷ bs))) h
   ended_with b bs false true w h = ended_by (b ∷ bs) (past is_word bs) (below_zero (number_of (run is_word bs))) h
   ended_with b bs false false true h = ended_by (b ∷ bs) (drop 1 (past is_id bs)) (repository_token (run is_id bs) (past is_id bs)) h

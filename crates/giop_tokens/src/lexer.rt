@@ -13,7 +13,7 @@ use crate::numbers::{is_digit, number_of};
 const ID_MAX: usize = 128;
 
 /// A token of a text.
-#[derive(Clone, Copy, Debug, Drop)]
+#[derive(Clone, Copy, Debug, PartialEq, Eq, Drop)]
 pub enum Token<'a> {
     /// A longest run of letters, digits and `_` that doesn't begin with a digit.
     Word(&'a [u8]),
