@@ -2,7 +2,8 @@
 //! and with Syntax, at the token, where it is another one or the text ends.
 ghost use Rattle.std.specs.Prelude.{◌≡◌, option_map};
 ghost use Rattle.giop_tokens.specs.Reading.{Gives};
-ghost use Rattle.giop_tokens.specs.Readers.{misplaced, mark_at, keyword_at, word_at, number_at, repository_at, mark_if, keyword_if, end_at};
+ghost use Rattle.giop_tokens.specs.Tokens.{token_view};
+ghost use Rattle.giop_tokens.specs.Readers.{misplaced, passes, is_the_mark, is_the_word, mark_at, keyword_at, word_at, number_at, repository_at, mark_if, keyword_if, end_at};
 
 use crate::fault::{Refusal, SigFaultKind};
 use crate::lexer::{Token, left_of, next};
@@ -18,22 +19,34 @@ pub fn misplaced(text: &[u8]) -> Refusal
     }
 }
 
+fn is_the_mark(token: Option<Token<'_>>, wanted: Mark) -> bool
+    ensures { result ≡ passes (is_the_mark wanted) (option_map token_view token.entry) }
+{
+    match token {
+        Some(Token::Mark(found)) => found.octet() == wanted.octet(),
+        _ => false,
+    }
+}
+
+fn is_the_word(token: Option<Token<'_>>, wanted: &[u8]) -> bool
+    ensures { result ≡ passes (is_the_word wanted.now) (option_map token_view token.entry) }
+{
+    match token {
+        Some(Token::Word(found)) => found == wanted,
+        _ => false,
+    }
+}
+
 /// A mark.
 #[tactic(auto, unfolding(crate::specs::Readers::next_is))]
 pub fn mark(text: &[u8], wanted: Mark) -> Result<&[u8], Refusal>
     ensures { Gives (λ x. x.now) result (mark_at wanted text.now) }
 {
     let (token, rest) = next(text)?;
-    match token {
-        Some(Token::Mark(found)) => {
-            if found.octet() == wanted.octet() {
-                Ok(rest)
-            } else {
-                Err(misplaced(text))
-            }
-        }
-        _ => Err(misplaced(text)),
+    if is_the_mark(token, wanted) {
+        return Ok(rest);
     }
+    Err(misplaced(text))
 }
 
 /// A word that the grammar quotes.
@@ -42,16 +55,10 @@ pub fn keyword<'a>(text: &'a [u8], wanted: &[u8]) -> Result<&'a [u8], Refusal>
     ensures { Gives (λ x. x.now) result (keyword_at wanted.now text.now) }
 {
     let (token, rest) = next(text)?;
-    match token {
-        Some(Token::Word(found)) => {
-            if found == wanted {
-                Ok(rest)
-            } else {
-                Err(misplaced(text))
-            }
-        }
-        _ => Err(misplaced(text)),
+    if is_the_word(token, wanted) {
+        return Ok(rest);
     }
+    Err(misplaced(text))
 }
 
 /// Any word that doesn't begin with a digit.
@@ -96,16 +103,11 @@ pub fn starts_with_mark(text: &[u8], wanted: Mark) -> Result<Option<&[u8]>, Refu
     ensures { Gives (λ x. option_map (λ r. r.now) x) result (mark_if wanted text.now) }
 {
     let (token, rest) = next(text)?;
-    match token {
-        Some(Token::Mark(found)) => {
-            if found.octet() == wanted.octet() {
-                Ok(Some(rest))
-            } else {
-                Ok(None)
-            }
-        }
-        _ => Ok(None),
-    }
+    Ok(if is_the_mark(token, wanted) {
+        Some(rest)
+    } else {
+        None
+    })
 }
 
 /// What follows a word, where the text begins with it; nothing where it begins with another token or ends.
@@ -114,16 +116,11 @@ pub fn starts_with_keyword<'a>(text: &'a [u8], wanted: &[u8]) -> Result<Option<&
     ensures { Gives (λ x. option_map (λ r. r.now) x) result (keyword_if wanted.now text.now) }
 {
     let (token, rest) = next(text)?;
-    match token {
-        Some(Token::Word(found)) => {
-            if found == wanted {
-                Ok(Some(rest))
-            } else {
-                Ok(None)
-            }
-        }
-        _ => Ok(None),
-    }
+    Ok(if is_the_word(token, wanted) {
+        Some(rest)
+    } else {
+        None
+    })
 }
 
 /// Whether the text ends: nothing but white space and comments is left.
