@@ -1,0 +1,320 @@
+-- The lines of a message that goes on begin with its lines, and those that come stand behind its octets.
+use Rattle.std.proofs.Common.{◌≡◌, ◌≢◌, ℕ, ◌+◌, ◌-◌, ◌<◌, ◌≤◌, Bool, true, false, List, [], ◌∷◌, ◌++◌, length, map, drop, Option, Some, None, refl, sym, ap, subst, ◌∙◌, append_assoc, append-nil, arith, add_assoc, add-zero, ◌⊎◌, inl, inr}
+use Rattle.std.specs.Prelude.{◌==◌, ◌&&◌, nat_lt, if◌then◌else◌}
+use Rattle.std.specs.List.{filter, AllByRecursion as Each}
+use Rattle.std.proofs.lemmas.Bool.{cases_lt, lt-ltb, eq-eqb, ne_eqb}
+use Rattle.std.proofs.lemmas.List.Elements.{filter-append}
+use Rattle.giop_cdr.specs.Alignment.{padding}
+use Rattle.giop_cdr.specs.declared.order.Order.{Order}
+use Rattle.giop_print.specs.declared.path.Root.{Root}
+use Rattle.giop_print.specs.declared.path.Root.TheVariants as roots
+use Rattle.giop_sig.specs.Types.{Ty}
+use Rattle.giop_decode.specs.Spine.{Seg, Value as Valued, Line, Place, Leaf, Read, Done, Short, Fault}
+use Rattle.giop_decode.specs.Reading.{read}
+use Rattle.giop_decode.specs.Steps as decoder
+use Rattle.giop_decode.specs.Steps.{OneAt, Now}
+use Rattle.giop_decode.specs.Heard.{Heard, nothing, hear, heard, ends_operation}
+use Rattle.giop_decode.proofs.Law.{length_one_more}
+use Rattle.giop_decode.proofs.Now.{each_append, Quiet, read_quiet, step_now}
+use Rattle.giop_message.specs.Headers.{minor, kind, order}
+use Rattle.giop_message.specs.Reading.{Saying, Remark, InTurn, IsOrdered, IsCausal}
+use Rattle.giop_message.specs.Signatures.{Signatures}
+use Rattle.giop_message.specs.Messages.{Said, Called, Left, Wrong, Told, tell, is_shown, call_of, calls, is_header, tells, BodyType, Untyped, Typed, Raised, Stage, In_header, In_padding, In_exception, In_body, In_rest, Over, Message, Comes, with_front, passes, rest_in, rest, typed, option_typed, members_of, after_exception, body, is_request, body_of, has_body, padded, after_header, of_header, message, told_of}
+use Rattle.giop_message.specs.Steps.{rest_step, message_step, advance}
+use Rattle.giop_message.specs.MessageReading.{saying_of, remark_of, reading_by}
+use Rattle.giop_message.proofs.Going.{front_none, message_goes}
+
+abbrev pub ToldAt : ℕ → List Told → Type 0
+ToldAt n told = Each (λ t. t.at ≡ n) told
+
+-- what no octets come to
+abbrev pub Silent : ℕ → Message → Type 0
+Silent n (Comes told at stage) = (told ≡ []) × (at ≡ n)
+
+-- lines of one octet
+abbrev pub Turn : ℕ → List Told → Type 0
+Turn n told = ToldAt n told × InTurn (map (λ t. saying_of t.speech) told)
+
+-- what an octet comes to, up to this offset
+abbrev pub Prompt : ℕ → Message → Type 0
+Prompt n (Comes told at stage) = Turn n told × ((at ≡ n) ⊎ (stage ≡ Over))
+
+silent_prompt : (n : ℕ) (m : Message) → Silent n m → Prompt n m
+silent_prompt n (Comes told at stage) h = rw h.0 ((tt, inl refl), inl h.1)
+
+prompt_front : (n : ℕ) (front : List Told) (m : Message) → Turn n front → Silent n m → Prompt n (with_front front m)
+unfolding with_front
+prompt_front n front (Comes told at stage) h k = rw (k.0, append-nil front) (h, inl k.1)
+
+-- one call line, or none
+abbrev pub MayCall : ℕ → List Told → Type 0
+MayCall n told = (told ≡ []) ⊎ ((id : ℕ) × (operation : List ℕ) × (told ≡ tell n (Called id operation) ∷ []))
+
+call_is : (n : ℕ) (id : Option ℕ) (name : Option (List ℕ)) → MayCall n (call_of n id name)
+unfolding call_of
+call_is n None name = inl refl
+call_is n (Some id) None = inl refl
+call_is n (Some id) (Some name) = go (is_shown name)
+  where
+    go : (test : Bool) → MayCall n (if test then tell n (Called id name) ∷ [] else [])
+    go true = inr (id, name, refl)
+    go false = inl refl
+
+call_by : (n : ℕ) (test : Bool) (ts : List Told) → MayCall n ts → MayCall n (if test then ts else [])
+call_by n true ts h = h
+call_by n false ts h = inl refl
+
+pub calls_is : (is : Bool) (l : Line) (h : Heard) → MayCall l.at (calls is l h)
+unfolding calls
+calls_is is l h = call_by l.at (ends_operation is l) (call_of l.at h.request_id h.name) (call_is l.at h.request_id h.name)
+
+value_turn : (n : ℕ) (root : Root) (path : List Seg) (v : Valued) (more : List Told) → MayCall n more → Turn n ((tell n (Said root path v) ∷ more) ++ [])
+unfolding tell saying_of
+value_turn n root path v more (inl e) = rw e ((refl, tt), inr (inl refl))
+value_turn n root path v more (inr f) = rw f.2 ((refl, (refl, tt)), inr (inr (inl refl)))
+
+tells_turn : (root : Root) (is : Bool) (n : ℕ) (h : Heard) (lines : List Line) → OneAt n lines → Turn n (tells root is h lines)
+unfolding tells
+tells_turn root is n h [] e = (tt, inl refl)
+tells_turn root is n h (l ∷ []) e =
+    let now = hear (is_header root) h l in
+    subst (λ m. Turn m ((tell l.at (Said root l.path l.value) ∷ calls is l now) ++ [])) e (value_turn l.at root l.path l.value (calls is l now) (calls_is is l now))
+tells_turn root is n h (l ∷ l' ∷ ls) e = absurd e
+
+module _ (root : Root) (is : Bool) (stage : Heard → List Place → Leaf → Stage) (next : Heard → ℕ → List ℕ → Message) (n : ℕ) (silent : (k : Heard) → Silent n (next k n [])) where
+  pub passes_silent : (k : Heard) (r : Read) → Quiet n r → Silent n (passes root is stage next k r)
+  unfolding passes tells
+  passes_silent k (Done lines at s) h = rw (h.0, h.1, h.2, front_none (next k n [])) (silent k)
+  passes_silent k (Short lines at outer leaf) h = rw (h.0, h.1) (refl, refl)
+  passes_silent k (Fault lines at why T) h = absurd h
+
+  passes_prompt : (k : Heard) (r : Read) → Now n r → Prompt n (passes root is stage next k r)
+  unfolding passes tell tells saying_of
+  passes_prompt k (Done lines at s) h =
+      rw (h.1, h.2) (prompt_front n (tells root is k lines) (next (heard (is_header root) k lines) n []) (tells_turn root is n k lines h.0) (silent (heard (is_header root) k lines)))
+  passes_prompt k (Short lines at outer leaf) h = (tells_turn root is n k lines h.0, inl h.1)
+  passes_prompt k (Fault lines at why T) h = rw h.0 (((h.1, tt), inr (inr (inr (inr refl)))), inr refl)
+
+rest_silent : (n : ℕ) → Silent n (rest n [])
+unfolding rest rest_in
+rest_silent n = (refl, add-zero n)
+
+typed_silent : (o : Order) (T : Ty) (n : ℕ) → Silent n (typed o T n [])
+unfolding typed
+typed_silent o T n = passes_silent roots.Body false (λ k. In_body) (λ k. rest) n (λ k. rest_silent n) nothing (read o [] T n []) (read_quiet o [] T n)
+
+option_silent : (o : Order) (found : Option Ty) (n : ℕ) → Silent n (option_typed o found n [])
+unfolding option_typed
+option_silent o None n = rest_silent n
+option_silent o (Some T) n = typed_silent o T n
+
+after_exception_silent : (S : Signatures) (header : List ℕ) (k : Heard) (n : ℕ) → Silent n (after_exception S header k n [])
+unfolding after_exception
+after_exception_silent S header k n = option_silent (order header) (members_of S k.name) n
+
+body_silent : (S : Signatures) (header : List ℕ) (t : BodyType) (n : ℕ) → Silent n (body S header t n [])
+unfolding body
+body_silent S header Untyped n = rest_silent n
+body_silent S header (Typed T) n = typed_silent (order header) T n
+body_silent S header Raised n =
+    passes_silent roots.Exception false In_exception (after_exception S header) n (λ k. after_exception_silent S header k n) nothing (read (order header) [] S.exception_id n []) (read_quiet (order header) [] S.exception_id n)
+
+padded_silent : (S : Signatures) (header : List ℕ) (t : BodyType) (n : ℕ) → Silent n (padded S header t n [])
+unfolding padded
+padded_silent S header t n = go (cases_lt 0 (padding n 8))
+  where
+    go : (0 < padding n 8) ⊎ (padding n 8 ≤ 0) → Silent n (if nat_lt 0 (padding n 8) then Comes [] (n + 0) (In_padding t) else body S header t (n + padding n 8) (drop (padding n 8) []))
+    go (inl h) = rw (lt-ltb 0 (padding n 8) h) (refl, add-zero n)
+    go (inr h) = let e : padding n 8 ≡ 0 = omega arith in rw (e, add-zero n) (body_silent S header t n)
+
+pub after_header_silent : (S : Signatures) (header : List ℕ) (k : Heard) (n : ℕ) → Silent n (after_header S header k n [])
+unfolding after_header
+after_header_silent S header k n = go (has_body header) (minor header == 2)
+  where
+    go : (has is_2 : Bool) → Silent n (if has then (if is_2 then padded S header (body_of S header k) n [] else body S header (body_of S header k) n []) else rest n [])
+    go true true = padded_silent S header (body_of S header k) n
+    go true false = body_silent S header (body_of S header k) n
+    go false is_2 = rest_silent n
+
+of_header_silent : (S : Signatures) (header : List ℕ) (found : Option Ty) (n : ℕ) → Silent n (of_header S header found n [])
+unfolding of_header
+of_header_silent S header None n = rest_silent n
+of_header_silent S header (Some T) n =
+    passes_silent roots.Header (is_request header) In_header (after_header S header) n (λ k. after_header_silent S header k n) nothing (read (order header) [] T n []) (read_quiet (order header) [] T n)
+
+rest_by : (offset : ℕ) (held : List ℕ) (n : ℕ) (test : Bool) → Prompt n (if test then Comes (tell n (Left offset held) ∷ []) n (In_rest (offset + 32) []) else Comes [] n (In_rest offset held))
+unfolding tell saying_of
+rest_by offset held n true = (((refl, tt), inr (inr (inr (inl refl)))), inl refl)
+rest_by offset held n false = ((tt, inl refl), inl refl)
+
+pub step_prompt : (S : Signatures) (header : List ℕ) (at : ℕ) (stage : Stage) (b : ℕ) → Prompt (at + 1) (message_step S header at stage b)
+unfolding message_step rest_step
+step_prompt S header at (In_header k outer leaf) b =
+    passes_prompt roots.Header (is_request header) In_header (after_header S header) (at + 1) (λ k. after_header_silent S header k (at + 1)) k (decoder.step (order header) [] outer leaf at b) (step_now (order header) [] outer leaf at b)
+step_prompt S header at (In_padding t) b = go (nat_lt 1 (padding at 8))
+  where
+    go : (test : Bool) → Prompt (at + 1) (if test then Comes [] (at + 1) (In_padding t) else body S header t (at + 1) [])
+    go true = ((tt, inl refl), inl refl)
+    go false = silent_prompt (at + 1) (body S header t (at + 1) []) (body_silent S header t (at + 1))
+step_prompt S header at (In_exception k outer leaf) b =
+    passes_prompt roots.Exception false In_exception (after_exception S header) (at + 1) (λ k. after_exception_silent S header k (at + 1)) k (decoder.step (order header) [] outer leaf at b) (step_now (order header) [] outer leaf at b)
+step_prompt S header at (In_body outer leaf) b =
+    passes_prompt roots.Body false (λ k. In_body) (λ k. rest) (at + 1) (λ k. rest_silent (at + 1)) nothing (decoder.step (order header) [] outer leaf at b) (step_now (order header) [] outer leaf at b)
+step_prompt S header at (In_rest offset held) b = rest_by offset (held ++ b ∷ []) (at + 1) (length (held ++ b ∷ []) == 32)
+step_prompt S header at Over b = ((tt, inl refl), inr refl)
+
+-- where a message stands after so many octets, unless it is over
+abbrev pub Stands : ℕ → Message → Type 0
+Stands n (Comes told at stage) = (at ≡ n) ⊎ (stage ≡ Over)
+
+stands_more : (S : Signatures) (header : List ℕ) (n : ℕ) (m : Message) (b : ℕ) → Stands n m → Stands (n + 1) (advance S header m b)
+unfolding advance with_front message_step
+stands_more S header n (Comes told at stage) b (inl h) = go (message_step S header at stage b) (step_prompt S header at stage b)
+  where
+    go : (m : Message) → Prompt (at + 1) m → Stands (n + 1) (with_front told m)
+    go (Comes more at' stage') k = rw (← h) k.1
+stands_more S header n (Comes told at stage) b (inr h) = rw h (inr refl)
+
+-- Induction that adds at the end.
+grown : {A : Type 0} (P : List A → Type 0) → ((xs : List A) (x : A) → P xs → P (xs ++ x ∷ [])) → (done more : List A) → P done → P (done ++ more)
+grown P more_of done [] h = rw append-nil h
+grown P more_of done (x ∷ xs) h = subst P (append_assoc done (x ∷ []) xs) (grown P more_of (done ++ x ∷ []) xs (more_of done x h))
+
+pub stands : (S : Signatures) (header xs : List ℕ) → Stands (12 + length xs) (message S header xs)
+unfolding message
+stands S header xs = grown (λ xs. Stands (12 + length xs) (message S header xs)) more [] xs (none (message S header []) (of_header_silent S header (S.header (minor header) (kind header)) 12))
+  where
+    none : (m : Message) → Silent 12 m → Stands 12 m
+    none (Comes told at stage) h = inl h.1
+
+    more : (xs : List ℕ) (b : ℕ) → Stands (12 + length xs) (message S header xs) → Stands (12 + length (xs ++ b ∷ [])) (message S header (xs ++ b ∷ []))
+    more xs b h = rw (message_goes S header xs b, length_one_more xs b, ← add_assoc) (stands_more S header (12 + length xs) (message S header xs) b h)
+
+-- lines behind so many octets
+abbrev pub Behind : ℕ → List Told → Type 0
+Behind n told = Each (λ t. n < t.at) told
+
+behind_at : (n : ℕ) (told : List Told) → ToldAt (n + 1) told → Behind n told
+behind_at n [] h = tt
+behind_at n (t ∷ ts) h = (omega (arith, h.0), behind_at n ts h.1)
+
+behind_less : (n m : ℕ) (told : List Told) → n ≤ m → Behind m told → Behind n told
+behind_less n m [] h k = tt
+behind_less n m (t ∷ ts) h k = (omega (arith, k.0), behind_less n m ts h k.1)
+
+pub one_more : (S : Signatures) (header : List ℕ) (n : ℕ) (m : Message) (b : ℕ) → Stands n m → (more : List Told) × (told_of (advance S header m b) ≡ told_of m ++ more) × Turn (n + 1) more
+unfolding advance with_front message_step told_of
+one_more S header n (Comes told at stage) b (inl h) = go (message_step S header at stage b) (step_prompt S header at stage b)
+  where
+    go : (m : Message) → Prompt (at + 1) m → (more : List Told) × (told_of (with_front told m) ≡ told ++ more) × Turn (n + 1) more
+    go (Comes more at' stage') k = (more, refl, rw (← h) k.0)
+one_more S header n (Comes told at stage) b (inr h) = ([], rw h refl, (tt, inl refl))
+
+pub told_begins : (S : Signatures) (header xs more : List ℕ) → (later : List Told) × (told_of (message S header (xs ++ more)) ≡ told_of (message S header xs) ++ later) × Behind (12 + length xs) later
+told_begins S header xs [] = ([], ap (λ s. told_of (message S header s)) (append-nil xs) ∙ sym (append-nil (told_of (message S header xs))), tt)
+told_begins S header xs (b ∷ more) =
+    let one = one_more S header (12 + length xs) (message S header xs) b (stands S header xs) in
+    let all = told_begins S header (xs ++ b ∷ []) more in (
+      one.0 ++ all.0,
+      ap (λ s. told_of (message S header s)) (sym (append_assoc xs (b ∷ []) more))
+          ∙ (all.1 ∙ (ap (λ ts. ts ++ all.0) (ap told_of (message_goes S header xs b) ∙ one.1) ∙ append_assoc (told_of (message S header xs)) one.0 all.0)),
+      each_append (λ t. 12 + length xs < t.at) one.0 all.0 (behind_at (12 + length xs) one.0 one.2.0) (behind_less (12 + length xs) (12 + length (xs ++ b ∷ [])) all.0 (omega (arith, length_one_more xs b)) all.2),
+    )
+
+map_both : {A B : Type 0} (f : A → B) (xs ys : List A) → map f (xs ++ ys) ≡ map f xs ++ map f ys
+map_both f [] ys = refl
+map_both {A} {B} f (x ∷ xs) ys = ap (λ (zs : List B). f x ∷ zs) (map_both f xs ys)
+
+later_none : (n k : ℕ) (told : List Told) → Behind (12 + n) told → k ≤ n → filter (λ r. r.at == k) (map remark_of told) ≡ []
+later_none n k [] h below = refl
+later_none n k (t ∷ ts) h below = rw (ne_eqb (t.at - 12) k (λ e. omega (arith, h.0))) (later_none n k ts h.1 below)
+
+-- More octets change nothing that was said of those before them.
+pub is_causal : (S : Signatures) → IsCausal (reading_by S)
+unfolding reading_by
+is_causal S = record {
+  earlier = λ header xs more k below.
+      let all = told_begins S header xs more in
+      let at_k : Remark → Bool = λ r. r.at == k in
+      ap (λ ts. filter at_k (map remark_of ts)) all.1
+      ∙ (ap (filter at_k) (map_both remark_of (told_of (message S header xs)) all.0)
+      ∙ (filter-append at_k (map remark_of (told_of (message S header xs))) (map remark_of all.0)
+      ∙ (ap (λ ls. filter at_k (map remark_of (told_of (message S header xs))) ++ ls) (later_none (length xs) k all.0 all.2 below)
+      ∙ append-nil (filter at_k (map remark_of (told_of (message S header xs)))))));
+}
+
+-- ---- the lines of one octet
+
+module _ (k : ℕ) where
+  abbrev At_k : Remark → Bool
+  At_k r = r.at == k
+
+  abbrev Sayings : List Told → List Saying
+  Sayings ts = map (λ r. r.saying) (filter At_k (map remark_of ts))
+
+  sayings_append : (xs ys : List Told) → Sayings (xs ++ ys) ≡ Sayings xs ++ Sayings ys
+  sayings_append xs ys =
+      ap (λ ls. map (λ r. r.saying) (filter At_k ls)) (map_both remark_of xs ys)
+      ∙ (ap (map (λ r. r.saying)) (filter-append At_k (map remark_of xs) (map remark_of ys))
+      ∙ map_both (λ r. r.saying) (filter At_k (map remark_of xs)) (filter At_k (map remark_of ys)))
+
+  sayings_here : (n : ℕ) (ts : List Told) → ToldAt n ts → n - 12 ≡ k → Sayings ts ≡ map (λ t. saying_of t.speech) ts
+  sayings_here n [] h e = refl
+  sayings_here n (t ∷ ts) h e = rw (h.0, eq-eqb (n - 12) k e) (ap (λ cs. saying_of t.speech ∷ cs) (sayings_here n ts h.1 e))
+
+  sayings_elsewhere : (n : ℕ) (ts : List Told) → ToldAt n ts → n - 12 ≢ k → Sayings ts ≡ []
+  sayings_elsewhere n [] h e = refl
+  sayings_elsewhere n (t ∷ ts) h e = rw (h.0, ne_eqb (n - 12) k e) (sayings_elsewhere n ts h.1 e)
+
+  sayings_before : (n : ℕ) (ts : List Told) → Each (λ t. t.at ≤ n) ts → n - 12 < k → Sayings ts ≡ []
+  sayings_before n [] h e = refl
+  sayings_before n (t ∷ ts) h e = rw (ne_eqb (t.at - 12) k (λ f. omega (arith, h.0))) (sayings_before n ts h.1 e)
+
+  up_to : (n m : ℕ) (ts : List Told) → n ≤ m → Each (λ t. t.at ≤ n) ts → Each (λ t. t.at ≤ m) ts
+  up_to n m [] h j = tt
+  up_to n m (t ∷ ts) h j = (omega (arith, j.0), up_to n m ts h j.1)
+
+  here_up_to : (n : ℕ) (ts : List Told) → ToldAt n ts → Each (λ t. t.at ≤ n) ts
+  here_up_to n [] h = tt
+  here_up_to n (t ∷ ts) h = (omega (arith, h.0), here_up_to n ts h.1)
+
+  turn_of : (n : ℕ) (old more : List Told) → Each (λ t. t.at ≤ 12 + n) old → InTurn (Sayings old) → Turn ((12 + n) + 1) more → InTurn (Sayings (old ++ more))
+  turn_of n old more bound old_turn turn = same (cases_lt (n + 1) k) (cases_lt k (n + 1))
+    where
+      go : (n + 1 ≡ k) ⊎ (n + 1 ≢ k) → InTurn (Sayings (old ++ more))
+      go (inl e) = rw (sayings_append old more, sayings_before (12 + n) old bound (omega arith), sayings_here ((12 + n) + 1) more turn.0 (omega arith)) turn.1
+      go (inr e) =
+          let far : ((12 + n) + 1) - 12 ≢ k = λ f. e (omega (arith, f)) in
+          rw (sayings_append old more, sayings_elsewhere ((12 + n) + 1) more turn.0 far, append-nil (Sayings old)) old_turn
+
+      same : (n + 1 < k) ⊎ (k ≤ n + 1) → (k < n + 1) ⊎ (n + 1 ≤ k) → InTurn (Sayings (old ++ more))
+      same (inl h) j = go (inr (λ e. omega arith))
+      same (inr h) (inl j) = go (inr (λ e. omega arith))
+      same (inr h) (inr j) = go (inl (omega arith))
+
+  module _ (S : Signatures) (header : List ℕ) where
+    abbrev Ordered : List ℕ → Type 0
+    Ordered xs = Each (λ t. t.at ≤ 12 + length xs) (told_of (message S header xs)) × InTurn (Sayings (told_of (message S header xs)))
+
+    ordered_none : (m : Message) → Silent 12 m → Each (λ t. t.at ≤ 12) (told_of m) × InTurn (Sayings (told_of m))
+    unfolding told_of
+    ordered_none (Comes told at stage) h = rw h.0 (tt, inl refl)
+
+    ordered_more : (xs : List ℕ) (b : ℕ) → Ordered xs → Ordered (xs ++ b ∷ [])
+    ordered_more xs b h =
+        let one = one_more S header (12 + length xs) (message S header xs) b (stands S header xs) in
+        let old = told_of (message S header xs) in
+        let e : told_of (message S header (xs ++ b ∷ [])) ≡ old ++ one.0 = ap told_of (message_goes S header xs b) ∙ one.1 in
+        rw (e, length_one_more xs b, ← add_assoc) (
+          each_append (λ t. t.at ≤ (12 + length xs) + 1) old one.0 (up_to (12 + length xs) ((12 + length xs) + 1) old (omega arith) h.0) (here_up_to ((12 + length xs) + 1) one.0 one.2.0),
+          turn_of (length xs) old one.0 h.0 h.1 one.2,
+        )
+
+    ordered : (xs : List ℕ) → Ordered xs
+    unfolding message
+    ordered xs = grown Ordered ordered_more [] xs (ordered_none (message S header []) (of_header_silent S header (S.header (minor header) (kind header)) 12))
+
+-- The lines of one octet come in their order, and no two say the same.
+pub is_ordered : (S : Signatures) → IsOrdered (reading_by S)
+unfolding reading_by
+is_ordered S = record { ordered = λ header xs k. (ordered k S header xs).1 }

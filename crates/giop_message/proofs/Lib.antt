@@ -1,0 +1,4 @@
+pub mod Going
+pub mod Causal
+pub mod Named
+pub mod Faults

@@ -1,0 +1,44 @@
+-- The fields of a message header of 12 octets, and what kind of message it begins (GIOP Message Formats, GIOP Message Header).
+use Rattle.std.specs.Prelude.{ℕ, ◌/◌, ◌%◌, Bool, ◌&&◌, ◌||◌, List, get_or, drop, nat_lt, ◌==◌, if◌then◌else◌}
+use Rattle.giop_cdr.specs.declared.order.Order.{Order}
+use Rattle.giop_cdr.specs.declared.order.Order.TheVariants.{Big, Little}
+use Rattle.giop_cdr.specs.Numbers.{num}
+
+unfoldable pub minor : List ℕ → ℕ
+minor header = get_or header 5 0
+
+-- the message type
+unfoldable pub kind : List ℕ → ℕ
+kind header = get_or header 7 0
+
+-- In 1.0 octet 7 is the byte order; in 1.1 and 1.2 it is bit 0 of the flags.
+unfoldable pub order : List ℕ → Order
+order header = if get_or header 6 0 % 2 == 1 then Little else Big
+
+-- Bit 1 of the flags says that more fragments follow; 1.0 has no flags.
+unfoldable pub has_more : List ℕ → Bool
+has_more header = nat_lt 0 (minor header) && (get_or header 6 0 / 2 % 2 == 1)
+
+-- how many octets come after the header
+unfoldable pub size : List ℕ → ℕ
+size header = num (order header) (drop 8 header)
+
+-- ---- What a message is to the stream (GIOP Message Formats, Fragment Message).
+
+-- Request, Reply, LocateRequest, LocateReply
+unfoldable pub may_be_fragmented : List ℕ → Bool
+may_be_fragmented header = (kind header == 0) || (kind header == 1) || (kind header == 3) || (kind header == 4)
+
+-- the initial message of a fragmented one
+unfoldable pub is_opener : List ℕ → Bool
+is_opener header = (minor header == 2) && has_more header && may_be_fragmented header
+
+unfoldable pub is_fragment : List ℕ → Bool
+is_fragment header = (minor header == 2) && (kind header == 7)
+
+unfoldable pub is_cancel : List ℕ → Bool
+is_cancel header = kind header == 2
+
+-- the messages that the stream knows by the request id with which they begin
+unfoldable pub goes_by_id : List ℕ → Bool
+goes_by_id header = is_opener header || is_fragment header || is_cancel header

@@ -1,0 +1,46 @@
+-- What a catalogue and a request list say of messages: the types of headers, and the types that bodies can have.
+use Rattle.std.specs.Prelude.{ℕ, List, Option}
+use Rattle.std.specs.Option.{option_map}
+use Rattle.giop_sig.specs.declared.types.OpId.{OpId}
+use Rattle.giop_sig.specs.declared.types.Fixed.TheVariants.{ExceptionId, SystemException, Forward, Addressing}
+use Rattle.giop_sig.specs.Types.{Ty}
+use Rattle.giop_sig.specs.Table.{Table, operation_in, operation_at, exception_in}
+use Rattle.giop_sig.specs.Trees.{tree}
+use Rattle.giop_sig.specs.Headers.{header_type, fixed_type}
+use Rattle.giop_sig.specs.RequestList.{kept_operation}
+
+pub record Signatures : Type 0 where
+  -- the type of a header, by the minor version and the message type
+  pub header : ℕ → ℕ → Option Ty
+  -- the struct of an operation's parameters, by its name, and that of its results, by the id of the request
+  pub request : List ℕ → Option Ty
+  pub reply : ℕ → Option Ty
+  -- the struct of an exception's members, by its repository id
+  pub members : List ℕ → Option Ty
+  -- the repository id of an exception, and the bodies of the other replies
+  pub exception_id : Ty
+  pub system_exception : Ty
+  pub forward : Ty
+  pub addressing : Ty
+
+-- what is kept of a request list: the ids, each once, with their operations
+abbrev pub Kept : Type 0
+Kept = List (ℕ × Option OpId)
+
+abbrev pub request_type : Table → OpId → Ty
+request_type C o = tree C (operation_at C o.0).request
+
+abbrev pub reply_type : Table → OpId → Ty
+reply_type C o = tree C (operation_at C o.0).reply
+
+unfoldable pub said_by : Table → Kept → Signatures
+said_by C kept = record {
+  header = header_type;
+  request = λ name. option_map (request_type C) (operation_in C name);
+  reply = λ id. option_map (reply_type C) (kept_operation kept id);
+  members = λ repository. option_map (λ t. tree C t.0) (exception_in C repository);
+  exception_id = fixed_type ExceptionId;
+  system_exception = fixed_type SystemException;
+  forward = fixed_type Forward;
+  addressing = fixed_type Addressing;
+}

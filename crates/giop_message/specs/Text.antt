@@ -1,0 +1,61 @@
+-- The text of what a reading says of a message, without the message's number, and of its lines (docs/FORMATS.md, Lines).
+use Rattle.std.specs.Prelude.{ℕ, List, [], ◌∷◌, ◌++◌, Option, Some, None, codes, decimal}
+use Rattle.giop_cdr.specs.Numbers.{taken_as}
+use Rattle.giop_cdr.specs.Primitives.{size_of}
+use Rattle.giop_cdr.specs.declared.number.Number.{Number as Taken}
+use Rattle.giop_cdr.specs.declared.prim.Primitive.{Primitive}
+use Rattle.giop_print.specs.Text.{joined, hex, quoted}
+use Rattle.giop_print.specs.Lines.{fault_line, kind_word, spaced, number_text, spaced_hex, more_word}
+use Rattle.giop_sig.specs.Types.{Plain, Enum, Text, Octets}
+use Rattle.giop_decode.specs.Spine as spine
+use Rattle.giop_decode.specs.Spine.{Number, Count, Piece}
+use Rattle.giop_decode.specs.declared.progress.Kind.{Kind}
+use Rattle.giop_decode.specs.declared.progress.Kind.TheVariants as kinds
+use Rattle.giop_message.specs.Reading.{Saying, Value, Call, Rest, Fault, End}
+
+-- ---- what is said
+
+-- a value of a kind, whose word has its spaces
+abbrev pub kind_text : List ℕ → List ℕ → List ℕ → List ℕ
+kind_text path kind text = joined (path ∷ kind ∷ text ∷ [])
+
+abbrev pub number_said : List ℕ → Primitive → Option Taken → List ℕ
+number_said path p None = []
+number_said path p (Some number) = kind_text path (spaced (kind_word p)) (number_text (size_of p) number)
+
+-- the value at a path
+unfoldable pub value_said : List ℕ → spine.Value → List ℕ
+value_said path (Number (Plain p) n) = number_said path p (taken_as p n)
+value_said path (Number (Enum count names) n) = kind_text path (codes " enum ") (names n)
+value_said path (Count n) = kind_text path (codes " count ") (decimal n)
+value_said path (Piece (Text bound) offset octets more) = joined (path ∷ codes " string @" ∷ decimal offset ∷ (codes " " ++ quoted octets) ∷ more_word more ∷ [])
+value_said path (Piece (Octets bound) offset octets more) = joined (path ∷ codes " octets @" ∷ decimal offset ∷ spaced_hex octets ∷ more_word more ∷ [])
+value_said path value = []
+
+unfoldable pub call_text : ℕ → List ℕ → List ℕ
+call_text id operation = joined (codes "call " ∷ decimal id ∷ codes " " ∷ operation ∷ [])
+
+unfoldable pub rest_text : ℕ → List ℕ → List ℕ
+rest_text offset octets = joined (codes "rest @" ∷ decimal offset ∷ codes " " ∷ hex octets ∷ [])
+
+-- the word of a fault
+abbrev pub fault_word : Kind → List ℕ
+fault_word kinds.Boolean = codes "boolean"
+fault_word kinds.StringEnd = codes "string-end"
+fault_word kinds.Enum = codes "enum"
+fault_word kinds.Bound = codes "bound"
+fault_word kinds.Disposition = codes "disposition"
+
+-- ---- lines
+
+-- what a reading says of the message
+unfoldable pub said_line : ℕ → List ℕ → List ℕ
+said_line number text = joined (codes "m" ∷ decimal number ∷ codes " " ∷ text ∷ codes "\n" ∷ [])
+
+-- at a place of the stream, which a fault's line names
+abbrev pub saying_line : ℕ → ℕ → Saying → List ℕ → List ℕ
+saying_line place number Value text = said_line number text
+saying_line place number Call text = said_line number text
+saying_line place number Rest text = said_line number text
+saying_line place number Fault text = fault_line number text place
+saying_line place number End text = said_line number text

@@ -1,0 +1,39 @@
+//! The laws of the reading of a message: what one octet more, or many, do to it, and what the stream asks of it.
+
+ghost use Rattle.std.specs.Prelude.{◌≡◌, ℕ, List, [], ◌∷◌, ◌++◌, Some};
+ghost use Rattle.std.specs.List.{list_any};
+ghost use Rattle.giop_cdr.specs.Numbers.{num};
+ghost use Rattle.giop_sig.specs.Types.{Ty};
+ghost use Rattle.giop_sig.specs.Table.{Table};
+ghost use Rattle.giop_sig.specs.Headers.{BeginsWithId, header_type};
+ghost use Rattle.giop_message.specs.Headers.{minor, kind, order};
+ghost use Rattle.giop_message.specs.Reading.{IsCausal, IsEnding, IsNamed, IsOrdered};
+ghost use Rattle.giop_message.specs.Signatures.{Kept, said_by};
+ghost use Rattle.giop_message.specs.Messages.{message, told_of, stage_of};
+ghost use Rattle.giop_message.specs.Steps.{advance, goes_on};
+ghost use Rattle.giop_message.specs.MessageReading.{message_reading, id_said, is_over, is_wrong};
+
+/// A message of any header, by any table and any requests, is read as its octets come. It has no body, and is called
+/// for its contract.
+pub fn message_laws()
+    // One octet more is one step on where the message stands.
+    ensures step { (C : Table) (kept : Kept) (header s : List ℕ) (b : ℕ) →
+        message (said_by C kept) header (s ++ b ∷ []) ≡ advance (said_by C kept) header (message (said_by C kept) header s) b }
+    // Many octets more are as many steps: a message may be left and resumed anywhere.
+    ensures many { (C : Table) (kept : Kept) (header s t : List ℕ) →
+        message (said_by C kept) header (s ++ t) ≡ goes_on (said_by C kept) header (message (said_by C kept) header s) t }
+    // A message is over exactly where its lines have a fault.
+    ensures over { (C : Table) (kept : Kept) (header s : List ℕ) →
+        is_over (stage_of (message (said_by C kept) header s)) ≡ list_any is_wrong (told_of (message (said_by C kept) header s)) }
+    // What the stream asks of a reading: more octets change nothing that was said of those before them,
+    ensures causal { (C : Table) (kept : Kept) → IsCausal (message_reading C kept) }
+    // a close ends a message,
+    ensures ending { (C : Table) (kept : Kept) → IsEnding (message_reading C kept) }
+    // the first four octets of a message that goes by its request id say values alone,
+    ensures named { (C : Table) (kept : Kept) → IsNamed (message_reading C kept) }
+    // and the lines of one octet come in their order.
+    ensures ordered { (C : Table) (kept : Kept) → IsOrdered (message_reading C kept) }
+    // The request id of a header that begins with it is the number of the first four octets.
+    ensures id { (C : Table) (kept : Kept) (header : List ℕ) (T : Ty) → header_type (minor header) (kind header) ≡ Some T → BeginsWithId T →
+        (a b c d : ℕ) (xs : List ℕ) → id_said (told_of (message (said_by C kept) header (a ∷ b ∷ c ∷ d ∷ xs))) ≡ Some (num (order header) (a ∷ b ∷ c ∷ d ∷ [])) }
+{}
