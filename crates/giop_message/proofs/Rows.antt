@@ -1,0 +1,302 @@
+-- The definitions at messages worked by hand.
+use Rattle.std.proofs.Common.{◌≡◌, ℕ, zero, suc, true, false, List, [], ◌∷◌, ◌++◌, replicate, map, Some, None, refl}
+use Rattle.std.specs.Prelude.{codes}
+use Rattle.std.specs.Fmt.{digits}
+use Rattle.giop_cdr.specs.Alignment.{padding}
+use Rattle.giop_cdr.specs.Numbers.{num, twos_complement}
+use Rattle.giop_print.specs.Text.{hex, hex_number, escaped}
+use Rattle.giop_sig.specs.Types.{Ty}
+use Rattle.giop_sig.specs.Table.{Table, Operation, Exception, members, op_id}
+use Rattle.giop_sig.specs.Trees.{trees_after, type_in}
+use Rattle.giop_sig.specs.Builtin.{builtin_types, member}
+use Rattle.giop_decode.specs.Pieces.{block, number}
+use Rattle.giop_decode.specs.Spelling.{path_text}
+use Rattle.giop_message.specs.Headers.{minor, kind, order}
+use Rattle.giop_message.specs.Reading.{Saying, Value, Call, Rest, Fault, End, Remark, Reading}
+use Rattle.giop_message.specs.Text.{value_said, call_text, rest_text}
+use Rattle.giop_message.specs.Signatures.{Kept, said_by}
+use Rattle.giop_message.specs.Messages.{tell, are_graphic, is_shown, call_of, calls, tells, with_front, passes, rest_in, rest, typed, option_typed, members_of, after_exception, body, type_if, request_body, result_body, reply_body, is_request, body_of, has_body, padded, after_header, of_header, message, may_lack, close, told_of, stage_of}
+use Rattle.giop_message.specs.MessageReading.{saying_of, text_of, reading_by, message_reading}
+
+-- exception Late "IDL:Late:1.0" { ushort by; };
+-- operation long ask(in long a, out octet b); operation void nop();
+-- operation void say(in string s); operation void raw(in sequence<octet> o);
+-- operation void set(in long v); operation void put(in double d);
+called : List ℕ → ℕ → ℕ → Operation
+called name request reply = record { name = name; request = request; reply = reply }
+
+late : Exception
+late = record { repository = codes "IDL:Late:1.0"; members = 37 }
+
+table : Table
+unfolding called late
+table = record {
+  types = builtin_types
+    ++ members (member (codes "by") 4 ∷ [])
+    ∷ members (member (codes "a") 5 ∷ [])
+    ∷ members (member (codes "return") 5 ∷ member (codes "b") 0 ∷ [])
+    ∷ members []
+    ∷ members (member (codes "s") 11 ∷ [])
+    ∷ members (member (codes "o") 12 ∷ [])
+    ∷ members (member (codes "v") 5 ∷ [])
+    ∷ members (member (codes "d") 10 ∷ [])
+    ∷ [];
+  operations = called (codes "ask") 38 39 ∷ called (codes "nop") 40 40 ∷ called (codes "say") 41 40 ∷ called (codes "raw") 42 40
+    ∷ called (codes "set") 43 40 ∷ called (codes "put") 44 40 ∷ [];
+  exceptions = late ∷ [];
+  declared = 0;
+}
+
+-- 1 ask, 1 ask, 2 nop, 2 ask
+kept : Kept
+kept = (1, Some (op_id 0)) ∷ (2, None) ∷ []
+
+r : Reading
+unfolding table kept
+r = message_reading table kept
+
+says : ℕ → List ℕ → Remark
+says at text = record { at = at; saying = Value; text = text }
+
+-- names what the rows compute with
+rows : ℕ
+unfolding digits num twos_complement padding block number path_text hex hex_number escaped type_in trees_after builtin_types minor kind order value_said call_text rest_text said_by tell are_graphic is_shown call_of calls tells with_front passes rest_in rest typed option_typed members_of after_exception body type_if request_body result_body reply_body is_request body_of has_body padded after_header of_header message may_lack close told_of stage_of saying_of text_of reading_by called late table kept r says
+rows = 0
+
+-- minor version and type
+head : ℕ → ℕ → List ℕ
+head minor kind = 71 ∷ 73 ∷ 79 ∷ 80 ∷ 1 ∷ minor ∷ 0 ∷ kind ∷ 0 ∷ 0 ∷ 0 ∷ 0 ∷ []
+
+-- the 32 octets of a Request's header with this operation of three letters
+h : List ℕ → List ℕ
+h operation = (0 ∷ 0 ∷ 0 ∷ 1 ∷ 3 ∷ 0 ∷ 0 ∷ 0 ∷ 0 ∷ 0 ∷ 0 ∷ 0 ∷ 0 ∷ 0 ∷ 0 ∷ 1 ∷ 65 ∷ 0 ∷ 0 ∷ 0 ∷ 0 ∷ 0 ∷ 0 ∷ 4 ∷ []) ++ (operation ++ (0 ∷ 0 ∷ 0 ∷ 0 ∷ 0 ∷ []))
+
+-- and its ten lines
+t : List ℕ → List ℕ → List Remark
+unfolding says
+t said called =
+    says 4 (codes "header.request_id ulong 1")
+    ∷ says 5 (codes "header.response_flags octet 3")
+    ∷ says 6 (codes "header.reserved[0] octet 0")
+    ∷ says 7 (codes "header.reserved[1] octet 0")
+    ∷ says 8 (codes "header.reserved[2] octet 0")
+    ∷ says 10 (codes "header.target.switch short 0")
+    ∷ says 17 (codes "header.target.object_key octets @0 41")
+    ∷ says 28 said
+    ∷ record { at = 28; saying = Call; text = called }
+    ∷ says 32 (codes "header.service_contexts count 0") ∷ []
+
+t_nop : List Remark
+unfolding t
+t_nop = t (codes "header.operation string @0 \"nop\"") (codes "call 1 nop")
+
+t_say : List Remark
+unfolding t
+t_say = t (codes "header.operation string @0 \"say\"") (codes "call 1 say")
+
+t_raw : List Remark
+unfolding t
+t_raw = t (codes "header.operation string @0 \"raw\"") (codes "call 1 raw")
+
+ended : List (Saying × List ℕ)
+ended = (End, codes "end") ∷ []
+
+short : List (Saying × List ℕ)
+short = (Fault, codes "short") ∷ []
+
+-- what the octets of a message say, and what its close adds
+record Row (header s : List ℕ) (reads : List Remark) (closes : List (Saying × List ℕ)) : Type 0 where
+  reads_are : r.reads header s ≡ reads
+  closes_are : r.closes header s ≡ closes
+
+-- A Request without parameters: its message ends at the header's end, within the padding, and at its end; then a rest behind it.
+no_body : Row (head 2 0) (h (codes "nop"))
+    t_nop
+    ended
+unfolding rows head h t_nop t_say t_raw ended short
+no_body = record { reads_are = refl; closes_are = refl }
+
+no_body_within : Row (head 2 0) (h (codes "nop") ++ 0 ∷ 0 ∷ [])
+    t_nop
+    ended
+unfolding rows head h t_nop t_say t_raw ended short
+no_body_within = record { reads_are = refl; closes_are = refl }
+
+no_body_padded : Row (head 2 0) (h (codes "nop") ++ 0 ∷ 0 ∷ 0 ∷ 0 ∷ [])
+    t_nop
+    ended
+unfolding rows head h t_nop t_say t_raw ended short
+no_body_padded = record { reads_are = refl; closes_are = refl }
+
+-- two octets behind it
+no_body_rest : Row (head 2 0) (h (codes "nop") ++ 0 ∷ 0 ∷ 0 ∷ 0 ∷ 171 ∷ 205 ∷ [])
+    t_nop
+    ((Rest, codes "rest @0 abcd") ∷ ended)
+unfolding rows head h t_nop t_say t_raw ended short
+no_body_rest = record { reads_are = refl; closes_are = refl }
+
+-- A body that is missing is short: at the header's end, within the padding, and at its end.
+missing_body : Row (head 2 0) (h (codes "say"))
+    t_say
+    short
+unfolding rows head h t_nop t_say t_raw ended short
+missing_body = record { reads_are = refl; closes_are = refl }
+
+missing_within : Row (head 2 0) (h (codes "say") ++ 0 ∷ 0 ∷ [])
+    t_say
+    short
+unfolding rows head h t_nop t_say t_raw ended short
+missing_within = record { reads_are = refl; closes_are = refl }
+
+missing_padded : Row (head 2 0) (h (codes "say") ++ 0 ∷ 0 ∷ 0 ∷ 0 ∷ [])
+    t_say
+    short
+unfolding rows head h t_nop t_say t_raw ended short
+missing_padded = record { reads_are = refl; closes_are = refl }
+
+-- a string of 6 octets, of which 4 have come
+cut_string : Row (head 2 0) (h (codes "say") ++ 0 ∷ 0 ∷ 0 ∷ 0 ∷ 0 ∷ 0 ∷ 0 ∷ 6 ∷ 97 ∷ 98 ∷ 99 ∷ 100 ∷ [])
+    t_say
+    short
+unfolding rows head h t_nop t_say t_raw ended short
+cut_string = record { reads_are = refl; closes_are = refl }
+
+-- a string's wrong end, behind which nothing is read
+wrong_end : Row (head 2 0) (h (codes "say") ++ 0 ∷ 0 ∷ 0 ∷ 0 ∷ 0 ∷ 0 ∷ 0 ∷ 2 ∷ 97 ∷ 98 ∷ 9 ∷ 9 ∷ [])
+    (t_say ++ record { at = 42; saying = Fault; text = codes "string-end" } ∷ [])
+    ended
+unfolding rows head h t_nop t_say t_raw ended short
+wrong_end = record { reads_are = refl; closes_are = refl }
+
+-- a rest of 32 octets behind an empty octet sequence
+rest_of_32 : Row (head 2 0) (h (codes "raw") ++ 0 ∷ 0 ∷ 0 ∷ 0 ∷ 0 ∷ 0 ∷ 0 ∷ 0 ∷ replicate 32 17)
+    (t_raw ++ says 40 (codes "body.o octets @0") ∷ record { at = 72; saying = Rest; text = codes "rest @0 1111111111111111111111111111111111111111111111111111111111111111" } ∷ [])
+    ended
+unfolding rows head h t_nop t_say t_raw ended short
+rest_of_32 = record { reads_are = refl; closes_are = refl }
+
+-- In 1.0 a body follows its header at once, here at the offset 44.
+body_of_1_0 : Row (head 0 0) (0 ∷ 0 ∷ 0 ∷ 0 ∷ 0 ∷ 0 ∷ 0 ∷ 7 ∷ 1 ∷ 0 ∷ 0 ∷ 0 ∷ 0 ∷ 0 ∷ 0 ∷ 2 ∷ 107 ∷ 49 ∷ 0 ∷ 0 ∷ 0 ∷ 0 ∷ 0 ∷ 4 ∷ 115 ∷ 101 ∷ 116 ∷ 0 ∷ 0 ∷ 0 ∷ 0 ∷ 0 ∷ 255 ∷ 255 ∷ 255 ∷ 251 ∷ [])
+    (says 4 (codes "header.service_contexts count 0")
+    ∷ says 8 (codes "header.request_id ulong 7")
+    ∷ says 9 (codes "header.response_expected boolean true")
+    ∷ says 18 (codes "header.object_key octets @0 6b31")
+    ∷ says 28 (codes "header.operation string @0 \"set\"")
+    ∷ record { at = 28; saying = Call; text = codes "call 7 set" }
+    ∷ says 32 (codes "header.requesting_principal octets @0")
+    ∷ says 36 (codes "body.v long -5") ∷ [])
+    ended
+unfolding rows head h t_nop t_say t_raw ended short
+body_of_1_0 = record { reads_are = refl; closes_are = refl }
+
+-- In 1.2 it begins at the next multiple of 8, here of a Request of little order.
+body_of_1_2 : Row (71 ∷ 73 ∷ 79 ∷ 80 ∷ 1 ∷ 2 ∷ 1 ∷ 0 ∷ 44 ∷ 0 ∷ 0 ∷ 0 ∷ []) (1 ∷ 0 ∷ 0 ∷ 0 ∷ 3 ∷ 0 ∷ 0 ∷ 0 ∷ 0 ∷ 0 ∷ 0 ∷ 0 ∷ 1 ∷ 0 ∷ 0 ∷ 0 ∷ 65 ∷ 0 ∷ 0 ∷ 0 ∷ 4 ∷ 0 ∷ 0 ∷ 0 ∷ 112 ∷ 117 ∷ 116 ∷ 0 ∷ 0 ∷ 0 ∷ 0 ∷ 0 ∷ 0 ∷ 0 ∷ 0 ∷ 0 ∷ 0 ∷ 0 ∷ 0 ∷ 0 ∷ 0 ∷ 0 ∷ 248 ∷ 63 ∷ [])
+    (says 4 (codes "header.request_id ulong 1")
+    ∷ says 5 (codes "header.response_flags octet 3")
+    ∷ says 6 (codes "header.reserved[0] octet 0")
+    ∷ says 7 (codes "header.reserved[1] octet 0")
+    ∷ says 8 (codes "header.reserved[2] octet 0")
+    ∷ says 10 (codes "header.target.switch short 0")
+    ∷ says 17 (codes "header.target.object_key octets @0 41")
+    ∷ says 28 (codes "header.operation string @0 \"put\"")
+    ∷ record { at = 28; saying = Call; text = codes "call 1 put" }
+    ∷ says 32 (codes "header.service_contexts count 0")
+    ∷ says 44 (codes "body.d double 3ff8000000000000") ∷ [])
+    ended
+unfolding rows head h t_nop t_say t_raw ended short
+body_of_1_2 = record { reads_are = refl; closes_are = refl }
+
+-- A Reply has the results of the operation that the request list has for its id,
+reply : Row (head 0 1) (0 ∷ 0 ∷ 0 ∷ 0 ∷ 0 ∷ 0 ∷ 0 ∷ 1 ∷ 0 ∷ 0 ∷ 0 ∷ 0 ∷ 0 ∷ 0 ∷ 0 ∷ 42 ∷ 9 ∷ [])
+    (says 4 (codes "header.service_contexts count 0")
+    ∷ says 8 (codes "header.request_id ulong 1")
+    ∷ says 12 (codes "header.reply_status enum NO_EXCEPTION")
+    ∷ says 16 (codes "body.return long 42")
+    ∷ says 17 (codes "body.b octet 9") ∷ [])
+    ended
+unfolding rows head h t_nop t_say t_raw ended short
+reply = record { reads_are = refl; closes_are = refl }
+
+-- which has none where it has two different ones.
+reply_of_two : Row (head 0 1) (0 ∷ 0 ∷ 0 ∷ 0 ∷ 0 ∷ 0 ∷ 0 ∷ 2 ∷ 0 ∷ 0 ∷ 0 ∷ 0 ∷ 0 ∷ 0 ∷ 0 ∷ 42 ∷ 9 ∷ [])
+    (says 4 (codes "header.service_contexts count 0")
+    ∷ says 8 (codes "header.request_id ulong 2")
+    ∷ says 12 (codes "header.reply_status enum NO_EXCEPTION") ∷ [])
+    ((Rest, codes "rest @0 0000002a09") ∷ ended)
+unfolding rows head h t_nop t_say t_raw ended short
+reply_of_two = record { reads_are = refl; closes_are = refl }
+
+-- An exception has its members behind its repository id, at their alignment,
+raised : Row (head 0 1) (0 ∷ 0 ∷ 0 ∷ 0 ∷ 0 ∷ 0 ∷ 0 ∷ 1 ∷ 0 ∷ 0 ∷ 0 ∷ 1 ∷ 0 ∷ 0 ∷ 0 ∷ 13 ∷ 73 ∷ 68 ∷ 76 ∷ 58 ∷ 76 ∷ 97 ∷ 116 ∷ 101 ∷ 58 ∷ 49 ∷ 46 ∷ 48 ∷ 0 ∷ 0 ∷ 0 ∷ 3 ∷ [])
+    (says 4 (codes "header.service_contexts count 0")
+    ∷ says 8 (codes "header.request_id ulong 1")
+    ∷ says 12 (codes "header.reply_status enum USER_EXCEPTION")
+    ∷ says 29 (codes "exception string @0 \"IDL:Late:1.0\"")
+    ∷ says 32 (codes "body.by ushort 3") ∷ [])
+    ended
+unfolding rows head h t_nop t_say t_raw ended short
+raised = record { reads_are = refl; closes_are = refl }
+
+-- and a rest where its id isn't known.
+raised_unknown : Row (head 0 1) (0 ∷ 0 ∷ 0 ∷ 0 ∷ 0 ∷ 0 ∷ 0 ∷ 1 ∷ 0 ∷ 0 ∷ 0 ∷ 1 ∷ 0 ∷ 0 ∷ 0 ∷ 13 ∷ 73 ∷ 68 ∷ 76 ∷ 58 ∷ 76 ∷ 111 ∷ 115 ∷ 116 ∷ 58 ∷ 49 ∷ 46 ∷ 48 ∷ 0 ∷ 0 ∷ 0 ∷ 3 ∷ [])
+    (says 4 (codes "header.service_contexts count 0")
+    ∷ says 8 (codes "header.request_id ulong 1")
+    ∷ says 12 (codes "header.reply_status enum USER_EXCEPTION")
+    ∷ says 29 (codes "exception string @0 \"IDL:Lost:1.0\"") ∷ [])
+    ((Rest, codes "rest @0 000003") ∷ ended)
+unfolding rows head h t_nop t_say t_raw ended short
+raised_unknown = record { reads_are = refl; closes_are = refl }
+
+-- a system exception
+system_exception : Row (head 0 1) (0 ∷ 0 ∷ 0 ∷ 0 ∷ 0 ∷ 0 ∷ 0 ∷ 1 ∷ 0 ∷ 0 ∷ 0 ∷ 2 ∷ 0 ∷ 0 ∷ 0 ∷ 30 ∷ 73 ∷ 68 ∷ 76 ∷ 58 ∷ 111 ∷ 109 ∷ 103 ∷ 46 ∷ 111 ∷ 114 ∷ 103 ∷ 47 ∷ 67 ∷ 79 ∷ 82 ∷ 66 ∷ 65 ∷ 47 ∷ 85 ∷ 78 ∷ 75 ∷ 78 ∷ 79 ∷ 87 ∷ 78 ∷ 58 ∷ 49 ∷ 46 ∷ 48 ∷ 0 ∷ 0 ∷ 0 ∷ 0 ∷ 0 ∷ 0 ∷ 0 ∷ 0 ∷ 0 ∷ 0 ∷ 1 ∷ [])
+    (says 4 (codes "header.service_contexts count 0")
+    ∷ says 8 (codes "header.request_id ulong 1")
+    ∷ says 12 (codes "header.reply_status enum SYSTEM_EXCEPTION")
+    ∷ says 46 (codes "body.exception_id string @0 \"IDL:omg.org/CORBA/UNKNOWN:1.0\"")
+    ∷ says 52 (codes "body.minor ulong 0")
+    ∷ says 56 (codes "body.completed enum COMPLETED_NO") ∷ [])
+    ended
+unfolding rows head h t_nop t_say t_raw ended short
+system_exception = record { reads_are = refl; closes_are = refl }
+
+-- an addressing disposition, at the end of a header that needs no padding
+addressing : Row (head 2 1) (0 ∷ 0 ∷ 0 ∷ 1 ∷ 0 ∷ 0 ∷ 0 ∷ 5 ∷ 0 ∷ 0 ∷ 0 ∷ 0 ∷ 0 ∷ 2 ∷ [])
+    (says 4 (codes "header.request_id ulong 1")
+    ∷ says 8 (codes "header.reply_status enum NEEDS_ADDRESSING_MODE")
+    ∷ says 12 (codes "header.service_contexts count 0")
+    ∷ says 14 (codes "body short 2") ∷ [])
+    ended
+unfolding rows head h t_nop t_say t_raw ended short
+addressing = record { reads_are = refl; closes_are = refl }
+
+-- a status without a name
+no_status : Row (head 0 1) (0 ∷ 0 ∷ 0 ∷ 0 ∷ 0 ∷ 0 ∷ 0 ∷ 1 ∷ 0 ∷ 0 ∷ 0 ∷ 4 ∷ [])
+    (says 4 (codes "header.service_contexts count 0")
+    ∷ says 8 (codes "header.request_id ulong 1")
+    ∷ record { at = 12; saying = Fault; text = codes "enum" } ∷ [])
+    ended
+unfolding rows head h t_nop t_say t_raw ended short
+no_status = record { reads_are = refl; closes_are = refl }
+
+-- A LocateRequest by its profile, and one of no disposition.
+located : Row (head 2 3) (0 ∷ 0 ∷ 0 ∷ 1 ∷ 0 ∷ 1 ∷ 0 ∷ 0 ∷ 0 ∷ 0 ∷ 0 ∷ 9 ∷ 0 ∷ 0 ∷ 0 ∷ 2 ∷ 171 ∷ 205 ∷ [])
+    (says 4 (codes "header.request_id ulong 1")
+    ∷ says 6 (codes "header.target.switch short 1")
+    ∷ says 12 (codes "header.target.profile.tag ulong 9")
+    ∷ says 18 (codes "header.target.profile.profile_data octets @0 abcd") ∷ [])
+    ended
+unfolding rows head h t_nop t_say t_raw ended short
+located = record { reads_are = refl; closes_are = refl }
+
+not_located : Row (head 2 3) (0 ∷ 0 ∷ 0 ∷ 1 ∷ 0 ∷ 3 ∷ [])
+    (says 4 (codes "header.request_id ulong 1")
+    ∷ record { at = 6; saying = Fault; text = codes "disposition" } ∷ [])
+    ended
+unfolding rows head h t_nop t_say t_raw ended short
+not_located = record { reads_are = refl; closes_are = refl }
+
+-- a message without a header type
+no_header : Row (head 0 5) [] []
+    ended
+unfolding rows head h t_nop t_say t_raw ended short
+no_header = record { reads_are = refl; closes_are = refl }
