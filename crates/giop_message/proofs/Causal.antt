@@ -1,6 +1,6 @@
 -- The lines of a message that goes on begin with its lines, and those that come stand behind its octets.
 use Rattle.std.proofs.Common.{◌≡◌, ◌≢◌, ℕ, ◌+◌, ◌-◌, ◌<◌, ◌≤◌, Bool, true, false, List, [], ◌∷◌, ◌++◌, length, map, drop, Option, Some, None, refl, sym, ap, subst, ◌∙◌, append_assoc, append-nil, arith, add_assoc, add-zero, ◌⊎◌, inl, inr}
-use Rattle.std.specs.Prelude.{◌==◌, ◌&&◌, nat_lt, if◌then◌else◌}
+use Rattle.std.specs.Prelude.{◌==◌, nat_lt, if◌then◌else◌}
 use Rattle.std.specs.List.{filter, AllByRecursion as Each}
 use Rattle.std.proofs.lemmas.Bool.{cases_lt, lt-ltb, eq-eqb, ne_eqb}
 use Rattle.std.proofs.lemmas.List.Elements.{filter-append}
@@ -19,7 +19,7 @@ use Rattle.giop_decode.proofs.Now.{each_append, Quiet, read_quiet, step_now}
 use Rattle.giop_message.specs.Headers.{minor, kind, order}
 use Rattle.giop_message.specs.Reading.{Saying, Remark, InTurn, IsOrdered, IsCausal}
 use Rattle.giop_message.specs.Signatures.{Signatures}
-use Rattle.giop_message.specs.Messages.{Said, Called, Left, Wrong, Told, tell, is_shown, call_of, calls, is_header, tells, BodyType, Untyped, Typed, Raised, Stage, In_header, In_padding, In_exception, In_body, In_rest, Over, Message, Comes, with_front, passes, rest_in, rest, typed, option_typed, members_of, after_exception, body, is_request, body_of, has_body, padded, after_header, of_header, message, told_of}
+use Rattle.giop_message.specs.Messages.{Said, Called, Left, Told, tell, is_shown, call_of, calls, is_header, tells, BodyType, Untyped, Typed, Raised, Stage, In_header, In_padding, In_exception, In_body, In_rest, Over, Message, Comes, with_front, passes, rest_in, rest, typed, option_typed, members_of, after_exception, body, is_request, body_of, has_body, padded, after_header, of_header, message, told_of}
 use Rattle.giop_message.specs.Steps.{rest_step, message_step, advance}
 use Rattle.giop_message.specs.MessageReading.{saying_of, remark_of, reading_by}
 use Rattle.giop_message.proofs.Going.{front_none, message_goes}

@@ -12,7 +12,7 @@ use Rattle.giop_decode.specs.Spine
 use Rattle.giop_decode.specs.Spine.{Line, Place, Leaf, Read, Done, Short, Fault}
 use Rattle.giop_decode.specs.Reading.{read}
 use Rattle.giop_decode.specs.Steps as decoder
-use Rattle.giop_decode.specs.Heard.{Heard, nothing, hear, heard, ends_operation}
+use Rattle.giop_decode.specs.Heard.{Heard, nothing, hear, heard}
 use Rattle.giop_decode.proofs.Law.{read_goes, length_one_more}
 use Rattle.giop_message.specs.Headers.{minor, kind, order}
 use Rattle.giop_message.specs.Signatures.{Signatures}

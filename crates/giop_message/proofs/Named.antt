@@ -1,18 +1,16 @@
 -- The close ends a message, and a message that begins with its request id says that alone in its first four octets.
-use Rattle.std.proofs.Common.{◌≡◌, ℕ, zero, suc, ◌-◌, ◌<◌, ◌≤◌, ◌⊎◌, inl, inr, Bool, true, false, List, [], ◌∷◌, ◌++◌, length, map, Option, Some, None, refl, sym, ap, subst, ◌∙◌, append-nil, arith}
+use Rattle.std.proofs.Common.{◌≡◌, ℕ, suc, ◌<◌, ◌≤◌, ◌⊎◌, inl, inr, Bool, true, false, List, [], ◌∷◌, ◌++◌, length, map, Option, Some, None, refl, ap, ◌∙◌, append-nil, arith}
 use Rattle.std.specs.Prelude.{◌&&◌, ◌||◌, ◌==◌, if◌then◌else◌, IfSome, codes}
 use Rattle.std.proofs.lemmas.Bool.{eqb-true}
 use Rattle.std.specs.List.{list_any, AllByRecursion as Each}
-use Rattle.std.specs.Str.{bytes_eq}
 use Rattle.giop_cdr.specs.Alignment.{padding}
 use Rattle.giop_cdr.specs.Numbers.{num}
 use Rattle.giop_cdr.specs.declared.order.Order.{Order}
 use Rattle.giop_cdr.specs.declared.prim.Primitive.TheVariants as prims
-use Rattle.giop_print.specs.declared.path.Root.{Root}
 use Rattle.giop_print.specs.declared.path.Root.TheVariants as roots
 use Rattle.giop_sig.specs.Types.{Ty, Plain, Single, Struct}
 use Rattle.giop_sig.specs.Table.{Table}
-use Rattle.giop_sig.specs.Headers.{header_type, BeginsWithId, IdStandsFirst}
+use Rattle.giop_sig.specs.Headers.{BeginsWithId, IdStandsFirst}
 use Rattle.giop_sig.proofs.HeaderLaws.{id_first}
 use Rattle.giop_decode.specs.Spine as spine
 use Rattle.giop_decode.specs.Spine.{Seg, Name, Line, Number, line, Place, Leaf, Part, Read, Done, Short, followed, within}
@@ -22,9 +20,9 @@ use Rattle.giop_decode.specs.Steps.{part_at}
 use Rattle.giop_decode.specs.Heard.{Heard, nothing, heard, is_member, ends_operation}
 use Rattle.giop_decode.proofs.Now.{Quiet, quiet_parts, part_quiet}
 use Rattle.giop_message.specs.Headers.{minor, kind, order, has_more, may_be_fragmented, is_opener, is_fragment, is_cancel, goes_by_id}
-use Rattle.giop_message.specs.Reading.{Saying, Value, Remark, is_last, IsEnding, IsNamed}
+use Rattle.giop_message.specs.Reading.{Value, is_last, IsEnding, IsNamed}
 use Rattle.giop_message.specs.Signatures.{Signatures, Kept, said_by}
-use Rattle.giop_message.specs.Messages.{Speech, Said, Incomplete, Ends, Told, tell, calls, tells, may_lack, Stage, In_header, In_padding, In_exception, In_body, In_rest, Over, Message, Comes, with_front, passes, rest_in, rest, is_request, after_header, of_header, message, told_of, stage_of, close}
+use Rattle.giop_message.specs.Messages.{Said, Incomplete, Ends, Told, tell, calls, tells, may_lack, Stage, In_header, In_padding, In_exception, In_body, In_rest, Over, Message, Comes, with_front, passes, rest_in, rest, is_request, after_header, of_header, message, told_of, stage_of, close}
 use Rattle.giop_message.specs.MessageReading.{saying_of, remark_of, closing_of, reading_by, HasIds, id_in, first_id, id_said}
 use Rattle.giop_message.proofs.Going.{passes_front}
 use Rattle.giop_message.proofs.Causal.{Silent, passes_silent, after_header_silent, told_begins}

@@ -1,11 +1,10 @@
 -- The definitions at messages worked by hand.
-use Rattle.std.proofs.Common.{◌≡◌, ℕ, zero, suc, true, false, List, [], ◌∷◌, ◌++◌, replicate, map, Some, None, refl}
+use Rattle.std.proofs.Common.{◌≡◌, ℕ, List, [], ◌∷◌, ◌++◌, replicate, Some, None, refl}
 use Rattle.std.specs.Prelude.{codes}
 use Rattle.std.specs.Fmt.{digits}
 use Rattle.giop_cdr.specs.Alignment.{padding}
 use Rattle.giop_cdr.specs.Numbers.{num, twos_complement}
 use Rattle.giop_print.specs.Text.{hex, hex_number, escaped}
-use Rattle.giop_sig.specs.Types.{Ty}
 use Rattle.giop_sig.specs.Table.{Table, Operation, Exception, members, op_id}
 use Rattle.giop_sig.specs.Trees.{trees_after, type_in}
 use Rattle.giop_sig.specs.Builtin.{builtin_types, member}
@@ -32,17 +31,17 @@ table : Table
 unfolding called late
 table = record {
   types = builtin_types
-    ++ members (member (codes "by") 4 ∷ [])
-    ∷ members (member (codes "a") 5 ∷ [])
-    ∷ members (member (codes "return") 5 ∷ member (codes "b") 0 ∷ [])
-    ∷ members []
-    ∷ members (member (codes "s") 11 ∷ [])
-    ∷ members (member (codes "o") 12 ∷ [])
-    ∷ members (member (codes "v") 5 ∷ [])
-    ∷ members (member (codes "d") 10 ∷ [])
-    ∷ [];
+      ++ members (member (codes "by") 4 ∷ [])
+      ∷ members (member (codes "a") 5 ∷ [])
+      ∷ members (member (codes "return") 5 ∷ member (codes "b") 0 ∷ [])
+      ∷ members []
+      ∷ members (member (codes "s") 11 ∷ [])
+      ∷ members (member (codes "o") 12 ∷ [])
+      ∷ members (member (codes "v") 5 ∷ [])
+      ∷ members (member (codes "d") 10 ∷ [])
+      ∷ [];
   operations = called (codes "ask") 38 39 ∷ called (codes "nop") 40 40 ∷ called (codes "say") 41 40 ∷ called (codes "raw") 42 40
-    ∷ called (codes "set") 43 40 ∷ called (codes "put") 44 40 ∷ [];
+      ∷ called (codes "set") 43 40 ∷ called (codes "put") 44 40 ∷ [];
   exceptions = late ∷ [];
   declared = 0;
 }

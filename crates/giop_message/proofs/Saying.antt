@@ -1,8 +1,7 @@
 -- The lines of a step: whose paths they have, and that they can be shown.
-use Rattle.std.proofs.Common.{◌≡◌, ℕ, zero, suc, ◌+◌, ◌-◌, ◌<◌, ◌≤◌, ◌⊎◌, inl, inr, Bool, true, false, List, [], ◌∷◌, ◌++◌, length, take, Option, Some, None, refl, sym, ap, subst, ◌∙◌, append-nil, arith}
+use Rattle.std.proofs.Common.{◌≡◌, ℕ, zero, suc, ◌+◌, ◌-◌, ◌⊎◌, inl, inr, Bool, true, false, List, [], ◌∷◌, ◌++◌, length, take, Option, Some, None, refl, sym, ap, subst, ◌∙◌, append-nil}
 use Rattle.std.specs.Prelude.{cond, ltb}
 use Rattle.std.specs.List.{AllByRecursion as Each}
-use Rattle.std.proofs.lemmas.Bool.{cases_lt, lt-ltb, le-ltb}
 use Rattle.giop_cdr.specs.Numbers.{num}
 use Rattle.giop_cdr.specs.declared.order.Order.{Order}
 use Rattle.giop_sig.specs.Types.{Scalar, Ty, Single, Text, Octets, Struct, Union, Sequence, Array, part_of}
@@ -12,9 +11,9 @@ use Rattle.giop_decode.specs.declared.progress.Kind.{Kind}
 use Rattle.giop_decode.specs.Spine
 use Rattle.giop_decode.specs.Spine.{Seg, Switch, Line, Count, Piece, line, Place, Part, Member, Leaf, Head, Content, Read, Done, Short, Fault, lines_of, with_front, followed, within}
 use Rattle.giop_cdr.specs.Alignment.{padding}
-use Rattle.giop_decode.specs.Pieces.{Grab, Waiting, Got, block, unless, over, content, full_piece, full_pieces, last_piece, tail, ends, text, octets}
+use Rattle.giop_decode.specs.Pieces.{Grab, Waiting, Got, block, unless, over, content, full_piece, full_pieces, last_piece, tail, ends, text}
 use Rattle.giop_decode.specs.Reading.{read, headed, single, wrong, refused, member, parts_from}
-use Rattle.giop_decode.specs.Steps.{Now, after, around, block_step, head_width, leaf_step, number_step, part_at, path_in, seg_of, step, content_step}
+use Rattle.giop_decode.specs.Steps.{Now, after, block_step, head_width, leaf_step, number_step, part_at, path_in, seg_of, step}
 use Rattle.giop_decode.specs.Fits.{HasContent, FitsIn}
 use Rattle.giop_decode.proofs.Law.{inner_path}
 use Rattle.giop_decode.proofs.Now.{each_append, Quiet, quiet_within, read_quiet, parts_quiet, step_now}

@@ -1,16 +1,15 @@
 -- What is said of a message, with its number, is a line as the writers of lines have it.
-use Rattle.std.proofs.Common.{◌≡◌, ℕ, zero, suc, ◌<◌, ◌≤◌, ◌⊎◌, inl, inr, Bool, true, false, List, [], ◌∷◌, ◌++◌, Option, Some, None, refl, sym, ap, ◌∙◌, append_assoc, append-nil, arith}
-use Rattle.std.specs.Prelude.{cond, ltb, codes, decimal}
-use Rattle.std.proofs.lemmas.Bool.{cases_lt, lt-ltb, le-ltb}
-use Rattle.giop_cdr.specs.Numbers.{taken_as, truth_of}
+use Rattle.std.proofs.Common.{◌≡◌, ℕ, zero, suc, ◌<◌, ◌≤◌, ◌⊎◌, inl, inr, List, [], ◌∷◌, ◌++◌, Some, None, refl, sym, ap, ◌∙◌, append_assoc, arith}
+use Rattle.std.specs.Prelude.{codes, decimal}
+use Rattle.std.proofs.lemmas.Bool.{cases_lt, le-ltb}
+use Rattle.giop_cdr.specs.Numbers.{taken_as}
 use Rattle.giop_cdr.specs.Primitives.{size_of}
 use Rattle.giop_cdr.specs.declared.number.Number.{Number as Taken}
-use Rattle.giop_cdr.specs.declared.prim.Primitive.{Primitive}
 use Rattle.giop_cdr.specs.declared.prim.Primitive.TheVariants as prims
 use Rattle.giop_print.specs.Text.{joined, hex, quoted}
 use Rattle.giop_print.specs.Lines.{kind_word, spaced, number_text, spaced_hex, more_word, kind_line, content_line, call_line, rest_line, end_line}
 use Rattle.giop_print.specs.declared.path.Root.{Root}
-use Rattle.giop_sig.specs.Types.{Scalar, Plain, Enum, Ty, Text, Octets, Single, Struct, Union, Sequence, Array}
+use Rattle.giop_sig.specs.Types.{Scalar, Plain, Enum, Text, Octets, Single, Struct, Union, Sequence, Array}
 use Rattle.giop_decode.specs.Spine.{Seg, Value, Number, Count, Piece, line}
 use Rattle.giop_decode.specs.Reading.{wrong}
 use Rattle.giop_decode.specs.Fits.{HasContent}
