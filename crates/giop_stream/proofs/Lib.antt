@@ -13,3 +13,4 @@ pub mod Dealing
 pub mod Following
 pub mod Held
 pub mod Rows
+pub mod Joined

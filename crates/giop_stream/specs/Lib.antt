@@ -12,3 +12,4 @@ pub mod Machine
 pub mod Steps
 pub mod Shown
 pub mod Reach
+pub mod Joined

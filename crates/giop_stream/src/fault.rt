@@ -20,6 +20,33 @@ pub enum StreamFault {
     StreamLimit = 5,
 }
 
+/// What the stream faults a message for, by its header, its request id or its size alone. `Display` is the word of its
+/// line.
+#[derive(Clone, Copy, Debug, PartialEq, Eq, Error)]
+pub enum ImposedFault {
+    /// A message type above 7, or a Fragment of 1.0.
+    #[error("message-type")]
+    MessageType,
+    /// A message of 1.1 that is a Fragment, or has fragments.
+    #[error("fragment-1.1")]
+    OldFragment,
+    /// No room for the request id, in a message that has fragments or in a Fragment.
+    #[error("short")]
+    Short,
+    /// A Fragment whose request id is that of no open message.
+    #[error("no-open")]
+    NoOpen,
+    /// A message that has fragments, with the request id of an open one.
+    #[error("id-open")]
+    IdOpen,
+    /// A message that has fragments, where as many are open as may be.
+    #[error("too-many-open")]
+    TooManyOpen,
+    /// A Fragment whose byte order isn't that of the message that it continues.
+    #[error("fragment-order")]
+    FragmentOrder,
+}
+
 /// Why a call wrote less than was due.
 #[derive(Clone, Copy, Debug, PartialEq, Eq, Error)]
 pub enum Stop {

@@ -1,0 +1,5 @@
+-- The stream whose messages are joined from their fragments.
+pub mod Happenings
+pub mod Telling
+pub mod Starting
+pub mod Bridge

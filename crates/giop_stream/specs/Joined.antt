@@ -1,0 +1,10 @@
+-- The stream whose messages are joined from their fragments.
+pub mod Kinds
+pub mod Readings
+pub mod Events
+pub mod Shares
+pub mod Lines
+pub mod Text
+pub mod Stream
+pub mod State
+pub mod Machine

@@ -1,0 +1,68 @@
+-- The text of a stream, its totals, and its closing: what is written at the finish (docs/FORMATS.md, Lines).
+use Rattle.std.specs.Prelude.{ℕ, ◌+◌, Bool, true, false, not, List, [], ◌∷◌, ◌++◌, length, map, filter, flat_map, if◌then◌else◌}
+use Rattle.std.specs.List.{list_any}
+use Rattle.giop_stream.specs.declared.status.Totals.{Totals}
+use Rattle.giop_stream.specs.Framing.{Message, cut, messages, read_of}
+use Rattle.giop_stream.specs.Reading.{Saying, Value, Call, Rest, Fault, End, Reading}
+use Rattle.giop_stream.specs.Text.{truncated_line}
+use Rattle.giop_stream.specs.Stream.{is_truncated, with_truncated}
+use Rattle.giop_print.specs.Lines.{unfinished_line, total_line}
+use Rattle.giop_stream.specs.Joined.Kinds.{is_fragment}
+use Rattle.giop_stream.specs.Joined.Lines.{Content, Started, Said, Goes_on, Ended_by, Faulted, Stopped, Line, is_last_of, said, lines}
+use Rattle.giop_stream.specs.Joined.Text.{lines_text}
+
+-- what is written of the stream p
+unfoldable pub text : Reading → List ℕ → List ℕ
+text R p = lines_text (lines R p)
+
+abbrev pub is_start : Content → Bool
+is_start (Started header) = true
+is_start (Said saying text) = false
+is_start (Goes_on i) = false
+is_start (Ended_by j) = false
+is_start (Faulted fault) = false
+is_start (Stopped fault) = false
+
+abbrev pub is_fault : Content → Bool
+is_fault (Started header) = false
+is_fault (Said Value text) = false
+is_fault (Said Call text) = false
+is_fault (Said Rest text) = false
+is_fault (Said Fault text) = true
+is_fault (Said End text) = false
+is_fault (Goes_on i) = false
+is_fault (Ended_by j) = false
+is_fault (Faulted fault) = true
+is_fault (Stopped fault) = true
+
+unfoldable pub start_count : List Line → ℕ
+start_count ls = length (filter (λ l. is_start l.content) ls)
+
+unfoldable pub fault_count : List Line → ℕ
+fault_count ls = length (filter (λ l. is_fault l.content) ls)
+
+-- the start lines, the fault lines, and the octets that are read
+unfoldable pub tally : Reading → List ℕ → Totals
+tally R p =
+    record { messages = start_count (lines R p); faults = fault_count (lines R p); octets = read_of p (cut p).stop }
+
+-- a message that has a last line
+unfoldable pub is_over : Reading → List ℕ → ℕ → Bool
+is_over R p i = list_any (is_last_of i) (said R p)
+
+-- the numbers of the messages that are no 1.2 Fragments
+unfoldable pub heads : List Message → List ℕ
+heads ms = map (λ m. m.number) (filter (λ m. not (is_fragment m.header)) ms)
+
+-- those of them that have neither ended nor been faulted or cancelled
+unfoldable pub unfinished : Reading → List ℕ → List ℕ
+unfinished R p = filter (λ i. not (is_over R p i)) (heads (messages (cut p)))
+
+-- the totals with the truncated line counted
+unfoldable pub final : Reading → List ℕ → Totals
+final R p = with_truncated (is_truncated (cut p)) (tally R p)
+
+unfoldable pub closing : Reading → List ℕ → List ℕ
+closing R p =
+    (if is_truncated (cut p) then truncated_line (length p) else [])
+    ++ (flat_map unfinished_line (unfinished R p) ++ total_line (final R p).messages (final R p).faults (final R p).octets)
