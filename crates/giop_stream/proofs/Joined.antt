@@ -3,3 +3,5 @@ pub mod Happenings
 pub mod Telling
 pub mod Starting
 pub mod Bridge
+pub mod Finishing
+pub mod Sharing

@@ -5,10 +5,12 @@ mod engine;
 mod fault;
 mod framing;
 mod header;
+mod laws;
 mod lines;
 mod message;
 mod status;
 
 pub use engine::{Engine, text_begins};
-pub use fault::{Stop, StreamFault};
+pub use fault::{ImposedFault, Stop, StreamFault};
+pub use laws::{each_finish, each_joined, each_octet, each_stream, open_messages};
 pub use status::{Status, Totals};

@@ -6,16 +6,18 @@ use Rattle.std.specs.List.{filter, list_any, AllByRecursion as Each}
 use Rattle.std.proofs.lemmas.Bool.{ltb-true, eq-eqb, cases_eq, eqb-true}
 use Rattle.std.proofs.lemmas.List.{append-nil, length_push}
 use Rattle.std.proofs.lemmas.List.Elements.{filter-append}
+use Rattle.std.proofs.lemmas.List.Concat.{flat_map-append}
 use Rattle.giop_stream.specs.declared.fault.StreamFault.{StreamFault}
 use Rattle.giop_stream.specs.declared.fault.StreamFault.TheVariants.{StreamLimit}
 use Rattle.giop_stream.specs.Headers.{fronts, wrong, first_wrong, offence, size}
 use Rattle.giop_stream.specs.Framing.{Message, with_payload, Cut, limit, limited, cut_from, cut, messages, read_of}
 use Rattle.giop_stream.specs.Reading.{Reading, IsCausal}
-use Rattle.giop_stream.specs.Joined.Events.{Happening, Event, Open, title, place, has_named, goes_past, happens, events_of, opened, events_from, events, open_after, joined}
+use Rattle.giop_stream.specs.Joined.Events.{Happening, Event, Open, title, place, has_named, goes_past, happens, events_of, opened, events_from, events, open_after, most_open, joined}
 use Rattle.giop_stream.specs.Joined.Lines.{Line, told, by_class, in_order, is_last_of, standing, said, stop_line, lines}
-use Rattle.giop_stream.specs.Joined.Stream.{is_fault, is_start, start_count, fault_count, is_over}
+use Rattle.giop_stream.specs.Joined.Text.{line_text, lines_text}
+use Rattle.giop_stream.specs.Joined.Stream.{text, is_fault, start_count, fault_count, tally, is_over}
 use Rattle.giop_stream.specs.Joined.State.{Slot, State, Kept, octets_of, is_open, slots_of, own_of, state_of}
-use Rattle.giop_stream.specs.Joined.Machine.{Step, fresh, kept, taking, utters, written, writes, now_written, deal, stops, header_by, first_message, in_header, step_on, step, run}
+use Rattle.giop_stream.specs.Joined.Machine.{Step, fresh, kept, taking, utters, written, writes, now_written, deal, stops, first_message, in_header, step_on, step, run, run_state, totals_of}
 use Rattle.giop_stream.proofs.Lists.{by_growth, each_append, each_weaker, map_agree, any_append, all_by}
 use Rattle.giop_stream.proofs.Cutting.{settle, header_case, header_grows, grow, stopped_at, next, of_parts, cut_grows}
 use Rattle.giop_stream.proofs.Joined.Happenings.{opened_append, events_from_push, events_of_push, events_of_none, happens_same, happens_each, happens_agree, not_past, not_named, opened_each, quiet_one, Below, Rising, rising_happens, IsFew, few_happens, Differ, differ_happens, AreOpeners, openers_happens}
@@ -725,3 +727,28 @@ whole_run R causal p = run_lines R causal [] p ∙ rw (lines_nothing R, holds_st
 -- the messages are as many as the start lines
 pub starts_are : (R : Reading) → IsCausal R → (p : List ℕ) → start_count (lines R p) ≡ length (messages (cut p))
 starts_are R causal p = (sound R causal p).starts
+
+pub tally_is : (R : Reading) → IsCausal R → (p : List ℕ) → tally R p ≡ totals_of (state_of R p)
+unfolding tally state_of
+tally_is R causal p = rw (starts_are R causal p) refl
+
+pub run_text : (R : Reading) → IsCausal R → (p q : List ℕ) → text R (p ++ q) ≡ text R p ++ lines_text (run R (state_of R p) q)
+unfolding text lines_text
+run_text R causal p q = rw (run_lines R causal p q) (flat_map-append line_text (lines R p) (run R (state_of R p) q))
+
+pub run_holds : (R : Reading) → IsCausal R → (p q : List ℕ) → state_of R (p ++ q) ≡ run_state R (state_of R p) q
+unfolding run_state
+run_holds R causal p [] = rw (append-nil p) refl
+run_holds R causal p (x ∷ q) = rw (← append_assoc p (x ∷ []) q, run_holds R causal (p ++ x ∷ []) q, step_holds R causal p x) refl
+
+-- a reading that says nothing, for what depends on none
+mute : Reading
+mute = record { reads = λ header xs. []; closes = λ header xs. [] }
+
+mute_causal : IsCausal mute
+unfolding mute
+mute_causal = record { earlier = λ header xs more k h. refl }
+
+pub few_open : (p : List ℕ) → length (open_after p) ≤ most_open
+unfolding IsFew
+few_open p = (sound mute mute_causal p).live.few

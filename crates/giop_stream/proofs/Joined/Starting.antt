@@ -1,5 +1,5 @@
 -- How many start lines an octet has: one at a header's last octet, and none at any other.
-use Rattle.std.proofs.Common.{◌≡◌, ℕ, suc, ◌+◌, ◌-◌, ◌<◌, Bool, true, false, cond, List, [], ◌∷◌, ◌++◌, length, map, refl, sym, ap, ◌∙◌, Option, Some, None, arith, get_or, length-append}
+use Rattle.std.proofs.Common.{◌≡◌, ℕ, suc, ◌+◌, ◌-◌, ◌<◌, Bool, true, false, List, [], ◌∷◌, ◌++◌, length, refl, ap, Option, Some, None, arith, get_or, length-append}
 use Rattle.std.specs.Prelude.{nat_lt, nat_le, ◌==◌, if◌then◌else◌, flat_map, ◌||◌, ◌&&◌}
 use Rattle.std.specs.List.{filter, AllByRecursion as Each}
 use Rattle.std.proofs.lemmas.Bool.{ne_eqb, eq-eqb}
@@ -9,9 +9,9 @@ use Rattle.giop_stream.specs.declared.fault.ImposedFault.TheVariants.{Short, NoO
 use Rattle.giop_stream.specs.Headers.{order, has_more, size}
 use Rattle.giop_stream.specs.Framing.{Message}
 use Rattle.giop_stream.specs.Joined.Kinds.{is_fragment, is_opener, is_cancel, may_be_cancelled, refused}
-use Rattle.giop_stream.specs.Joined.Events.{Happening, Begins, Takes, Opens, Continues, Cancelled, Imposed, Closes, Event, Open, title, place, id, own, about, opener_of, goes_past, imposed, at_header, at_octet, opens_by, opens, most_open, same_order, continues_by, continues, cancels_by, cancels, at_id, at_end, happens, octet, joined}
+use Rattle.giop_stream.specs.Joined.Events.{Happening, Begins, Takes, Opens, Continues, Cancelled, Imposed, Closes, Event, Open, title, place, id, own, about, opener_of, goes_past, imposed, at_header, at_octet, opens_by, opens, most_open, same_order, continues_by, continues, cancels_by, cancels, at_id, at_end, happens, joined}
 use Rattle.giop_stream.specs.Reading.{Saying, Value, Call, Rest, Fault, End, Reading}
-use Rattle.giop_stream.specs.Joined.Lines.{Class, Start, Continuing, Cancelling, Imposing, Said_value, Said_call, Said_rest, Said_fault, Said_end, Stop, Content, Started, Said, Goes_on, Ended_by, Faulted, Stopped, Line, has_class, line, tells, classes, by_class, is_last_of, standing}
+use Rattle.giop_stream.specs.Joined.Lines.{Start, Content, Started, Said, Goes_on, Ended_by, Faulted, Stopped, Line, has_class, line, tells, classes, by_class, is_last_of, standing}
 use Rattle.giop_stream.specs.Joined.Stream.{is_start, start_count}
 use Rattle.giop_stream.specs.Joined.State.{Kept}
 use Rattle.giop_stream.specs.Joined.Machine.{utters_kept, taking, utters, now_written}

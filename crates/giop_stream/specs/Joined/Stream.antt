@@ -1,9 +1,9 @@
 -- The text of a stream, its totals, and its closing: what is written at the finish (docs/FORMATS.md, Lines).
-use Rattle.std.specs.Prelude.{ℕ, ◌+◌, Bool, true, false, not, List, [], ◌∷◌, ◌++◌, length, map, filter, flat_map, if◌then◌else◌}
+use Rattle.std.specs.Prelude.{ℕ, Bool, true, false, not, List, [], ◌++◌, length, map, filter, flat_map, if◌then◌else◌}
 use Rattle.std.specs.List.{list_any}
 use Rattle.giop_stream.specs.declared.status.Totals.{Totals}
 use Rattle.giop_stream.specs.Framing.{Message, cut, messages, read_of}
-use Rattle.giop_stream.specs.Reading.{Saying, Value, Call, Rest, Fault, End, Reading}
+use Rattle.giop_stream.specs.Reading.{Value, Call, Rest, Fault, End, Reading}
 use Rattle.giop_stream.specs.Text.{truncated_line}
 use Rattle.giop_stream.specs.Stream.{is_truncated, with_truncated}
 use Rattle.giop_print.specs.Lines.{unfinished_line, total_line}
