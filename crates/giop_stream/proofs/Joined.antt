@@ -5,3 +5,4 @@ pub mod Starting
 pub mod Bridge
 pub mod Finishing
 pub mod Sharing
+pub mod Rows
