@@ -6,3 +6,4 @@ pub mod Bridge
 pub mod Finishing
 pub mod Sharing
 pub mod Rows
+pub mod Ordering

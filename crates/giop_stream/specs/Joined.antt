@@ -8,3 +8,4 @@ pub mod Text
 pub mod Stream
 pub mod State
 pub mod Machine
+pub mod Plays

@@ -238,7 +238,7 @@ standing_utters R over past es =
     ∙ rw (by_class_filter (λ l. not (over l.number)) (heard R past es), heard_utters R over past es) refl
 
 -- What holds of the messages of the events holds of the lines' messages.
-tells_number : (R : Reading) (P : ℕ → Type 0) (e : Event) (o : Option (List ℕ)) → P e.whom.number → Each (λ l. P l.number) (utters_kept R e o)
+pub tells_number : (R : Reading) (P : ℕ → Type 0) (e : Event) (o : Option (List ℕ)) → P e.whom.number → Each (λ l. P l.number) (utters_kept R e o)
 unfolding utters_kept IsOf
 tells_number R P e None h = tt
 tells_number R P e (Some xs) h = each_weaker (IsOf e) (λ l. P l.number) (λ l k. subst P (sym k.1) h) (tells R e xs (xs ++ joined e.whom.number (e ∷ [])) e.what) (tells_of R e xs (xs ++ joined e.whom.number (e ∷ [])) e.what)
