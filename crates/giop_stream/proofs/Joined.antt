@@ -7,3 +7,4 @@ pub mod Finishing
 pub mod Sharing
 pub mod Rows
 pub mod Ordering
+pub mod Turns
