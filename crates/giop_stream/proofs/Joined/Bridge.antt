@@ -3,7 +3,8 @@ use native.Mathlib.Nat.{le_of_eq}
 use Rattle.std.proofs.Common.{inl, inr, ◌≡◌, ℕ, suc, ◌+◌, ◌-◌, ◌<◌, ◌≤◌, Bool, true, false, List, [], ◌∷◌, ◌++◌, length, map, refl, sym, ap, subst, ◌∙◌, append_assoc, Option, Some, None, arith, length-append}
 use Rattle.std.specs.Prelude.{nat_lt, ◌==◌, if◌then◌else◌, ◌||◌, option_map, option_to_list, IfSome}
 use Rattle.std.specs.List.{filter, list_any, AllByRecursion as Each}
-use Rattle.std.proofs.lemmas.Bool.{ltb-true, eq-eqb, cases_eq, eqb-true}
+use Rattle.std.proofs.lemmas.Bool.{ltb-true, le-ltb, and_right, eq-eqb, cases_eq, eqb-true}
+use Rattle.giop_stream.specs.Joined.Kinds.{is_fragment}
 use Rattle.std.proofs.lemmas.List.{append-nil, length_push}
 use Rattle.std.proofs.lemmas.List.Elements.{filter-append}
 use Rattle.std.proofs.lemmas.List.Concat.{flat_map-append}
@@ -22,6 +23,7 @@ use Rattle.giop_stream.proofs.Lists.{by_growth, each_append, each_weaker, map_ag
 use Rattle.giop_stream.proofs.Cutting.{settle, header_case, header_grows, grow, stopped_at, next, of_parts, cut_grows}
 use Rattle.giop_stream.proofs.Joined.Happenings.{opened_append, events_from_push, events_of_push, events_of_none, happens_same, happens_each, happens_agree, not_past, not_named, opened_each, quiet_one, Below, Rising, rising_happens, IsFew, few_happens, Differ, differ_happens, AreOpeners, openers_happens}
 use Rattle.giop_stream.proofs.Joined.Telling.{joined_append, heard, heard_each, told_heard, told_grows, in_order_grows, in_order_idle, standing_append, keeping, utters_agree, standing_utters, written_each, none_last, none_joined}
+use Rattle.giop_stream.proofs.Joined.Sharing.{header_joined, own_joined}
 use Rattle.giop_stream.proofs.Joined.Starting.{start_append, none_later, one_first}
 
 -- The slots of these open messages, by what is kept of each, and what the machine finds there.
@@ -296,6 +298,7 @@ pub record IsSound (R : Reading) (p : List ℕ) : Type 0 where
   pub rising : Rising (open_after p)
   pub early : (cut p).stop ≡ None → IfSome (cut p).current (λ m. length m.payload < 4 → Below m.number (open_after p))
   pub live : AreSound (open_after p)
+  pub begun : (cut p).stop ≡ None → IfSome (cut p).current (λ m. length m.payload ≤ 4 → joined m.number (events p) ≡ m.payload)
 
 -- what the step must do
 pub record IsStep (R : Reading) (p p' : List ℕ) (one : Step) : Type 0 where
@@ -330,6 +333,14 @@ settled_current whole m P Q h = go (nat_lt (length m.payload) (size m.header))
     go true = h
     go false = λ t. tt
 
+pub settled_if : (whole : List Message) (m : Message) (Q : Message → Type 0) → Q m → IfSome (settle whole m).current Q
+unfolding settle
+settled_if whole m Q h = go (nat_lt (length m.payload) (size m.header))
+  where
+    go : (b : Bool) → (let c : Cut = if b then record { whole = whole; current = Some m; held = []; stop = None } else record { whole = whole ++ m ∷ []; current = None; held = []; stop = None } in IfSome c.current Q)
+    go true = h
+    go false = tt
+
 still_unknown : (K : Kept) (es : List Event) (ls : List Line) (i : ℕ) → K i ≡ Some [] → joined i es ≡ [] → list_any (is_last_of i) ls ≡ false → written (taking K es) ls i ≡ Some []
 unfolding written taking
 still_unknown K es ls i h k j = rw (j, h, k) refl
@@ -337,8 +348,9 @@ still_unknown K es ls i h k j = rw (j, h, k) refl
 dealt_sound : (R : Reading) → IsCausal R → (p p' : List ℕ) (whole : List Message) (m : Message)
     → length p' ≡ suc (length p) → cut p' ≡ settle whole m → events p' ≡ events p ++ happens (open_after p) m → place m ≡ suc (length p) → m.number ≡ suc (length whole) → length m.header ≡ 12 → (cut p).stop ≡ None → length (messages (cut p)) ≤ suc (length whole) → (length m.payload ≤ 4 → Below m.number (open_after p))
     → length (messages (cut p)) + start_count (now_written R (octets_of R p) (happens (open_after p) m)) ≡ suc (length whole)
+    → (length m.payload ≤ 4 → joined m.number (events p) ++ joined m.number (happens (open_after p) m) ≡ m.payload)
     → IsSound R p → IsSound R p'
-dealt_sound R causal p p' whole m len ec ev pl nm twelve st more low starts sound =
+dealt_sound R causal p p' whole m len ec ev pl nm twelve st more low starts grows sound =
     let live = open_after p in
     let K = octets_of R p in
     let es = happens live m in
@@ -368,6 +380,7 @@ dealt_sound R causal p p' whole m len ec ev pl nm twelve st more low starts soun
           let grows = open_grows p p' es ev in
           rw ec (settled_current whole m (λ m. length m.payload < 4 → Below m.number (opened live (happens live m))) (λ m. length m.payload < 4 → Below m.number (open_after p')) (λ k short. subst (Below m.number) (sym grows) (k short)) (settled_early whole m live low));
       live = rw opens (record { few = few_happens live m sound.live.few; differ = differ_happens live m sound.live.differ; openers = openers_happens live m sound.live.openers });
+      begun = λ st. rw (ec, ev) (settled_if whole m (λ m. length m.payload ≤ 4 → joined m.number (events p ++ es) ≡ m.payload) (λ short. joined_append m.number (events p) es ∙ grows short));
     }
   where
     now_each : (R : Reading) (P : ℕ → Type 0) (known : Kept) (es : List Event) → Each (λ e. P e.whom.number) es → Each (λ l. P l.number) (now_written R known es)
@@ -394,8 +407,8 @@ events_begin whole m h =
 
 -- The cases of a step.
 quiet_sound : (R : Reading) → (p p' : List ℕ) → length p' ≡ suc (length p) → messages (cut p') ≡ messages (cut p) → events p' ≡ events p → said R p' ≡ said R p → start_count (lines R p') ≡ start_count (lines R p) → ((cut p').stop ≡ None → Fits (suc (length p)) (cut p')) → ((cut p').stop ≡ None → IfSome (cut p').current (λ m. length m.payload < 4 → Below m.number (open_after p')))
-    → IsSound R p → IsSound R p'
-quiet_sound R p p' len ms ev sd sc fits early sound = record {
+    → ((cut p').stop ≡ None → IfSome (cut p').current (λ m. length m.payload ≤ 4 → joined m.number (events p') ≡ m.payload)) → IsSound R p → IsSound R p'
+quiet_sound R p p' len ms ev sd sc fits early begun sound = record {
   places = rw (ev, len) (each_weaker (λ e. e.place ≤ length p) (λ e. e.place ≤ suc (length p)) (λ e h. omega arith) (events p) sound.places);
   numbers = rw (ms, open_idle p p' ev) sound.numbers;
   unknown = λ i h. octets_idle R p p' ev sd i ∙ sound.unknown i (rw ms at h);
@@ -404,6 +417,7 @@ quiet_sound R p p' len ms ev sd sc fits early sound = record {
   rising = rw (open_idle p p' ev) sound.rising;
   early = early;
   live = rw (open_idle p p' ev) sound.live;
+  begun = begun;
 }
 
 pub events_of_cut : (p : List ℕ) (c : Cut) → cut p ≡ c → events p ≡ events_from [] (messages c)
@@ -429,7 +443,7 @@ same_step R causal p p' c found len ec ec' st sound =
     record {
       state = state_is R p' c (fault_count (lines R p)) (open_after p) (octets_of R p) ec' (ap fault_count ln) (open_idle p p' ev) (octets_idle R p p' ev sd) ∙ rw rd refl;
       lines = ln ∙ sym (append-nil (lines R p));
-      sound = quiet_sound R p p' len (rw (ec', ec) refl) ev sd (ap start_count ln) (λ free. absurd (let no : Some found ≡ None = sym st ∙ rw ec' at free in cc)) (λ free. absurd (let no : Some found ≡ None = sym st ∙ rw ec' at free in cc)) sound;
+      sound = quiet_sound R p p' len (rw (ec', ec) refl) ev sd (ap start_count ln) (λ free. absurd (let no : Some found ≡ None = sym st ∙ rw ec' at free in cc)) (λ free. absurd (let no : Some found ≡ None = sym st ∙ rw ec' at free in cc)) (λ free. absurd (let no : Some found ≡ None = sym st ∙ rw ec' at free in cc)) sound;
     }
 
 stop_starts : (found : ℕ × StreamFault) → start_count (stop_line (Some found)) ≡ 0
@@ -456,7 +470,7 @@ stop_step R causal p p' whole current held word len ec ec' sound =
     record {
       state = state_is R p' c' (fault_count (lines R p) + fault_count (stop_line (Some found))) (open_after p) (octets_of R p) ec' fc (open_idle p p' ev) (octets_idle R p p' ev sd);
       lines = ln;
-      sound = quiet_sound R p p' len ms ev sd sc (λ free. absurd (let no : Some found ≡ None = sym st' ∙ free in cc)) (λ free. absurd (let no : Some found ≡ None = sym st' ∙ free in cc)) sound;
+      sound = quiet_sound R p p' len ms ev sd sc (λ free. absurd (let no : Some found ≡ None = sym st' ∙ free in cc)) (λ free. absurd (let no : Some found ≡ None = sym st' ∙ free in cc)) (λ free. absurd (let no : Some found ≡ None = sym st' ∙ free in cc)) sound;
     }
 
 held_step : (R : Reading) → IsCausal R → (p p' : List ℕ) (whole : List Message) (held front : List ℕ) → length p' ≡ suc (length p) → length front ≤ suc (length p) → length front < 12
@@ -477,7 +491,7 @@ held_step R causal p p' whole held front len short twelve ec ec' sound =
     record {
       state = state_is R p' c' (fault_count (lines R p)) (open_after p) (octets_of R p) ec' (ap fault_count ln) (open_idle p p' ev) (octets_idle R p p' ev sd) ∙ rw rd refl;
       lines = ln ∙ sym (append-nil (lines R p));
-      sound = quiet_sound R p p' len ms ev sd (ap start_count ln) (λ free. rw ec' fits) (λ free. rw ec' tt) sound;
+      sound = quiet_sound R p p' len ms ev sd (ap start_count ln) (λ free. rw ec' fits) (λ free. rw ec' tt) (λ free. rw ec' tt) sound;
     }
 
 -- a step that deals
@@ -486,10 +500,10 @@ deal_step : (R : Reading) → IsCausal R → (p p' : List ℕ) (whole : List Mes
     → length (messages (cut p)) + start_count (now_written R (octets_of R p) (happens (open_after p) m)) ≡ suc (length whole)
     → length m.payload ≤ size m.header → (goes_past m ≡ false → is_open (open_after p) m.number ≡ false → own ≡ octets_of R p m.number)
     → s ≡ before_deal (suc (length p)) (suc (length whole)) (fault_count (lines R p)) current (slots_of (octets_of R p) (open_after p)) own
-    → IsSound R p → IsStep R p p' (deal R s m)
-deal_step R causal p p' whole m current own s len ec' ev pl nm twelve more low st starts long h e sound =
+    → (length m.payload ≤ 4 → joined m.number (events p) ++ joined m.number (happens (open_after p) m) ≡ m.payload) → IsSound R p → IsStep R p p' (deal R s m)
+deal_step R causal p p' whole m current own s len ec' ev pl nm twelve more low st starts long h e grows sound =
     let both = dealt R causal p p' whole m current own len ec' ev sound.places pl st long h in
-    rw e (record { state = both.0; lines = both.1; sound = dealt_sound R causal p p' whole m len ec' ev pl nm twelve st more low starts sound })
+    rw e (record { state = both.0; lines = both.1; sound = dealt_sound R causal p p' whole m len ec' ev pl nm twelve st more low starts grows sound })
 
 pub place_more : (m : Message) (x n : ℕ) → place m ≡ n → place (with_payload m (m.payload ++ x ∷ [])) ≡ suc n
 unfolding place
@@ -498,6 +512,19 @@ place_more m x n h = omega (arith, length_push m.payload x)
 own_is : (K : Kept) (live : List Open) (m : Message) → has_named m ≡ false → is_open live m.number ≡ false → own_of K live (Some m) ≡ K m.number
 unfolding own_of
 own_is K live m k h = rw (h, k) refl
+
+not_past_short : (m : Message) → length m.payload ≤ 4 → goes_past m ≡ false
+unfolding goes_past
+not_past_short m h = and_right (is_fragment m.header) (nat_lt 4 (length m.payload)) (le-ltb 4 (length m.payload) h)
+
+-- nothing has come to a message of which nothing is known
+none_known : (R : Reading) (p : List ℕ) (i : ℕ) → octets_of R p i ≡ Some [] → joined i (events p) ≡ []
+unfolding octets_of
+none_known R p i h = go (is_over R p i) h
+  where
+    go : (b : Bool) → (if b then None else Some (joined i (events p))) ≡ Some [] → joined i (events p) ≡ []
+    go true k = absurd cc
+    go false k = cc
 
 -- an octet of a payload
 payload_step : (R : Reading) → IsCausal R → (p p' : List ℕ) (whole : List Message) (m : Message) (held : List ℕ) (x : ℕ) → length p' ≡ suc (length p)
@@ -517,10 +544,13 @@ payload_step R causal p p' whole m held x len ec ec' sound =
     let ev : events p' ≡ events p ++ happens (open_after p) m' = now ∙ rw was (events_on whole m x fits.lacks) in
     let count : length (messages (cut p)) ≡ suc (length whole) = rw ec one in
     let starts = none_later R (octets_of R p) (open_after p) m' (omega (arith, length_push m.payload x)) in
+    let begun : length m.payload ≤ 4 → joined m.number (events p) ≡ m.payload = rw ec at (sound.begun st) in
+    let grows : length m'.payload ≤ 4 → joined m.number (events p) ++ joined m.number (happens (open_after p) m') ≡ m'.payload =
+    λ short. rw (begun (omega (arith, length_push m.payload x)), own_joined (open_after p) m m.payload x (not_past_short m' short)) refl in
     deal_step R causal p p' whole m' (Some m) (own_of (octets_of R p) (open_after p) (Some m)) _ len ec' ev (place_more m x (length p) fits.place_is) fits.number_is fits.twelve (le_of_eq count) (λ four. early (omega (arith, length_push m.payload x))) st
     (omega arith) (omega (arith, length_push m.payload x, fits.lacks)) (λ past. own_is (octets_of R p) (open_after p) m (not_named m x past))
     (λ j. record { read = suc (length p); started = one j; faults = fault_count (lines R p); stop = None; held = fits.none_held j; current = Some m; slots = slots_of (octets_of R p) (open_after p); own = own_of (octets_of R p) (open_after p) (Some m) })
-    sound
+    grows sound
 
 -- the last octet of a header
 pub place_first : (n : ℕ) (m : Message) → m.before ≡ suc n - 12 → m.payload ≡ [] → 11 ≤ n → place m ≡ suc n
@@ -543,8 +573,10 @@ header_step R causal p p' whole held s m len long nm bf pay twelve ec ec' e soun
     let count : length (messages (cut p)) ≡ length whole = rw (ec, none) refl in
     let known : octets_of R p m.number ≡ Some [] = sound.unknown m.number (omega arith) in
     let starts = one_first R (octets_of R p) (open_after p) m [] pay known in
+    let grows : length m.payload ≤ 4 → joined m.number (events p) ++ joined m.number (happens (open_after p) m) ≡ m.payload =
+    λ short. rw (none_known R p m.number known, header_joined m.number (open_after p) m pay) (sym pay) in
     deal_step R causal p p' whole m None (Some []) s len ec' ev (place_first (length p) m bf pay long) nm twelve (omega arith) (λ four. each_weaker (λ o. o.opener.number ≤ length (messages (cut p))) (λ o. o.opener.number < m.number) (λ o k. omega arith) (open_after p) sound.numbers) st
-    (omega arith) (rw pay (omega arith)) (λ past k. sym known) e sound
+    (omega arith) (rw pay (omega arith)) (λ past k. sym known) e grows sound
 
 -- An octet where no message is incomplete.
 pub in_header_stop : (R : Reading) (s : State) (front : List ℕ) (word : StreamFault) → wrong front ≡ Some word → in_header R s front ≡ stops s word
@@ -697,6 +729,7 @@ sound_start R = record {
   rising = rw open_nothing tt;
   early = λ st. rw cut_nothing tt;
   live = rw open_nothing live_nothing;
+  begun = λ st. rw cut_nothing tt;
 }
 
 pub holds_start : (R : Reading) → state_of R [] ≡ fresh

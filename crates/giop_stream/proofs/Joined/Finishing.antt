@@ -24,7 +24,7 @@ use Rattle.giop_stream.specs.Joined.Machine.{taking, utters_kept, utters, now_wr
 use Rattle.giop_stream.proofs.Lists.{by_growth, each_weaker, any_append, all_by}
 use Rattle.giop_stream.proofs.Cutting.{settle, of_parts, header_case, cut_grows}
 use Rattle.giop_stream.proofs.Joined.Happenings.{opened_append, quiet_header, quiet_octet, quiet_continues, quiet_if, quiet_own, quiet_none, still_imposed, happens_each, Below}
-use Rattle.giop_stream.proofs.Joined.Bridge.{said_grows, said_idle, open_grows, open_idle, settled_messages, IsSound, Fits, events_of_cut, events_on, events_begin, place_more, place_first, next_limit, next_payload, next_front, next_stopped, cut_nothing, open_nothing, sound, starts_are}
+use Rattle.giop_stream.proofs.Joined.Bridge.{said_grows, said_idle, open_grows, open_idle, settled_messages, settled_if, IsSound, Fits, events_of_cut, events_on, events_begin, place_more, place_first, next_limit, next_payload, next_front, next_stopped, cut_nothing, open_nothing, sound, starts_are}
 
 -- A line stays in the order by class.
 of_rank : List Line → ℕ → List Line
@@ -532,14 +532,6 @@ alive_same : (over over' more : ℕ → Bool) (xs ys : List ℕ) → ((i : ℕ) 
 alive_same over over' more xs ys h k =
     let mix : over' ≡ (λ i. over i || more i) = λ j i. h i j in
     rw (mix, alive_less over more xs, alive_less over more ys, k) refl
-
-settled_if : (whole : List Message) (m : Message) (Q : Message → Type 0) → Q m → IfSome (settle whole m).current Q
-unfolding settle
-settled_if whole m Q h = go (nat_lt (length m.payload) (size m.header))
-  where
-    go : (b : Bool) → (let c : Cut = if b then record { whole = whole; current = Some m; held = []; stop = None } else record { whole = whole ++ m ∷ []; current = None; held = []; stop = None } in IfSome c.current Q)
-    go true = h
-    go false = tt
 
 settled_kept : (over : ℕ → Bool) (whole : List Message) (m : Message) (live : List Open) → (size m.header ≤ length m.payload → is_fragment m.header ≡ false → Known over live m)
     → alive over (base live m) ≡ alive over (numbers_of live ++ tail_now live (settle whole m).current)

@@ -1,7 +1,7 @@
 -- What is joined by events is what the messages share.
 use Rattle.std.proofs.Common.{inl, inr, ◌≡◌, ℕ, ◌-◌, ◌≤◌, Bool, true, false, List, [], ◌∷◌, ◌++◌, length, get_or, take, drop, refl, sym, ap, ◌∙◌, append_assoc, Option, Some, None, arith}
 use Rattle.std.specs.Prelude.{nat_lt, nat_le, ◌==◌, if◌then◌else◌, ◌&&◌, ◌||◌}
-use Rattle.std.proofs.lemmas.Bool.{lt-ltb, le-ltb, cases_lt, ne_eqb}
+use Rattle.std.proofs.lemmas.Bool.{lt-ltb, le-ltb, cases_lt, ne_eqb, eq-eqb}
 use Rattle.std.proofs.lemmas.List.{append-nil, length_push, get_or_push, take-append-le, drop-append-le, take_all, drop_all}
 use Rattle.giop_stream.specs.declared.fault.ImposedFault.{ImposedFault}
 use Rattle.giop_stream.specs.declared.fault.ImposedFault.TheVariants.{Short, NoOpen, IdOpen, TooManyOpen, FragmentOrder}
@@ -122,6 +122,9 @@ happens_is i live m first h =
     joined_append i (if length m.payload == 0 then at_header m else at_octet live m) (second ++ third)
     ∙ rw (h, none_both i second third (none_if i (length m.payload == 4) _ _ (silent_id i live m) (none_empty i)) (none_if i (length m.payload == size m.header) _ _ (silent_end i live m) (none_empty i))) (append-nil (joined i first))
 
+pub header_joined : (i : ℕ) (live : List Open) (m : Message) → m.payload ≡ [] → joined i (happens live m) ≡ []
+header_joined i live m h = happens_is i live m (at_header m) (rw h refl) ∙ silent_header i m
+
 -- the share of a message with one more octet
 more_of : ℕ → List Open → Message → ℕ → List ℕ
 more_of i live m x = if goes_past m then continued i (opener_of live m) (x ∷ []) else (if m.number == i then x ∷ [] else [])
@@ -138,6 +141,11 @@ octet_joined i live m xs x =
     let first : (if length m'.payload == 0 then at_header m' else at_octet live m') ≡ at_octet live m' = rw (ne_eqb (length (xs ++ x ∷ [])) 0 (λ e. omega (arith, length_push xs x))) refl in
     let same : get_or (xs ++ x ∷ []) (length (xs ++ x ∷ []) - 1) 0 ≡ x = get_or_push xs x 0 (length (xs ++ x ∷ []) - 1) (omega (arith, length_push xs x)) in
     happens_is i live m' (at_octet live m') first ∙ (rw (at_octet, same) (takes_if i m' (opener_of live m') x (goes_past m')))
+
+-- an octet that is not behind a Fragment's request id
+pub own_joined : (live : List Open) (m : Message) (xs : List ℕ) (x : ℕ) → goes_past (with_payload m (xs ++ x ∷ [])) ≡ false → joined m.number (happens live (with_payload m (xs ++ x ∷ []))) ≡ x ∷ []
+unfolding more_of
+own_joined live m xs x h = octet_joined m.number live m xs x ∙ rw (h, eq-eqb m.number m.number refl) refl
 
 cases_append : (b : Bool) (xs ys : List ℕ) → (if b then xs ++ ys else []) ≡ (if b then xs else []) ++ (if b then ys else [])
 cases_append true xs ys = refl
