@@ -8,3 +8,4 @@ pub mod Sharing
 pub mod Rows
 pub mod Ordering
 pub mod Turns
+pub mod Dealing

@@ -1,10 +1,12 @@
 -- What an octet does, an event after the other: the machine of the code does no more at once.
-use Rattle.std.specs.Prelude.{ℕ, false, List, [], ◌∷◌, ◌++◌}
+use Rattle.std.specs.Prelude.{ℕ, false, List, [], ◌∷◌, ◌++◌, length, map, Some, None, nat_lt, if◌then◌else◌}
 use Rattle.giop_stream.specs.Reading.{Reading}
 use Rattle.giop_stream.specs.Joined.Events.{Event, Open, changed}
 use Rattle.giop_stream.specs.Joined.Lines.{Line, standing}
-use Rattle.giop_stream.specs.Joined.State.{Kept}
-use Rattle.giop_stream.specs.Joined.Machine.{utters_kept, taking, written}
+use Rattle.giop_stream.specs.Headers.{size}
+use Rattle.giop_stream.specs.Framing.{Message}
+use Rattle.giop_stream.specs.Joined.State.{State, Kept, slots_of, own_of}
+use Rattle.giop_stream.specs.Joined.Machine.{Step, kept, utters_kept, taking, written, writes}
 
 -- the open messages, and what is kept of each message
 pub record Scene : Type 0 where
@@ -27,3 +29,13 @@ plays R c [] = record { scene = c; lines = [] }
 plays R c (e ∷ es) =
     let more = plays R (scene_at R c e) es in
     record { scene = more.scene; lines = lines_at R c.known e ++ more.lines }
+
+-- What a state shows of the messages, where the current one has this number.
+unfoldable pub scene_of : State → ℕ → Scene
+scene_of s number = record { live = map (λ slot. slot.open_as) s.slots; known = kept s.slots number s.own }
+
+-- the state after a play, once the octet of m is done with
+unfoldable pub ends_with : State → Message → Play → Step
+ends_with s m p =
+    let current = if nat_lt (length m.payload) (size m.header) then Some m else None in
+    writes (record s { current = current; slots = slots_of p.scene.known p.scene.live; own = own_of p.scene.known p.scene.live current }) p.lines
