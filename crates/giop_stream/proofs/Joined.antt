@@ -9,3 +9,4 @@ pub mod Rows
 pub mod Ordering
 pub mod Turns
 pub mod Dealing
+pub mod InPlace

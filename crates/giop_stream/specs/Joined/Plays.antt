@@ -1,8 +1,9 @@
 -- What an octet does, an event after the other: the machine of the code does no more at once.
-use Rattle.std.specs.Prelude.{ℕ, false, List, [], ◌∷◌, ◌++◌, length, map, Some, None, nat_lt, if◌then◌else◌}
+use Rattle.std.specs.Prelude.{ℕ, false, List, [], ◌∷◌, ◌++◌, length, map, Option, Some, None, nat_lt, if◌then◌else◌, option_map}
+use Rattle.std.specs.List.{list_any}
 use Rattle.giop_stream.specs.Reading.{Reading}
-use Rattle.giop_stream.specs.Joined.Events.{Event, Open, changed}
-use Rattle.giop_stream.specs.Joined.Lines.{Line, standing}
+use Rattle.giop_stream.specs.Joined.Events.{Event, Open, octet, changed}
+use Rattle.giop_stream.specs.Joined.Lines.{Line, is_last_of, standing}
 use Rattle.giop_stream.specs.Headers.{size}
 use Rattle.giop_stream.specs.Framing.{Message}
 use Rattle.giop_stream.specs.Joined.State.{State, Kept, slots_of, own_of}
@@ -39,3 +40,11 @@ unfoldable pub ends_with : State → Message → Play → Step
 ends_with s m p =
     let current = if nat_lt (length m.payload) (size m.header) then Some m else None in
     writes (record s { current = current; slots = slots_of p.scene.known p.scene.live; own = own_of p.scene.known p.scene.live current }) p.lines
+
+-- ---- One message's part of an event: its lines, and its octets then, unless it is over.
+
+unfoldable pub lines_of : Reading → Event → Option (List ℕ) → List Line
+lines_of R e o = standing (λ i. false) (utters_kept R e o)
+
+unfoldable pub octets_then : Reading → Event → Option (List ℕ) → Option (List ℕ)
+octets_then R e o = if list_any (is_last_of e.whom.number) (lines_of R e o) then None else option_map (λ xs. xs ++ octet e.what) o
