@@ -1,16 +1,18 @@
 //! The laws of a stream whose messages are joined from their fragments, for any reading of one message.
 
-ghost use Rattle.std.specs.Prelude.{◌≡◌, ◌≤◌, ◌<◌, ℕ, List, [], ◌∷◌, ◌++◌, length};
-ghost use Rattle.std.specs.List.{AllByRecursion as Each};
+ghost use Rattle.std.specs.Prelude.{◌≡◌, ◌≤◌, ◌<◌, ℕ, suc, List, [], ◌∷◌, ◌++◌, length, Some, None};
+ghost use Rattle.giop_stream.specs.Headers.{wrong};
 ghost use Rattle.giop_stream.specs.Reading.{Reading, IsCausal, IsEnding};
-ghost use Rattle.giop_stream.specs.Framing.{cut, messages};
-ghost use Rattle.giop_stream.specs.Joined.Events.{most_open, events, open_after, joined};
+ghost use Rattle.giop_stream.specs.Framing.{Message, limit, cut, messages};
+ghost use Rattle.giop_stream.specs.Joined.Readings.{IsInTurn};
+ghost use Rattle.giop_stream.specs.Joined.Events.{most_open, happens, events, open_after, joined};
 ghost use Rattle.giop_stream.specs.Joined.Shares.{shares};
 ghost use Rattle.giop_stream.specs.Joined.Lines.{lines};
 ghost use Rattle.giop_stream.specs.Joined.Text.{lines_text};
 ghost use Rattle.giop_stream.specs.Joined.Stream.{text, tally, final, closing};
-ghost use Rattle.giop_stream.specs.Joined.State.{state_of};
-ghost use Rattle.giop_stream.specs.Joined.Machine.{fresh, step, run, run_state, totals_of, final_totals, finish};
+ghost use Rattle.giop_stream.specs.Joined.State.{State, state_of};
+ghost use Rattle.giop_stream.specs.Joined.Machine.{fresh, first_message, step, run, run_state, totals_of, final_totals, finish};
+ghost use Rattle.giop_stream.specs.Joined.Plays.{plays, scene_of, ends_with, with_octet, reading_on, beginning};
 
 // The functions here have no body, and are called for their contracts.
 
@@ -38,6 +40,21 @@ pub fn each_stream()
         state_of R (p ++ q) ≡ run_state R (state_of R p) q }
     // The totals are in the state: a message is counted by its start line.
     ensures totals { (R : Reading) → IsCausal R → (p : List ℕ) → tally R p ≡ totals_of (state_of R p) }
+{}
+
+/// What an octet does may be done an event after the other, where the reading of a message says what it says in turn: a
+/// slot at a time, with nothing to sort.
+pub fn each_event()
+    // An octet of a payload: of the message itself, or of the one that it continues.
+    ensures payload { (R : Reading) → IsCausal R → IsInTurn R → (p : List ℕ) (m : Message) (x : ℕ) →
+        (cut p).stop ≡ None → (cut p).current ≡ Some m → length p < limit →
+        step R (state_of R p) x ≡ ends_with (reading_on (state_of R p)) (with_octet m x)
+        (plays R (scene_of (reading_on (state_of R p)) m.number) (happens (scene_of (reading_on (state_of R p)) m.number).live (with_octet m x))) }
+    // A header's last octet, by which a message begins.
+    ensures header { (R : Reading) → IsInTurn R → (s : State) (x : ℕ) →
+        s.stop ≡ None → s.current ≡ None → s.read < limit → wrong (s.held ++ x ∷ []) ≡ None → length s.held ≡ 11 →
+        step R s x ≡ ends_with (beginning s) (first_message (reading_on s) (s.held ++ x ∷ []))
+        (plays R (scene_of (beginning s) (suc s.started)) (happens (scene_of (beginning s) (suc s.started)).live (first_message (reading_on s) (s.held ++ x ∷ [])))) }
 {}
 
 /// What closes a stream is said by what there is to know of it at its end: whether it ends inside a message or a header,

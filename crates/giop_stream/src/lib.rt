@@ -12,5 +12,5 @@ mod status;
 
 pub use engine::{Engine, text_begins};
 pub use fault::{ImposedFault, Stop, StreamFault};
-pub use laws::{each_finish, each_joined, each_octet, each_stream, open_messages};
+pub use laws::{each_event, each_finish, each_joined, each_octet, each_stream, open_messages};
 pub use status::{Status, Totals};

@@ -27,7 +27,7 @@ use Rattle.giop_stream.proofs.Joined.Sharing.{header_joined, own_joined}
 use Rattle.giop_stream.proofs.Joined.Starting.{start_append, none_later, one_first}
 
 -- The slots of these open messages, by what is kept of each, and what the machine finds there.
-opens_back : (K : Kept) (live : List Open) → map (λ slot. slot.open_as) (slots_of K live) ≡ live
+pub opens_back : (K : Kept) (live : List Open) → map (λ slot. slot.open_as) (slots_of K live) ≡ live
 unfolding slots_of
 opens_back K [] = refl
 opens_back K (o ∷ live) = ap (λ (os : List Open). o ∷ os) (opens_back K live)
@@ -51,7 +51,7 @@ kept_missed K (o ∷ live) number own i h = go (o.opener.number == i) (list_any 
     go false c h k = k h
 
 -- the slot of an open message, and of the current one
-kept_own : (K : Kept) (live : List Open) (i : ℕ) (own : Option (List ℕ)) → (is_open live i ≡ false → own ≡ K i) → kept (slots_of K live) i own i ≡ K i
+pub kept_own : (K : Kept) (live : List Open) (i : ℕ) (own : Option (List ℕ)) → (is_open live i ≡ false → own ≡ K i) → kept (slots_of K live) i own i ≡ K i
 kept_own K live i own h = go (is_open live i) refl
   where
     go : (b : Bool) → is_open live i ≡ b → kept (slots_of K live) i own i ≡ K i
@@ -109,7 +109,7 @@ own_agree f g live m true h = go (is_open live m.number) (has_named m) refl
 own_agree f g live m false h = refl
 
 after_agree : (R : Reading) (s : State) (live : List Open) (f g : Kept) (m : Message) → length m.payload ≤ size m.header → (goes_past m ≡ false → f m.number ≡ g m.number) → Each (λ o. f o.opener.number ≡ g o.opener.number) live → after_deal R s live f m ≡ after_deal R s live g m
-unfolding after_deal now_written title
+unfolding after_deal now_written
 after_agree R s live f g m long h k =
     let es = happens live m in
     let agree : Each (λ e. f e.whom.number ≡ g e.whom.number) es = happens_agree (λ e. f e.whom.number ≡ g e.whom.number) live m long (λ past what. h past) (each_weaker (λ o. f o.opener.number ≡ g o.opener.number) _ (λ o j what. j) live k) in

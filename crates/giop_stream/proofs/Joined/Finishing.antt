@@ -256,7 +256,7 @@ stays_if over m live true es more h k d = h refl d
 stays_if over m live false es more h k d = k refl d
 
 stays_closes : (over : ℕ → Bool) (m : Message) (live : List Open) → Each (Dead over) (own m Closes) → Stays over m live (own m Closes)
-unfolding own Dead is_final Stays opened changed without title
+unfolding own Dead is_final Stays opened changed without
 stays_closes over m live d = removed over m.number live m (d.0 refl)
 
 stays_about : (over : ℕ → Bool) (m : Message) (live : List Open) (o : Option Open) (what : Happening) → ((whom : Title) → changed live whom what ≡ without whom.number live) → is_final what ≡ true → Each (Dead over) (about m o what) → Stays over m live (about m o what)
@@ -373,7 +373,7 @@ Known : (ℕ → Bool) → List Open → Message → Type 0
 Known over live m = (is_open live m.number ≡ true) ⊎ (over m.number ≡ true)
 
 dead_own : (over : ℕ → Bool) (m : Message) (what : Happening) → is_final what ≡ true → Each (Dead over) (own m what) → over m.number ≡ true
-unfolding own Dead title
+unfolding own Dead
 dead_own over m what f d = d.0 f
 
 final_imposed : (fault : ImposedFault) → is_final (Imposed fault) ≡ true

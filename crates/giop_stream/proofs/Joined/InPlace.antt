@@ -1,16 +1,16 @@
 -- What an event changes of the slots: that of its message alone, in its place.
-use Rattle.std.proofs.Common.{inl, inr, ◌≡◌, ℕ, zero, suc, ◌<◌, Bool, true, false, cond, not, List, [], ◌∷◌, ◌++◌, length, map, take, drop, refl, sym, ap, subst, ◌∙◌, Option, Some, None, arith}
-use Rattle.std.specs.Prelude.{◌==◌, if◌then◌else◌, option_map, slice_get, slice_set}
+use Rattle.std.proofs.Common.{◌≡◌, ℕ, zero, suc, ◌<◌, true, false, not, List, [], ◌∷◌, ◌++◌, refl, sym, ap, subst, ◌∙◌, Option, Some, None, arith}
+use Rattle.std.specs.Prelude.{◌==◌, option_map, slice_get, slice_set}
 use Rattle.std.specs.List.{filter, list_any, remove, AllByRecursion as Each}
 use Rattle.std.proofs.lemmas.Bool.{eq-eqb, ne_eqb}
 use Rattle.std.proofs.lemmas.List.{append-nil, map-append}
 use Rattle.giop_stream.specs.Reading.{Reading}
-use Rattle.giop_stream.specs.Joined.Events.{Happening, Closes, Cancelled, Title, Event, Open, octet, changed, joined}
+use Rattle.giop_stream.specs.Joined.Events.{Event, Open, octet, joined}
 use Rattle.giop_stream.specs.Joined.Lines.{Line, is_last_of, standing}
 use Rattle.giop_stream.specs.Joined.State.{Slot, Kept, slots_of}
 use Rattle.giop_stream.specs.Joined.Machine.{utters_kept, taking, written}
 use Rattle.giop_stream.specs.Joined.Plays.{Scene, lines_at, scene_at, lines_of, octets_then}
-use Rattle.giop_stream.proofs.Lists.{each_weaker, map_agree, filter_keeps}
+use Rattle.giop_stream.proofs.Lists.{each_weaker, filter_keeps}
 use Rattle.giop_stream.proofs.Joined.Telling.{tells_number, standing_each}
 use Rattle.giop_stream.proofs.Joined.Happenings.{Rising}
 use Rattle.giop_stream.proofs.Joined.Bridge.{slots_agree}

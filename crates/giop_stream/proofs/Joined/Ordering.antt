@@ -1,17 +1,17 @@
 -- Where the lines of an octet come in the order of their classes, its events may be played one after the other.
-use Rattle.std.proofs.Common.{inl, inr, ◌≡◌, ℕ, suc, ◌<◌, ◌≤◌, Bool, true, false, cond, not, List, [], ◌∷◌, ◌++◌, map, refl, sym, ap, ◌∙◌, append_assoc, Option, Some, None, arith}
+use Rattle.std.proofs.Common.{◌≡◌, ℕ, ◌<◌, ◌≤◌, Bool, true, false, cond, not, List, [], ◌∷◌, ◌++◌, refl, sym, ap, ◌∙◌, append_assoc, Option, Some, None, arith}
 use Rattle.std.specs.Prelude.{◌==◌, if◌then◌else◌, ◌||◌, flat_map, option_map}
 use Rattle.std.specs.List.{filter, list_any, AllByRecursion as Each}
-use Rattle.std.proofs.lemmas.Bool.{eq-eqb, ne_eqb, eqb-true, eqb-false}
+use Rattle.std.proofs.lemmas.Bool.{ne_eqb, eqb-true}
 use Rattle.std.proofs.lemmas.List.{append-nil}
 use Rattle.std.proofs.lemmas.List.Elements.{filter-append}
 use Rattle.giop_stream.specs.Reading.{Reading}
-use Rattle.giop_stream.specs.Joined.Events.{Event, Open, octet, changed, opened, joined}
+use Rattle.giop_stream.specs.Joined.Events.{Event, opened, joined}
 use Rattle.giop_stream.specs.Joined.Lines.{Class, Start, Said_value, Said_call, Continuing, Cancelling, Imposing, Said_rest, Said_fault, Said_end, Stop, rank, class_of, Line, has_class, classes, by_class, is_last_of, standing}
 use Rattle.giop_stream.specs.Joined.State.{Kept}
 use Rattle.giop_stream.specs.Joined.Machine.{utters_kept, taking, utters, written, now_written}
-use Rattle.giop_stream.specs.Joined.Plays.{Scene, Play, lines_at, scene_at, plays}
-use Rattle.giop_stream.proofs.Lists.{filter_drops, filter_keeps, each_append, each_weaker, each_filter, any_append}
+use Rattle.giop_stream.specs.Joined.Plays.{Scene, lines_at, scene_at, plays}
+use Rattle.giop_stream.proofs.Lists.{filter_drops, filter_keeps, each_weaker, each_filter, any_append}
 use Rattle.giop_stream.proofs.Joined.Telling.{joined_append, standing_append, standing_drops, tells_number}
 
 -- ---- Lines in the order of their classes.

@@ -1,6 +1,6 @@
 -- The definitions run: what is written of streams with fragments, and at their end. Each row holds by computation, over a
 -- small reading: the request id, and at the close the octets behind it.
-use Rattle.std.proofs.Common.{◌≡◌, ℕ, suc, ◌+◌, ◌-◌, ◌*◌, Bool, true, false, List, [], ◌∷◌, ◌++◌, length, take, drop, refl, codes}
+use Rattle.std.proofs.Common.{◌≡◌, ℕ, ◌+◌, ◌-◌, ◌*◌, List, [], ◌∷◌, ◌++◌, length, take, drop, refl, codes}
 use Rattle.std.specs.Prelude.{nat_le, nat_lt, ◌==◌, if◌then◌else◌, ◌&&◌}
 use Rattle.std.specs.Fmt.{digits}
 use Rattle.giop_cdr.specs.Numbers.{num}

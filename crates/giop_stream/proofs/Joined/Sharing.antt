@@ -27,7 +27,7 @@ unfolding joined
 none_empty i = refl
 
 own_is : (i : ℕ) (m : Message) (what : Happening) → joined i (own m what) ≡ (if m.number == i then octet what else [])
-unfolding joined own title
+unfolding joined own
 own_is i m what = append-nil (if m.number == i then octet what else [])
 
 about_is : (i : ℕ) (m : Message) (o : Option Open) (what : Happening) → joined i (about m o what) ≡ continued i o (octet what)

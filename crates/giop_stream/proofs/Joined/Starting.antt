@@ -178,7 +178,7 @@ unfolding by_class classes
 start_first l header ls e h = rw (e, no_start_class ls h) refl
 
 begun : (R : Reading) (K : Kept) (m : Message) (e : Event) (xs : List ℕ) (rest : List Event) → e.whom ≡ title m → e.what ≡ Begins → K m.number ≡ Some xs → utters R K (e ∷ rest) ≡ line e (Started m.header) ∷ utters R (taking K (e ∷ [])) rest
-unfolding utters utters_kept tells title
+unfolding utters utters_kept tells
 begun R K m e xs rest w b k = rw (w, b, k) refl
 
 first_start : (e : Event) (header : List ℕ) → is_start (line e (Started header)).content ≡ true

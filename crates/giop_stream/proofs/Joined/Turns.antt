@@ -1,23 +1,23 @@
 -- The lines of an octet come in the order of their classes: those of its reading, then what the request id does, then
 -- those of the close.
-use Rattle.std.proofs.Common.{inl, inr, ◌⊎◌, ◌≡◌, ℕ, suc, ◌-◌, ◌<◌, ◌≤◌, Bool, true, false, List, [], ◌∷◌, ◌++◌, length, get_or, map, refl, sym, ap, subst, ◌∙◌, append_assoc, Option, Some, None, arith}
+use Rattle.std.proofs.Common.{inl, inr, ◌⊎◌, ◌≡◌, ℕ, suc, ◌-◌, ◌<◌, ◌≤◌, Bool, true, false, List, [], ◌∷◌, ◌++◌, length, get_or, map, refl, sym, ap, subst, append_assoc, Option, Some, None, arith}
 use Rattle.std.specs.Prelude.{nat_lt, nat_le, ◌==◌, if◌then◌else◌, ◌&&◌, ◌||◌, option_map}
 use Rattle.std.specs.List.{filter, AllByRecursion as Each}
-use Rattle.std.proofs.lemmas.Bool.{cases_lt, cases_eq, le-ltb, lt-ltb, eq-eqb, ne_eqb, and_right, and_parts, cases_Bool}
+use Rattle.std.proofs.lemmas.Bool.{cases_lt, cases_eq, le-ltb, lt-ltb, eq-eqb, ne_eqb, and_right}
 use Rattle.std.proofs.lemmas.List.{append-nil, length_push}
 use Rattle.giop_stream.specs.declared.fault.ImposedFault.{ImposedFault}
 use Rattle.giop_stream.specs.declared.fault.ImposedFault.TheVariants.{Short, NoOpen, IdOpen, TooManyOpen, FragmentOrder}
 use Rattle.giop_stream.specs.Headers.{order, has_more, size}
 use Rattle.giop_stream.specs.Framing.{Message}
-use Rattle.giop_stream.specs.Reading.{Saying, Value, Call, Rest, Fault, End, Remark, Reading}
+use Rattle.giop_stream.specs.Reading.{Saying, Value, Call, Rest, Fault, End, Reading}
 use Rattle.giop_stream.specs.Joined.Kinds.{is_fragment, is_opener, is_cancel, may_be_cancelled, has_name, refused}
-use Rattle.giop_stream.specs.Joined.Readings.{IsNamed, InTurn, IsOrdered, due, AtClose, IsClosing}
+use Rattle.giop_stream.specs.Joined.Readings.{InTurn, IsOrdered, due, AtClose, IsClosing, IsInTurn}
+use Rattle.giop_stream.specs.Joined.Plays.{IsBegun}
 use Rattle.giop_stream.specs.Joined.Events.{Happening, Begins, Takes, Opens, Continues, Cancelled, Imposed, Closes, Title, Event, Open, title, place, own, about, id, opener_of, goes_past, imposed, at_header, at_octet, opens_by, opens, most_open, same_order, continues_by, continues, cancels_by, cancels, at_id, at_end, happens, octet, joined}
-use Rattle.giop_stream.specs.Joined.Lines.{rank, Content, Started, Said, Goes_on, Ended_by, Faulted, class_of, Line, line, tells}
+use Rattle.giop_stream.specs.Joined.Lines.{Said, Line, line, tells}
 use Rattle.giop_stream.specs.Joined.State.{Kept}
 use Rattle.giop_stream.specs.Joined.Machine.{utters_kept, taking, utters}
-use Rattle.giop_stream.proofs.Lists.{each_append, each_weaker, each_map, each_filter}
-use Rattle.giop_stream.proofs.Joined.Telling.{joined_append}
+use Rattle.giop_stream.proofs.Lists.{each_append, each_weaker, each_filter}
 use Rattle.giop_stream.proofs.Joined.Ordering.{rank_of, Ordered}
 
 -- ---- Lines in order, of classes from one rank to another.
@@ -280,12 +280,6 @@ pair_ordered : {A B : Type 0} (d e : Event) (f : A → Saying) (g : A → List �
 pair_ordered d e f g f' g' [] ys h = said_ordered e f' g' ys h
 pair_ordered {A} {B} d e f g f' g' (x ∷ xs) ys h = (rw (rank_said d (f x) (g x)) (pair_each (λ n. said_rank (f x) ≤ n) d e f g f' g' xs ys h.0), pair_ordered d e f g f' g' xs ys h.1)
 
--- the laws asked of the reading
-pub record IsInTurn (R : Reading) : Type 0 where
-  pub named : IsNamed R
-  pub ordered : IsOrdered R
-  pub closing : IsClosing R
-
 abbrev event : ℕ → Title → Happening → Event
 event at whom what = record { place = at; whom = whom; what = what }
 
@@ -351,18 +345,11 @@ at_end_past live m short f = go (is_opener m.header) (has_more m.header) refl re
     go false true e k = inl (rw (at_end, short, e, f, k) refl)
     go false false e k = inr (rw (at_end, short, e, f, k) refl)
 
--- What is known of the octets kept of a message that begins with its request id, while that comes.
-pub IsBegun : Kept → Message → Type 0
-IsBegun K m = length m.payload ≤ 4 → (xs : List ℕ) → K m.number ≡ Some xs → length xs < length m.payload
-
-last_of : Message → ℕ
-last_of m = get_or m.payload (length m.payload - 1) 0
-
-own_named : (R : Reading) → IsInTurn R → (K : Kept) (m : Message) (x : ℕ) → has_name m.header ≡ true → length m.payload ≤ 4 → IsBegun K m → Spans 1 1 (utters R K (own m (Takes x)))
-unfolding own utters IsBegun
-own_named R laws K m x k short begun =
+own_named : (R : Reading) → IsInTurn R → (K : Kept) (m : Message) (x : ℕ) → has_name m.header ≡ true → 0 < length m.payload → length m.payload ≤ 4 → IsBegun K m → Spans 1 1 (utters R K (own m (Takes x)))
+unfolding own utters
+own_named R laws K m x k some short begun =
     subst (Spans 1 1) (sym (append-nil (utters_kept R (event (place m) (title m) (Takes x)) (K m.number))))
-    (named_takes R laws (place m) (title m) x (K m.number) k (λ xs e. let less = begun short xs e in omega arith))
+    (named_takes R laws (place m) (title m) x (K m.number) k (λ xs e. let less = begun some short xs e in omega arith))
 
 not_past : (m : Message) → length m.payload ≤ 4 → goes_past m ≡ false
 unfolding goes_past
@@ -415,7 +402,7 @@ named_octet : (R : Reading) → IsInTurn R → (K : Kept) (live : List Open) (m 
 unfolding happens at_octet
 named_octet R laws K live m some h short begun =
     rw (happens, at_octet, ne_eqb (length m.payload) 0 (λ e. omega arith), not_past m short)
-    (join_spans R K 1 1 3 8 (own m (Takes (get_or m.payload (length m.payload - 1) 0))) _ (omega arith) (omega arith) (omega arith) (own_named R laws K m (get_or m.payload (length m.payload - 1) 0) h short begun) (always_later R laws.closing live m)).ordered
+    (join_spans R K 1 1 3 8 (own m (Takes (get_or m.payload (length m.payload - 1) 0))) _ (omega arith) (omega arith) (omega arith) (own_named R laws K m (get_or m.payload (length m.payload - 1) 0) h some short begun) (always_later R laws.closing live m)).ordered
 
 -- the header's last octet
 first_octet : (R : Reading) → IsInTurn R → (K : Kept) (live : List Open) (m : Message) → length m.payload ≡ 0 → Ordered (utters R K (happens live m))

@@ -1,11 +1,11 @@
 -- What an octet does, an event after the other: the machine of the code does no more at once.
-use Rattle.std.specs.Prelude.{ℕ, false, List, [], ◌∷◌, ◌++◌, length, map, Option, Some, None, nat_lt, if◌then◌else◌, option_map}
+use Rattle.std.specs.Prelude.{◌≡◌, ℕ, suc, ◌<◌, ◌≤◌, false, List, [], ◌∷◌, ◌++◌, length, map, Option, Some, None, nat_lt, if◌then◌else◌, option_map}
 use Rattle.std.specs.List.{list_any}
 use Rattle.giop_stream.specs.Reading.{Reading}
 use Rattle.giop_stream.specs.Joined.Events.{Event, Open, octet, changed}
 use Rattle.giop_stream.specs.Joined.Lines.{Line, is_last_of, standing}
 use Rattle.giop_stream.specs.Headers.{size}
-use Rattle.giop_stream.specs.Framing.{Message}
+use Rattle.giop_stream.specs.Framing.{Message, with_payload}
 use Rattle.giop_stream.specs.Joined.State.{State, Kept, slots_of, own_of}
 use Rattle.giop_stream.specs.Joined.Machine.{Step, kept, utters_kept, taking, written, writes}
 
@@ -35,11 +35,29 @@ plays R c (e ∷ es) =
 unfoldable pub scene_of : State → ℕ → Scene
 scene_of s number = record { live = map (λ slot. slot.open_as) s.slots; known = kept s.slots number s.own }
 
+-- While a request id comes, no more is kept of its message than what came before this octet.
+abbrev pub IsBegun : Kept → Message → Type 0
+IsBegun known m = 0 < length m.payload → length m.payload ≤ 4 → (xs : List ℕ) → known m.number ≡ Some xs → length xs < length m.payload
+
 -- the state after a play, once the octet of m is done with
 unfoldable pub ends_with : State → Message → Play → Step
 ends_with s m p =
     let current = if nat_lt (length m.payload) (size m.header) then Some m else None in
     writes (record s { current = current; slots = slots_of p.scene.known p.scene.live; own = own_of p.scene.known p.scene.live current }) p.lines
+
+-- ---- An octet of a stream.
+
+-- the current message, with its next octet
+abbrev pub with_octet : Message → ℕ → Message
+with_octet m x = with_payload m (m.payload ++ x ∷ [])
+
+-- the state with an octet more that is read
+abbrev pub reading_on : State → State
+reading_on s = record s { read = suc s.read }
+
+-- the state in which a message begins
+abbrev pub beginning : State → State
+beginning s = record s { read = suc s.read; started = suc s.started; held = []; own = Some [] }
 
 -- ---- One message's part of an event: its lines, and its octets then, unless it is over.
 

@@ -27,3 +27,9 @@ AtClose sayings = (sayings ≡ Fault ∷ []) ⊎ (sayings ≡ End ∷ []) ⊎ (s
 pub record IsClosing (R : Reading) : Type 0 where
   pub closed : (header xs : List ℕ) → AtClose (map (λ l. l.0) (R.closes header xs))
   pub no_rest : (header xs : List ℕ) (x : ℕ) → map (λ r. r.saying) (due R header xs x) ≡ Fault ∷ [] → map (λ l. l.0) (R.closes header (xs ++ x ∷ [])) ≡ Rest ∷ End ∷ [] → ⊥
+
+-- what is asked of a reading whose lines are written as they come
+pub record IsInTurn (R : Reading) : Type 0 where
+  pub named : IsNamed R
+  pub ordered : IsOrdered R
+  pub closing : IsClosing R
