@@ -4,3 +4,4 @@ mod Gaps
 mod Digits
 mod LayoutLaws
 mod WrittenLaws
+mod Rows

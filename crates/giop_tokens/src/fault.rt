@@ -3,7 +3,8 @@
 use std::alloc::{AllocError, AllocFailed};
 use thiserror::Error;
 
-/// The rule that a signature file breaks. `Display` is the word that the program prints (docs/FORMATS.md).
+/// The rule that a signature file breaks. `Display` is the word that the program prints
+/// (docs/FORMATS.md).
 #[derive(Clone, Copy, Debug, PartialEq, Eq, Drop, Error)]
 pub enum SigFaultKind {
     /// Octets that are no token.
@@ -78,8 +79,8 @@ impl<T: Drop> From<AllocFailed<T>> for SigFault {
 pub struct Refusal {
     /// The rule that is broken.
     pub kind: SigFaultKind,
-    /// How many octets of the text are left, from the first octet of the offending token on; 0 at the end of the text
-    /// and for want of memory.
+    /// How many octets of the text are left, from the first octet of the offending token on; 0 at
+    /// the end of the text and for want of memory.
     pub left: usize,
 }
 

@@ -11,7 +11,8 @@ pub fn first_token()
         → (next text ≡ Ok (Some t, rest)) ↔ IsFirst text t rest }
 {}
 
-/// A text is these tokens where they are written in it, with white space and comments between them, and only there.
+/// A text is these tokens where they are written in it, with white space and comments between
+/// them, and only there.
 pub fn laid_out()
     ensures { (text : List ℕ) (ts : List Token) → AreTokens text ts ↔ IsLayout text ts }
 {}
@@ -22,7 +23,8 @@ pub fn one_list()
         → ts ≡ us }
 {}
 
-/// A text is refused where no token stands first, as Token at that place, and has no list of tokens then.
+/// A text is refused where no token stands first, as Token at that place, and has no list of
+/// tokens then.
 pub fn no_list()
     ensures place { (text : List ℕ) (r : Refusal) → next text ≡ Err r → r ≡ no_token text }
     ensures none { (text : List ℕ) (r : Refusal) → next text ≡ Err r

@@ -139,7 +139,10 @@ fn as_token<'a>(
     token: Option<Token<'a>>,
     rest: &'a [u8],
 ) -> Result<(Option<Token<'a>>, &'a [u8]), Refusal>
-    ensures { Gives (λ x. (option_map token_view x.0, x.1.now)) result (as_token text.now (option_map token_view token.entry) rest.now) }
+    ensures { Gives
+        (λ x. (option_map token_view x.0, x.1.now))
+        result
+        (as_token text.now (option_map token_view token.entry) rest.now) }
 {
     match token {
         None => Err(Refusal {
@@ -190,7 +193,8 @@ fn past_mark(text: &[u8]) -> &[u8]
     }
 }
 
-/// The first token of a text, behind white space and comments, and what follows it; none at the end of the text.
+/// The first token of a text, behind white space and comments, and what follows it; none at the
+/// end of the text.
 #[tactic(auto, unfolding(crate::specs::Tokens::next))]
 pub fn next(text: &[u8]) -> Result<(Option<Token<'_>>, &[u8]), Refusal>
     ensures { Gives (λ x. (option_map token_view x.0, x.1.now)) result (next text.now) }
@@ -198,7 +202,8 @@ pub fn next(text: &[u8]) -> Result<(Option<Token<'_>>, &[u8]), Refusal>
     first(after_gap(text))
 }
 
-/// The place of the first token of a text: how many octets are left from it on, 0 at the end of the text.
+/// The place of the first token of a text: how many octets are left from it on, 0 at the end of
+/// the text.
 pub fn left_of(text: &[u8]) -> usize
     ensures { result ≡ left_of text.now }
 {

@@ -11,7 +11,8 @@ fn line_feeds(text: &[u8]) -> usize
     text.iter().filter(|b| **b == b'\n').count()
 }
 
-/// The line, from 1, of the octet from which on so many are left, or of the last octet where none is left.
+/// The line, from 1, of the octet from which on so many are left, or of the last octet where none
+/// is left.
 pub fn line_of(text: &[u8], left: usize) -> u32
     requires { length text.now < 2 ^ 32 }
     ensures { result ≡ line_at text.now left }

@@ -1,5 +1,5 @@
-//! Readers of one token. Each gives what follows the token that it reads, and refuses with Token where there is no token
-//! and with Syntax, at the token, where it is another one or the text ends.
+//! Readers of one token. Each gives what follows the token that it reads, and refuses with Token
+//! where there is no token, and with Syntax, at the token, where it is another one or the text ends.
 ghost use Rattle.std.specs.Prelude.{◌≡◌, option_map};
 ghost use Rattle.giop_tokens.specs.Reading.{Gives};
 ghost use Rattle.giop_tokens.specs.Tokens.{token_view};
@@ -97,7 +97,8 @@ pub fn repository_id(text: &[u8]) -> Result<(&[u8], &[u8]), Refusal>
     }
 }
 
-/// What follows a mark, where the text begins with it; nothing where it begins with another token or ends.
+/// What follows a mark, where the text begins with it; nothing where it begins with another token
+/// or ends.
 #[tactic(auto, unfolding(crate::specs::Readers::next_if))]
 pub fn starts_with_mark(text: &[u8], wanted: Mark) -> Result<Option<&[u8]>, Refusal>
     ensures { Gives (λ x. option_map (λ r. r.now) x) result (mark_if wanted text.now) }
@@ -110,7 +111,8 @@ pub fn starts_with_mark(text: &[u8], wanted: Mark) -> Result<Option<&[u8]>, Refu
     })
 }
 
-/// What follows a word, where the text begins with it; nothing where it begins with another token or ends.
+/// What follows a word, where the text begins with it; nothing where it begins with another token
+/// or ends.
 #[tactic(auto, unfolding(crate::specs::Readers::next_if))]
 pub fn starts_with_keyword<'a>(text: &'a [u8], wanted: &[u8]) -> Result<Option<&'a [u8]>, Refusal>
     ensures { Gives (λ x. option_map (λ r. r.now) x) result (keyword_if wanted.now text.now) }
