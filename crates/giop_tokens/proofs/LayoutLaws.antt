@@ -1,19 +1,16 @@
 -- A text as it may be written is its tokens.
-use Rattle.std.proofs.Common.{◌≡◌, ◌≢◌, ℕ, zero, suc, ◌+◌, ◌≤◌, ◌<◌, ◌^◌, Bool, true, false, not, cond, eqb, ltb, leb, List, [], ◌∷◌, ◌++◌, ◌⊎◌, inl, inr, length, take, drop, get_or, map, Option, Some, None, Result, Ok, Err, append_assoc, refl, sym, ap, subst, ◌∙◌, arith}
-use Rattle.std.specs.Prelude.{◌&&◌, ◌||◌, nat_le, nat_lt, decimal, option_map, slice_index}
-use Rattle.std.specs.List.{AllByRecursion, prefix_len, list_all}
-use Rattle.std.specs.Char.{digit_value}
-use Rattle.std.specs.Str.Parse.{AllDigits, digits_value}
-use Rattle.std.proofs.lemmas.Bool.{and_parts, eqb-true, ltb-true, ltb-false, le-ltb, lt-ltb, le-leb, leb-true, ne_eqb, true≢false}
+use Rattle.std.proofs.Common.{◌≡◌, ℕ, ◌<◌, ◌^◌, Bool, true, false, eqb, List, [], ◌∷◌, ◌++◌, inl, inr, length, map, Option, Some, None, Result, Ok, append_assoc, refl, sym, ap, subst, ◌∙◌, arith}
+use Rattle.std.specs.Prelude.{◌||◌, nat_le, decimal, slice_index}
+use Rattle.std.specs.List.{AllByRecursion, prefix_len}
+use Rattle.std.proofs.lemmas.Bool.{eqb-true, le-leb, ne_eqb, true≢false}
 use Rattle.std.proofs.lemmas.List.{take_at, drop_at}
 use Rattle.giop_tokens.specs.declared.fault.Refusal.{Refusal}
-use Rattle.giop_tokens.specs.declared.fault.SigFaultKind.TheVariants as kinds
 use Rattle.giop_tokens.specs.declared.marks.Mark.{Mark}
 use Rattle.giop_tokens.specs.declared.marks.Mark.TheVariants as marks
 use Rattle.giop_tokens.specs.Marks.{octet_of, mark_of}
-use Rattle.giop_tokens.specs.Tokens.{Token, word, number, negative, repository, mark, is_white, is_digit, is_word, is_id, gap_step, or_stop, gap, run, past, is_number, number_of, word_token, below_zero, repository_token, as_token, first, next, AreTokens}
-use Rattle.giop_tokens.proofs.Digits.{IsNumber, decimal_is_number, digits_are_word, digit_at, number_of_decimal, number_of_is}
-use Rattle.giop_tokens.specs.Layout.{IsWord, IsId, IsToken, written, is_run, Space, white, comment, IsLine, IsSpace, space, spaces, IsTail, Laid, printed, AreLaid, IsFirst, IsLayout}
+use Rattle.giop_tokens.specs.Tokens.{Token, word, number, negative, repository, mark, is_white, is_digit, is_word, is_id, gap, run, past, number_of, word_token, below_zero, first, next, AreTokens}
+use Rattle.giop_tokens.proofs.Digits.{decimal_is_number, digits_are_word, digit_at, number_of_decimal}
+use Rattle.giop_tokens.specs.Layout.{IsId, IsToken, written, is_run, Space, white, comment, IsLine, IsSpace, space, spaces, IsTail, Laid, printed, AreLaid, IsFirst, IsLayout}
 
 -- ---- White space and comments are passed over.
 

@@ -1,17 +1,16 @@
 -- What the readers give of a text of known tokens, and what tokens a text has that they read.
-use Rattle.std.proofs.Common.{◌≡◌, ℕ, ◌≤◌, ◌<◌, Bool, true, false, cond, eqb, ltb, List, [], ◌∷◌, ◌++◌, length, Option, Some, None, Result, Ok, Err, refl, sym, ap, subst, ◌∙◌, arith}
+use Rattle.std.proofs.Common.{◌≡◌, ℕ, ◌≤◌, ◌<◌, Bool, true, false, cond, eqb, ltb, List, [], ◌∷◌, length, Option, Some, None, Result, Ok, Err, refl, sym, ap, subst, ◌∙◌}
 use Rattle.std.specs.Prelude.{option_and_then}
 use Rattle.std.specs.Str.{bytes_eq}
 use Rattle.std.proofs.lemmas.Slice.Eq.{bytes_eq-Decides}
 use Rattle.std.proofs.lemmas.Bool.{eqb-true, ltb-false, le-ltb, lt-ltb}
 use Rattle.giop_tokens.specs.declared.fault.Refusal.{Refusal}
-use Rattle.giop_tokens.specs.declared.fault.SigFaultKind.TheVariants as kinds
 use Rattle.giop_tokens.specs.declared.marks.Mark.{Mark}
 use Rattle.giop_tokens.specs.declared.marks.Mark.TheVariants as marks
 use Rattle.giop_tokens.specs.Marks.{octet_of, mark_of}
 use Rattle.giop_tokens.specs.Tokens.{Token, word, number, negative, repository, mark, next, AreTokens}
 use Rattle.giop_tokens.specs.Reading.{◌>>=◌}
-use Rattle.giop_tokens.specs.Readers.{misplaced, as_word, as_number, as_repository, is_the_mark, is_the_word, wanted, passes, next_as, next_is, next_if, word_at, number_at, repository_at, mark_at, keyword_at, mark_if, keyword_if, is_end, end_at}
+use Rattle.giop_tokens.specs.Readers.{misplaced, as_word, as_number, as_repository, is_the_mark, is_the_word, wanted, passes, next_as, next_is, next_if, word_at, number_at, repository_at, mark_at, keyword_at, mark_if, keyword_if, end_at}
 use Rattle.giop_tokens.specs.Names.{is_reserved, too_long, identifier_at, operation_name_at}
 
 -- ---- Steps of a reading.

@@ -1,10 +1,10 @@
 -- Worked texts, by computation (docs/FORMATS.md, Signature file).
-use Rattle.std.proofs.Common.{◌≡◌, List, [], ◌∷◌, Some, None, Ok, Err, refl}
+use Rattle.std.proofs.Common.{◌≡◌, [], ◌∷◌, Some, Ok, Err, refl}
 use Rattle.std.specs.Prelude.{codes}
 use Rattle.giop_tokens.specs.declared.fault.SigFaultKind.TheVariants as kinds
 use Rattle.giop_tokens.specs.declared.marks.Mark.TheVariants as marks
 use Rattle.giop_tokens.specs.Marks.{mark_of}
-use Rattle.giop_tokens.specs.Tokens.{Token, word, number, negative, repository, mark, gap, is_number, first, next, AreTokens}
+use Rattle.giop_tokens.specs.Tokens.{word, number, negative, repository, mark, gap, is_number, first, next, AreTokens}
 
 member : AreTokens (codes "long x[12];// end") (word (codes "long") ∷ word (codes "x") ∷ mark marks.OpenBracket ∷ number 12 ∷ mark marks.CloseBracket ∷ mark marks.Semicolon ∷ [])
 unfolding next first gap is_number mark_of

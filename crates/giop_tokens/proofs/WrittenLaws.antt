@@ -1,16 +1,16 @@
 -- The tokens of a text are written in it, with white space and comments between them.
-use Rattle.std.proofs.Common.{◌≡◌, ◌≢◌, ℕ, zero, suc, ◌+◌, ◌≤◌, ◌<◌, ◌^◌, Bool, true, false, not, cond, eqb, ltb, leb, List, [], ◌∷◌, ◌++◌, ◌⊎◌, inl, inr, length, take, drop, get_or, map, Option, Some, None, Result, Ok, Err, append_assoc, refl, sym, ap, subst, ◌∙◌, arith}
-use Rattle.std.specs.Prelude.{◌&&◌, ◌||◌, nat_le, nat_lt, decimal, option_map, slice_index}
+use Rattle.std.proofs.Common.{◌≡◌, ℕ, suc, ◌+◌, ◌<◌, ◌^◌, Bool, true, false, cond, eqb, List, [], ◌∷◌, ◌++◌, ◌⊎◌, inl, inr, length, drop, Option, Some, None, Result, Ok, append_assoc, refl, sym, ap, subst, ◌∙◌, arith}
+use Rattle.std.specs.Prelude.{nat_le, decimal, option_map, slice_index}
 use Rattle.std.specs.List.{AllByRecursion, prefix_len}
-use Rattle.std.proofs.lemmas.Bool.{and_parts, eqb-true, eqb-false, leb-true, true≢false}
+use Rattle.std.proofs.lemmas.Bool.{eqb-true, eqb-false, leb-true}
 use Rattle.std.proofs.lemmas.List.{take-append-drop}
 use Rattle.giop_tokens.specs.declared.fault.Refusal.{Refusal}
 use Rattle.giop_tokens.specs.declared.marks.Mark.{Mark}
 use Rattle.giop_tokens.specs.declared.marks.Mark.TheVariants as marks
 use Rattle.giop_tokens.specs.Marks.{octet_of, mark_of}
-use Rattle.giop_tokens.specs.Tokens.{Token, word, number, negative, repository, mark, is_white, is_digit, is_word, is_id, gap_step, or_stop, gap, run, past, is_number, number_of, word_token, below_zero, repository_token, as_token, first, next, AreTokens}
+use Rattle.giop_tokens.specs.Tokens.{Token, word, number, negative, repository, mark, is_white, is_digit, is_word, is_id, gap, run, past, number_of, word_token, below_zero, repository_token, as_token, first, next, AreTokens}
 use Rattle.giop_tokens.proofs.Digits.{IsNumber, number_of_is}
-use Rattle.giop_tokens.specs.Layout.{IsWord, IsId, IsToken, written, is_run, Space, white, comment, IsLine, IsSpace, space, spaces, IsTail, Laid, printed, AreLaid, IsFirst, IsLayout}
+use Rattle.giop_tokens.specs.Layout.{IsId, IsToken, written, is_run, Space, white, comment, IsLine, IsSpace, spaces, IsTail, IsFirst, IsLayout}
 
 -- ---- What stands before the first token.
 

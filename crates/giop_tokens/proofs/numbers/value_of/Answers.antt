@@ -1,4 +1,4 @@
-use Rattle.std.proofs.Common.{◌≡◌, ◌<◌, length, get_or, take, take_all, arith, sym}
+use Rattle.std.proofs.Common.{get_or, arith}
 use Rattle.std.proofs.lemmas.Int.Digits.{digits_value_more, digits_more}
 use Rattle.giop_tokens.proofs.Digits.{digit_at, digit_bounds, digit_is, digit_small, value_small}
 use Rattle.giop_tokens.proofs.numbers.value_of.Goals as goal
