@@ -103,8 +103,8 @@ pub step_fits : (C : Table) (d new : Decoder) (f : Fits C d) (octet : ℕ) (g : 
     Link C f.root new.outer.items (leaf_type g.leaf) → AreKnown C new.outer.items → leaf_type g.leaf < length C.types → IsClean g.leaf new.carry new.piece.items → Fits C new
 step_fits C d new f octet g at link known_outer known clean =
     let sound : Sound (tree C f.root) (d.at + 1) (stepped C d d.at octet) =
-        subst (λ l. Sound (tree C f.root) (d.at + 1) (step d.order [] (places C d.outer.items) (leaf_in C d l) d.at octet)) (sym f.goes_on)
-        (step_keeps 24 d.order [] (tree C f.root) (places C d.outer.items) (leaf_of C f.leaf d.carry d.piece.items) d.at octet f.fit f.fits) in
+    subst (λ l. Sound (tree C f.root) (d.at + 1) (step d.order [] (places C d.outer.items) (leaf_in C d l) d.at octet)) (sym f.goes_on)
+    (step_keeps 24 d.order [] (tree C f.root) (places C d.outer.items) (leaf_of C f.leaf d.carry d.piece.items) d.at octet f.fit f.fits) in
     record {
       leaf = g.leaf;
       goes_on = g.goes_on;

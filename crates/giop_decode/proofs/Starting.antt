@@ -63,7 +63,7 @@ pub first_fits : (C : Table) (of : ℕ) (d : Decoder) (first : TypeId) → of < 
 first_fits C of d first known_root fit goes_on empty none are leaf link known_outer known at =
     let T = tree C of in
     let sound : Sound T (0 + 0) (Short [] 0 (start_outer T) (start_leaf T)) =
-        subst (Sound T (0 + 0)) (read_none d.order [] 24 T 0 fit) (read_keeps 24 d.order [] T fit 0 []) in
+    subst (Sound T (0 + 0)) (read_none d.order [] 24 T 0 fit) (read_keeps 24 d.order [] T fit 0 []) in
     record {
       leaf = innermost.Number first;
       goes_on = goes_on;

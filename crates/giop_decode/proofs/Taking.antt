@@ -60,7 +60,7 @@ read_more C T order at message root d s b f r =
     let here = at + length s in
     let stands : standing C d r.lines here ≡ Short r.lines here (places C d.outer.items) (leaf_of C f.leaf d.carry d.piece.items) = ap (λ l. standing_in C d l r.lines here) f.goes_on in
     let steps : step d.order [] (places C d.outer.items) (leaf_of C f.leaf d.carry d.piece.items) here b ≡ stepped C d here b =
-        ap (λ l. step d.order [] (places C d.outer.items) (leaf_in C d l) here b) (sym f.goes_on) in
+    ap (λ l. step d.order [] (places C d.outer.items) (leaf_in C d l) here b) (sym f.goes_on) in
     read_goes order [] T at s b
     ∙ (ap (λ x. advance order [] x b) (r.is ∙ stands)
     ∙ (ap (λ o. with_front r.lines (step o [] (places C d.outer.items) (leaf_of C f.leaf d.carry d.piece.items) here b)) (sym r.same_order) ∙ ap (with_front r.lines) steps))
@@ -85,10 +85,10 @@ module _ (C : Table) (T : Ty) (order : Order) (at message : ℕ) (root : Root) (
       let more = read_more C T order at message root old s b f r in
       let end : here + 1 ≡ at + length (s ++ b ∷ []) = omega (arith, length_one_more s b) in
       let named : names_operation (is_header_root new.root) c.0 ≡ names_operation (is_header_root root) (due order T at s b) =
-          rw (due_is C T order at message root old s b f r, lines_progressed C new _ p c.0 (here + 1) st c.1, same_root, r.same_root) refl in
+      rw (due_is C T order at message root old s b f r, lines_progressed C new _ p c.0 (here + 1) st c.1, same_root, r.same_root) refl in
       let minds : Minds root new (read order [] T at (s ++ b ∷ [])) =
-          rw more (subst (λ k. Minds k new (with_front r.lines st)) r.same_root
-          (hears here r.lines (sym r.offset) (subst (λ k. Minds k old (standing C old r.lines here)) (sym r.same_root) (rw r.is at r.minds)))) in
+      rw more (subst (λ k. Minds k new (with_front r.lines st)) r.same_root
+      (hears here r.lines (sym r.offset) (subst (λ k. Minds k old (standing C old r.lines here)) (sym r.same_root) (rw r.is at r.minds)))) in
       record {
         answer = rw (← named, more) (answers C new _ p r.lines c.0 (here + 1) (at + length (s ++ b ∷ [])) st end c.1);
         reads = λ unfaulty. record {

@@ -269,7 +269,11 @@ fn unended(named: bool, leaf: Option<Leaf>) -> Progress
     ensures { IsGoing named leaf result }
 {
     match leaf {
-        Some(_) => if named { Progress::Named } else { Progress::More },
+        Some(_) => if named {
+            Progress::Named
+        } else {
+            Progress::More
+        },
         None => Progress::Done,
     }
 }

@@ -93,7 +93,10 @@ returns-clause-minds g c here front h old =
     let s = rw c.of-of.ensures at (c.settle.ensures.settles d.order [] (here + 1) t.lines) in
     let i = rw c.of-of.ensures at (c.settle.ensures.inside (here + 1) t.lines) in
     let before : Recalls d.memory (hushed (leaf_in_string T leaf) (heard header nothing front)) =
-        subst (λ b. Recalls d.memory (hushed b (heard header nothing front))) (leaf_inside C leaf d.carry d.piece.items) (rw c.in-Some.is at old) in
+    subst (λ b. Recalls d.memory (hushed b (heard header nothing front))) (leaf_inside C leaf d.carry d.piece.items) (rw c.in-Some.is at old) in
     let now = rw (c.of-of.ensures, c.as_slice-2.ensures.value) at (c.hear-named.ensures.hears (hushed (leaf_in_string T leaf) (heard header nothing front)) (here + 1) t.lines before) in
-    rw (c.settle.ensures.memory, ← heard_on header C leaf c.take_octet-step.result.turn c.take_octet-step.result.spoken (path_in [] ps) (here + 1) front t.lines (stepped C d here c.args.octet)
-    c.take_octet-step.ensures.voices t.says (ap in_string (e ∙ s) ∙ i) ls) (now t.says)
+    rw (
+      c.settle.ensures.memory,
+      ← heard_on header C leaf c.take_octet-step.result.turn c.take_octet-step.result.spoken (path_in [] ps) (here + 1) front t.lines (stepped C d here c.args.octet)
+          c.take_octet-step.ensures.voices t.says (ap in_string (e ∙ s) ∙ i) ls,
+    ) (now t.says)
