@@ -15,6 +15,7 @@ pub mod PieceLaws
 pub mod Segments
 pub mod Settling
 pub mod Advancing
+pub mod Waiting
 pub mod Starting
 pub mod Hearing
 pub mod Taking

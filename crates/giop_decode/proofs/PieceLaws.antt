@@ -1,5 +1,6 @@
 -- One octet more of a content.
-use Rattle.std.proofs.Common.{◌≡◌, ◌≢◌, ℕ, ◌+◌, ◌-◌, ◌<◌, ◌≤◌, true, false, List, [], ◌∷◌, ◌++◌, length, take, get_or, Option, refl, ap, arith, lt-ltb, le-ltb, take_all, ne_eqb}
+use Rattle.std.proofs.lemmas.Bool.{cases_lt}
+use Rattle.std.proofs.Common.{◌≡◌, ◌≢◌, ℕ, ◌+◌, ◌-◌, ◌<◌, ◌≤◌, ◌⊎◌, inl, inr, true, false, List, [], ◌∷◌, ◌++◌, length, take, get_or, Option, refl, ap, arith, lt-ltb, le-ltb, take_all, ne_eqb}
 use Rattle.std.proofs.Math.Seq.{take-append_seam}
 use Rattle.giop_decode.specs.declared.progress.Kind.TheVariants as kinds
 use Rattle.giop_decode.specs.Spine.{Seg, line, Piece, Content, Done, Short, Fault, with_front}
@@ -38,3 +39,12 @@ module _ (T : Ty) (path : List Seg) (total offset at : ℕ) (piece : List ℕ) (
   pub text_bad : (bound : Option ℕ) → T ≡ Text bound → total - offset ≤ 32 → length piece ≡ total - offset → b ≢ 0 →
       content_step T path total offset at piece b ≡ Fault [] (at + 1) kinds.StringEnd T
   text_bad bound is small whole bad = rw (is, le-ltb, block_step_got (total - offset + 1) at piece b (omega arith), ← whole, get_or_seam, ne_eqb b 0 bad) refl
+
+  -- an octet that leaves the piece incomplete, be it the last or not
+  pub content_held : length piece + 1 < 32 → length piece + 1 < total - offset →
+      content_step T path total offset at piece b ≡ Short [] (at + 1) [] (Content T total offset (piece ++ b ∷ []))
+  content_held room some = go (cases_lt 32 (total - offset))
+    where
+      go : (32 < total - offset) ⊎ (total - offset ≤ 32) → content_step T path total offset at piece b ≡ Short [] (at + 1) [] (Content T total offset (piece ++ b ∷ []))
+      go (inl large) = full_more large room
+      go (inr small) = last_more small (omega (arith, some))

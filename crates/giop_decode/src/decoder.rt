@@ -1,6 +1,6 @@
 //! A decoder of one value: the state that reading a list of octets leaves.
 
-ghost use Rattle.std.specs.Prelude.{◌≡◌, ℕ, ◌+◌, ◌-◌, ◌%◌, ◌<◌, ◌≤◌, Bool, List, [], ◌++◌, length, ◌↔◌, IsTrue, IfOk, OnOk, None, Some};
+ghost use Rattle.std.specs.Prelude.{◌≡◌, ℕ, ◌+◌, ◌-◌, ◌%◌, ◌<◌, ◌≤◌, Bool, List, [], ◌++◌, length, ◌↔◌, IsTrue, false, IfOk, OnOk, None, Some};
 ghost use Rattle.std.specs.Option.{option_map};
 ghost use Rattle.giop_cdr.specs.declared.order.Order.{Order as ByteOrder};
 ghost use Rattle.giop_decode.specs.declared.leaf.Leaf.{Leaf as Innermost};
@@ -20,7 +20,7 @@ ghost use Rattle.giop_sig.specs.Fits.{IsFit, IsEmptyStruct};
 ghost use Rattle.giop_sig.specs.Trees.{tree};
 
 use crate::frame::{Frame, begin, go_on, is_empty};
-use crate::leaf::{Leaf, Turn, take_octet};
+use crate::leaf::{Leaf, Turn, hold, take_octet};
 use crate::line::say;
 use crate::memory::Memory;
 use crate::progress::Progress;
@@ -99,6 +99,9 @@ impl Decoder {
         ensures fits { IfOk result (λ p. GoesOn p → Fits catalogue.now self.new) }
         ensures done { IfOk result (λ p. p ≡ Progress.Done → IsDone self.new) }
     {
+        if self.hold(catalogue, octet) {
+            return Ok(Progress::More);
+        }
         let progress = self.advance(catalogue, octet, out)?;
         Ok(progress)
     }
@@ -191,6 +194,40 @@ impl Decoder {
                 }
             }
         }
+    }
+
+    /// Takes an octet that only adds to what is held, as most do, and answers whether it was one.
+    fn hold(&mut self, catalogue: &Catalogue, octet: u8) -> bool
+        requires fits { Fits catalogue.now self.old }
+        ensures fits { Fits catalogue.now self.new }
+        ensures left { result ≡ false → self.new ≡ self.old }
+        ensures order { self.new.order ≡ self.old.order }
+        ensures root { self.new.root ≡ self.old.root }
+        ensures message { self.new.message ≡ self.old.message }
+        ensures at { IsTrue result → self.new.at ≡ (self.old.at + 1) % 8 }
+        ensures quiet { IsTrue result → (here : ℕ) → here % 8 ≡ self.old.at →
+            lines_of (stepped catalogue.now self.old here octet) ≡ [] }
+        ensures steps { IsTrue result → (here : ℕ) → here % 8 ≡ self.old.at →
+            Comes catalogue.now self.new Progress.More (here + 1) (stepped catalogue.now self.old here octet) }
+        ensures minds { IsTrue result → (here : ℕ) (front : List Line) → here % 8 ≡ self.old.at →
+            Minds self.old.root self.old (standing catalogue.now self.old front here) →
+            Minds self.old.root self.new (with_front front (stepped catalogue.now self.old here octet)) }
+    {
+        let Some(leaf) = self.leaf else {
+            unreachable!();
+        };
+        if hold(
+            catalogue,
+            self.at,
+            leaf,
+            octet,
+            &mut self.carry,
+            &mut self.piece,
+        ) {
+            self.at = (self.at + 1) % 8;
+            return true;
+        }
+        false
     }
 
     /// Does one step: what the innermost part gives to say is said and heard, and then the parts around it go on.

@@ -5,7 +5,7 @@ ghost use Rattle.arrayvec.specs.ArrayVec.{array_vec_len};
 ghost use Rattle.giop_cdr.specs.Alignment.{IsAlignment};
 ghost use Rattle.giop_cdr.specs.Numbers.{num};
 ghost use Rattle.giop_cdr.specs.declared.order.Order.{Order as ByteOrder};
-ghost use Rattle.giop_decode.specs.Spine.{Seg};
+ghost use Rattle.giop_decode.specs.Spine.{Seg, Short};
 ghost use Rattle.giop_decode.specs.Heard.{is_text};
 ghost use Rattle.giop_decode.specs.Pieces.{over, tail};
 ghost use Rattle.giop_decode.specs.Recalling.{Voices, leaf_in_string};
@@ -148,6 +148,39 @@ fn take_number(carry: &mut Carry, at: u8, width: u8, octet: u8) -> bool
     }
     carry.push(octet);
     carry.len() == usize::from(width)
+}
+
+/// Takes an octet of the padding before a number, or one that leaves the number incomplete, and answers whether it was one.
+#[tactic(auto, using(crate::proofs::Padding::number_laws))]
+fn hold_number(carry: &mut Carry, at: u8, width: u8, octet: u8) -> bool
+    requires width { IsAlignment width }
+    requires room { length carry.old < width }
+    ensures left { result ≡ false → carry.new ≡ carry.old }
+    ensures holds { IsTrue result → (here : ℕ) → here % 8 ≡ at →
+        number_step width here carry.old octet ≡ grab_of false carry.new (here + 1) }
+{
+    if carry.is_empty() && pad(u64::from(at), width) > 0 {
+        return true;
+    }
+    if carry.len() + 1 < usize::from(width) {
+        carry.push(octet);
+        return true;
+    }
+    false
+}
+
+/// Takes an octet that leaves the piece incomplete, where so much of a content is left from the piece's start, and
+/// answers whether it was one.
+fn hold_content(left: u32, octet: u8, piece: &mut ArrayVec<u8, 32>) -> bool
+    ensures left { result ≡ false → piece.new ≡ piece.old }
+    ensures holds { IsTrue result → (piece.new.items ≡ piece.old.items ++ octet ∷ []) × (length piece.old.items + 1 < 32) × (length piece.old.items + 1 < left) }
+{
+    let held = piece.len() + 1;
+    if held < 32 && held < left as usize {
+        piece.push(octet);
+        return true;
+    }
+    false
 }
 
 /// An octet that breaks a rule.
@@ -443,6 +476,31 @@ fn taken_piece(piece: &mut ArrayVec<u8, 32>, offset: u32, more: bool) -> Spoken
         offset,
         octets: mem::take(piece),
         more,
+    }
+}
+
+/// Takes an octet that only adds to what is held, as most do, and answers whether it was one: padding, an octet that
+/// leaves a number incomplete, or one that leaves a piece so. Any other is left to `take_octet`.
+pub(crate) fn hold(
+    catalogue: &Catalogue,
+    at: u8,
+    leaf: Leaf,
+    octet: u8,
+    carry: &mut Carry,
+    piece: &mut ArrayVec<u8, 32>,
+) -> bool
+    requires known { leaf_type leaf < length catalogue.now.types }
+    requires fits { FitsIn (tree catalogue.now (leaf_type leaf)) [] (leaf_of catalogue.now leaf carry.old piece.old.items) }
+    requires clean { IsClean leaf carry.old piece.old.items }
+    ensures clean { IsClean leaf carry.new piece.new.items }
+    ensures left { result ≡ false → (carry.new ≡ carry.old) × (piece.new ≡ piece.old) }
+    ensures holds { IsTrue result → (order : ByteOrder) (path : List Seg) (here : ℕ) → here % 8 ≡ at →
+        leaf_step order path (leaf_of catalogue.now leaf carry.old piece.old.items) here octet
+        ≡ Short [] (here + 1) [] (leaf_of catalogue.now leaf carry.new piece.new.items) }
+{
+    match leaf {
+        Leaf::Number(of) => hold_number(carry, at, width(catalogue, of), octet),
+        Leaf::Content { total, offset, .. } => hold_content(total - offset, octet, piece),
     }
 }
 

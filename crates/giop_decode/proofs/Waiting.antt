@@ -1,0 +1,70 @@
+-- An octet that only adds to what is held.
+use Rattle.std.proofs.Common.{◌≡◌, ℕ, ◌+◌, ◌%◌, List, [], ◌++◌, Some, refl, sym, ◌∙◌, ap, subst, arith, append-nil}
+use Rattle.arrayvec.specs.ArrayVec.{ArrayVec}
+use Rattle.giop_cdr.specs.declared.order.Order.{Order}
+use Rattle.giop_decode.specs.declared.decoder.Decoder.{Decoder}
+use Rattle.giop_decode.specs.declared.leaf.Leaf.{Leaf as Innermost}
+use Rattle.giop_decode.specs.declared.progress.Progress.TheVariants as progress
+use Rattle.giop_decode.specs.Heard.{heard, heard_of, hushed, is_header_root, nothing}
+use Rattle.giop_decode.specs.Holding.{Fits, Minds, Recalls, standing, standing_in}
+use Rattle.giop_decode.specs.Moves.{stepped, leaf_in, Comes}
+use Rattle.giop_decode.specs.Spine.{Line, Read, Seg, Short, with_front}
+use Rattle.giop_decode.specs.Steps.{around, leaf_step, path_in, step}
+use Rattle.giop_decode.specs.Turns.{places, leaf_of, leaf_type, IsClean}
+use Rattle.giop_decode.proofs.Advancing.{same_some, step_fits}
+use Rattle.giop_decode.proofs.Hearing.{leaf_inside}
+use Rattle.giop_decode.proofs.Settling.{around_more}
+use Rattle.giop_sig.specs.Table.{Table}
+use Rattle.giop_sig.specs.Trees.{tree}
+
+-- a decoder whose held octets are these, at this offset
+abbrev pub held_in : Decoder → List ℕ → ArrayVec ℕ → ℕ → Decoder
+held_in d carry piece at = record {
+  order = d.order;
+  root = d.root;
+  message = d.message;
+  at = at;
+  outer = d.outer;
+  leaf = d.leaf;
+  carry = carry;
+  piece = piece;
+  memory = d.memory;
+  path = d.path;
+}
+
+-- the octet leaves the innermost part at its place, with what is now held
+abbrev pub Holds : Table → Decoder → Decoder → Innermost → ℕ → ℕ → Type 0
+Holds C d new leaf here octet = (order : Order) (path : List Seg) →
+    leaf_step order path (leaf_of C leaf d.carry d.piece.items) here octet ≡ Short [] (here + 1) [] (leaf_of C leaf new.carry new.piece.items)
+
+module _ (C : Table) (d new : Decoder) (leaf : Innermost) (octet : ℕ) where
+  pub step_held : (here : ℕ) → d.leaf ≡ Some leaf → new.leaf ≡ Some leaf → new.outer ≡ d.outer → Holds C d new leaf here octet →
+      stepped C d here octet ≡ Short [] (here + 1) (places C new.outer.items) (leaf_of C leaf new.carry new.piece.items)
+  step_held here e e' same holds =
+      let ps = places C d.outer.items in
+      ap (λ l. step d.order [] ps (leaf_in C d l) here octet) e
+      ∙ (ap (around d.order [] ps) (holds d.order (path_in [] ps))
+      ∙ (around_more d.order [] ps [] (here + 1) (leaf_of C leaf new.carry new.piece.items)
+      ∙ ap (λ (o : _). Short [] (here + 1) (places C o.items) (leaf_of C leaf new.carry new.piece.items)) (sym same)))
+
+  held_stands : (here : ℕ) → d.leaf ≡ Some leaf → new.leaf ≡ Some leaf → new.outer ≡ d.outer → Holds C d new leaf here octet → stepped C d here octet ≡ standing C new [] (here + 1)
+  held_stands here e e' same holds = step_held here e e' same holds ∙ sym (ap (λ l. standing_in C new l [] (here + 1)) e')
+
+  pub held_comes : (here : ℕ) → d.leaf ≡ Some leaf → new.leaf ≡ Some leaf → new.outer ≡ d.outer → Holds C d new leaf here octet → Comes C new progress.More (here + 1) (stepped C d here octet)
+  held_comes here e e' same holds = ([], (held_stands here e e' same holds, (leaf, e'), refl))
+
+  pub held_fits : (f : Fits C d) → d.leaf ≡ Some leaf → new.leaf ≡ Some leaf → new.outer ≡ d.outer → new.at ≡ (d.at + 1) % 8 → IsClean leaf new.carry new.piece.items →
+      Holds C d new leaf d.at octet → Fits C new
+  held_fits f e e' same at clean holds =
+      let it : f.leaf ≡ leaf = same_some f.leaf leaf (sym f.goes_on ∙ e) in
+      step_fits C d new f octet (record { lines = []; is = held_stands d.at e e' same holds; leaf = leaf; goes_on = e' }) at
+      (rw (same, ← it) f.link) (rw same f.known_outer) (rw (← it) f.known) clean
+
+  pub held_minds : (here : ℕ) (front : List Line) → d.leaf ≡ Some leaf → new.leaf ≡ Some leaf → new.outer ≡ d.outer → new.memory ≡ d.memory → Holds C d new leaf here octet →
+      Minds d.root d (standing C d front here) → Minds d.root new (with_front front (stepped C d here octet))
+  held_minds here front e e' same memory holds old =
+      let header = is_header_root d.root in
+      let before : Recalls d.memory (heard_of header (Short front here (places C d.outer.items) (leaf_of C leaf d.carry d.piece.items))) =
+          subst (λ l. Recalls d.memory (heard_of header (standing_in C d l front here))) e old in
+      let now = rw (leaf_inside C leaf d.carry d.piece.items, ← leaf_inside C leaf new.carry new.piece.items) at before in
+      rw (memory, step_held here e e' same holds, append-nil front) now
