@@ -1,12 +1,10 @@
 -- What is heard of an octet.
 use Rattle.std.specs.Prelude.{slice_index_or, codes}
 use Rattle.std.specs.Str.{bytes_eq}
-use Rattle.std.proofs.Common.{◌≡◌, ◌≢◌, ℕ, ◌+◌, ◌&&◌, Bool, true, false, List, [], ◌∷◌, ◌++◌, length, refl, sym, ◌∙◌, ap, subst, arith}
-use Rattle.giop_decode.specs.declared.decoder.Decoder.{Decoder}
+use Rattle.std.proofs.Common.{◌≡◌, ◌≢◌, ℕ, ◌&&◌, Bool, true, false, List, [], ◌∷◌, ◌++◌, length, refl, ◌∙◌, arith}
 use Rattle.giop_decode.specs.declared.leaf.Leaf.{Leaf as Innermost}
 use Rattle.giop_decode.specs.declared.leaf.Leaf.TheVariants as innermost
 use Rattle.giop_decode.specs.declared.leaf.Turn.{Turn}
-use Rattle.giop_decode.specs.declared.leaf.Turn.TheVariants as turns
 use Rattle.giop_decode.specs.declared.leaf.Spoken.{Spoken}
 use Rattle.giop_decode.specs.declared.leaf.Spoken.TheVariants as spokens
 use Rattle.giop_decode.specs.Heard.{Heard, hear_value, ended, with_piece, heard_piece, is_member, heard, heard_of, hushed, in_content, in_string, is_text, nothing}

@@ -1,14 +1,14 @@
 -- A decoder before the first octet.
-use Rattle.std.proofs.Common.{◌≡◌, ℕ, zero, suc, ◌+◌, ◌%◌, ◌<◌, List, [], length, Some, None, refl, sym, ◌∙◌, ap, subst, arith, add-zero, inl, inr}
+use Rattle.std.proofs.Common.{◌≡◌, ℕ, zero, suc, ◌+◌, ◌%◌, ◌<◌, [], length, Some, None, refl, sym, ◌∙◌, ap, subst, add-zero, inl, inr}
 use Rattle.giop_cdr.specs.declared.order.Order.{Order}
 use Rattle.giop_decode.specs.declared.decoder.Decoder.{Decoder}
 use Rattle.giop_decode.specs.declared.leaf.Leaf.TheVariants as innermost
 use Rattle.giop_decode.specs.Begins.{start_outer, start_leaf}
-use Rattle.giop_decode.specs.Fits.{FitsIn, Sound}
+use Rattle.giop_decode.specs.Fits.{Sound}
 use Rattle.giop_decode.specs.Heard.{nothing}
-use Rattle.giop_decode.specs.Holding.{Fits, Reads, Recalls, standing, standing_in}
+use Rattle.giop_decode.specs.Holding.{Fits, Reads, Recalls, standing_in}
 use Rattle.giop_decode.specs.Reading.{read}
-use Rattle.giop_decode.specs.Spine.{Head, Done, Short}
+use Rattle.giop_decode.specs.Spine.{Head, Short}
 use Rattle.giop_decode.specs.Turns.{places, AreKnown, Link}
 use Rattle.giop_decode.proofs.Around.{read_none}
 use Rattle.giop_decode.proofs.Sound.{read_keeps}

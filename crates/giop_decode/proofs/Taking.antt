@@ -1,5 +1,5 @@
 -- A decoder that reads a list, after one octet more.
-use Rattle.std.proofs.Common.{◌≡◌, ℕ, ◌+◌, ◌%◌, Bool, List, [], ◌∷◌, ◌++◌, length, drop, Option, Some, None, refl, sym, ◌∙◌, ap, subst, arith}
+use Rattle.std.proofs.Common.{◌≡◌, ℕ, ◌+◌, ◌%◌, Bool, List, [], ◌∷◌, ◌++◌, length, Option, Some, None, refl, sym, ◌∙◌, ap, subst, arith}
 use Rattle.std.proofs.Math.Seq.{drop-append_seam}
 use Rattle.giop_cdr.specs.declared.order.Order.{Order}
 use Rattle.giop_decode.specs.declared.decoder.Decoder.{Decoder}
@@ -10,7 +10,7 @@ use Rattle.giop_decode.specs.Heard.{is_header_root, names_operation}
 use Rattle.giop_decode.specs.Holding.{Fits, Reads, Takes, Minds, IsAnswer, IsFault, IsDone, due, standing, standing_in}
 use Rattle.giop_decode.specs.Moves.{stepped, leaf_in, Comes, progressed}
 use Rattle.giop_decode.specs.Reading.{read}
-use Rattle.giop_decode.specs.Spine.{Line, Read, Done, Short, Fault, lines_of, with_front}
+use Rattle.giop_decode.specs.Spine.{Line, Read, Short, lines_of, with_front}
 use Rattle.giop_decode.specs.Steps.{step, advance}
 use Rattle.giop_decode.specs.Turns.{places, leaf_of}
 use Rattle.giop_decode.proofs.Law.{read_goes, length_one_more}

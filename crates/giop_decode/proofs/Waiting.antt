@@ -1,21 +1,20 @@
 -- An octet that only adds to what is held.
-use Rattle.std.proofs.Common.{◌≡◌, ℕ, ◌+◌, ◌%◌, List, [], ◌++◌, Some, refl, sym, ◌∙◌, ap, subst, arith, append-nil}
+use Rattle.std.proofs.Common.{◌≡◌, ℕ, ◌+◌, ◌%◌, List, [], Some, refl, sym, ◌∙◌, ap, subst, append-nil}
 use Rattle.arrayvec.specs.ArrayVec.{ArrayVec}
 use Rattle.giop_cdr.specs.declared.order.Order.{Order}
 use Rattle.giop_decode.specs.declared.decoder.Decoder.{Decoder}
 use Rattle.giop_decode.specs.declared.leaf.Leaf.{Leaf as Innermost}
 use Rattle.giop_decode.specs.declared.progress.Progress.TheVariants as progress
-use Rattle.giop_decode.specs.Heard.{heard, heard_of, hushed, is_header_root, nothing}
+use Rattle.giop_decode.specs.Heard.{heard_of, is_header_root}
 use Rattle.giop_decode.specs.Holding.{Fits, Minds, Recalls, standing, standing_in}
 use Rattle.giop_decode.specs.Moves.{stepped, leaf_in, Comes}
-use Rattle.giop_decode.specs.Spine.{Line, Read, Seg, Short, with_front}
+use Rattle.giop_decode.specs.Spine.{Line, Seg, Short, with_front}
 use Rattle.giop_decode.specs.Steps.{around, leaf_step, path_in, step}
-use Rattle.giop_decode.specs.Turns.{places, leaf_of, leaf_type, IsClean}
+use Rattle.giop_decode.specs.Turns.{places, leaf_of, IsClean}
 use Rattle.giop_decode.proofs.Advancing.{same_some, step_fits}
 use Rattle.giop_decode.proofs.Hearing.{leaf_inside}
 use Rattle.giop_decode.proofs.Settling.{around_more}
 use Rattle.giop_sig.specs.Table.{Table}
-use Rattle.giop_sig.specs.Trees.{tree}
 
 -- a decoder whose held octets are these, at this offset
 abbrev pub held_in : Decoder → List ℕ → ArrayVec ℕ → ℕ → Decoder
@@ -65,6 +64,6 @@ module _ (C : Table) (d new : Decoder) (leaf : Innermost) (octet : ℕ) where
   held_minds here front e e' same memory holds old =
       let header = is_header_root d.root in
       let before : Recalls d.memory (heard_of header (Short front here (places C d.outer.items) (leaf_of C leaf d.carry d.piece.items))) =
-          subst (λ l. Recalls d.memory (heard_of header (standing_in C d l front here))) e old in
+      subst (λ l. Recalls d.memory (heard_of header (standing_in C d l front here))) e old in
       let now = rw (leaf_inside C leaf d.carry d.piece.items, ← leaf_inside C leaf new.carry new.piece.items) at before in
       rw (memory, step_held here e e' same holds, append-nil front) now

@@ -1,6 +1,6 @@
 //! A decoder of one value: the state that reading a list of octets leaves.
 
-ghost use Rattle.std.specs.Prelude.{◌≡◌, ℕ, ◌+◌, ◌-◌, ◌%◌, ◌<◌, ◌≤◌, Bool, List, [], ◌++◌, length, ◌↔◌, IsTrue, false, IfOk, OnOk, None, Some};
+ghost use Rattle.std.specs.Prelude.{◌≡◌, ℕ, ◌+◌, ◌-◌, ◌%◌, ◌<◌, List, [], length, ◌↔◌, IsTrue, false, IfOk, OnOk, None, Some};
 ghost use Rattle.std.specs.Option.{option_map};
 ghost use Rattle.giop_cdr.specs.declared.order.Order.{Order as ByteOrder};
 ghost use Rattle.giop_decode.specs.declared.leaf.Leaf.{Leaf as Innermost};
@@ -11,7 +11,7 @@ ghost use Rattle.giop_print.specs.declared.path.Root.{Root as PathRoot};
 ghost use Rattle.giop_decode.specs.Steps.{around};
 ghost use Rattle.giop_decode.specs.Fits.{OpenFrom};
 ghost use Rattle.giop_decode.specs.Turns.{places, AreKnown, Link, TurnsIn, turned, leaf_type, IsClean};
-ghost use Rattle.giop_decode.specs.Heard.{Heard, heard_of, is_header_root, in_string};
+ghost use Rattle.giop_decode.specs.Heard.{heard_of, is_header_root, in_string};
 ghost use Rattle.giop_decode.specs.Recalling.{turn_in_string};
 ghost use Rattle.giop_decode.specs.Holding.{Fits, IsDone, Reads, Takes, Minds, GoesOn, standing, due};
 ghost use Rattle.giop_decode.specs.Moves.{settled, stepped, Comes, IsProgress, IsGoing, IsMoved};

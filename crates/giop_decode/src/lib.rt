@@ -3,10 +3,12 @@
 
 #[cfg(test)]
 mod content_rows;
+mod contents;
 mod decoder;
 mod frame;
 #[cfg(test)]
 mod header_rows;
+mod heads;
 mod laws;
 mod leaf;
 mod line;

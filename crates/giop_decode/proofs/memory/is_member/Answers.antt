@@ -1,4 +1,4 @@
-use Rattle.std.proofs.Common.{refl, arith}
+use Rattle.std.proofs.Common.{arith}
 use Rattle.giop_decode.proofs.Hearing.{no_member, member_by, member_known}
 use Rattle.giop_decode.proofs.memory.is_member.Goals as goal
 

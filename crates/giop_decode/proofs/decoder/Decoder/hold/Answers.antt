@@ -1,4 +1,4 @@
-use Rattle.std.proofs.Common.{◌+◌, ◌%◌, [], refl, ap, arith}
+use Rattle.std.proofs.Common.{◌+◌, ◌%◌, refl, ap, arith}
 use Rattle.giop_decode.specs.Spine.{lines_of}
 use Rattle.giop_decode.proofs.Advancing.{stands_at}
 use Rattle.giop_decode.proofs.Waiting.{held_in, step_held, held_comes, held_fits, held_minds}

@@ -1,6 +1,5 @@
 use Rattle.std.proofs.Common.{refl, ◌∙◌, arith}
 use Rattle.giop_decode.proofs.Starting.{first_reads, first_fits, fit_some}
-use Rattle.giop_decode.specs.Turns.{places}
 use Rattle.giop_decode.proofs.decoder.Decoder.start.Goals as goal
 use Rattle.giop_sig.specs.Trees.{tree}
 

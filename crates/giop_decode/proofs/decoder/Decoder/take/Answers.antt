@@ -1,6 +1,5 @@
-use Rattle.std.proofs.Common.{◌+◌, length, refl, sym, ap, ◌∙◌, subst, arith}
-use Rattle.giop_decode.specs.Holding.{Fits, Reads}
-use Rattle.giop_decode.specs.Spelling.{lines_text}
+use Rattle.std.proofs.Common.{◌+◌, length, refl, sym, ◌∙◌, subst, arith}
+use Rattle.giop_decode.specs.Holding.{Reads}
 use Rattle.giop_decode.proofs.Advancing.{err_writes}
 use Rattle.giop_decode.proofs.Segments.{said_none}
 use Rattle.giop_decode.proofs.Taking.{takes_to, due_is, done}

@@ -1,7 +1,7 @@
 use Rattle.std.proofs.Common.{[], refl, arith}
 use Rattle.giop_sig.specs.Trees.{tree}
 use Rattle.giop_decode.proofs.PieceLaws.{full_more, full_whole, last_more, octets_last, text_last, text_bad}
-use Rattle.giop_decode.proofs.leaf.take_content.Goals as goal
+use Rattle.giop_decode.proofs.contents.take_content.Goals as goal
 
 pub returns-then-len-lt32-clause-turns : goal.returns-then-len-lt32-clause-turns
 returns-then-len-lt32-clause-turns c path at =

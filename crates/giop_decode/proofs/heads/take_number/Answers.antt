@@ -1,8 +1,8 @@
 use Rattle.std.proofs.Common.{◌≡◌, arith}
 use Rattle.giop_cdr.specs.Alignment.{padding}
 use Rattle.giop_decode.proofs.Padding.{takes_on}
-use Rattle.giop_decode.proofs.leaf.take_number.Goals as goal
-use Rattle.giop_decode.proofs.leaf.take_number.Goals.{else-is_empty-via-then-is_empty+else-pad-gt0, else-is_empty-via-else-is_empty}
+use Rattle.giop_decode.proofs.heads.take_number.Goals as goal
+use Rattle.giop_decode.proofs.heads.take_number.Goals.{else-is_empty-via-then-is_empty+else-pad-gt0, else-is_empty-via-else-is_empty}
 
 pub returns-clause-takes : goal.returns-clause-takes
 returns-clause-takes c here h =

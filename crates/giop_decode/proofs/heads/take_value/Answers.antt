@@ -2,7 +2,7 @@ use Rattle.std.proofs.Common.{◌∙◌, arith}
 use Rattle.giop_sig.specs.Trees.{tree}
 use Rattle.giop_cdr.specs.Numbers.{num}
 use Rattle.giop_decode.proofs.Turning.{prim_bound, number_prim, number_enum, turns_number}
-use Rattle.giop_decode.proofs.leaf.take_value.Goals as goal
+use Rattle.giop_decode.proofs.heads.take_value.Goals as goal
 
 pub returns-in-Ok-clause-speaks : goal.returns-in-Ok-clause-speaks
 returns-in-Ok-clause-speaks c =

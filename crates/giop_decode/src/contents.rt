@@ -1,0 +1,120 @@
+//! The content of a string or of an octet sequence, in pieces of 32 octets (docs/FORMATS.md).
+
+ghost use Rattle.std.specs.Prelude.{◌≡◌, ℕ, ◌+◌, ◌-◌, ◌<◌, ◌≤◌, List, [], ◌∷◌, ◌++◌, length, IsTrue, false};
+ghost use Rattle.arrayvec.specs.ArrayVec.{array_vec_len};
+ghost use Rattle.giop_decode.specs.Spine.{Seg};
+ghost use Rattle.giop_decode.specs.Heard.{is_text};
+ghost use Rattle.giop_decode.specs.Pieces.{tail};
+ghost use Rattle.giop_decode.specs.Recalling.{Voices};
+ghost use Rattle.giop_decode.specs.Steps.{content_step};
+ghost use Rattle.giop_decode.specs.Fits.{HasContent};
+ghost use Rattle.giop_decode.specs.Turns.{Turns, TurnsIn, CanSpeak};
+ghost use Rattle.giop_sig.specs.Types.{Text, Octets};
+ghost use Rattle.giop_sig.specs.Trees.{tree};
+
+use crate::leaf::{Leaf, Spoken, Step, Turn, refused};
+use crate::progress::Kind;
+use arrayvec::ArrayVec;
+use giop_sig::{Catalogue, Shape, TypeId};
+use std::mem;
+
+/// Takes an octet that leaves the piece incomplete, where so much of a content is left from the piece's start, and
+/// answers whether it was one.
+pub(crate) fn hold_content(left: u32, octet: u8, piece: &mut ArrayVec<u8, 32>) -> bool
+    ensures left { result ≡ false → piece.new ≡ piece.old }
+    ensures holds { IsTrue result → (piece.new.items ≡ piece.old.items ++ octet ∷ []) × (length piece.old.items + 1 < 32) × (length piece.old.items + 1 < left) }
+{
+    let held = piece.len() + 1;
+    if held < 32 && held < left as usize {
+        piece.push(octet);
+        return true;
+    }
+    false
+}
+
+/// Takes an octet of a content, whose piece begins at an offset.
+pub(crate) fn take_content(
+    catalogue: &Catalogue,
+    of: TypeId,
+    total: u32,
+    offset: u32,
+    octet: u8,
+    piece: &mut ArrayVec<u8, 32>,
+) -> Step
+    requires known { of.0 < length catalogue.now.types }
+    requires content { HasContent (tree catalogue.now of.0) }
+    requires ahead { offset ≤ total }
+    requires room_full { 32 < total - offset → array_vec_len piece.old < 32 }
+    requires room_last { total - offset ≤ 32 → array_vec_len piece.old < total - offset + tail (tree catalogue.now of.0) }
+    ensures turns_in { TurnsIn (tree catalogue.now of.0) of.0 result.turn [] piece.new.items }
+    ensures speaks { CanSpeak (tree catalogue.now of.0) result.spoken }
+    ensures voices { Voices (tree catalogue.now of.0) (is_text (tree catalogue.now of.0)) result.turn result.spoken }
+    ensures turns { (path : List Seg) (at : ℕ) →
+        Turns catalogue.now (tree catalogue.now of.0) result.turn result.spoken [] piece.new.items path (at + 1)
+        (content_step (tree catalogue.now of.0) path total offset at piece.old.items octet) }
+{
+    let left = total - offset;
+    if left > 32 {
+        piece.push(octet);
+        if piece.len() < 32 {
+            return goes_on(of, total, offset);
+        }
+        return Step {
+            turn: Turn::More(Leaf::Content {
+                of,
+                total,
+                offset: offset + 32,
+            }),
+            spoken: taken_piece(piece, offset, true),
+        };
+    }
+    match catalogue.shape(of) {
+        Shape::Text(_) => {
+            if piece.len() < left as usize {
+                piece.push(octet);
+                return goes_on(of, total, offset);
+            }
+            if octet != 0 {
+                return refused(Kind::StringEnd);
+            }
+            Step {
+                turn: Turn::Ended,
+                spoken: taken_piece(piece, offset, false),
+            }
+        }
+        Shape::Octets(_) => {
+            piece.push(octet);
+            if (piece.len() as u32) < left {
+                return goes_on(of, total, offset);
+            }
+            Step {
+                turn: Turn::Ended,
+                spoken: taken_piece(piece, offset, false),
+            }
+        }
+        _ => unreachable!(),
+    }
+}
+
+/// A content that goes on with nothing to say.
+fn goes_on(of: TypeId, total: u32, offset: u32) -> Step
+    ensures turn { result.turn ≡ Turn.More (Leaf.Content of total offset) }
+    ensures spoken { result.spoken ≡ Spoken.Nothing }
+{
+    Step {
+        turn: Turn::More(Leaf::Content { of, total, offset }),
+        spoken: Spoken::Nothing,
+    }
+}
+
+/// Lets go of a piece, to be said.
+fn taken_piece(piece: &mut ArrayVec<u8, 32>, offset: u32, more: bool) -> Spoken
+    ensures is { result ≡ Spoken.Piece offset piece.old more }
+    ensures empty { piece.new.items ≡ [] }
+{
+    Spoken::Piece {
+        offset,
+        octets: mem::take(piece),
+        more,
+    }
+}

@@ -1,0 +1,291 @@
+//! The number that begins an innermost part, and what follows it.
+
+ghost use Rattle.std.specs.Prelude.{◌≡◌, ℕ, ◌+◌, ◌-◌, ◌%◌, ◌<◌, List, [], length, IsTrue, false};
+ghost use Rattle.giop_cdr.specs.Alignment.{IsAlignment};
+ghost use Rattle.giop_cdr.specs.Numbers.{num};
+ghost use Rattle.giop_cdr.specs.declared.order.Order.{Order as ByteOrder};
+ghost use Rattle.giop_decode.specs.Spine.{Seg};
+ghost use Rattle.giop_decode.specs.Pieces.{over};
+ghost use Rattle.giop_decode.specs.Recalling.{Voices};
+ghost use Rattle.giop_decode.specs.Steps.{after, head_width, number_step};
+ghost use Rattle.giop_decode.specs.Fits.{HasHead};
+ghost use Rattle.giop_decode.specs.Turns.{Turns, TurnsIn, CanSpeak, IsNumberOf, over_by, grab_of};
+ghost use Rattle.giop_sig.specs.Types.{Ty, Text, Octets, Sequence, switch_of, shape_in, IsUnion};
+ghost use Rattle.giop_sig.specs.Fits.{IsFit};
+ghost use Rattle.giop_sig.specs.Trees.{tree};
+
+use crate::leaf::{Leaf, Spoken, Step, Turn, refused};
+use crate::progress::Kind;
+use arrayvec::ArrayVec;
+use giop_cdr::{Carry, Number, Order, Prim, pad, size};
+use giop_sig::{Catalogue, Selected, Shape, TypeId};
+
+/// The size of the number that begins a type.
+pub(crate) fn width(catalogue: &Catalogue, t: TypeId) -> u8
+    requires known { t.0 < length catalogue.now.types }
+    ensures width { HasHead (tree catalogue.now t.0) → result ≡ head_width (tree catalogue.now t.0) }
+    ensures aligned { IsAlignment result }
+{
+    match catalogue.shape(t) {
+        Shape::Prim(prim) => size(prim),
+        Shape::Union(_) => match catalogue.shape(catalogue.switch_type(t)) {
+            Shape::Prim(prim) => size(prim),
+            _ => 4,
+        },
+        _ => 4,
+    }
+}
+
+/// Takes an octet of the padding before a number, or one that leaves the number incomplete, and answers whether it was one.
+#[tactic(auto, using(crate::proofs::Padding::number_laws))]
+pub(crate) fn hold_number(carry: &mut Carry, at: u8, width: u8, octet: u8) -> bool
+    requires width { IsAlignment width }
+    requires room { length carry.old < width }
+    ensures left { result ≡ false → carry.new ≡ carry.old }
+    ensures holds { IsTrue result → (here : ℕ) → here % 8 ≡ at →
+        number_step width here carry.old octet ≡ grab_of false carry.new (here + 1) }
+{
+    if carry.is_empty() && pad(u64::from(at), width) > 0 {
+        return true;
+    }
+    if carry.len() + 1 < usize::from(width) {
+        carry.push(octet);
+        return true;
+    }
+    false
+}
+
+/// Takes an octet of a number or of the padding before it, and answers whether the number is whole.
+#[tactic(auto, using(crate::proofs::Padding::number_laws))]
+pub(crate) fn take_number(carry: &mut Carry, at: u8, width: u8, octet: u8) -> bool
+    requires width { IsAlignment width }
+    requires room { length carry.old < width }
+    ensures whole { IsTrue result → length carry.new ≡ width }
+    ensures takes { (here : ℕ) → here % 8 ≡ at →
+        number_step width here carry.old octet ≡ grab_of result carry.new (here + 1) }
+{
+    if carry.is_empty() && pad(u64::from(at), width) > 0 {
+        return false;
+    }
+    carry.push(octet);
+    carry.len() == usize::from(width)
+}
+
+/// Goes on behind the number that begins a type, whose octets are held.
+pub(crate) fn take_value(catalogue: &Catalogue, order: Order, of: TypeId, carry: &Carry) -> Step
+    requires known { of.0 < length catalogue.now.types }
+    requires head { HasHead (tree catalogue.now of.0) }
+    requires fit { (d : ℕ) × IsFit d (tree catalogue.now of.0) }
+    requires whole { length carry.now ≡ head_width (tree catalogue.now of.0) }
+    ensures turns_in { TurnsIn (tree catalogue.now of.0) of.0 result.turn [] [] }
+    ensures speaks { CanSpeak (tree catalogue.now of.0) result.spoken }
+    ensures voices { Voices (tree catalogue.now of.0) false result.turn result.spoken }
+    ensures turns { (path : List Seg) (at : ℕ) →
+        Turns catalogue.now (tree catalogue.now of.0) result.turn result.spoken [] [] path at
+        (after order path (tree catalogue.now of.0) (num order carry.now) at []) }
+{
+    match catalogue.shape(of) {
+        Shape::Prim(prim) => match carry.value(order, prim) {
+            Ok(number) => Step {
+                turn: Turn::Ended,
+                spoken: Spoken::Number(number),
+            },
+            Err(_) => refused(Kind::Boolean),
+        },
+        Shape::Enumeration(count) => {
+            let n = long_of(order, carry);
+            if n >= count {
+                return refused(Kind::Enum);
+            }
+            Step {
+                turn: Turn::Ended,
+                spoken: Spoken::Number(Number::Unsigned(u64::from(n))),
+            }
+        }
+        Shape::Text(bound) => take_length(catalogue, of, bound, long_of(order, carry)),
+        Shape::Octets(bound) => take_size(catalogue, of, bound, long_of(order, carry)),
+        Shape::Sequence(bound) => take_count(catalogue, of, bound, long_of(order, carry)),
+        Shape::Union(_) => take_switch(catalogue, order, of, carry),
+        Shape::Members(_) => unreachable!(),
+        Shape::Array(_) => unreachable!(),
+    }
+}
+
+/// Goes on behind the number of a union's discriminator, whose octets are held.
+fn take_switch(catalogue: &Catalogue, order: Order, of: TypeId, carry: &Carry) -> Step
+    requires known { of.0 < length catalogue.now.types }
+    requires union { IsUnion (shape_in (tree catalogue.now of.0)) }
+    requires fit { (d : ℕ) × IsFit d (tree catalogue.now of.0) }
+    requires whole { length carry.now ≡ head_width (tree catalogue.now of.0) }
+    ensures turns_in { TurnsIn (tree catalogue.now of.0) of.0 result.turn [] [] }
+    ensures speaks { CanSpeak (tree catalogue.now of.0) result.spoken }
+    ensures voices { Voices (tree catalogue.now of.0) false result.turn result.spoken }
+    ensures turns { (path : List Seg) (at : ℕ) →
+        Turns catalogue.now (tree catalogue.now of.0) result.turn result.spoken [] [] path at
+        (after order path (tree catalogue.now of.0) (num order carry.now) at []) }
+{
+    match catalogue.shape(catalogue.switch_type(of)) {
+        Shape::Prim(prim) => match carry.value(order, prim) {
+            Ok(number) => take_selected(catalogue, of, number),
+            Err(_) => refused(Kind::Boolean),
+        },
+        Shape::Enumeration(count) => {
+            let label = long_of(order, carry);
+            if label >= count {
+                return refused(Kind::Enum);
+            }
+            take_selected(catalogue, of, Number::Unsigned(u64::from(label)))
+        }
+        _ => unreachable!(),
+    }
+}
+
+/// Goes on behind the number of a union's discriminator, which is this value.
+fn take_selected(catalogue: &Catalogue, of: TypeId, number: Number) -> Step
+    requires known { of.0 < length catalogue.now.types }
+    requires union { IsUnion (shape_in (tree catalogue.now of.0)) }
+    requires fit { (d : ℕ) × IsFit d (tree catalogue.now of.0) }
+    requires number { IsNumberOf (switch_of (tree catalogue.now of.0)) number }
+    ensures turns_in { TurnsIn (tree catalogue.now of.0) of.0 result.turn [] [] }
+    ensures speaks { CanSpeak (tree catalogue.now of.0) result.spoken }
+    ensures voices { Voices (tree catalogue.now of.0) false result.turn result.spoken }
+    ensures turns { (is : IsNumberOf (switch_of (tree catalogue.now of.0)) number) (order : ByteOrder) (path : List Seg) (at : ℕ) →
+        Turns catalogue.now (tree catalogue.now of.0) result.turn result.spoken [] [] path at
+        (after order path (tree catalogue.now of.0) is.n at []) }
+{
+    match catalogue.select(of, number) {
+        Selected::Case(i) => Step {
+            turn: Turn::Selected(i),
+            spoken: Spoken::Switch(number),
+        },
+        Selected::Nothing => Step {
+            turn: Turn::Ended,
+            spoken: Spoken::Switch(number),
+        },
+        Selected::Refused => refused(Kind::Disposition),
+    }
+}
+
+/// Goes on behind the length of a string.
+fn take_length(catalogue: &Catalogue, of: TypeId, bound: Option<u32>, n: u32) -> Step
+    requires { tree catalogue.now of.0 ≡ Text bound }
+    ensures turns_in { TurnsIn (tree catalogue.now of.0) of.0 result.turn [] [] }
+    ensures speaks { CanSpeak (tree catalogue.now of.0) result.spoken }
+    ensures voices { Voices (tree catalogue.now of.0) false result.turn result.spoken }
+    ensures turns { (order : ByteOrder) (path : List Seg) (at : ℕ) →
+        Turns catalogue.now (tree catalogue.now of.0) result.turn result.spoken [] [] path at
+        (after order path (tree catalogue.now of.0) n at []) }
+{
+    let _types = catalogue;
+    if n == 0 {
+        return Step {
+            turn: Turn::Ended,
+            spoken: empty_piece(),
+        };
+    }
+    if exceeds(bound, n - 1) {
+        return Step {
+            turn: Turn::Refused(Kind::Bound),
+            spoken: Spoken::Length,
+        };
+    }
+    Step {
+        turn: Turn::More(Leaf::Content {
+            of,
+            total: n - 1,
+            offset: 0,
+        }),
+        spoken: Spoken::Length,
+    }
+}
+
+/// Goes on behind the length of an octet sequence.
+fn take_size(catalogue: &Catalogue, of: TypeId, bound: Option<u32>, n: u32) -> Step
+    requires { tree catalogue.now of.0 ≡ Octets bound }
+    ensures turns_in { TurnsIn (tree catalogue.now of.0) of.0 result.turn [] [] }
+    ensures speaks { CanSpeak (tree catalogue.now of.0) result.spoken }
+    ensures voices { Voices (tree catalogue.now of.0) false result.turn result.spoken }
+    ensures turns { (order : ByteOrder) (path : List Seg) (at : ℕ) →
+        Turns catalogue.now (tree catalogue.now of.0) result.turn result.spoken [] [] path at
+        (after order path (tree catalogue.now of.0) n at []) }
+{
+    let _types = catalogue;
+    if exceeds(bound, n) {
+        return refused(Kind::Bound);
+    }
+    if n == 0 {
+        return Step {
+            turn: Turn::Ended,
+            spoken: empty_piece(),
+        };
+    }
+    Step {
+        turn: Turn::More(Leaf::Content {
+            of,
+            total: n,
+            offset: 0,
+        }),
+        spoken: Spoken::Nothing,
+    }
+}
+
+/// Goes on behind the count of a sequence.
+fn take_count(catalogue: &Catalogue, of: TypeId, bound: Option<u32>, n: u32) -> Step
+    requires is { (E : Ty) × (tree catalogue.now of.0 ≡ Sequence bound E) }
+    requires fit { (d : ℕ) × IsFit d (tree catalogue.now of.0) }
+    ensures turns_in { TurnsIn (tree catalogue.now of.0) of.0 result.turn [] [] }
+    ensures speaks { CanSpeak (tree catalogue.now of.0) result.spoken }
+    ensures voices { Voices (tree catalogue.now of.0) false result.turn result.spoken }
+    ensures turns { (order : ByteOrder) (path : List Seg) (at : ℕ) →
+        Turns catalogue.now (tree catalogue.now of.0) result.turn result.spoken [] [] path at
+        (after order path (tree catalogue.now of.0) n at []) }
+{
+    let _types = catalogue;
+    let _type = of;
+    if exceeds(bound, n) {
+        return refused(Kind::Bound);
+    }
+    let spoken = Spoken::Count(n);
+    if n == 0 {
+        return Step {
+            turn: Turn::Ended,
+            spoken,
+        };
+    }
+    Step {
+        turn: Turn::Opened(n),
+        spoken,
+    }
+}
+
+/// Whether a count is above its bound.
+fn exceeds(bound: Option<u32>, n: u32) -> bool
+    ensures { over bound n ≡ over_by result }
+{
+    match bound {
+        None => false,
+        Some(bound) => bound < n,
+    }
+}
+
+/// The number that four octets spell.
+fn long_of(order: Order, carry: &Carry) -> u32
+    requires { length carry.now ≡ 4 }
+    ensures { result ≡ num order carry.now }
+{
+    match carry.value(order, Prim::ULong) {
+        Ok(Number::Unsigned(n)) => n as u32,
+        _ => unreachable!(),
+    }
+}
+
+/// The one piece of an empty content.
+fn empty_piece() -> Spoken
+    ensures { result ≡ Spoken.Piece 0 (record { items = [] }) false }
+{
+    Spoken::Piece {
+        offset: 0,
+        octets: ArrayVec::new(),
+        more: false,
+    }
+}
