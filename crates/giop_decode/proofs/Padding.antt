@@ -1,11 +1,10 @@
 -- One octet more of a number, or of the padding in front of it.
-use Rattle.std.proofs.Common.{eqb, eq-eqb, ne_eqb, ap, ◌≡◌, ℕ, ◌+◌, ◌%◌, ◌<◌, ◌≤◌, ◌⊎◌, inl, inr, true, false, List, [], ◌∷◌, ◌++◌, length, refl, ◌∙◌, arith}
+use Rattle.std.proofs.Common.{◌≡◌, ℕ, ◌+◌, ◌%◌, ◌<◌, ◌≤◌, inl, inr, true, false, List, [], ◌∷◌, ◌++◌, length, refl, ◌∙◌, arith}
 use Rattle.giop_cdr.specs.Alignment.{IsAlignment, padding}
 use Rattle.giop_cdr.proofs.PaddingLaws.{padding-modulo}
 use Rattle.giop_decode.specs.Steps.{number_step, block_step}
 use Rattle.giop_decode.specs.Turns.{grab_of}
-use Rattle.giop_decode.proofs.Law.{number_step_pads, number_step_blocks, block_step_waits, block_step_got, length_one_more}
-use Rattle.std.proofs.lemmas.Bool.{cases_lt}
+use Rattle.giop_decode.proofs.Law.{number_step_pads, number_step_blocks, block_step_waits, block_step_got}
 
 same_padding : (n here at : ℕ) → IsAlignment n → here % 8 ≡ at → padding here n ≡ padding at n
 same_padding n here at w h = padding-modulo here at n w (omega arith)
@@ -28,16 +27,3 @@ pub takes_last : (n here at b : ℕ) (carry : List ℕ) → IsAlignment n → he
 takes_last n here at b carry w h none l = blocks n here at b carry w h none ∙ block_step_got n here carry b l
 
 pub ruleset number_laws = (takes_padding, takes_more, takes_last)
-
--- whether the number is whole
-pub takes_on : (n here at b len full : ℕ) (carry new : List ℕ) → IsAlignment n → here % 8 ≡ at → (carry ≡ [] → padding at n ≡ 0) → length carry < n →
-    new ≡ carry ++ b ∷ [] → len ≡ length new → full ≡ n → number_step n here carry b ≡ grab_of (eqb len full) new (here + 1)
-takes_on n here at b len full carry new w h none room is long e = go (cases_lt (length carry + 1) n)
-  where
-    go : (length carry + 1 < n) ⊎ (n ≤ length carry + 1) → number_step n here carry b ≡ grab_of (eqb len full) new (here + 1)
-    go (inl l) =
-        let k : eqb len full ≡ false = ne_eqb len full (λ same. absurd (omega (arith, ap length is, length_one_more carry b))) in
-        rw (k, is) (takes_more n here at b carry w h none l)
-    go (inr l) =
-        let k : eqb len full ≡ true = eq-eqb len full (omega (arith, ap length is, length_one_more carry b)) in
-        rw (k, is) (takes_last n here at b carry w h none l)

@@ -1,7 +1,7 @@
 //! The number that begins an innermost part, and what follows it.
 
 ghost use Rattle.std.specs.Prelude.{◌≡◌, ℕ, ◌+◌, ◌-◌, ◌%◌, ◌<◌, List, [], length, IsTrue, false};
-ghost use Rattle.giop_cdr.specs.Alignment.{IsAlignment};
+ghost use Rattle.giop_cdr.specs.Alignment.{IsAlignment, padding};
 ghost use Rattle.giop_cdr.specs.Numbers.{num};
 ghost use Rattle.giop_cdr.specs.declared.order.Order.{Order as ByteOrder};
 ghost use Rattle.giop_decode.specs.Spine.{Seg};
@@ -42,6 +42,7 @@ pub(crate) fn hold_number(carry: &mut Carry, at: u8, width: u8, octet: u8) -> bo
     requires width { IsAlignment width }
     requires room { length carry.old < width }
     ensures left { result ≡ false → carry.new ≡ carry.old }
+    ensures last { result ≡ false → (length carry.old + 1 ≡ width) × (carry.old ≡ [] → padding at width ≡ 0) }
     ensures holds { IsTrue result → (here : ℕ) → here % 8 ≡ at →
         number_step width here carry.old octet ≡ grab_of false carry.new (here + 1) }
 {
@@ -64,11 +65,11 @@ pub(crate) fn take_number(carry: &mut Carry, at: u8, width: u8, octet: u8) -> bo
     ensures takes { (here : ℕ) → here % 8 ≡ at →
         number_step width here carry.old octet ≡ grab_of result carry.new (here + 1) }
 {
-    if carry.is_empty() && pad(u64::from(at), width) > 0 {
+    if hold_number(carry, at, width, octet) {
         return false;
     }
     carry.push(octet);
-    carry.len() == usize::from(width)
+    true
 }
 
 /// Goes on behind the number that begins a type, whose octets are held.
