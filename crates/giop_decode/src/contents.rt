@@ -22,7 +22,8 @@ use std::mem;
 /// answers whether it was one.
 pub(crate) fn hold_content(left: u32, octet: u8, piece: &mut ArrayVec<u8, 32>) -> bool
     ensures left { result ≡ false → piece.new ≡ piece.old }
-    ensures holds { IsTrue result → (piece.new.items ≡ piece.old.items ++ octet ∷ []) × (length piece.old.items + 1 < 32) × (length piece.old.items + 1 < left) }
+    ensures holds { IsTrue result → (piece.new.items ≡ piece.old.items ++ octet ∷ [])
+        × (length piece.old.items + 1 < 32) × (length piece.old.items + 1 < left) }
 {
     let held = piece.len() + 1;
     if held < 32 && held < left as usize {
@@ -45,10 +46,12 @@ pub(crate) fn take_content(
     requires content { HasContent (tree catalogue.now of.0) }
     requires ahead { offset ≤ total }
     requires room_full { 32 < total - offset → array_vec_len piece.old < 32 }
-    requires room_last { total - offset ≤ 32 → array_vec_len piece.old < total - offset + tail (tree catalogue.now of.0) }
+    requires room_last { total - offset ≤ 32 →
+        array_vec_len piece.old < total - offset + tail (tree catalogue.now of.0) }
     ensures turns_in { TurnsIn (tree catalogue.now of.0) of.0 result.turn [] piece.new.items }
     ensures speaks { CanSpeak (tree catalogue.now of.0) result.spoken }
-    ensures voices { Voices (tree catalogue.now of.0) (is_text (tree catalogue.now of.0)) result.turn result.spoken }
+    ensures voices { Voices (tree catalogue.now of.0) (is_text (tree catalogue.now of.0))
+        result.turn result.spoken }
     ensures turns { (path : List Seg) (at : ℕ) →
         Turns catalogue.now (tree catalogue.now of.0) result.turn result.spoken [] piece.new.items path (at + 1)
         (content_step (tree catalogue.now of.0) path total offset at piece.old.items octet) }

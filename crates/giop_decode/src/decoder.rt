@@ -58,7 +58,8 @@ impl Decoder {
         root: Root,
     ) -> Decoder
         requires { of.0 < length catalogue.now.types }
-        ensures reads { Reads catalogue.now (tree catalogue.now of.0) order offset message root result [] }
+        ensures reads { Reads catalogue.now (tree catalogue.now of.0)
+            order offset message root result [] }
         ensures done { IsDone result ↔ IsEmptyStruct (tree catalogue.now of.0) }
         ensures fits { (IsEmptyStruct (tree catalogue.now of.0) → ⊥) → Fits catalogue.now result }
     {
@@ -92,8 +93,10 @@ impl Decoder {
         requires { Fits catalogue.now self.old }
         ensures writes { (T : Ty) (order : ByteOrder) (at message : ℕ) (root : PathRoot) (s : List ℕ) →
             Reads catalogue.now T order at message root self.old s →
-            Writes result (O.log out.old) (O.log out.new) (lines_text message root (due order T at s octet)) }
-        ensures takes { IfOk result (λ p. (T : Ty) (order : ByteOrder) (at message : ℕ) (root : PathRoot) (s : List ℕ) →
+            Writes result (O.log out.old) (O.log out.new)
+            (lines_text message root (due order T at s octet)) }
+        ensures takes { IfOk result (λ p. (T : Ty) (order : ByteOrder) (at message : ℕ)
+            (root : PathRoot) (s : List ℕ) →
             Reads catalogue.now T order at message root self.old s →
             Takes catalogue.now T order at message root self.new s octet p) }
         ensures fits { IfOk result (λ p. GoesOn p → Fits catalogue.now self.new) }
@@ -115,14 +118,16 @@ impl Decoder {
 
     /// The request id of a header, once that was read.
     pub fn request_id(&self) -> Option<u32>
-        ensures { (root : PathRoot) (r : Read) → Minds root self.now r → result ≡ (heard_of (is_header_root root) r).request_id }
+        ensures { (root : PathRoot) (r : Read) → Minds root self.now r →
+            result ≡ (heard_of (is_header_root root) r).request_id }
     {
         self.memory.request_id()
     }
 
     /// The number of the last enum.
     pub fn status(&self) -> Option<u32>
-        ensures { (root : PathRoot) (r : Read) → Minds root self.now r → result ≡ (heard_of (is_header_root root) r).status }
+        ensures { (root : PathRoot) (r : Read) → Minds root self.now r →
+            result ≡ (heard_of (is_header_root root) r).status }
     {
         self.memory.status()
     }
@@ -143,10 +148,13 @@ impl Decoder {
         requires fit { IsFit (24 - length self.old.outer.items) (tree catalogue.now of.0) }
         requires turns_in { TurnsIn (tree catalogue.now of.0) of.0 turn self.old.carry self.old.piece.items }
         ensures known_outer { AreKnown catalogue.now self.new.outer.items }
-        ensures known { (leaf : Innermost) → IsMoved turn → self.new.leaf ≡ Some leaf → leaf_type leaf < length catalogue.now.types }
-        ensures clean { (leaf : Innermost) → IsMoved turn → self.new.leaf ≡ Some leaf → IsClean leaf self.new.carry self.new.piece.items }
-        ensures link { (root : ℕ) (leaf : Innermost) → IsMoved turn → Link catalogue.now root self.old.outer.items of.0 →
-            self.new.leaf ≡ Some leaf → Link catalogue.now root self.new.outer.items (leaf_type leaf) }
+        ensures known { (leaf : Innermost) → IsMoved turn → self.new.leaf ≡ Some leaf →
+            leaf_type leaf < length catalogue.now.types }
+        ensures clean { (leaf : Innermost) → IsMoved turn → self.new.leaf ≡ Some leaf →
+            IsClean leaf self.new.carry self.new.piece.items }
+        ensures link { (root : ℕ) (leaf : Innermost) → IsMoved turn →
+            Link catalogue.now root self.old.outer.items of.0 → self.new.leaf ≡ Some leaf →
+            Link catalogue.now root self.new.outer.items (leaf_type leaf) }
         ensures order { self.new.order ≡ self.old.order }
         ensures root { self.new.root ≡ self.old.root }
         ensures message { self.new.message ≡ self.old.message }
@@ -208,7 +216,8 @@ impl Decoder {
         ensures quiet { IsTrue result → (here : ℕ) → here % 8 ≡ self.old.at →
             lines_of (stepped catalogue.now self.old here octet) ≡ [] }
         ensures steps { IsTrue result → (here : ℕ) → here % 8 ≡ self.old.at →
-            Comes catalogue.now self.new Progress.More (here + 1) (stepped catalogue.now self.old here octet) }
+            Comes catalogue.now self.new Progress.More (here + 1)
+            (stepped catalogue.now self.old here octet) }
         ensures minds { IsTrue result → (here : ℕ) (front : List Line) → here % 8 ≡ self.old.at →
             Minds self.old.root self.old (standing catalogue.now self.old front here) →
             Minds self.old.root self.new (with_front front (stepped catalogue.now self.old here octet)) }

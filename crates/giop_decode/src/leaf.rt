@@ -113,7 +113,8 @@ pub(crate) fn hold(
     piece: &mut ArrayVec<u8, 32>,
 ) -> bool
     requires known { leaf_type leaf < length catalogue.now.types }
-    requires fits { FitsIn (tree catalogue.now (leaf_type leaf)) [] (leaf_of catalogue.now leaf carry.old piece.old.items) }
+    requires fits { FitsIn (tree catalogue.now (leaf_type leaf)) []
+        (leaf_of catalogue.now leaf carry.old piece.old.items) }
     requires clean { IsClean leaf carry.old piece.old.items }
     ensures clean { IsClean leaf carry.new piece.new.items }
     ensures left { result ≡ false → (carry.new ≡ carry.old) × (piece.new ≡ piece.old) }
@@ -138,14 +139,18 @@ pub(crate) fn take_octet(
     piece: &mut ArrayVec<u8, 32>,
 ) -> Step
     requires known { leaf_type leaf < length catalogue.now.types }
-    requires fits { FitsIn (tree catalogue.now (leaf_type leaf)) [] (leaf_of catalogue.now leaf carry.old piece.old.items) }
+    requires fits { FitsIn (tree catalogue.now (leaf_type leaf)) []
+        (leaf_of catalogue.now leaf carry.old piece.old.items) }
     requires fit { (d : ℕ) × IsFit d (tree catalogue.now (leaf_type leaf)) }
     requires clean { IsClean leaf carry.old piece.old.items }
-    ensures turns_in { TurnsIn (tree catalogue.now (leaf_type leaf)) (leaf_type leaf) result.turn carry.new piece.new.items }
+    ensures turns_in { TurnsIn (tree catalogue.now (leaf_type leaf)) (leaf_type leaf)
+        result.turn carry.new piece.new.items }
     ensures speaks { CanSpeak (tree catalogue.now (leaf_type leaf)) result.spoken }
-    ensures voices { Voices (tree catalogue.now (leaf_type leaf)) (leaf_in_string (tree catalogue.now (leaf_type leaf)) leaf) result.turn result.spoken }
+    ensures voices { Voices (tree catalogue.now (leaf_type leaf))
+        (leaf_in_string (tree catalogue.now (leaf_type leaf)) leaf) result.turn result.spoken }
     ensures turns { (path : List Seg) (here : ℕ) → here % 8 ≡ at →
-        Turns catalogue.now (tree catalogue.now (leaf_type leaf)) result.turn result.spoken carry.new piece.new.items path (here + 1)
+        Turns catalogue.now (tree catalogue.now (leaf_type leaf)) result.turn result.spoken
+        carry.new piece.new.items path (here + 1)
         (leaf_step order path (leaf_of catalogue.now leaf carry.old piece.old.items) here octet) }
 {
     match leaf {
