@@ -136,15 +136,15 @@ front_at at rs (inl e) = rw e tt
 front_at at rs (inr (inl (text, e))) = rw e (refl, tt)
 front_at at rs (inr (inr (text, e))) = rw e (refl, tt)
 
-more_at : (header xs : List ℕ) (x : ℕ) → Each (λ r. r.at ≡ suc (length xs)) (more header xs x)
+pub more_at : (header xs : List ℕ) (x : ℕ) → Each (λ r. r.at ≡ suc (length xs)) (more header xs x)
 more_at header xs x = front_at (suc (length xs)) (more header xs x) (more_is header xs x)
 
-reads_none : (header : List ℕ) (t : Bool) → has_id header ≡ t → first_reads header [] ≡ []
+pub reads_none : (header : List ℕ) (t : Bool) → has_id header ≡ t → first_reads header [] ≡ []
 unfolding first_reads rest_remarks
 reads_none header true e = rw e refl
 reads_none header false e = rw e refl
 
-reads_within : (header xs : List ℕ) → Each (λ r. r.at ≤ length xs) (first_reads header xs)
+pub reads_within : (header xs : List ℕ) → Each (λ r. r.at ≤ length xs) (first_reads header xs)
 reads_within header = by_growth (λ xs. Each (λ r. r.at ≤ length xs) (first_reads header xs)) (rw (reads_none header (has_id header) refl) tt)
     (λ xs x h.
     let l = length_push xs x in

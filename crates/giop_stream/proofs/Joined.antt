@@ -10,3 +10,12 @@ pub mod Ordering
 pub mod Turns
 pub mod Dealing
 pub mod InPlace
+pub mod Growing
+pub mod Places
+pub mod Cases
+pub mod Beginning
+pub mod FirstTurns
+pub mod FirstPlays
+pub mod Exits
+pub mod Keepers
+pub mod Naming

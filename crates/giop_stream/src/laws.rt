@@ -1,18 +1,21 @@
 //! The laws of a stream whose messages are joined from their fragments, for any reading of one message.
 
-ghost use Rattle.std.specs.Prelude.{◌≡◌, ◌≤◌, ◌<◌, ℕ, suc, List, [], ◌∷◌, ◌++◌, length, Some, None};
+ghost use Rattle.std.specs.Prelude.{◌≡◌, ◌≤◌, ◌<◌, ℕ, suc, List, [], ◌∷◌, ◌++◌, length, true, Some, None, slice_get, slice_set};
+ghost use Rattle.std.specs.List.{remove};
 ghost use Rattle.giop_stream.specs.Headers.{wrong};
 ghost use Rattle.giop_stream.specs.Reading.{Reading, IsCausal, IsEnding};
+ghost use Rattle.giop_stream.specs.FirstReading.{reading};
 ghost use Rattle.giop_stream.specs.Framing.{Message, limit, cut, messages};
+ghost use Rattle.giop_stream.specs.Joined.Kinds.{has_name};
 ghost use Rattle.giop_stream.specs.Joined.Readings.{IsInTurn};
-ghost use Rattle.giop_stream.specs.Joined.Events.{most_open, happens, events, open_after, joined};
+ghost use Rattle.giop_stream.specs.Joined.Events.{Event, Open, Opens, Continues, most_open, happens, events, open_after, joined, Rising};
 ghost use Rattle.giop_stream.specs.Joined.Shares.{shares};
 ghost use Rattle.giop_stream.specs.Joined.Lines.{lines};
 ghost use Rattle.giop_stream.specs.Joined.Text.{lines_text};
 ghost use Rattle.giop_stream.specs.Joined.Stream.{text, tally, final, closing};
-ghost use Rattle.giop_stream.specs.Joined.State.{State, state_of};
+ghost use Rattle.giop_stream.specs.Joined.State.{State, octets_of, state_of};
 ghost use Rattle.giop_stream.specs.Joined.Machine.{fresh, first_message, step, run, run_state, totals_of, final_totals, finish};
-ghost use Rattle.giop_stream.specs.Joined.Plays.{plays, scene_of, ends_with, with_octet, reading_on, beginning};
+ghost use Rattle.giop_stream.specs.Joined.Plays.{Scene, plays, scene_at, octets_then, stays, goes, IsNotOpen, slots_at, scene_of, ends_with, with_octet, reading_on, beginning, stage};
 
 // The functions here have no body, and are called for their contracts.
 
@@ -55,6 +58,46 @@ pub fn each_event()
         s.stop ≡ None → s.current ≡ None → s.read < limit → wrong (s.held ++ x ∷ []) ≡ None → length s.held ≡ 11 →
         step R s x ≡ ends_with (beginning s) (first_message (reading_on s) (s.held ++ x ∷ []))
         (plays R (scene_of (beginning s) (suc s.started)) (happens (scene_of (beginning s) (suc s.started)).live (first_message (reading_on s) (s.held ++ x ∷ [])))) }
+    // What there is to know of the messages then is what the play leaves, and the stream's lines grow by its lines.
+    ensures stage { (R : Reading) → IsCausal R → IsInTurn R → (p : List ℕ) (m : Message) (x : ℕ) →
+        (cut p).stop ≡ None → (cut p).current ≡ Some m → length p < limit →
+        stage R (p ++ x ∷ []) ≡ (plays R (stage R p) (happens (open_after p) (with_octet m x))).scene }
+    ensures lines { (R : Reading) → IsCausal R → IsInTurn R → (p : List ℕ) (m : Message) (x : ℕ) →
+        (cut p).stop ≡ None → (cut p).current ≡ Some m → length p < limit →
+        lines R (p ++ x ∷ []) ≡ lines R p ++ (plays R (stage R p) (happens (open_after p) (with_octet m x))).lines }
+    // While the request id of a message comes, the message isn't over, and all that has come of it is kept.
+    ensures begun { (R : Reading) → IsCausal R → IsInTurn R → (p : List ℕ) → (cut p).stop ≡ None → (m : Message) →
+        (cut p).current ≡ Some m → has_name m.header ≡ true → length m.payload < 4 → octets_of R p m.number ≡ Some m.payload }
+{}
+
+/// What an event does to the slots of the open messages, in their places.
+pub fn each_slot()
+    // An octet or a fault changes the slot of its message,
+    ensures stays { (R : Reading) (c : Scene) (e : Event) (k : ℕ) (o : Open) →
+        stays e.what ≡ true → Rising c.live → slice_get c.live k ≡ Some o → e.whom ≡ o.opener →
+        slots_at (scene_at R c e) ≡ slice_set (slots_at c) k (record { open_as = o; octets = octets_then R e (c.known o.opener.number) }) }
+    // and none where that isn't open.
+    ensures own { (R : Reading) (c : Scene) (e : Event) → stays e.what ≡ true → IsNotOpen e.whom.number c.live →
+        slots_at (scene_at R c e) ≡ slots_at c }
+    // A close or a cancel takes the slot away,
+    ensures goes { (R : Reading) (c : Scene) (e : Event) (k : ℕ) (o : Open) →
+        goes e.what ≡ true → Rising c.live → slice_get c.live k ≡ Some o → e.whom ≡ o.opener →
+        slots_at (scene_at R c e) ≡ remove (slots_at c) k }
+    // and none where the message isn't open.
+    ensures closes { (R : Reading) (c : Scene) (e : Event) → goes e.what ≡ true → IsNotOpen e.whom.number c.live →
+        slots_at (scene_at R c e) ≡ slots_at c }
+    // A message that becomes open gets the last slot.
+    ensures opens { (R : Reading) (c : Scene) (e : Event) (i : ℕ) → e.what ≡ Opens i → IsNotOpen e.whom.number c.live →
+        slots_at (scene_at R c e) ≡ slots_at c ++ record { open_as = record { id = i; opener = e.whom }; octets = c.known e.whom.number } ∷ [] }
+    // A Fragment that continues a message changes nothing.
+    ensures continues { (R : Reading) (c : Scene) (e : Event) (n : ℕ) → e.what ≡ Continues n → scene_at R c e ≡ c }
+    // What is kept of the event's message is that of its octets then; nothing else changes.
+    ensures kept { (R : Reading) (c : Scene) (e : Event) →
+        (scene_at R c e).known e.whom.number ≡ octets_then R e (c.known e.whom.number) }
+    ensures others { (R : Reading) (c : Scene) (e : Event) (i : ℕ) → (i ≡ e.whom.number → ⊥) →
+        (scene_at R c e).known i ≡ c.known i }
+    // The numbers of a stream's open messages rise.
+    ensures rising { (p : List ℕ) → Rising (open_after p) }
 {}
 
 /// What closes a stream is said by what there is to know of it at its end: whether it ends inside a message or a header,
@@ -72,4 +115,11 @@ pub fn each_joined()
 /// There is room for the open messages.
 pub fn open_messages()
     ensures { (p : List ℕ) → length (open_after p) ≤ most_open }
+{}
+
+/// The reading that the engine has now is one of those that these laws speak of.
+pub fn reading_laws()
+    ensures causal { IsCausal reading }
+    ensures ending { IsEnding reading }
+    ensures in_turn { IsInTurn reading }
 {}

@@ -3,9 +3,10 @@
 ghost use Rattle.std.specs.Prelude.{◌≡◌, ◌≤◌, length, codes};
 ghost use Rattle.giop_print.specs.Output.{Writes};
 ghost use Rattle.giop_print.specs.Lines.{fault_line};
+ghost use Rattle.giop_stream.specs.Joined.Text.{imposed_word};
 ghost use Rattle.giop_stream.specs.Text.{stream_word, id_text, rest_text, start_line, said_line, stop_text, truncated_line};
 
-use crate::fault::StreamFault;
+use crate::fault::{ImposedFault, StreamFault};
 use crate::header::{kind_of, minor_of, more_of, order_of, size_of};
 use giop_cdr::{Number, Prim};
 use giop_print::{Out, OutFault, Path, Root, Value};
@@ -67,6 +68,33 @@ pub fn short_line<O: Out>(out: &mut O, number: u64, place: u64) -> Result<(), Ou
     ensures { Writes result (O.log out.old) (O.log out.new) (fault_line number (codes "short") place) }
 {
     giop_print::fault_line(out, number, "short", place)
+}
+
+/// The word of a fault that the stream imposes.
+fn imposed_word(fault: ImposedFault) -> &'static str
+    ensures { result.now ≡ imposed_word fault }
+{
+    match fault {
+        ImposedFault::MessageType => "message-type",
+        ImposedFault::OldFragment => "fragment-1.1",
+        ImposedFault::Short => "short",
+        ImposedFault::NoOpen => "no-open",
+        ImposedFault::IdOpen => "id-open",
+        ImposedFault::TooManyOpen => "too-many-open",
+        ImposedFault::FragmentOrder => "fragment-order",
+    }
+}
+
+/// A fault that the stream imposes on a message, at a place.
+pub fn imposed_line<O: Out>(
+    out: &mut O,
+    number: u64,
+    fault: ImposedFault,
+    place: u64,
+) -> Result<(), OutFault>
+    ensures { Writes result (O.log out.old) (O.log out.new) (fault_line number (imposed_word fault) place) }
+{
+    giop_print::fault_line(out, number, imposed_word(fault), place)
 }
 
 /// The end of a message.

@@ -55,11 +55,10 @@ impl Message {
     /// Takes an octet, of which fewer than `place` came before, and writes the line that it completes.
     #[tactic(auto, unfolding(crate::specs::Steps::message_take))]
     pub fn take<O: Out>(&mut self, octet: u8, place: u64, out: &mut O) -> Result<(), OutFault>
-        requires before { reach self.old < place }
-        requires limit { place ≤ 2 ^ 48 }
-        ensures shown { OnOk result (message_shown self.new ≡ (message_take (message_shown self.old) octet).message) }
+        ensures shown { reach self.old < 2 ^ 48 →
+            OnOk result (message_shown self.new ≡ (message_take (message_shown self.old) octet).message) }
         ensures text { Writes result (O.log out.old) (O.log out.new) (message_take (message_shown self.old) octet).text }
-        ensures reach { reach self.new ≤ place }
+        ensures reach { reach self.old < place → reach self.new ≤ place }
     {
         if self.is_in_id() {
             self.take_id(octet, place, out)
@@ -71,10 +70,9 @@ impl Message {
     #[tactic(auto, unfolding(crate::specs::Steps::id_take))]
     fn take_id<O: Out>(&mut self, octet: u8, place: u64, out: &mut O) -> Result<(), OutFault>
         requires room { length self.old.id < 4 }
-        requires before { reach self.old < place }
         ensures shown { OnOk result (message_shown self.new ≡ (id_take (message_shown self.old) octet).message) }
         ensures text { Writes result (O.log out.old) (O.log out.new) (id_take (message_shown self.old) octet).text }
-        ensures reach { reach self.new ≤ place }
+        ensures reach { reach self.old < place → reach self.new ≤ place }
     {
         self.id.push(octet);
         if self.id.len() < 4 {
@@ -86,11 +84,10 @@ impl Message {
 
     #[tactic(auto, unfolding(crate::specs::Steps::rest_take))]
     fn take_rest<O: Out>(&mut self, octet: u8, place: u64, out: &mut O) -> Result<(), OutFault>
-        requires before { reach self.old < place }
-        requires limit { place ≤ 2 ^ 48 }
-        ensures shown { OnOk result (message_shown self.new ≡ (rest_take (message_shown self.old) octet).message) }
+        ensures shown { reach self.old < 2 ^ 48 →
+            OnOk result (message_shown self.new ≡ (rest_take (message_shown self.old) octet).message) }
         ensures text { Writes result (O.log out.old) (O.log out.new) (rest_take (message_shown self.old) octet).text }
-        ensures reach { reach self.new ≤ place }
+        ensures reach { reach self.old < place → reach self.new ≤ place }
     {
         self.rest.push(octet);
         if self.rest.len() < 32 {
@@ -98,7 +95,7 @@ impl Message {
         }
         let written = rest_line(out, self.number, self.offset, self.rest.as_slice());
         self.rest.clear();
-        self.offset += 32;
+        self.offset = self.offset.saturating_add(32);
         written
     }
 

@@ -13,7 +13,7 @@ use Rattle.giop_stream.specs.declared.fault.StreamFault.TheVariants.{StreamLimit
 use Rattle.giop_stream.specs.Headers.{fronts, wrong, first_wrong, offence, size}
 use Rattle.giop_stream.specs.Framing.{Message, with_payload, Cut, limit, limited, cut_from, cut, messages, read_of}
 use Rattle.giop_stream.specs.Reading.{Reading, IsCausal}
-use Rattle.giop_stream.specs.Joined.Events.{Happening, Event, Open, title, place, has_named, goes_past, happens, events_of, opened, events_from, events, open_after, most_open, joined}
+use Rattle.giop_stream.specs.Joined.Events.{Happening, Event, Open, place, has_named, goes_past, happens, events_of, opened, events_from, events, open_after, most_open, joined, Rising}
 use Rattle.giop_stream.specs.Joined.Lines.{Line, told, by_class, in_order, is_last_of, standing, said, stop_line, lines}
 use Rattle.giop_stream.specs.Joined.Text.{line_text, lines_text}
 use Rattle.giop_stream.specs.Joined.Stream.{text, is_fault, start_count, fault_count, tally, is_over}
@@ -21,7 +21,7 @@ use Rattle.giop_stream.specs.Joined.State.{Slot, State, Kept, octets_of, is_open
 use Rattle.giop_stream.specs.Joined.Machine.{Step, fresh, kept, taking, utters, written, writes, now_written, deal, stops, first_message, in_header, step_on, step, run, run_state, totals_of}
 use Rattle.giop_stream.proofs.Lists.{by_growth, each_append, each_weaker, map_agree, any_append, all_by}
 use Rattle.giop_stream.proofs.Cutting.{settle, header_case, header_grows, grow, stopped_at, next, of_parts, cut_grows}
-use Rattle.giop_stream.proofs.Joined.Happenings.{opened_append, events_from_push, events_of_push, events_of_none, happens_same, happens_each, happens_agree, not_past, not_named, opened_each, quiet_one, Below, Rising, rising_happens, IsFew, few_happens, Differ, differ_happens, AreOpeners, openers_happens}
+use Rattle.giop_stream.proofs.Joined.Happenings.{opened_append, events_from_push, events_of_push, events_of_none, happens_same, happens_each, happens_agree, not_past, not_named, opened_each, quiet_one, Below, rising_happens, IsFew, few_happens, Differ, differ_happens, AreOpeners, openers_happens}
 use Rattle.giop_stream.proofs.Joined.Telling.{joined_append, heard, heard_each, told_heard, told_grows, in_order_grows, in_order_idle, standing_append, keeping, utters_agree, standing_utters, written_each, none_last, none_joined}
 use Rattle.giop_stream.proofs.Joined.Sharing.{header_joined, own_joined}
 use Rattle.giop_stream.proofs.Joined.Starting.{start_append, none_later, one_first}
@@ -155,7 +155,7 @@ octets_by true false xs ys = refl
 octets_by false true xs ys = refl
 octets_by false false xs ys = refl
 
-octets_grow : (R : Reading) (p p' : List ℕ) (es : List Event) (ls : List Line) → events p' ≡ events p ++ es → said R p' ≡ said R p ++ ls → (i : ℕ) → octets_of R p' i ≡ written (taking (octets_of R p) es) ls i
+pub octets_grow : (R : Reading) (p p' : List ℕ) (es : List Event) (ls : List Line) → events p' ≡ events p ++ es → said R p' ≡ said R p ++ ls → (i : ℕ) → octets_of R p' i ≡ written (taking (octets_of R p) es) ls i
 unfolding octets_of is_over written taking
 octets_grow R p p' es ls ev sd i =
     rw (ev, sd, any_append (is_last_of i) (said R p) ls, joined_append i (events p) es)
@@ -203,7 +203,7 @@ unfolding state_of make
 state_is R p c faults live K e f o k = λ j. make (read_of p (e j).stop) (e j) (f j) (o j) (λ i. k i j)
 
 -- The step that deals with an octet of a message.
-settle_stop : (whole : List Message) (m : Message) → (settle whole m).stop ≡ None
+pub settle_stop : (whole : List Message) (m : Message) → (settle whole m).stop ≡ None
 unfolding settle
 settle_stop whole m = go (nat_lt (length m.payload) (size m.header))
   where
@@ -785,3 +785,6 @@ mute_causal = record { earlier = λ header xs more k h. refl }
 pub few_open : (p : List ℕ) → length (open_after p) ≤ most_open
 unfolding IsFew
 few_open p = (sound mute mute_causal p).live.few
+
+pub rising_open : (p : List ℕ) → Rising (open_after p)
+rising_open p = (sound mute mute_causal p).rising

@@ -42,7 +42,7 @@ known_by : (K : Kept) (live : List Open) (m : Message) → length m.payload < 4 
 unfolding own_of has_named
 known_by K live m short = kept_own K live m.number (own_of K live (Some m)) (λ free. rw (free, and_right (is_fragment m.header) (nat_le 4 (length m.payload)) (lt-leb 4 (length m.payload) short)) refl)
 
-octets_are : (R : Reading) (p : List ℕ) (i : ℕ) (xs : List ℕ) → octets_of R p i ≡ Some xs → joined i (events p) ≡ xs
+pub octets_are : (R : Reading) (p : List ℕ) (i : ℕ) (xs : List ℕ) → octets_of R p i ≡ Some xs → joined i (events p) ≡ xs
 unfolding octets_of
 octets_are R p i xs h = go (is_over R p i) h
   where
@@ -68,7 +68,7 @@ free_read : (R : Reading) (p : List ℕ) → (cut p).stop ≡ None → (state_of
 unfolding state_of read_of
 free_read R p st = rw st refl
 
-if_some : (P : Message → Type 0) (o : Option Message) (m : Message) → o ≡ Some m → IfSome o P → P m
+pub if_some : (P : Message → Type 0) (o : Option Message) (m : Message) → o ≡ Some m → IfSome o P → P m
 if_some P o m e h = rw e at h
 
 -- an octet of a payload

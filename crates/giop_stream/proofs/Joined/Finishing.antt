@@ -16,7 +16,7 @@ use Rattle.giop_stream.specs.Reading.{Saying, Reading, IsCausal, IsEnding, is_la
 use Rattle.giop_stream.specs.Text.{truncated_line}
 use Rattle.giop_stream.specs.Stream.{is_inside, is_truncated}
 use Rattle.giop_stream.specs.Joined.Kinds.{may_be_fragmented, is_fragment, is_opener, is_cancel, may_be_cancelled}
-use Rattle.giop_stream.specs.Joined.Events.{Happening, Begins, Takes, Opens, Continues, Cancelled, Imposed, Closes, Title, Event, Open, title, place, id, own, about, opener_of, has_named, at_header, at_octet, opens_by, opens, most_open, continues, cancels_by, cancels, at_id, at_end, happens, changed, opened, events_from, events, open_after, joined}
+use Rattle.giop_stream.specs.Joined.Events.{Happening, Begins, Takes, Opens, Continues, Cancelled, Imposed, Closes, Title, Event, Open, place, id, own, about, opener_of, has_named, at_header, at_octet, opens_by, opens, most_open, continues, cancels_by, cancels, at_id, at_end, happens, changed, opened, events_from, events, open_after, joined}
 use Rattle.giop_stream.specs.Joined.Lines.{Class, Start, Said_value, Said_call, Continuing, Cancelling, Imposing, Said_rest, Said_fault, Said_end, Stop, rank, Said, class_of, Line, line, tells, classes, by_class, is_last_of, standing, said}
 use Rattle.giop_stream.specs.Joined.Stream.{tally, is_over, heads, unfinished, final, closing}
 use Rattle.giop_stream.specs.Joined.State.{Kept, octets_of, is_open, slots_of, own_of, state_of}

@@ -10,7 +10,7 @@ use Rattle.giop_stream.specs.declared.fault.ImposedFault.TheVariants.{Short, NoO
 use Rattle.giop_stream.specs.Headers.{fronts, order, has_more, size}
 use Rattle.giop_stream.specs.Framing.{Message, with_payload}
 use Rattle.giop_stream.specs.Joined.Kinds.{is_fragment, is_opener, is_cancel, may_be_cancelled, refused}
-use Rattle.giop_stream.specs.Joined.Events.{Happening, Begins, Takes, Opens, Continues, Cancelled, Imposed, Closes, Title, Event, Open, title, place, own, about, id, opener_of, has_named, goes_past, imposed, at_header, at_octet, opens_by, opens, most_open, same_order, continues_by, continues, cancels_by, cancels, at_id, at_end, happens, events_of, changed, opened, events_from}
+use Rattle.giop_stream.specs.Joined.Events.{Happening, Begins, Takes, Opens, Continues, Cancelled, Imposed, Closes, Title, Event, Open, title, place, own, about, id, opener_of, has_named, goes_past, imposed, at_header, at_octet, opens_by, opens, most_open, same_order, continues_by, continues, cancels_by, cancels, at_id, at_end, happens, events_of, changed, opened, events_from, Rising}
 use Rattle.giop_stream.proofs.Lists.{fronts_push, by_growth, each_append, each_filter}
 
 pub opened_append : (live : List Open) (es more : List Event) → opened live (es ++ more) ≡ opened (opened live es) more
@@ -398,10 +398,6 @@ kept_happens Q live m k q = kept_parts Q live m k q
 
 abbrev pub Below : ℕ → List Open → Type 0
 Below n live = Each (λ o. o.opener.number < n) live
-
-abbrev pub Rising : List Open → Type 0
-Rising [] = Unit {0}
-Rising (o ∷ live) = Each (λ a. o.opener.number < a.opener.number) live × Rising live
 
 rising_by : (test : Open → Bool) (o : Open) (live : List Open) (b : Bool) → Each (λ a. o.opener.number < a.opener.number) live → Rising (filter test live) → Rising (cond b (o ∷ filter test live) (filter test live))
 rising_by test o live true h k = (each_filter (λ a. o.opener.number < a.opener.number) test live h, k)

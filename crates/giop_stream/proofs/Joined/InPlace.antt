@@ -12,7 +12,7 @@ use Rattle.giop_stream.specs.Joined.Machine.{utters_kept, taking, written}
 use Rattle.giop_stream.specs.Joined.Plays.{Scene, lines_at, scene_at, lines_of, octets_then}
 use Rattle.giop_stream.proofs.Lists.{each_weaker, filter_keeps}
 use Rattle.giop_stream.proofs.Joined.Telling.{tells_number, standing_each}
-use Rattle.giop_stream.proofs.Joined.Happenings.{Rising}
+use Rattle.giop_stream.specs.Joined.Events.{Rising}
 use Rattle.giop_stream.proofs.Joined.Bridge.{slots_agree}
 
 -- ---- What is kept.

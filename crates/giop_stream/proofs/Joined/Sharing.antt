@@ -8,7 +8,7 @@ use Rattle.giop_stream.specs.declared.fault.ImposedFault.TheVariants.{Short, NoO
 use Rattle.giop_stream.specs.Headers.{order, has_more, size}
 use Rattle.giop_stream.specs.Framing.{Message, with_payload, cut, messages}
 use Rattle.giop_stream.specs.Joined.Kinds.{is_fragment, is_opener, is_cancel, may_be_cancelled, refused}
-use Rattle.giop_stream.specs.Joined.Events.{Happening, Begins, Takes, Opens, Continues, Cancelled, Imposed, Closes, Event, Open, title, own, about, id, opener_of, goes_past, imposed, at_header, at_octet, opens_by, opens, most_open, same_order, continues_by, continues, cancels_by, cancels, at_id, at_end, happens, events_of, opened, events_from, events, octet, joined}
+use Rattle.giop_stream.specs.Joined.Events.{Happening, Begins, Takes, Opens, Continues, Cancelled, Imposed, Closes, Event, Open, own, about, id, opener_of, goes_past, imposed, at_header, at_octet, opens_by, opens, most_open, same_order, continues_by, continues, cancels_by, cancels, at_id, at_end, happens, events_of, opened, events_from, events, octet, joined}
 use Rattle.giop_stream.specs.Joined.Shares.{continued, share, shares}
 use Rattle.giop_stream.proofs.Lists.{by_growth}
 use Rattle.giop_stream.proofs.Joined.Happenings.{events_of_push, events_of_none}

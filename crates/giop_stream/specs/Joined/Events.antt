@@ -1,7 +1,7 @@
 -- What each octet of each message does, and to which message. From this come the open messages, the octets that each
 -- joined message has, and its lines (GIOP Message Formats, Fragment Message, CancelRequest Message).
-use Rattle.std.specs.Prelude.{ℕ, ◌+◌, ◌-◌, Bool, true, false, not, ◌&&◌, ◌||◌, List, [], ◌∷◌, ◌++◌, length, get_or, take, filter, flat_map, Option, Some, None, nat_lt, nat_le, ◌==◌, if◌then◌else◌}
-use Rattle.std.specs.List.{find}
+use Rattle.std.specs.Prelude.{ℕ, ◌+◌, ◌-◌, ◌<◌, Bool, true, false, not, ◌&&◌, ◌||◌, List, [], ◌∷◌, ◌++◌, length, get_or, take, filter, flat_map, Option, Some, None, nat_lt, nat_le, ◌==◌, if◌then◌else◌}
+use Rattle.std.specs.List.{find, AllByRecursion as Each}
 use Rattle.giop_cdr.specs.declared.order.Order.{Order}
 use Rattle.giop_cdr.specs.declared.order.Order.TheVariants.{Big, Little}
 use Rattle.giop_cdr.specs.Numbers.{num}
@@ -191,3 +191,8 @@ octet Closes = []
 
 unfoldable pub joined : ℕ → List Event → List ℕ
 joined i es = flat_map (λ e. if e.whom.number == i then octet e.what else []) es
+
+-- the numbers of the open messages rise
+abbrev pub Rising : List Open → Type 0
+Rising [] = Unit {0}
+Rising (o ∷ live) = Each (λ a. o.opener.number < a.opener.number) live × Rising live

@@ -1,12 +1,12 @@
 -- What an octet does, an event after the other: the machine of the code does no more at once.
-use Rattle.std.specs.Prelude.{◌≡◌, ℕ, suc, ◌<◌, ◌≤◌, false, List, [], ◌∷◌, ◌++◌, length, map, Option, Some, None, nat_lt, if◌then◌else◌, option_map}
-use Rattle.std.specs.List.{list_any}
+use Rattle.std.specs.Prelude.{Bool, true, ◌≡◌, ℕ, suc, ◌<◌, ◌≤◌, false, List, [], ◌∷◌, ◌++◌, length, map, Option, Some, None, nat_lt, if◌then◌else◌, option_map}
+use Rattle.std.specs.List.{list_any, AllByRecursion as Each}
 use Rattle.giop_stream.specs.Reading.{Reading}
-use Rattle.giop_stream.specs.Joined.Events.{Event, Open, octet, changed}
-use Rattle.giop_stream.specs.Joined.Lines.{Line, is_last_of, standing}
+use Rattle.giop_stream.specs.Joined.Events.{Happening, Begins, Takes, Opens, Continues, Cancelled, Imposed, Closes, Title, Event, Open, place, octet, changed, open_after}
+use Rattle.giop_stream.specs.Joined.Lines.{Line, Started, Goes_on, is_last_of, standing}
 use Rattle.giop_stream.specs.Headers.{size}
 use Rattle.giop_stream.specs.Framing.{Message, with_payload}
-use Rattle.giop_stream.specs.Joined.State.{State, Kept, slots_of, own_of}
+use Rattle.giop_stream.specs.Joined.State.{Slot, State, Kept, octets_of, slots_of, own_of}
 use Rattle.giop_stream.specs.Joined.Machine.{Step, kept, utters_kept, taking, written, writes}
 
 -- the open messages, and what is kept of each message
@@ -66,3 +66,55 @@ lines_of R e o = standing (λ i. false) (utters_kept R e o)
 
 unfoldable pub octets_then : Reading → Event → Option (List ℕ) → Option (List ℕ)
 octets_then R e o = if list_any (is_last_of e.whom.number) (lines_of R e o) then None else option_map (λ xs. xs ++ octet e.what) o
+
+-- what there is to know of the messages of a stream
+unfoldable pub stage : Reading → List ℕ → Scene
+stage R p = record { live = open_after p; known = octets_of R p }
+
+-- ---- What an event does to the slots.
+
+-- it opens nothing and closes nothing
+abbrev pub stays : Happening → Bool
+stays Begins = true
+stays (Takes x) = true
+stays (Opens i) = false
+stays (Continues i) = true
+stays (Cancelled j) = false
+stays (Imposed fault) = true
+stays Closes = false
+
+-- it closes a message
+abbrev pub goes : Happening → Bool
+goes Begins = false
+goes (Takes x) = false
+goes (Opens i) = false
+goes (Continues i) = false
+goes (Cancelled j) = true
+goes (Imposed fault) = false
+goes Closes = true
+
+-- no open message has this number
+abbrev pub IsNotOpen : ℕ → List Open → Type 0
+IsNotOpen n live = Each (λ o. o.opener.number ≡ n → ⊥) live
+
+-- the slots of a scene
+abbrev pub slots_at : Scene → List Slot
+slots_at c = slots_of c.known c.live
+
+-- ---- Plays of one event, and of none.
+
+abbrev pub one_play : Reading → Scene → ℕ → Title → Happening → Play
+one_play R c at whom what =
+    let e : Event = record { place = at; whom = whom; what = what } in
+    record { scene = scene_at R c e; lines = lines_of R e (c.known whom.number) }
+
+abbrev pub no_play : Scene → Play
+no_play c = record { scene = c; lines = [] }
+
+-- the line of a Fragment that continues an open message
+abbrev pub goes_on : Message → Open → Line
+goes_on m o = record { place = place m; number = m.number; content = Goes_on o.opener.number }
+
+-- the start line of a message
+abbrev pub starts : Message → Line
+starts m = record { place = place m; number = m.number; content = Started m.header }

@@ -1,5 +1,13 @@
 use Rattle.giop_stream.proofs.Joined.Dealing.{payload_plays, header_plays}
+use Rattle.giop_stream.proofs.Joined.Growing.{payload_grows}
+use Rattle.giop_stream.proofs.Joined.Beginning.{alive}
 use Rattle.giop_stream.proofs.laws.each_event.Goals as goal
 
 pub returns : goal.returns
-returns c = record { payload = payload_plays; header = header_plays }
+returns c = record {
+  payload = payload_plays;
+  header = header_plays;
+  stage = λ R causal laws p m x st cur room. (payload_grows R causal laws p m x st cur room).stage;
+  lines = λ R causal laws p m x st cur room. (payload_grows R causal laws p m x st cur room).lines;
+  begun = alive;
+}

@@ -1,0 +1,256 @@
+//! The messages that have begun and not ended: the open ones, and the one whose payload comes.
+
+ghost use Rattle.std.specs.Prelude.{◌≡◌, ◌+◌, ℕ, List, [], length, Option, Some, None, OnOk, IfOk, true, false, if◌then◌else◌};
+ghost use Rattle.giop_print.specs.Output.{Writes};
+ghost use Rattle.giop_stream.specs.FirstReading.{reading};
+ghost use Rattle.giop_stream.specs.Joined.Events.{Title, Takes, Imposed, Closes};
+ghost use Rattle.giop_stream.specs.Joined.Text.{lines_text, imposed_word};
+ghost use Rattle.giop_stream.specs.Joined.Stream.{fault_count};
+ghost use Rattle.giop_stream.specs.Joined.Plays.{Scene, plays, lines_of, octets_then};
+ghost use Rattle.giop_stream.specs.Joined.Keeping.{IsKept, IsShort, event};
+
+use crate::fault::ImposedFault;
+use crate::lines::imposed_line;
+use crate::message::Message;
+use arrayvec::ArrayVec;
+use giop_print::{Out, OutFault, cancelled_line};
+
+/// An open message.
+#[derive(Default, Drop)]
+pub struct Slot {
+    pub number: u64,
+    pub header: [u8; 12],
+    pub id: u32,
+    /// What is kept of it, unless it is over.
+    pub message: Option<Message>,
+}
+
+/// Whose the octets of the payload are.
+#[derive(Clone, Copy, Debug)]
+pub enum Payload {
+    /// The message's own, which isn't open.
+    Own,
+    /// Those of the open message at this place.
+    Open(usize),
+    /// No message's.
+    Nobody,
+}
+
+/// The open messages, and the message whose payload comes where it isn't one of them.
+#[derive(Drop)]
+pub struct Slots {
+    pub slots: ArrayVec<Slot, 16>,
+    pub own: Option<Message>,
+    pub payload: Payload,
+}
+
+/// Gives a message an octet; says whether that faults it.
+fn give<O: Out>(
+    message: &mut Option<Message>,
+    octet: u8,
+    place: u64,
+    out: &mut O,
+) -> Result<bool, OutFault>
+    ensures text { (w : Title) (o : Option (List ℕ)) → IsKept message.old w o →
+        Writes result (O.log out.old) (O.log out.new) (lines_text (lines_of reading (event place w (Takes octet)) o)) }
+    ensures kept { (w : Title) (o : Option (List ℕ)) → IsKept message.old w o → IsShort o →
+        OnOk result (IsKept message.new w (octets_then reading (event place w (Takes octet)) o)) }
+    ensures faults { (w : Title) (o : Option (List ℕ)) → IsKept message.old w o →
+        IfOk result (λ fault. fault_count (lines_of reading (event place w (Takes octet)) o) ≡ (if fault then 1 else 0)) }
+{
+    match message {
+        Some(m) => {
+            m.take(octet, place, out)?;
+            Ok(false)
+        }
+        None => Ok(false),
+    }
+}
+
+/// Faults a message of this number, unless it is over; says whether it does.
+fn impose<O: Out>(
+    message: &mut Option<Message>,
+    number: u64,
+    fault: ImposedFault,
+    place: u64,
+    out: &mut O,
+) -> Result<bool, OutFault>
+    ensures text { (w : Title) (o : Option (List ℕ)) → IsKept message.old w o → w.number ≡ number →
+        Writes result (O.log out.old) (O.log out.new) (lines_text (lines_of reading (event place w (Imposed fault)) o)) }
+    ensures kept { (w : Title) (o : Option (List ℕ)) → IsKept message.old w o →
+        OnOk result (IsKept message.new w (octets_then reading (event place w (Imposed fault)) o)) }
+    ensures faults { (w : Title) (o : Option (List ℕ)) → IsKept message.old w o →
+        IfOk result (λ does. fault_count (lines_of reading (event place w (Imposed fault)) o) ≡ (if does then 1 else 0)) }
+{
+    if message.take().is_none() {
+        return Ok(false);
+    }
+    imposed_line(out, number, fault, place)?;
+    Ok(true)
+}
+
+/// Closes a message, unless it is over; says whether that faults it.
+fn shut<O: Out>(message: Option<Message>, place: u64, out: &mut O) -> Result<bool, OutFault>
+    ensures text { (w : Title) (o : Option (List ℕ)) → IsKept message w o →
+        Writes result (O.log out.old) (O.log out.new) (lines_text (lines_of reading (event place w Closes) o)) }
+    ensures faults { (w : Title) (o : Option (List ℕ)) → IsKept message w o →
+        IfOk result (λ short. fault_count (lines_of reading (event place w Closes) o) ≡ (if short then 1 else 0)) }
+{
+    match message {
+        Some(m) => m.close(place, out),
+        None => Ok(false),
+    }
+}
+
+impl Slots {
+    ghost use Rattle.giop_stream.specs.Joined.Keeping.{Keeps, AreShort, scene_to, lines_to};
+    ghost use Rattle.std.specs.Prelude.{◌<◌, slice_get};
+    ghost use Rattle.std.specs.List.{AllByRecursion as Each};
+    ghost use Rattle.giop_stream.specs.declared.slots.Payload.TheVariants as Payload;
+    ghost use Rattle.giop_stream.specs.Joined.Events.{Open, Opens, Cancelled, Rising};
+    ghost use Rattle.giop_stream.specs.Framing.{Message as Part};
+    ghost use Rattle.giop_stream.specs.Joined.Events.{title, place as place_of, opener_of, continues_by};
+    ghost use Rattle.giop_stream.specs.Joined.Keeping.{IsNow};
+    ghost use Rattle.std.specs.Option.{option_map};
+    ghost use Rattle.std.specs.List.{position_from};
+    ghost use Rattle.std.specs.Prelude.{◌==◌};
+
+    /// Gives an octet of the payload to the message whose it is; says whether that faults it.
+    pub fn take<O: Out>(&mut self, octet: u8, place: u64, out: &mut O) -> Result<bool, OutFault>
+        ensures text { (c : Scene) (whose : Option Title) → Keeps self.old c whose →
+            Writes result (O.log out.old) (O.log out.new) (lines_text (lines_to place c whose (Takes octet))) }
+        ensures kept { (c : Scene) (whose : Option Title) → Keeps self.old c whose → AreShort c → Rising c.live →
+            OnOk result (Keeps self.new (scene_to place c whose (Takes octet)) whose) }
+        ensures faults { (c : Scene) (whose : Option Title) → Keeps self.old c whose →
+            IfOk result (λ fault. fault_count (lines_to place c whose (Takes octet)) ≡ (if fault then 1 else 0)) }
+    {
+        match self.payload {
+            Payload::Own => give(&mut self.own, octet, place, out),
+            Payload::Open(k) => match self.slots.get_mut(k) {
+                Some(slot) => give(&mut slot.message, octet, place, out),
+                None => Ok(false),
+            },
+            Payload::Nobody => Ok(false),
+        }
+    }
+
+    /// Faults the message whose the payload is, unless it is over; says whether it does.
+    pub fn impose<O: Out>(
+        &mut self,
+        number: u64,
+        fault: ImposedFault,
+        place: u64,
+        out: &mut O,
+    ) -> Result<bool, OutFault>
+        ensures text { (c : Scene) (w : Title) → Keeps self.old c (Some w) → w.number ≡ number →
+            Writes result (O.log out.old) (O.log out.new) (lines_text (lines_to place c (Some w) (Imposed fault))) }
+        ensures kept { (c : Scene) (w : Title) → Keeps self.old c (Some w) → Rising c.live →
+            OnOk result (Keeps self.new (scene_to place c (Some w) (Imposed fault)) (Some w)) }
+        ensures faults { (c : Scene) (w : Title) → Keeps self.old c (Some w) →
+            IfOk result (λ does. fault_count (lines_to place c (Some w) (Imposed fault)) ≡ (if does then 1 else 0)) }
+    {
+        match self.payload {
+            Payload::Own => impose(&mut self.own, number, fault, place, out),
+            Payload::Open(k) => match self.slots.get_mut(k) {
+                Some(slot) => impose(&mut slot.message, slot.number, fault, place, out),
+                None => Ok(false),
+            },
+            Payload::Nobody => Ok(false),
+        }
+    }
+
+    /// Closes the message whose the payload is, unless it is over; says whether that faults it.
+    pub fn close<O: Out>(&mut self, place: u64, out: &mut O) -> Result<bool, OutFault>
+        ensures text { (c : Scene) (whose : Option Title) → Keeps self.old c whose →
+            Writes result (O.log out.old) (O.log out.new) (lines_text (lines_to place c whose Closes)) }
+        ensures kept { (c : Scene) (whose : Option Title) → Keeps self.old c whose → Rising c.live →
+            OnOk result (Keeps self.new (scene_to place c whose Closes) None) }
+        ensures faults { (c : Scene) (whose : Option Title) → Keeps self.old c whose →
+            IfOk result (λ short. fault_count (lines_to place c whose Closes) ≡ (if short then 1 else 0)) }
+    {
+        let payload = self.payload;
+        self.payload = Payload::Nobody;
+        match payload {
+            Payload::Own => shut(self.own.take(), place, out),
+            Payload::Open(k) => match self.slots.pop_at(k) {
+                Some(slot) => shut(slot.message, place, out),
+                None => Ok(false),
+            },
+            Payload::Nobody => Ok(false),
+        }
+    }
+
+    /// Makes the message whose payload comes an open one.
+    pub fn open(&mut self, number: u64, header: [u8; 12], id: u32)
+        requires { length self.old.slots.items < 16 }
+        ensures kept { (c : Scene) (w : Title) (place : ℕ) → Keeps self.old c (Some w) → self.old.payload ≡ Payload.Own →
+            w.number ≡ number → w.header ≡ header → Keeps self.new (scene_to place c (Some w) (Opens id)) (Some w) }
+    {
+        let message = self.own.take();
+        self.payload = Payload::Open(self.slots.len());
+        self.slots.push(Slot {
+            number,
+            header,
+            id,
+            message,
+        });
+    }
+
+    /// The payload is of the open message at this place, from now on.
+    pub fn pass_on(&mut self, k: usize)
+        ensures kept { (c : Scene) (whose : Option Title) (o : Open) → Keeps self.old c whose → slice_get c.live k ≡ Some o →
+            Keeps self.new c (Some o.opener) }
+    {
+        self.own = None;
+        self.payload = Payload::Open(k);
+    }
+
+    /// The payload is no message's, from now on.
+    pub fn lose(&mut self)
+        ensures kept { (c : Scene) (whose : Option Title) → Keeps self.old c whose → Keeps self.new c None }
+    {
+        self.own = None;
+        self.payload = Payload::Nobody;
+    }
+
+    /// A message begins.
+    pub fn begin(&mut self, number: u64, header: [u8; 12])
+        ensures kept { (c : Scene) (whose : Option Title) → Keeps self.old c whose → (w : Title) → w.number ≡ number → w.header ≡ header →
+            c.known w.number ≡ Some [] → Each (λ o. o.opener.number ≡ w.number → ⊥) c.live → Keeps self.new c (Some w) }
+    {
+        self.own = Some(Message::start(number, header));
+        self.payload = Payload::Own;
+    }
+
+    /// Where the open message with this request id is.
+    pub fn find(&self, id: u32) -> Option<usize>
+        ensures { result ≡ position_from (λ slot. slot.id == id) 0 self.now.slots.items }
+    {
+        self.slots.as_slice().iter().position(|slot| slot.id == id)
+    }
+
+    /// Closes the open message at this place, which the message of this number cancels.
+    pub fn cancel<O: Out>(
+        &mut self,
+        k: usize,
+        by: u64,
+        place: u64,
+        out: &mut O,
+    ) -> Result<(), OutFault>
+        ensures text { (c : Scene) (whose : Option Title) (o : Open) → Keeps self.old c whose → slice_get c.live k ≡ Some o →
+            Writes result (O.log out.old) (O.log out.new) (lines_text (lines_to place c (Some o.opener) (Cancelled by))) }
+        ensures kept { (c : Scene) (w : Title) (o : Open) → Keeps self.old c (Some w) → self.old.payload ≡ Payload.Own →
+            slice_get c.live k ≡ Some o → Rising c.live →
+            OnOk result (Keeps self.new (scene_to place c (Some o.opener) (Cancelled by)) (Some w)) }
+    {
+        match self.slots.pop_at(k) {
+            Some(slot) => {
+                if slot.message.is_none() {
+                    return Ok(());
+                }
+                cancelled_line(out, slot.number, by)
+            }
+            None => Ok(()),
+        }
+    }
+}
