@@ -13,13 +13,13 @@ use Rattle.giop_decode.specs.Spine.{Seg, Value as Valued, Line, Place, Leaf, Rea
 use Rattle.giop_decode.specs.Reading.{read}
 use Rattle.giop_decode.specs.Steps as decoder
 use Rattle.giop_decode.specs.Steps.{OneAt, Now}
-use Rattle.giop_decode.specs.Heard.{Heard, nothing, hear, heard, ends_operation}
+use Rattle.giop_decode.specs.Heard.{Heard, nothing, hear, heard, ends_operation, is_header_root}
 use Rattle.giop_decode.proofs.Law.{length_one_more}
 use Rattle.giop_decode.proofs.Now.{each_append, Quiet, read_quiet, step_now}
 use Rattle.giop_message.specs.Headers.{minor, kind, order}
 use Rattle.giop_message.specs.Reading.{Saying, Remark, InTurn, IsOrdered, IsCausal}
 use Rattle.giop_message.specs.Signatures.{Signatures}
-use Rattle.giop_message.specs.Messages.{Said, Called, Left, Told, tell, is_shown, call_of, calls, is_header, tells, BodyType, Untyped, Typed, Raised, Stage, In_header, In_padding, In_exception, In_body, In_rest, Over, Message, Comes, with_front, passes, rest_in, rest, typed, option_typed, members_of, after_exception, body, is_request, body_of, has_body, padded, after_header, of_header, message, told_of}
+use Rattle.giop_message.specs.Messages.{Said, Called, Left, Told, tell, is_shown, call_of, calls, tells, BodyType, Untyped, Typed, Raised, Stage, In_header, In_padding, In_exception, In_body, In_rest, Over, Message, Comes, with_front, passes, rest_in, rest, typed, option_typed, members_of, after_exception, body, is_request, body_of, has_body, padded, after_header, of_header, message, told_of}
 use Rattle.giop_message.specs.Steps.{rest_step, message_step, advance}
 use Rattle.giop_message.specs.MessageReading.{saying_of, remark_of, reading_by}
 use Rattle.giop_message.proofs.Going.{front_none, message_goes}
@@ -77,7 +77,7 @@ tells_turn : (root : Root) (is : Bool) (n : ℕ) (h : Heard) (lines : List Line)
 unfolding tells
 tells_turn root is n h [] e = (tt, inl refl)
 tells_turn root is n h (l ∷ []) e =
-    let now = hear (is_header root) h l in
+    let now = hear (is_header_root root) h l in
     subst (λ m. Turn m ((tell l.at (Said root l.path l.value) ∷ calls is l now) ++ [])) e (value_turn l.at root l.path l.value (calls is l now) (calls_is is l now))
 tells_turn root is n h (l ∷ l' ∷ ls) e = absurd e
 
@@ -91,35 +91,35 @@ module _ (root : Root) (is : Bool) (stage : Heard → List Place → Leaf → St
   passes_prompt : (k : Heard) (r : Read) → Now n r → Prompt n (passes root is stage next k r)
   unfolding passes tell tells saying_of
   passes_prompt k (Done lines at s) h =
-      rw (h.1, h.2) (prompt_front n (tells root is k lines) (next (heard (is_header root) k lines) n []) (tells_turn root is n k lines h.0) (silent (heard (is_header root) k lines)))
+      rw (h.1, h.2) (prompt_front n (tells root is k lines) (next (heard (is_header_root root) k lines) n []) (tells_turn root is n k lines h.0) (silent (heard (is_header_root root) k lines)))
   passes_prompt k (Short lines at outer leaf) h = (tells_turn root is n k lines h.0, inl h.1)
   passes_prompt k (Fault lines at why T) h = rw h.0 (((h.1, tt), inr (inr (inr (inr refl)))), inr refl)
 
-rest_silent : (n : ℕ) → Silent n (rest n [])
+pub rest_silent : (n : ℕ) → Silent n (rest n [])
 unfolding rest rest_in
 rest_silent n = (refl, add-zero n)
 
-typed_silent : (o : Order) (T : Ty) (n : ℕ) → Silent n (typed o T n [])
+pub typed_silent : (o : Order) (T : Ty) (n : ℕ) → Silent n (typed o T n [])
 unfolding typed
 typed_silent o T n = passes_silent roots.Body false (λ k. In_body) (λ k. rest) n (λ k. rest_silent n) nothing (read o [] T n []) (read_quiet o [] T n)
 
-option_silent : (o : Order) (found : Option Ty) (n : ℕ) → Silent n (option_typed o found n [])
+pub option_silent : (o : Order) (found : Option Ty) (n : ℕ) → Silent n (option_typed o found n [])
 unfolding option_typed
 option_silent o None n = rest_silent n
 option_silent o (Some T) n = typed_silent o T n
 
-after_exception_silent : (S : Signatures) (header : List ℕ) (k : Heard) (n : ℕ) → Silent n (after_exception S header k n [])
+pub after_exception_silent : (S : Signatures) (header : List ℕ) (k : Heard) (n : ℕ) → Silent n (after_exception S header k n [])
 unfolding after_exception
 after_exception_silent S header k n = option_silent (order header) (members_of S k.name) n
 
-body_silent : (S : Signatures) (header : List ℕ) (t : BodyType) (n : ℕ) → Silent n (body S header t n [])
+pub body_silent : (S : Signatures) (header : List ℕ) (t : BodyType) (n : ℕ) → Silent n (body S header t n [])
 unfolding body
 body_silent S header Untyped n = rest_silent n
 body_silent S header (Typed T) n = typed_silent (order header) T n
 body_silent S header Raised n =
     passes_silent roots.Exception false In_exception (after_exception S header) n (λ k. after_exception_silent S header k n) nothing (read (order header) [] S.exception_id n []) (read_quiet (order header) [] S.exception_id n)
 
-padded_silent : (S : Signatures) (header : List ℕ) (t : BodyType) (n : ℕ) → Silent n (padded S header t n [])
+pub padded_silent : (S : Signatures) (header : List ℕ) (t : BodyType) (n : ℕ) → Silent n (padded S header t n [])
 unfolding padded
 padded_silent S header t n = go (cases_lt 0 (padding n 8))
   where
@@ -136,7 +136,7 @@ after_header_silent S header k n = go (has_body header) (minor header == 2)
     go true false = body_silent S header (body_of S header k) n
     go false is_2 = rest_silent n
 
-of_header_silent : (S : Signatures) (header : List ℕ) (found : Option Ty) (n : ℕ) → Silent n (of_header S header found n [])
+pub of_header_silent : (S : Signatures) (header : List ℕ) (found : Option Ty) (n : ℕ) → Silent n (of_header S header found n [])
 unfolding of_header
 of_header_silent S header None n = rest_silent n
 of_header_silent S header (Some T) n =

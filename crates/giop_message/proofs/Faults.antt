@@ -9,10 +9,10 @@ use Rattle.giop_print.specs.declared.path.Root.TheVariants as roots
 use Rattle.giop_sig.specs.Types.{Ty}
 use Rattle.giop_decode.specs.Spine.{Line, Place, Leaf, Read, Done, Short, Fault}
 use Rattle.giop_decode.specs.Reading.{read}
-use Rattle.giop_decode.specs.Heard.{Heard, nothing, hear, heard}
+use Rattle.giop_decode.specs.Heard.{Heard, nothing, hear, heard, is_header_root}
 use Rattle.giop_message.specs.Headers.{minor, kind, order}
 use Rattle.giop_message.specs.Signatures.{Signatures}
-use Rattle.giop_message.specs.Messages.{Left, Wrong, Told, tell, calls, is_header, tells, BodyType, Untyped, Typed, Raised, Stage, In_header, In_padding, In_exception, In_body, Message, Comes, with_front, passes, rest_in, rest, typed, option_typed, members_of, after_exception, body, is_request, body_of, has_body, padded, after_header, of_header, message, told_of, stage_of}
+use Rattle.giop_message.specs.Messages.{Left, Wrong, Told, tell, calls, tells, BodyType, Untyped, Typed, Raised, Stage, In_header, In_padding, In_exception, In_body, Message, Comes, with_front, passes, rest_in, rest, typed, option_typed, members_of, after_exception, body, is_request, body_of, has_body, padded, after_header, of_header, message, told_of, stage_of}
 use Rattle.giop_message.specs.MessageReading.{saying_of, is_over, is_wrong}
 use Rattle.giop_message.proofs.Causal.{MayCall, calls_is}
 
@@ -36,7 +36,7 @@ none_told : (root : Root) (is : Bool) (h : Heard) (lines : List Line) → list_a
 unfolding tells is_wrong saying_of tell
 none_told root is h [] = refl
 none_told root is h (l ∷ ls) =
-    let now = hear (is_header root) h l in
+    let now = hear (is_header_root root) h l in
     any_append (calls is l now) (tells root is now ls) (none_call l.at (calls is l now) (calls_is is l now)) ∙ none_told root is now ls
 
 front_tallies : (front : List Told) (m : Message) → list_any is_wrong front ≡ false → Tallies m → Tallies (with_front front m)
@@ -47,8 +47,8 @@ module _ (root : Root) (is : Bool) (stage : Heard → List Place → Leaf → St
     (goes : (k : Heard) (outer : List Place) (leaf : Leaf) → is_over (stage k outer leaf) ≡ false) (tallies : (k : Heard) (at : ℕ) (s : List ℕ) → Tallies (next k at s)) where
   passes_tallies : (k : Heard) (r : Read) → Tallies (passes root is stage next k r)
   unfolding passes is_over is_wrong saying_of tell
-  passes_tallies k (Done lines at s) = front_tallies (tells root is k lines) (next (heard (is_header root) k lines) at s) (none_told root is k lines) (tallies (heard (is_header root) k lines) at s)
-  passes_tallies k (Short lines at outer leaf) = goes (heard (is_header root) k lines) outer leaf ∙ sym (none_told root is k lines)
+  passes_tallies k (Done lines at s) = front_tallies (tells root is k lines) (next (heard (is_header_root root) k lines) at s) (none_told root is k lines) (tallies (heard (is_header_root root) k lines) at s)
+  passes_tallies k (Short lines at outer leaf) = goes (heard (is_header_root root) k lines) outer leaf ∙ sym (none_told root is k lines)
   passes_tallies k (Fault lines at why T) = sym (any_append (tells root is k lines) (tell at (Wrong why) ∷ []) (none_told root is k lines))
 
 rest_tallies : (full offset at : ℕ) (s : List ℕ) → Tallies (rest_in full offset at s)
@@ -56,7 +56,7 @@ unfolding rest_in is_over is_wrong saying_of tell
 rest_tallies zero offset at s = refl
 rest_tallies (suc full) offset at s = front_tallies (tell (at + 32) (Left offset (take 32 s)) ∷ []) (rest_in full (offset + 32) (at + 32) (drop 32 s)) refl (rest_tallies full (offset + 32) (at + 32) (drop 32 s))
 
-all_rest : (at : ℕ) (s : List ℕ) → Tallies (rest at s)
+pub all_rest : (at : ℕ) (s : List ℕ) → Tallies (rest at s)
 unfolding rest
 all_rest at s = rest_tallies _ 0 at s
 
@@ -64,12 +64,12 @@ typed_tallies : (o : Order) (T : Ty) (at : ℕ) (s : List ℕ) → Tallies (type
 unfolding typed is_over
 typed_tallies o T at s = passes_tallies roots.Body false (λ k. In_body) (λ k. rest) (λ k outer leaf. refl) (λ k. all_rest) nothing (read o [] T at s)
 
-option_tallies : (o : Order) (found : Option Ty) (at : ℕ) (s : List ℕ) → Tallies (option_typed o found at s)
+pub option_tallies : (o : Order) (found : Option Ty) (at : ℕ) (s : List ℕ) → Tallies (option_typed o found at s)
 unfolding option_typed
 option_tallies o None at s = all_rest at s
 option_tallies o (Some T) at s = typed_tallies o T at s
 
-body_tallies : (S : Signatures) (header : List ℕ) (t : BodyType) (at : ℕ) (s : List ℕ) → Tallies (body S header t at s)
+pub body_tallies : (S : Signatures) (header : List ℕ) (t : BodyType) (at : ℕ) (s : List ℕ) → Tallies (body S header t at s)
 unfolding body after_exception is_over
 body_tallies S header Untyped at s = all_rest at s
 body_tallies S header (Typed T) at s = typed_tallies (order header) T at s
@@ -84,7 +84,7 @@ padded_tallies S header t at s = go (nat_lt (length s) (padding at 8))
     go true = refl
     go false = body_tallies S header t (at + padding at 8) (drop (padding at 8) s)
 
-after_tallies : (S : Signatures) (header : List ℕ) (k : Heard) (at : ℕ) (s : List ℕ) → Tallies (after_header S header k at s)
+pub after_tallies : (S : Signatures) (header : List ℕ) (k : Heard) (at : ℕ) (s : List ℕ) → Tallies (after_header S header k at s)
 unfolding after_header
 after_tallies S header k at s = go (has_body header) (minor header == 2)
   where

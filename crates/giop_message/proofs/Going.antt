@@ -12,11 +12,11 @@ use Rattle.giop_decode.specs.Spine
 use Rattle.giop_decode.specs.Spine.{Line, Place, Leaf, Read, Done, Short, Fault}
 use Rattle.giop_decode.specs.Reading.{read}
 use Rattle.giop_decode.specs.Steps as decoder
-use Rattle.giop_decode.specs.Heard.{Heard, nothing, hear, heard}
+use Rattle.giop_decode.specs.Heard.{Heard, nothing, hear, heard, is_header_root}
 use Rattle.giop_decode.proofs.Law.{read_goes, length_one_more}
 use Rattle.giop_message.specs.Headers.{minor, kind, order}
 use Rattle.giop_message.specs.Signatures.{Signatures}
-use Rattle.giop_message.specs.Messages.{Said, Left, Wrong, Told, tell, calls, is_header, tells, BodyType, Untyped, Typed, Raised, Stage, In_header, In_padding, In_exception, In_body, In_rest, Over, Message, Comes, with_front, passes, rest_in, rest, typed, option_typed, members_of, after_exception, body, is_request, body_of, has_body, padded, after_header, of_header, message}
+use Rattle.giop_message.specs.Messages.{Said, Left, Wrong, Told, tell, calls, tells, BodyType, Untyped, Typed, Raised, Stage, In_header, In_padding, In_exception, In_body, In_rest, Over, Message, Comes, with_front, passes, rest_in, rest, typed, option_typed, members_of, after_exception, body, is_request, body_of, has_body, padded, after_header, of_header, message}
 use Rattle.giop_message.specs.Steps.{rest_step, message_step, advance, goes_on}
 
 -- a reader that goes on as the step does
@@ -41,26 +41,26 @@ stays S header told at b = ap (λ ls. Comes ls at Over) (sym (append-nil told))
 
 -- ---- telling in two parts
 
-pub tells_append : (root : Root) (is : Bool) (h : Heard) (xs ys : List Line) → tells root is h (xs ++ ys) ≡ tells root is h xs ++ tells root is (heard (is_header root) h xs) ys
+pub tells_append : (root : Root) (is : Bool) (h : Heard) (xs ys : List Line) → tells root is h (xs ++ ys) ≡ tells root is h xs ++ tells root is (heard (is_header_root root) h xs) ys
 unfolding tells
 tells_append root is h [] ys = refl
 tells_append root is h (x ∷ xs) ys =
-    let now = hear (is_header root) h x in
+    let now = hear (is_header_root root) h x in
     let first = tell x.at (Said root x.path x.value) ∷ calls is x now in
-    ap (λ ls. first ++ ls) (tells_append root is now xs ys) ∙ sym (append_assoc first (tells root is now xs) (tells root is (heard (is_header root) now xs) ys))
+    ap (λ ls. first ++ ls) (tells_append root is now xs ys) ∙ sym (append_assoc first (tells root is now xs) (tells root is (heard (is_header_root root) now xs) ys))
 
-pub heard_append : (root : Root) (h : Heard) (xs ys : List Line) → heard (is_header root) h (xs ++ ys) ≡ heard (is_header root) (heard (is_header root) h xs) ys
+pub heard_append : (root : Root) (h : Heard) (xs ys : List Line) → heard (is_header_root root) h (xs ++ ys) ≡ heard (is_header_root root) (heard (is_header_root root) h xs) ys
 heard_append root h [] ys = refl
-heard_append root h (x ∷ xs) ys = heard_append root (hear (is_header root) h x) xs ys
+heard_append root h (x ∷ xs) ys = heard_append root (hear (is_header_root root) h x) xs ys
 
 module _ (root : Root) (is : Bool) (stage : Heard → List Place → Leaf → Stage) (next : Heard → ℕ → List ℕ → Message) where
-  pub passes_front : (h : Heard) (front : List Line) (r : Read) → passes root is stage next h (Spine.with_front front r) ≡ with_front (tells root is h front) (passes root is stage next (heard (is_header root) h front) r)
+  pub passes_front : (h : Heard) (front : List Line) (r : Read) → passes root is stage next h (Spine.with_front front r) ≡ with_front (tells root is h front) (passes root is stage next (heard (is_header_root root) h front) r)
   unfolding passes with_front
   passes_front h front (Done lines at s) =
-      rw (tells_append root is h front lines, heard_append root h front lines) (sym (front_twice (tells root is h front) (tells root is (heard (is_header root) h front) lines) (next (heard (is_header root) (heard (is_header root) h front) lines) at s)))
+      rw (tells_append root is h front lines, heard_append root h front lines) (sym (front_twice (tells root is h front) (tells root is (heard (is_header_root root) h front) lines) (next (heard (is_header_root root) (heard (is_header_root root) h front) lines) at s)))
   passes_front h front (Short lines at outer leaf) = rw (tells_append root is h front lines, heard_append root h front lines) refl
   passes_front h front (Fault lines at why T) =
-      rw (tells_append root is h front lines) (ap (λ ls. Comes ls at Over) (append_assoc (tells root is h front) (tells root is (heard (is_header root) h front) lines) (tell at (Wrong why) ∷ [])))
+      rw (tells_append root is h front lines) (ap (λ ls. Comes ls at Over) (append_assoc (tells root is h front) (tells root is (heard (is_header_root root) h front) lines) (tell at (Wrong why) ∷ [])))
 
   -- a typed part, where what follows it goes on and the step of its stage is that of the decoder
   pub passes_go : (S : Signatures) (header : List ℕ) → ((h : Heard) → Goes S header (next h)) →
@@ -68,10 +68,10 @@ module _ (root : Root) (is : Bool) (stage : Heard → List Place → Leaf → St
       (h : Heard) (r : Read) (b : ℕ) → passes root is stage next h (decoder.advance (order header) [] r b) ≡ advance S header (passes root is stage next h r) b
   unfolding passes with_front advance
   passes_go S header goes step h (Done lines at s) b =
-      ap (with_front (tells root is h lines)) (goes (heard (is_header root) h lines) at s b) ∙ front_advance S header (tells root is h lines) (next (heard (is_header root) h lines) at s) b
+      ap (with_front (tells root is h lines)) (goes (heard (is_header_root root) h lines) at s b) ∙ front_advance S header (tells root is h lines) (next (heard (is_header_root root) h lines) at s) b
   passes_go S header goes step h (Short lines at outer leaf) b =
       passes_front h lines (decoder.step (order header) [] outer leaf at b)
-      ∙ ap (with_front (tells root is h lines)) (sym (step (heard (is_header root) h lines) outer leaf at b))
+      ∙ ap (with_front (tells root is h lines)) (sym (step (heard (is_header_root root) h lines) outer leaf at b))
   passes_go S header goes step h (Fault lines at why T) b = stays S header (tells root is h lines ++ tell at (Wrong why) ∷ []) at b
 
 -- ---- the rest

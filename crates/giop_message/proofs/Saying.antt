@@ -105,7 +105,7 @@ all_by : (test : Bool) (xs : List ℕ) (n : ℕ) → IsAll (cond test (Waiting x
 all_by true xs n = tt
 all_by false xs n = refl
 
-block_all : (w at : ℕ) (held : List ℕ) (b : ℕ) → IsAll (block_step w at held b)
+pub block_all : (w at : ℕ) (held : List ℕ) (b : ℕ) → IsAll (block_step w at held b)
 unfolding block_step
 block_all w at held b = all_by (ltb (length held + 1) w) (held ++ b ∷ []) (at + 1)
 
@@ -113,7 +113,7 @@ number_by : (w at : ℕ) (test : Bool) (b : ℕ) → IsAll (cond test (Waiting [
 number_by w at true b = tt
 number_by w at false b = block_all w at [] b
 
-number_all : (w at : ℕ) (carry : List ℕ) (b : ℕ) → IsAll (number_step w at carry b)
+pub number_all : (w at : ℕ) (carry : List ℕ) (b : ℕ) → IsAll (number_step w at carry b)
 unfolding number_step
 number_all w at [] b = number_by w at (ltb 0 (padding at w)) b
 number_all w at (x ∷ carry) b = block_all w at (x ∷ carry) b
@@ -153,7 +153,7 @@ lines_within place (Done lines at rest) = refl
 lines_within place (Short lines at outer leaf) = refl
 lines_within place (Fault lines at why S) = refl
 
-now_within : (n : ℕ) (place : Place) (r : Read) → Now n r → Now n (within place r)
+pub now_within : (n : ℕ) (place : Place) (r : Read) → Now n r → Now n (within place r)
 now_within n place (Done lines at rest) h = h
 now_within n place (Short lines at outer leaf) h = h
 now_within n place (Fault lines at why S) h = h

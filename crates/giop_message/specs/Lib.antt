@@ -5,3 +5,5 @@ pub mod Signatures
 pub mod Messages
 pub mod Steps
 pub mod MessageReading
+pub mod Holding
+pub mod Moves

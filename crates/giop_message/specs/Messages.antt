@@ -1,6 +1,7 @@
 -- One joined message: the reading of all its octets, in one piece (GIOP Message Formats; docs/FORMATS.md). Offsets count from
 -- the first octet of the message, so its octets behind the header begin at 12.
 use Rattle.std.specs.Prelude.{ℕ, zero, suc, ◌+◌, ◌/◌, Bool, true, false, ◌&&◌, ◌||◌, List, [], ◌∷◌, ◌++◌, length, take, drop, Option, Some, None, ◌==◌, nat_lt, nat_le, if◌then◌else◌}
+use Rattle.std.specs.List.{list_all}
 use Rattle.giop_cdr.specs.Alignment.{padding}
 use Rattle.giop_cdr.specs.declared.order.Order.{Order}
 use Rattle.giop_print.specs.declared.path.Root.{Root}
@@ -9,7 +10,7 @@ use Rattle.giop_sig.specs.Types.{Ty, Struct}
 use Rattle.giop_decode.specs.declared.progress.Kind.{Kind}
 use Rattle.giop_decode.specs.Spine.{Seg, Value, Line, Place, Leaf, Read, Done, Short, Fault}
 use Rattle.giop_decode.specs.Reading.{read}
-use Rattle.giop_decode.specs.Heard.{Heard, nothing, hear, heard, ends_operation}
+use Rattle.giop_decode.specs.Heard.{Heard, nothing, hear, heard, ends_operation, is_header_root}
 use Rattle.giop_message.specs.Headers.{minor, kind, order}
 use Rattle.giop_message.specs.Signatures.{Signatures}
 
@@ -36,14 +37,13 @@ pub record Told : Type 0 where
 unfoldable pub tell : ℕ → Speech → Told
 tell at speech = record { at = at; speech = speech }
 
--- printed octets of ASCII, and no space
-unfoldable pub are_graphic : List ℕ → Bool
-are_graphic [] = true
-are_graphic (x ∷ xs) = nat_le 33 x && nat_le x 126 && are_graphic xs
+-- a printed octet of ASCII, and no space
+abbrev pub is_graphic : ℕ → Bool
+is_graphic octet = nat_le 33 octet && nat_le octet 126
 
 -- an operation that a call line can show; what is heard as a name has 128 octets at most
 unfoldable pub is_shown : List ℕ → Bool
-is_shown name = nat_lt 0 (length name) && are_graphic name
+is_shown name = nat_lt 0 (length name) && list_all is_graphic name
 
 unfoldable pub call_of : ℕ → Option ℕ → Option (List ℕ) → List Told
 call_of at (Some id) (Some name) = if is_shown name then tell at (Called id name) ∷ [] else []
@@ -53,16 +53,11 @@ call_of at id name = []
 unfoldable pub calls : Bool → Line → Heard → List Told
 calls is_request l h = if ends_operation is_request l then call_of l.at h.request_id h.name else []
 
-abbrev pub is_header : Root → Bool
-is_header roots.Header = true
-is_header roots.Exception = false
-is_header roots.Body = false
-
 -- The lines of a reading below a root, of a Request's header or not, with what was heard before them.
 unfoldable pub tells : Root → Bool → Heard → List Line → List Told
 tells root is_request h [] = []
 tells root is_request h (l ∷ ls) =
-    let now = hear (is_header root) h l in
+    let now = hear (is_header_root root) h l in
     (tell l.at (Said root l.path l.value) ∷ calls is_request l now) ++ tells root is_request now ls
 
 -- ---- where a message stands
@@ -93,8 +88,8 @@ with_front front (Comes told at stage) = Comes (front ++ told) at stage
 
 -- A typed part of the message, and what follows it. A fault takes the place of the value's line, and ends the message.
 unfoldable pub passes : Root → Bool → (Heard → List Place → Leaf → Stage) → (Heard → ℕ → List ℕ → Message) → Heard → Read → Message
-passes root is_request stage next h (Done lines at s) = with_front (tells root is_request h lines) (next (heard (is_header root) h lines) at s)
-passes root is_request stage next h (Short lines at outer leaf) = Comes (tells root is_request h lines) at (stage (heard (is_header root) h lines) outer leaf)
+passes root is_request stage next h (Done lines at s) = with_front (tells root is_request h lines) (next (heard (is_header_root root) h lines) at s)
+passes root is_request stage next h (Short lines at outer leaf) = Comes (tells root is_request h lines) at (stage (heard (is_header_root root) h lines) outer leaf)
 passes root is_request stage next h (Fault lines at why T) = Comes (tells root is_request h lines ++ tell at (Wrong why) ∷ []) at Over
 
 -- ---- the rest

@@ -1,6 +1,6 @@
 //! The laws of the reading of a message: what one octet more, or many, do to it, and what the stream asks of it.
 
-ghost use Rattle.std.specs.Prelude.{◌≡◌, ℕ, List, [], ◌∷◌, ◌++◌, Some};
+ghost use Rattle.std.specs.Prelude.{◌≡◌, ℕ, List, [], ◌∷◌, ◌++◌, length, drop, Some};
 ghost use Rattle.std.specs.List.{list_any};
 ghost use Rattle.giop_cdr.specs.Numbers.{num};
 ghost use Rattle.giop_sig.specs.Types.{Ty};
@@ -9,7 +9,8 @@ ghost use Rattle.giop_sig.specs.Headers.{BeginsWithId, header_type};
 ghost use Rattle.giop_message.specs.Headers.{minor, kind, order};
 ghost use Rattle.giop_message.specs.Reading.{IsCausal, IsEnding, IsNamed, IsOrdered};
 ghost use Rattle.giop_message.specs.Signatures.{Kept, said_by};
-ghost use Rattle.giop_message.specs.Messages.{message, told_of, stage_of};
+ghost use Rattle.giop_message.specs.Messages.{message, told_of, stage_of, close};
+ghost use Rattle.giop_message.specs.Holding.{due_text, remarks_text, closing_text, closes_text};
 ghost use Rattle.giop_message.specs.Steps.{advance, goes_on};
 ghost use Rattle.giop_message.specs.MessageReading.{message_reading, id_said, is_over, is_wrong};
 
@@ -36,4 +37,11 @@ pub fn message_laws()
     // The request id of a header that begins with it is the number of the first four octets.
     ensures id { (C : Table) (kept : Kept) (header : List ℕ) (T : Ty) → header_type (minor header) (kind header) ≡ Some T → BeginsWithId T →
         (a b c d : ℕ) (xs : List ℕ) → id_said (told_of (message (said_by C kept) header (a ∷ b ∷ c ∷ d ∷ xs))) ≡ Some (num (order header) (a ∷ b ∷ c ∷ d ∷ [])) }
+    // What a message writes of more octets, and at its close, is what the reading says: its lines with the number, and of a
+    // fault with its place.
+    ensures writes { (C : Table) (kept : Kept) (number place : ℕ) (header s more : List ℕ) →
+        due_text (said_by C kept) number place header s more
+        ≡ remarks_text number place (length s) (drop (length ((message_reading C kept).reads header s)) ((message_reading C kept).reads header (s ++ more))) }
+    ensures closes { (C : Table) (kept : Kept) (number place : ℕ) (header s : List ℕ) →
+        closing_text number place (close (stage_of (message (said_by C kept) header s))) ≡ closes_text number place ((message_reading C kept).closes header s) }
 {}

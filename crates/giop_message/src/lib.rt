@@ -1,6 +1,17 @@
 //! One joined message: its header, its call line, its body by the types of a catalogue, and its rest, an octet at a time.
 #![tactic(auto)]
 
+mod begin;
+mod header;
 mod laws;
+mod message;
+mod taking;
+mod wanted;
+mod word;
 
 pub use laws::message_laws;
+pub use message::{Message, Part};
+pub use wanted::Wanted;
+
+#[cfg(test)]
+mod tests;

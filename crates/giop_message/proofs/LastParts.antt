@@ -1,0 +1,137 @@
+-- The last part of a Request's header is no operation, so a header never ends with one.
+use Rattle.std.proofs.Common.{◌≡◌, ℕ, zero, suc, ◌+◌, ◌-◌, ◌<◌, ◌≤◌, ◌⊎◌, inl, inr, Bool, true, false, List, [], ◌∷◌, ◌++◌, length, Option, Some, None, refl, sym, ap, subst, ◌∙◌, append-nil, arith}
+use Rattle.std.specs.Prelude.{◌&&◌, codes, IfSome}
+use Rattle.std.specs.List.{AllByRecursion as Each}
+use Rattle.std.specs.Option.{option_map}
+use Rattle.std.specs.Str.{bytes_eq}
+use Rattle.std.proofs.lemmas.Bool.{false≢true, cases_lt}
+use Rattle.std.proofs.lemmas.List.Elements.{All-from_recursion}
+use Rattle.giop_cdr.specs.declared.order.Order.{Order}
+use Rattle.giop_sig.specs.Types.{Ty, Struct, part_of}
+use Rattle.giop_sig.specs.Fits.{IsFit}
+use Rattle.giop_sig.specs.Table.{Table}
+use Rattle.giop_sig.specs.Trees.{trees_after, type_in}
+use Rattle.giop_sig.specs.Builtin.{builtin_types, builtin_table}
+use Rattle.giop_sig.specs.Headers.{header_type, header_number, IsTable, IsCall, IsRaised}
+use Rattle.giop_sig.proofs.Builtins.{builtin_are, builtin_fit, header_built_in}
+use Rattle.giop_decode.specs.Spine
+use Rattle.giop_decode.specs.Spine.{Seg, Name, Switch, Line, Place, Part, Member, Leaf, Head, Content, Read, Done, Short, Fault, lines_of, with_front, followed, within}
+use Rattle.giop_decode.specs.Reading.{read, parts_from}
+use Rattle.giop_decode.specs.Steps.{Now, part_at, path_in, seg_of, seg_in, step, resumed}
+use Rattle.giop_decode.specs.Fits.{FitsIn, HasHead, HasContent}
+use Rattle.giop_decode.specs.Heard.{is_member, ends_operation, ends_text}
+use Rattle.giop_decode.proofs.Law.{with_front_none}
+use Rattle.giop_decode.proofs.Now.{step_now}
+use Rattle.giop_decode.proofs.Around.{next_part}
+use Rattle.giop_decode.proofs.Hearing.{switch_member}
+use Rattle.giop_message.proofs.Saying.{IsOf, AreOf, now_within, step_of, fits_say}
+
+-- a struct whose last part has another name
+abbrev pub EndsOtherwise : Ty → Type 0
+EndsOtherwise T = (n : ℕ) × (names : ℕ → List ℕ) × (parts : ℕ → Ty) × (T ≡ Struct (suc n) names parts) × (bytes_eq (codes "operation") (names n) ≡ false)
+
+pub request_ends : (minor : ℕ) → IfSome (header_type minor 0) EndsOtherwise
+unfolding type_in trees_after builtin_types
+request_ends zero = (_, _, _, refl, refl)
+request_ends (suc zero) = (_, _, _, refl, refl)
+request_ends (suc (suc zero)) = (_, _, _, refl, refl)
+request_ends (suc (suc (suc minor))) = tt
+
+-- ---- the headers fit
+
+builtin_is : IsTable builtin_table
+builtin_is = record {
+  types = builtin_are;
+  begins = ([], sym (append-nil builtin_types));
+  operations = All-from_recursion (IsCall builtin_types) [] tt;
+  exceptions = All-from_recursion (IsRaised builtin_types) [] tt;
+  operations_distinct = λ i j h k e. absurd (omega arith);
+  exceptions_distinct = λ i j h k e. absurd (omega arith);
+  operations_few = omega arith;
+  exceptions_few = omega arith;
+  declared_few = omega arith;
+}
+
+number_fit : (found : Option ℕ) → IfSome found (λ n. n < 37) → IfSome (option_map (type_in builtin_types) found) (IsFit 24)
+number_fit None h = tt
+number_fit (Some n) h = builtin_fit builtin_table n builtin_is h
+
+pub header_fit : (minor kind : ℕ) (T : Ty) → header_type minor kind ≡ Some T → IsFit 24 T
+header_fit minor kind T e = subst (λ found. IfSome found (IsFit 24)) e (number_fit (header_number minor kind) (header_built_in minor kind))
+
+-- ---- no operation at the end
+
+-- a path of several steps is no member of the root
+deep_member : (name : List ℕ) (a b : Seg) (path : List Seg) (outer : List Place) → is_member name (path_in (a ∷ b ∷ path) outer) ≡ false
+deep_member name (Name x) b path [] = refl
+deep_member name (Spine.Index x) b path [] = refl
+deep_member name Switch b path [] = refl
+deep_member name a b path (place ∷ outer) = deep_member name a b (path ++ seg_in place ∷ []) outer
+
+both_false : (a b c : Bool) → b ≡ false → (a && (b && c)) ≡ false
+both_false true b c e = rw e refl
+both_false false b c e = refl
+
+no_end : (is : Bool) (path : List Seg) (l : Line) → IsOf path l → is_member (codes "operation") path ≡ false → ends_operation is l ≡ false
+no_end is path l of e = both_false is (is_member (codes "operation") l.path) (ends_text l.value) (go of.stands)
+  where
+    go : (l.path ≡ path) ⊎ (l.path ≡ path ++ Switch ∷ []) → is_member (codes "operation") l.path ≡ false
+    go (inl same) = rw same e
+    go (inr same) = rw same (switch_member (codes "operation") path)
+
+no_ends : (is : Bool) (path : List Seg) (lines : List Line) → Each (IsOf path) lines → is_member (codes "operation") path ≡ false → Each (λ l. ends_operation is l ≡ false) lines
+no_ends is path [] each e = tt
+no_ends is path (l ∷ ls) each e = (no_end is path l each.0 e, no_ends is path ls each.1 e)
+
+-- a reading that is done
+abbrev pub done_test : Read → Bool
+done_test (Done lines at rest) = true
+done_test (Short lines at outer leaf) = false
+done_test (Fault lines at why T) = false
+
+short_front : (front : List Line) (r : Read) (at : ℕ) (outer : List Place) (leaf : Leaf) → with_front [] r ≡ Short [] at outer leaf → done_test (with_front front r) ≡ false
+short_front front (Done lines at rest) at' outer leaf e = absurd (false≢true (sym (ap done_test e)))
+short_front front (Short lines at outer leaf) at' outer' leaf' e = refl
+short_front front (Fault lines at why T) at' outer' leaf' e = refl
+
+-- a struct goes on behind a part that isn't its last
+goes_on : (order : Order) (d n : ℕ) (names : ℕ → List ℕ) (parts : ℕ → Ty) (i at : ℕ) (inner : Read) → IsFit (suc d) (Struct (suc n) names parts) → suc i < suc n → Now at inner →
+    done_test (resumed order [] (Part (Struct (suc n) names parts) i (suc n)) inner) ≡ false
+goes_on order d n names parts i at (Short lines at' outer leaf) fit below now = refl
+goes_on order d n names parts i at (Fault lines at' why T) fit below now = refl
+goes_on order d n names parts i at (Done lines at' rest) fit below now =
+    let T = Struct (suc n) names parts in
+    rw (now.1, now.2) (short_front lines (parts_from (part_at order [] T (suc n)) (suc n - suc i) (suc i) at []) at _ _ (next_part order [] d T i (suc n) at fit refl below))
+
+-- in the last part, or in one whose end goes on to the next
+module _ (order : Order) (is : Bool) (n : ℕ) (names : ℕ → List ℕ) (parts : ℕ → Ty) (fit : IsFit 24 (Struct (suc n) names parts)) (other : bytes_eq (codes "operation") (names n) ≡ false) (at b : ℕ) where
+  abbrev NoCalls : List Place → Leaf → Type 0
+  NoCalls outer leaf = Each (λ l. ends_operation is l ≡ false) (lines_of (step order [] outer leaf at b))
+
+  in_part : (i : ℕ) (leaf : Leaf) → FitsIn (parts i) [] leaf → i < suc n → done_test (step order [] (Part (Struct (suc n) names parts) i (suc n) ∷ []) leaf at b) ≡ true →
+      NoCalls (Part (Struct (suc n) names parts) i (suc n) ∷ []) leaf
+  in_part i leaf fits below done = go (cases_lt (suc i) (suc n))
+    where
+      go : (suc i < suc n) ⊎ (suc n ≤ suc i) → NoCalls (Part (Struct (suc n) names parts) i (suc n) ∷ []) leaf
+      go (inl more) = absurd (false≢true (sym (goes_on order 23 n names parts i (at + 1) (step order (Name (names i) ∷ []) [] leaf at b) fit more (step_now order (Name (names i) ∷ []) [] leaf at b)) ∙ done))
+      go (inr last) =
+          let e : i ≡ n = omega (arith, below) in
+          no_ends is (Name (names i) ∷ []) _ (step_of order [] (Part (Struct (suc n) names parts) i (suc n) ∷ []) leaf at b (fits_say (parts i) [] leaf fits)) (ap (λ k. bytes_eq (codes "operation") (names k)) e ∙ other)
+
+  in_struct : (outer : List Place) (leaf : Leaf) → FitsIn (Struct (suc n) names parts) outer leaf → done_test (step order [] outer leaf at b) ≡ true → NoCalls outer leaf
+  in_struct [] (Head U carry) fits done = absurd fits.kind
+  in_struct [] (Content U total offset piece) fits done = absurd fits.kind
+  in_struct (Member U i ∷ outer) leaf fits done = absurd fits.0.kind
+  in_struct (Part U i count ∷ []) leaf fits done =
+      let same : Part U i count ≡ Part (Struct (suc n) names parts) i (suc n) = rw (fits.0.same, fits.0.kind) refl in
+      subst (λ p. NoCalls (p ∷ []) leaf) (sym same)
+      (in_part i leaf fits.1 (rw fits.0.kind at fits.0.below) (subst (λ p. done_test (step order [] (p ∷ []) leaf at b) ≡ true) same done))
+  in_struct (Part U i count ∷ place ∷ outer) leaf fits done =
+      no_ends is (path_in (seg_of U i ∷ seg_in place ∷ []) outer) _ (step_of order [] (Part U i count ∷ place ∷ outer) leaf at b (fits_say (Struct (suc n) names parts) (Part U i count ∷ place ∷ outer) leaf fits))
+      (deep_member (codes "operation") (seg_of U i) (seg_in place) [] outer)
+
+-- What ends a header that ends otherwise calls nothing.
+pub last_no_call : (order : Order) (is : Bool) (T : Ty) (outer : List Place) (leaf : Leaf) (at b : ℕ) → EndsOtherwise T → IsFit 24 T → FitsIn T outer leaf →
+    done_test (step order [] outer leaf at b) ≡ true → Each (λ l. ends_operation is l ≡ false) (lines_of (step order [] outer leaf at b))
+last_no_call order is T outer leaf at b (n, names, parts, same, other) fit fits done =
+    in_struct order is n names parts (subst (IsFit 24) same fit) other at b outer leaf (subst (λ U. FitsIn U outer leaf) same fits) done

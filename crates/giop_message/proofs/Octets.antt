@@ -1,0 +1,157 @@
+-- One octet of a part that a decoder reads: what is told, its text, and the id.
+use Rattle.std.proofs.Common.{◌≡◌, ℕ, zero, suc, ◌+◌, ◌-◌, ◌<◌, ◌≤◌, Bool, true, false, List, [], ◌∷◌, ◌++◌, length, drop, flat_map, Option, Some, None, refl, sym, ap, subst, ◌∙◌, append_assoc, append-nil, add_assoc, arith}
+use Rattle.std.specs.Prelude.{◌&&◌, ◌||◌, cond, codes, if◌then◌else◌}
+use Rattle.std.specs.List.{AllByRecursion as Each}
+use Rattle.std.proofs.Math.Seq.{drop-append_seam}
+use Rattle.std.proofs.lemmas.List.Concat.{flat_map-append}
+use Rattle.giop_cdr.specs.declared.prim.Primitive.TheVariants as prims
+use Rattle.giop_print.specs.declared.path.Root.{Root}
+use Rattle.giop_print.specs.declared.path.Root.TheVariants as roots
+use Rattle.giop_sig.specs.Types.{Scalar, Plain, Enum, Ty, Text, Single, Octets, Struct, Union, Sequence, Array}
+use Rattle.giop_decode.specs.Spine
+use Rattle.giop_decode.specs.Spine.{Seg, Line, Value, Number, Count, Piece, Place, Leaf, Read, Done, Short, Fault, lines_of}
+use Rattle.giop_decode.specs.Reading.{read}
+use Rattle.giop_decode.specs.Steps as decoder
+use Rattle.giop_decode.specs.Steps.{Now, OneAt}
+use Rattle.giop_decode.specs.Heard.{Heard, nothing, hear, hear_value, heard, heard_of, hushed, is_member, ends_operation, is_header_root}
+use Rattle.giop_decode.specs.Spelling.{line_text, lines_text}
+use Rattle.giop_decode.proofs.Law.{read_goes, length_one_more}
+use Rattle.giop_message.specs.Headers.{minor, kind, order}
+use Rattle.giop_message.specs.Text.{fault_word}
+use Rattle.giop_message.specs.Signatures.{Signatures}
+use Rattle.giop_message.specs.Messages.{Said, Called, Wrong, Told, tell, is_shown, call_of, calls, tells, Stage, Over, Message, Comes, with_front, passes, message, told_of, stage_of}
+use Rattle.giop_message.specs.Steps.{message_step, advance}
+use Rattle.giop_message.specs.MessageReading.{saying_of, text_of, id_in, first_id, id_said}
+use Rattle.giop_message.specs.Holding.{speech_line, told_text, due}
+use Rattle.giop_message.specs.Moves.{fault_text, called_text}
+use Rattle.giop_message.proofs.Going.{Goes, front_twice, front_none, front_advance, passes_front, passes_go, message_goes}
+use Rattle.giop_message.proofs.Causal.{Silent}
+use Rattle.giop_message.proofs.Spelling.{said_is_line, call_said}
+use Rattle.giop_message.proofs.Saying.{IsOf}
+
+told_front : (front : List Told) (m : Message) → told_of (with_front front m) ≡ front ++ told_of m
+unfolding told_of with_front
+told_front front (Comes told at stage) = refl
+
+pub stage_front : (front : List Told) (m : Message) → stage_of (with_front front m) ≡ stage_of m
+unfolding stage_of with_front
+stage_front front (Comes told at stage) = refl
+
+-- what is due is what comes behind
+pub due_is : (S : Signatures) (header s more : List ℕ) (before : List Told) (m n : Message) → message S header s ≡ m → message S header (s ++ more) ≡ with_front before n →
+    told_of m ≡ before → due S header s more ≡ told_of n
+unfolding due
+due_is S header s more before m n is now same =
+    rw (is, same, now, told_front before n) (drop-append_seam before (told_of n))
+
+-- a fault, behind the lines
+abbrev pub wrongs : Read → List Told
+wrongs (Done lines at rest) = []
+wrongs (Short lines at outer leaf) = []
+wrongs (Fault lines at why T) = tell at (Wrong why) ∷ []
+
+pub one_of : (n : ℕ) (st : Read) → Now n st → OneAt n (lines_of st)
+one_of n (Done lines at rest) now = now.0
+one_of n (Short lines at outer leaf) now = now.0
+one_of n (Fault lines at why T) now = rw now.0 tt
+
+told_silent : (n : ℕ) (m : Message) → Silent n m → told_of m ≡ []
+unfolding told_of
+told_silent n (Comes told at stage) h = h.0
+
+module _ (S : Signatures) (header : List ℕ) (root : Root) (is : Bool) (stage : Heard → List Place → Leaf → Stage) (next : Heard → ℕ → List ℕ → Message) where
+  -- the message goes on as the part does
+  pub part_goes : ((h : Heard) → Goes S header (next h)) →
+      ((h : Heard) (outer : List Place) (leaf : Leaf) (at b : ℕ) → message_step S header at (stage h outer leaf) b ≡ passes root is stage next h (decoder.step (order header) [] outer leaf at b)) →
+      (before : List Told) (T : Ty) (at : ℕ) (s octets : List ℕ) (b : ℕ) →
+      message S header s ≡ with_front before (passes root is stage next nothing (read (order header) [] T at octets)) →
+      message S header (s ++ b ∷ []) ≡ with_front before (passes root is stage next nothing (read (order header) [] T at (octets ++ b ∷ [])))
+  part_goes goes step before T at s octets b e =
+      message_goes S header s b ∙ (ap (λ m. advance S header m b) e
+      ∙ (sym (front_advance S header before (passes root is stage next nothing (read (order header) [] T at octets)) b)
+      ∙ ap (with_front before) (sym (passes_go root is stage next S header goes step nothing (read (order header) [] T at octets) b)
+      ∙ ap (passes root is stage next nothing) (sym (read_goes (order header) [] T at octets b)))))
+
+  -- what was heard of the lines
+  abbrev pub heard_in : List Line → Heard
+  heard_in lines = heard (is_header_root root) nothing lines
+
+  passed_told : (before : List Told) (lines : List Line) (at : ℕ) (outer : List Place) (leaf : Leaf) →
+      told_of (with_front before (passes root is stage next nothing (Short lines at outer leaf))) ≡ before ++ tells root is nothing lines
+  unfolding passes with_front told_of
+  passed_told before lines at outer leaf = refl
+
+  pub passed_more : (before : List Told) (lines : List Line) (st : Read) →
+      with_front before (passes root is stage next nothing (Spine.with_front lines st)) ≡ with_front (before ++ tells root is nothing lines) (passes root is stage next (heard_in lines) st)
+  passed_more before lines st =
+      ap (with_front before) (passes_front root is stage next nothing lines st) ∙ front_twice before (tells root is nothing lines) (passes root is stage next (heard_in lines) st)
+
+  pub part_due : (before : List Told) (lines : List Line) (at : ℕ) (outer : List Place) (leaf : Leaf) (st : Read) (s more : List ℕ) →
+      message S header s ≡ with_front before (passes root is stage next nothing (Short lines at outer leaf)) →
+      message S header (s ++ more) ≡ with_front before (passes root is stage next nothing (Spine.with_front lines st)) →
+      due S header s more ≡ told_of (passes root is stage next (heard_in lines) st)
+  part_due before lines at outer leaf st s more e f =
+      due_is S header s more (before ++ tells root is nothing lines) (with_front before (passes root is stage next nothing (Short lines at outer leaf))) (passes root is stage next (heard_in lines) st)
+      e (f ∙ passed_more before lines st) (passed_told before lines at outer leaf)
+
+  -- what is told of a step, of which nothing follows without an octet
+  pub passed_tells : ((h : Heard) (n : ℕ) → Silent n (next h n [])) → (h : Heard) (n : ℕ) (st : Read) → Now n st →
+      told_of (passes root is stage next h st) ≡ tells root is h (lines_of st) ++ wrongs st
+  unfolding passes told_of
+  passed_tells silent h n (Done lines at rest) now =
+      let after = heard (is_header_root root) h lines in
+      rw (now.1, now.2) (told_front (tells root is h lines) (next after n []) ∙ ap (λ ts. tells root is h lines ++ ts) (told_silent n (next after n []) (silent after n)))
+  passed_tells silent h n (Short lines at outer leaf) now = sym (append-nil (tells root is h lines))
+  passed_tells silent h n (Fault lines at why T) now = refl
+
+-- ---- the text
+
+text_both : (number place offset : ℕ) (xs ys : List Told) → told_text number place offset (xs ++ ys) ≡ told_text number place offset xs ++ told_text number place offset ys
+unfolding told_text
+text_both number place offset xs ys = flat_map-append (λ t. speech_line number (place + (t.at - offset)) t.speech) xs ys
+
+-- the call of a first line
+abbrev pub first_call : Root → Bool → Heard → List Line → List Told
+first_call root is h [] = []
+first_call root is h (l ∷ ls) = calls is l (hear (is_header_root root) h l)
+
+said_text : (number place offset at : ℕ) (root : Root) (path : List Seg) (l : Line) → IsOf path l → told_text number place offset (tell at (Said root l.path l.value) ∷ []) ≡ line_text number root l
+unfolding told_text speech_line saying_of tell
+said_text number place offset at root path l is = append-nil _ ∙ said_is_line number l.at root l.path l.value is.sayable
+
+tells_text : (number place offset n : ℕ) (root : Root) (is : Bool) (h : Heard) (path : List Seg) (lines : List Line) → OneAt n lines → Each (IsOf path) lines →
+    told_text number place offset (tells root is h lines) ≡ lines_text number root lines ++ told_text number place offset (first_call root is h lines)
+unfolding tells lines_text
+tells_text number place offset n root is h path [] one each = refl
+tells_text number place offset n root is h path (l ∷ []) one each =
+    let called = calls is l (hear (is_header_root root) h l) in
+    ap (told_text number place offset) (append-nil (tell l.at (Said root l.path l.value) ∷ called))
+    ∙ (text_both number place offset (tell l.at (Said root l.path l.value) ∷ []) called
+    ∙ ap (λ z. z ++ told_text number place offset called) (said_text number place offset l.at root path l each.0 ∙ sym (append-nil (line_text number root l))))
+tells_text number place offset n root is h path (l ∷ l' ∷ ls) one each = absurd one
+
+wrongs_text : (number place n : ℕ) (st : Read) → Now (n + 1) st → told_text number place n (wrongs st) ≡ fault_text number (place + 1) st
+unfolding told_text speech_line saying_of text_of tell
+wrongs_text number place n (Done lines at rest) now = refl
+wrongs_text number place n (Short lines at outer leaf) now = refl
+wrongs_text number place n (Fault lines at why T) now =
+    let e : at - n ≡ 1 = omega (arith, now.1) in
+    rw e (append-nil _)
+
+-- A line's fault stands where it has no line, so its text may come before that of a call.
+swapped : (number place n : ℕ) (root : Root) (is : Bool) (h : Heard) (st : Read) → Now (n + 1) st →
+    lines_text number root (lines_of st) ++ (told_text number place n (first_call root is h (lines_of st)) ++ fault_text number (place + 1) st)
+    ≡ (lines_text number root (lines_of st) ++ fault_text number (place + 1) st) ++ told_text number place n (first_call root is h (lines_of st))
+unfolding lines_text told_text
+swapped number place n root is h (Done lines at rest) now = rw (append-nil (told_text number place n (first_call root is h lines)), append-nil (lines_text number root lines)) refl
+swapped number place n root is h (Short lines at outer leaf) now = rw (append-nil (told_text number place n (first_call root is h lines)), append-nil (lines_text number root lines)) refl
+swapped number place n root is h (Fault lines at why T) now = rw now.0 (sym (append-nil _))
+
+pub step_text : (number place n : ℕ) (root : Root) (is : Bool) (h : Heard) (path : List Seg) (st : Read) → Now (n + 1) st → Each (IsOf path) (lines_of st) →
+    told_text number place n (tells root is h (lines_of st) ++ wrongs st)
+    ≡ (lines_text number root (lines_of st) ++ fault_text number (place + 1) st) ++ told_text number place n (first_call root is h (lines_of st))
+step_text number place n root is h path st now each =
+    text_both number place n (tells root is h (lines_of st)) (wrongs st)
+    ∙ (rw (wrongs_text number place n st now, tells_text number place n (n + 1) root is h path (lines_of st) (one_of (n + 1) st now) each)
+    (append_assoc (lines_text number root (lines_of st)) (told_text number place n (first_call root is h (lines_of st))) (fault_text number (place + 1) st)
+    ∙ swapped number place n root is h st now))

@@ -1,0 +1,26 @@
+use Rattle.std.proofs.Common.{◌≡◌, ◌+◌, ◌<◌, ◌≤◌, [], ◌∷◌, ◌++◌, length, refl, sym, ap, ◌∙◌, arith}
+use Rattle.giop_cdr.specs.Alignment.{padding}
+use Rattle.giop_message.proofs.Rests.{padding_told, last_told, padding_took, last_took}
+use Rattle.giop_message.proofs.message.Message.take_padding.Goals as goal
+
+pub returns-then-is_last-clause-told : goal.returns-then-is_last-clause-told
+returns-then-is_last-clause-told c kept number header s octet f =
+    let few : padding (12 + length s) 8 ≤ 1 = rw (← f.at, ← c.pad-is_last.ensures.value) c.if-is_last.true in
+    last_told c.args.catalogue.now kept number header c.args.self.now s f c.args.wanted c.requires.part octet few
+
+pub returns-then-is_last-clause-took : goal.returns-then-is_last-clause-took
+returns-then-is_last-clause-took c kept number header s octet f =
+    let few : padding (12 + length s) 8 ≤ 1 = rw (← f.at, ← c.pad-is_last.ensures.value) c.if-is_last.true in
+    let e = c.begin_body.ensures in
+    last_took c.args.catalogue.now kept number header c.args.self.now s f c.args.wanted c.requires.part octet few _ _ refl refl refl refl
+    (e.arrives kept number header (s ++ octet ∷ [])) e.number e.header e.at e.id
+
+pub returns-else-is_last-clause-told : goal.returns-else-is_last-clause-told
+returns-else-is_last-clause-told c kept number header s octet f =
+    let more : 1 < padding (12 + length s) 8 = rw (← f.at, ← c.pad-is_last.ensures.value) (omega (arith, c.if-is_last.false)) in
+    padding_told c.args.catalogue.now kept number header c.args.self.now s f c.args.wanted c.requires.part octet more
+
+pub returns-else-is_last-clause-took : goal.returns-else-is_last-clause-took
+returns-else-is_last-clause-took c kept number header s octet f =
+    let more : 1 < padding (12 + length s) 8 = rw (← f.at, ← c.pad-is_last.ensures.value) (omega (arith, c.if-is_last.false)) in
+    padding_took c.args.catalogue.now kept number header c.args.self.now s f c.args.wanted c.requires.part octet more _ refl refl refl refl refl

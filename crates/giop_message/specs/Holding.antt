@@ -1,0 +1,144 @@
+-- What a message holds of the octets that it has taken behind its header, one field a clause; and what its calls write.
+use Rattle.std.specs.Prelude.{◌≡◌, ℕ, ◌+◌, ◌-◌, ◌<◌, ◌≤◌, Bool, true, false, List, [], ◌∷◌, ◌++◌, length, take, drop, flat_map, Option, Some, None}
+use Rattle.giop_cdr.specs.declared.order.Order.{Order}
+use Rattle.giop_print.specs.declared.path.Root.{Root}
+use Rattle.giop_print.specs.declared.path.Root.TheVariants as roots
+use Rattle.giop_sig.specs.declared.types.Fixed.TheVariants.{ExceptionId}
+use Rattle.giop_sig.specs.Types.{Ty}
+use Rattle.giop_sig.specs.Table.{Table, operation_number}
+use Rattle.giop_sig.specs.Trees.{tree}
+use Rattle.giop_sig.specs.Headers.{header_type, fixed_type}
+use Rattle.giop_sig.specs.RequestList.{Entry, IsOf}
+use Rattle.giop_decode.specs.declared.decoder.Decoder.{Decoder}
+use Rattle.giop_decode.specs.Spine.{Place, Leaf}
+use Rattle.giop_decode.specs.Reading.{read}
+use Rattle.giop_decode.specs.Heard.{Heard, nothing}
+use Rattle.giop_decode.specs.Holding as decoder
+use Rattle.giop_message.specs.declared.message.Message.{Message}
+use Rattle.giop_message.specs.declared.message.Part.{Part}
+use Rattle.giop_message.specs.declared.message.Part.TheVariants as parts
+use Rattle.giop_message.specs.declared.wanted.Wanted.{Wanted}
+use Rattle.giop_message.specs.declared.wanted.Wanted.TheVariants as wanteds
+use Rattle.giop_message.specs.Headers.{minor, kind, order}
+use Rattle.giop_message.specs.Reading.{Saying, Remark}
+use Rattle.giop_message.specs.Text.{saying_line}
+use Rattle.giop_message.specs.Signatures.{Signatures, Kept, said_by}
+use Rattle.giop_message.specs.Messages
+use Rattle.giop_message.specs.Messages.{Speech, Incomplete, Told, BodyType, Untyped, Typed, Raised, Stage, In_padding, In_exception, In_body, In_rest, Comes, with_front, passes, rest, after_exception, message, told_of, stage_of, close}
+use Rattle.giop_message.specs.MessageReading.{saying_of, text_of, id_said, is_over}
+
+-- ---- what is written
+
+-- the line of what is said at a place of the stream
+unfoldable pub speech_line : ℕ → ℕ → Speech → List ℕ
+speech_line number place s = saying_line place number (saying_of s) (text_of s)
+
+-- The lines of what is told behind an offset, to which as many octets of the stream came as that place says.
+unfoldable pub told_text : ℕ → ℕ → ℕ → List Told → List ℕ
+told_text number place offset told = flat_map (λ t. speech_line number (place + (t.at - offset)) t.speech) told
+
+-- what is told of more octets
+unfoldable pub due : Signatures → List ℕ → List ℕ → List ℕ → List Told
+due S header s more = drop (length (told_of (message S header s))) (told_of (message S header (s ++ more)))
+
+-- and its lines, where the first of these octets comes behind so many octets of the stream
+unfoldable pub due_text : Signatures → ℕ → ℕ → List ℕ → List ℕ → List ℕ → List ℕ
+due_text S number place header s more = told_text number place (12 + length s) (due S header s more)
+
+unfoldable pub closing_text : ℕ → ℕ → List Speech → List ℕ
+closing_text number place speeches = flat_map (speech_line number place) speeches
+
+-- the same by remarks of a reading, whose octets count from 1 behind the header: those of which so many came before, and the
+-- octets of the stream up to there
+unfoldable pub remarks_text : ℕ → ℕ → ℕ → List Remark → List ℕ
+remarks_text number place before remarks = flat_map (λ r. saying_line (place + (r.at - before)) number r.saying r.text) remarks
+
+unfoldable pub closes_text : ℕ → ℕ → List (Saying × List ℕ) → List ℕ
+closes_text number place sayings = flat_map (λ l. saying_line place number l.0 l.1) sayings
+
+unfoldable pub is_short : List Speech → Bool
+is_short (Incomplete ∷ more) = true
+is_short speeches = false
+
+-- ---- a message and its catalogue
+
+-- what is kept of a list of requests for the operations of this table
+abbrev pub AreOf : Table → Kept → Type 0
+AreOf C kept = (entries : List Entry) × IsOf (operation_number C) entries kept
+
+abbrev pub body_type : Table → Wanted → BodyType
+body_type C wanteds.Nothing = Untyped
+body_type C (wanteds.Type of) = Typed (tree C of.0)
+body_type C wanteds.Exception = Raised
+
+-- a type of the table
+abbrev pub IsKnown : Table → Wanted → Type 0
+IsKnown C wanteds.Nothing = Unit {0}
+IsKnown C (wanteds.Type of) = of.0 < length C.types
+IsKnown C wanteds.Exception = Unit {0}
+
+abbrev pub FitsPart : Table → Decoder → Part → Type 0
+FitsPart C d parts.Header = decoder.Fits C d
+FitsPart C d (parts.Padding wanted) = IsKnown C wanted
+FitsPart C d parts.Exception = decoder.Fits C d
+FitsPart C d parts.Body = decoder.Fits C d
+FitsPart C d parts.Rest = Unit {0}
+
+-- a message that isn't faulted, and whose types are those of the table
+abbrev pub Fits : Table → Message → Type 0
+Fits C m = FitsPart C m.decoder m.part
+
+-- how many of its octets a message has taken, its header's 12 included
+abbrev pub reach : Message → ℕ
+reach m = m.at
+
+-- ---- a message of a list
+
+-- Lines, and then a part of the message that begins there: a decoder reads its octets as a value of a type.
+pub record Decodes (C : Table) (S : Signatures) (number : ℕ) (header : List ℕ) (root : Root) (stage : Heard → List Place → Leaf → Stage)
+    (next : Heard → ℕ → List ℕ → Messages.Message) (T : Ty) (d : Decoder) (s : List ℕ) : Type 0 where
+  pub before : List Told
+  pub front : List ℕ
+  pub octets : List ℕ
+  pub since : s ≡ front ++ octets
+  pub is : message S header s ≡ with_front before (passes root false stage next nothing (read (order header) [] T (12 + length front) octets))
+  pub reads : decoder.Reads C T (order header) (12 + length front) number root d octets
+
+-- where a message stands, by the part that the next octet belongs to
+abbrev pub Stands : Table → Kept → ℕ → List ℕ → Message → List ℕ → Part → Type 0
+Stands C kept number header m s parts.Header =
+    (T : Ty) × (header_type (minor header) (kind header) ≡ Some T) × decoder.Reads C T (order header) 12 number roots.Header m.decoder s
+Stands C kept number header m s (parts.Padding wanted) =
+    (told : List Told) × (message (said_by C kept) header s ≡ Comes told (12 + length s) (In_padding (body_type C wanted)))
+Stands C kept number header m s parts.Exception =
+    Decodes C (said_by C kept) number header roots.Exception In_exception (after_exception (said_by C kept) header) (fixed_type ExceptionId) m.decoder s
+Stands C kept number header m s parts.Body =
+    (T : Ty) × Decodes C (said_by C kept) number header roots.Body (λ h. In_body) (λ h. rest) T m.decoder s
+Stands C kept number header m s parts.Rest =
+    (told : List Told) × (message (said_by C kept) header s ≡ Comes told (12 + length s) (In_rest m.offset m.held.items))
+
+-- The message's fields are what its header and these octets behind it come to.
+pub record Follows (C : Table) (kept : Kept) (number : ℕ) (header : List ℕ) (m : Message) (s : List ℕ) : Type 0 where
+  pub same_number : m.number ≡ number
+  pub same_header : m.header ≡ header
+  pub id : m.id ≡ id_said (told_of (message (said_by C kept) header s))
+  pub at : m.at ≡ 12 + length s
+  pub stands : Stands C kept number header m s m.part
+
+-- ---- its calls
+
+-- With one octet more it is over, or follows the longer list.
+pub record Took (C : Table) (kept : Kept) (number : ℕ) (header : List ℕ) (m : Message) (s : List ℕ) (octet : ℕ) (over : Bool) : Type 0 where
+  pub is_over : over ≡ is_over (stage_of (message (said_by C kept) header (s ++ octet ∷ [])))
+  pub follows : over ≡ false → Follows C kept number header m (s ++ octet ∷ [])
+
+-- It follows the longer list, or the n-th of these octets, from 1, is faulted.
+pub record FaultedAt (S : Signatures) (header s more : List ℕ) (n : ℕ) : Type 0 where
+  pub some : 0 < n
+  pub within : n ≤ length more
+  pub here : is_over (stage_of (message S header (s ++ take n more))) ≡ true
+  pub not_before : is_over (stage_of (message S header (s ++ take (n - 1) more))) ≡ false
+
+abbrev pub TookAll : Table → Kept → ℕ → List ℕ → Message → List ℕ → List ℕ → Option ℕ → Type 0
+TookAll C kept number header m s more None = Follows C kept number header m (s ++ more)
+TookAll C kept number header m s more (Some n) = FaultedAt (said_by C kept) header s more n
