@@ -1,5 +1,5 @@
 -- The close of a message that follows a list.
-use Rattle.std.proofs.Common.{◌≡◌, ℕ, zero, suc, ◌+◌, Bool, true, false, List, [], ◌∷◌, ◌++◌, length, Option, Some, None, refl, sym, ap, subst, ◌∙◌, append-nil, arith}
+use Rattle.std.proofs.Common.{◌≡◌, ℕ, zero, suc, ◌+◌, Bool, true, false, List, [], ◌∷◌, ◌++◌, length, refl, sym, ap, subst, ◌∙◌, append-nil, arith}
 use Rattle.std.specs.Prelude.{◌==◌, codes, if◌then◌else◌, not}
 use Rattle.std.proofs.lemmas.Bool.{false≢true, ne_eqb}
 use Rattle.giop_print.specs.Lines.{fault_line, end_line, rest_line}
@@ -7,20 +7,20 @@ use Rattle.giop_print.specs.declared.path.Root.{Root}
 use Rattle.giop_print.specs.declared.path.Root.TheVariants as roots
 use Rattle.giop_sig.specs.declared.types.Shape.{Shape}
 use Rattle.giop_sig.specs.declared.types.Shape.TheVariants as shapes
-use Rattle.giop_sig.specs.Types.{Ty, Scalar, Plain, Enum, Single, Text, Octets, Struct, Union, Sequence, Array, shape_in}
+use Rattle.giop_sig.specs.Types.{Ty, Plain, Enum, Single, Text, Octets, Struct, Union, Sequence, Array, shape_in}
 use Rattle.giop_sig.specs.Table.{Table}
 use Rattle.giop_decode.specs.declared.decoder.Decoder.{Decoder}
-use Rattle.giop_decode.specs.Spine.{Place, Leaf, Read, Short}
+use Rattle.giop_decode.specs.Spine.{Place, Leaf, Read}
 use Rattle.giop_decode.specs.Reading.{read}
 use Rattle.giop_decode.specs.Heard.{Heard, nothing, heard, is_header_root}
 use Rattle.giop_decode.specs.Holding as decoders
 use Rattle.giop_message.specs.declared.message.Message.{Message as Struct_of}
 use Rattle.giop_message.specs.declared.message.Part.{Part}
 use Rattle.giop_message.specs.declared.message.Part.TheVariants as parts
-use Rattle.giop_message.specs.Headers.{minor, kind, order}
+use Rattle.giop_message.specs.Headers.{order}
 use Rattle.giop_message.specs.Text.{said_line}
-use Rattle.giop_message.specs.Signatures.{Signatures, Kept, said_by}
-use Rattle.giop_message.specs.Messages.{Speech, Left, Incomplete, Ends, Told, tells, BodyType, Typed, may_lack, Stage, In_header, In_padding, In_exception, In_body, In_rest, Over, Message, Comes, with_front, passes, rest, is_request, after_exception, after_header, message, stage_of, close}
+use Rattle.giop_message.specs.Signatures.{Kept, said_by}
+use Rattle.giop_message.specs.Messages.{Left, Incomplete, Ends, Told, BodyType, Typed, may_lack, Stage, In_header, In_padding, In_exception, In_body, In_rest, Over, Message, with_front, passes, rest, is_request, after_exception, after_header, message, stage_of, close}
 use Rattle.giop_message.specs.MessageReading.{saying_of, text_of}
 use Rattle.giop_message.specs.Holding.{speech_line, closing_text, is_short, body_type, FitsPart, Fits, Stands, Follows}
 use Rattle.giop_message.specs.Moves.{rest_left, last_rest_text}
@@ -70,9 +70,12 @@ module _ (root : Root) (is : Bool) (stage : Heard → List Place → Leaf → St
   part_stage : (C : Table) (d : Decoder) (fits : decoders.Fits C d) (before : List Told) (r : Read) (lines : _) (at : ℕ) (m : Message) → m ≡ with_front before (passes root is stage next nothing r) → r ≡ decoders.standing C d lines at →
       (h : Heard) × (outer : List Place) × (leaf : Leaf) × (stage_of m ≡ stage h outer leaf)
   unfolding passes stage_of
-  part_stage C d fits before r lines at m e f =
-      (heard (is_header_root root) nothing lines, _, _,
-      ap stage_of e ∙ (stage_front before (passes root is stage next nothing r) ∙ ap (λ r. stage_of (passes root is stage next nothing r)) (f ∙ ap (λ leaf. decoders.standing_in C d leaf lines at) fits.goes_on)))
+  part_stage C d fits before r lines at m e f = (
+    heard (is_header_root root) nothing lines,
+    _,
+    _,
+    ap stage_of e ∙ (stage_front before (passes root is stage next nothing r) ∙ ap (λ r. stage_of (passes root is stage next nothing r)) (f ∙ ap (λ leaf. decoders.standing_in C d leaf lines at) fits.goes_on)),
+  )
 
 -- inside a typed part it is short
 abbrev Shortly : Stage → Type 0
@@ -87,7 +90,7 @@ module _ (C : Table) (kept : Kept) (number : ℕ) (header : List ℕ) (m : Struc
   header_short is =
       let x = subst (Stands C kept number header m s) is f.stands in
       let g = part_stage roots.Header (is_request header) In_header (after_header (said_by C kept) header) C m.decoder (subst (FitsPart C m.decoder) is fits) [] (read (order header) [] x.0 12 s) x.2.lines (12 + length s)
-          (message (said_by C kept) header s) (header_message (said_by C kept) header s x.0 x.1) x.2.is in
+      (message (said_by C kept) header s) (header_message (said_by C kept) header s x.0 x.1) x.2.is in
       rw g.3 refl
 
   pub exception_short : m.part ≡ parts.Exception → Shortly At

@@ -1,13 +1,12 @@
 -- What is told of octets, taken in two parts, and its text.
-use Rattle.std.proofs.Common.{◌≡◌, ℕ, zero, suc, ◌+◌, ◌-◌, ◌<◌, ◌≤◌, Bool, true, false, List, [], ◌∷◌, ◌++◌, length, take, drop, get_or, flat_map, refl, sym, ap, subst, ◌∙◌, append_assoc, append-nil, add-one, arith, length-append}
-use Rattle.std.specs.List.{AllByRecursion as Each}
+use Rattle.std.proofs.Common.{◌≡◌, ℕ, ◌+◌, ◌-◌, ◌<◌, true, false, List, [], ◌∷◌, ◌++◌, length, take, drop, get_or, flat_map, refl, sym, ap, subst, ◌∙◌, append_assoc, append-nil, add-one, arith, length-append}
 use Rattle.std.proofs.Math.Seq.{drop-append_seam, take-suc}
 use Rattle.std.proofs.lemmas.List.{take-append-drop}
 use Rattle.std.proofs.lemmas.List.Concat.{flat_map-append}
 use Rattle.giop_message.specs.Signatures.{Signatures}
 use Rattle.giop_message.specs.Messages
 use Rattle.giop_message.specs.Messages.{Told, Stage, Over, Message, Comes, message, told_of, stage_of}
-use Rattle.giop_message.specs.Steps.{message_step, advance, goes_on}
+use Rattle.giop_message.specs.Steps.{goes_on}
 use Rattle.giop_message.specs.MessageReading.{is_over}
 use Rattle.giop_message.specs.Holding.{speech_line, told_text, due, due_text, FaultedAt}
 use Rattle.giop_message.proofs.Going.{stays, message_resumes}
@@ -19,8 +18,8 @@ unfolding due
 due_both S header s xs ys =
     let front = told_of (message S header s) in
     let e : told_of (message S header (s ++ (xs ++ ys))) ≡ front ++ (due S header s xs ++ due S header (s ++ xs) ys) =
-        ap (λ z. told_of (message S header z)) (sym (append_assoc s xs ys)) ∙ (told_more S header (s ++ xs) ys
-        ∙ (ap (λ told. told ++ due S header (s ++ xs) ys) (told_more S header s xs) ∙ append_assoc front (due S header s xs) (due S header (s ++ xs) ys))) in
+    ap (λ z. told_of (message S header z)) (sym (append_assoc s xs ys)) ∙ (told_more S header (s ++ xs) ys
+    ∙ (ap (λ told. told ++ due S header (s ++ xs) ys) (told_more S header s xs) ∙ append_assoc front (due S header s xs) (due S header (s ++ xs) ys))) in
     ap (drop (length front)) e ∙ drop-append_seam front (due S header s xs ++ due S header (s ++ xs) ys)
 
 -- the places of lines that come behind an offset
@@ -89,9 +88,11 @@ text_more S number place header s octets i h e =
 pub text_split : (S : Signatures) (number place : ℕ) (header s octets : List ℕ) (i : ℕ) → i < length octets → length (take i octets) ≡ i →
     (more : List ℕ) × (due_text S number place header s octets ≡ (due_text S number place header s (take i octets) ++ due_text S number (place + i) header (s ++ take i octets) (get_or octets i 0 ∷ [])) ++ more)
 text_split S number place header s octets i h e =
-    let rest = due_text S number (place + length (take (i + 1) octets)) header (s ++ take (i + 1) octets) (drop (i + 1) octets) in
-    (rest, ap (due_text S number place header s) (sym (take-append-drop (i + 1) octets)) ∙ (text_both S number place header s (take (i + 1) octets) (drop (i + 1) octets)
-    ∙ ap (λ z. z ++ rest) (text_more S number place header s octets i h e)))
+    let rest = due_text S number (place + length (take (i + 1) octets)) header (s ++ take (i + 1) octets) (drop (i + 1) octets) in (
+      rest,
+      ap (due_text S number place header s) (sym (take-append-drop (i + 1) octets)) ∙ (text_both S number place header s (take (i + 1) octets) (drop (i + 1) octets)
+          ∙ ap (λ z. z ++ rest) (text_more S number place header s octets i h e)),
+    )
 
 -- all of it, where the message is over
 pub text_ended : (S : Signatures) (number place : ℕ) (header s octets : List ℕ) (n : ℕ) → is_over (stage_of (message S header (s ++ take n octets))) ≡ true →

@@ -1,12 +1,11 @@
 -- A message that follows a list isn't over, and what it said of its request id stands.
-use Rattle.std.proofs.Common.{◌≡◌, ℕ, zero, suc, ◌+◌, Bool, true, false, List, [], ◌∷◌, ◌++◌, length, drop, Option, Some, None, refl, sym, ap, subst, ◌∙◌, append-nil, arith, inl, inr}
-use Rattle.std.specs.Prelude.{◌&&◌, cond, codes, is_some, if◌then◌else◌}
-use Rattle.std.specs.List.{list_any}
+use Rattle.std.proofs.Common.{◌≡◌, ℕ, ◌+◌, Bool, true, false, List, [], ◌∷◌, ◌++◌, length, drop, Option, Some, None, refl, sym, ap, ◌∙◌, arith, inl, inr}
+use Rattle.std.specs.Prelude.{is_some}
 use Rattle.std.proofs.Math.Seq.{drop-append_seam}
 use Rattle.giop_cdr.specs.declared.prim.Primitive.TheVariants as prims
 use Rattle.giop_print.specs.declared.path.Root.{Root}
 use Rattle.giop_print.specs.declared.path.Root.TheVariants as roots
-use Rattle.giop_sig.specs.Types.{Scalar, Plain, Enum, Ty, Text, Octets, Single, Struct, Union, Sequence, Array}
+use Rattle.giop_sig.specs.Types.{Plain, Enum, Ty, Text, Octets, Single, Struct, Union, Sequence, Array}
 use Rattle.giop_sig.specs.Table.{Table}
 use Rattle.giop_decode.specs.declared.decoder.Decoder.{Decoder}
 use Rattle.giop_decode.specs.declared.leaf.Leaf.{Leaf as Innermost}
@@ -15,16 +14,16 @@ use Rattle.giop_decode.specs.Spine as spine
 use Rattle.giop_decode.proofs.Resuming.{lines_front, heard-append}
 use Rattle.giop_decode.specs.Reading.{read}
 use Rattle.giop_decode.specs.Steps.{OneAt}
-use Rattle.giop_decode.specs.Heard.{Heard, nothing, hear, heard, heard_of, hushed, in_string, is_member, is_header_root}
+use Rattle.giop_decode.specs.Heard.{Heard, nothing, hear, heard, heard_of, hushed, in_string, is_header_root}
 use Rattle.giop_decode.specs.Holding as decoders
 use Rattle.giop_message.specs.declared.message.Message.{Message as Struct_of}
 use Rattle.giop_message.specs.declared.message.Part.{Part}
 use Rattle.giop_message.specs.declared.message.Part.TheVariants as parts
 use Rattle.giop_message.specs.Headers.{minor, kind, order}
 use Rattle.giop_message.specs.Signatures.{Signatures, Kept, said_by}
-use Rattle.giop_message.specs.Messages.{Said, Called, Wrong, Told, tell, is_shown, call_of, calls, tells, Stage, In_header, In_exception, In_body, Message, Comes, with_front, passes, rest, is_request, after_exception, after_header, of_header, message, told_of, stage_of}
-use Rattle.giop_message.specs.MessageReading.{saying_of, id_in, first_id, id_said, is_over, is_wrong}
-use Rattle.giop_message.specs.Holding.{due, Decodes, Stands, Follows, Took}
+use Rattle.giop_message.specs.Messages.{Said, Told, tell, calls, tells, Stage, In_header, In_exception, In_body, Message, Comes, with_front, passes, rest, is_request, after_exception, after_header, of_header, message, told_of, stage_of}
+use Rattle.giop_message.specs.MessageReading.{id_in, first_id, id_said, is_over}
+use Rattle.giop_message.specs.Holding.{due, Stands, Follows, Took}
 use Rattle.giop_decode.proofs.Law.{length_one_more}
 use Rattle.std.proofs.lemmas.Bool.{false≢true}
 use Rattle.giop_message.proofs.Going.{front_none}

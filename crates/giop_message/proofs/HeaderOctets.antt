@@ -1,6 +1,6 @@
 -- One octet of a header: its call, and where the message stands behind it.
-use Rattle.std.proofs.Common.{◌≡◌, ℕ, zero, suc, ◌+◌, ◌-◌, Bool, true, false, List, [], ◌∷◌, ◌++◌, length, ◌⊎◌, inl, inr, Option, Some, None, refl, sym, ap, subst, ◌∙◌, append-nil, arith}
-use Rattle.std.specs.Prelude.{◌&&◌, ◌||◌, ◌==◌, codes, IfSome, if◌then◌else◌}
+use Rattle.std.proofs.Common.{◌≡◌, ℕ, ◌+◌, ◌-◌, Bool, true, false, List, [], ◌∷◌, ◌++◌, length, ◌⊎◌, inl, inr, Option, Some, None, refl, sym, ap, subst, ◌∙◌, append-nil}
+use Rattle.std.specs.Prelude.{◌&&◌, ◌||◌, codes, IfSome, if◌then◌else◌}
 use Rattle.std.specs.List.{AllByRecursion as Each}
 use Rattle.std.proofs.lemmas.Bool.{false≢true, eqb-true}
 use Rattle.giop_print.specs.Lines.{call_line}
@@ -26,11 +26,10 @@ use Rattle.giop_decode.proofs.Sound.{read_keeps}
 use Rattle.giop_message.specs.declared.message.Message.{Message as Struct_of}
 use Rattle.giop_message.specs.declared.message.Part.TheVariants as parts
 use Rattle.giop_message.specs.Headers.{minor, kind, order}
-use Rattle.giop_message.specs.Text.{call_text, said_line}
 use Rattle.giop_message.specs.Signatures.{Kept, said_by}
-use Rattle.giop_message.specs.Messages.{Called, Told, tell, is_shown, call_of, calls, tells, Stage, In_header, with_front, passes, is_request, after_header, message, told_of, stage_of}
+use Rattle.giop_message.specs.Messages.{Called, tell, is_shown, call_of, calls, tells, In_header, with_front, passes, is_request, after_header, message, told_of}
 use Rattle.giop_message.specs.Steps.{message_step}
-use Rattle.giop_message.specs.MessageReading.{saying_of, text_of, first_id, id_said, is_over}
+use Rattle.giop_message.specs.MessageReading.{saying_of, text_of, first_id, id_said}
 use Rattle.giop_message.specs.Holding.{speech_line, told_text, due, due_text, Stands, Follows, Took}
 use Rattle.giop_message.specs.Moves.{fault_text, called_text, request_call, Arrives}
 use Rattle.giop_message.proofs.Going.{after_header_goes}
@@ -39,7 +38,7 @@ use Rattle.giop_message.proofs.Spelling.{call_said}
 use Rattle.giop_message.proofs.Operations.{mute_front, step_closed, NoEnds}
 use Rattle.giop_message.proofs.LastParts.{request_ends, header_fit, EndsOtherwise, done_test, last_no_call}
 use Rattle.giop_message.proofs.Octets.{wrongs, first_call, one_of}
-use Rattle.giop_message.proofs.Parts.{stepped, outer_in, leaf_in, read_short, read_more, stepped_now, lines_due, text_here, goes_more, due_here, done_here, fault_here}
+use Rattle.giop_message.proofs.Parts.{stepped, outer_in, leaf_in, read_short, read_more, stepped_now, lines_due, text_here, due_here, done_here, fault_here}
 use Rattle.giop_message.proofs.Followings.{header_message, told_more, id_both, id_heard, follows_with, faulted}
 use Rattle.giop_message.proofs.Opened.{at_more}
 
@@ -231,7 +230,7 @@ module _ (C : Table) (kept : Kept) (number : ℕ) (header : List ℕ) (m : Struc
       let more = read_more C (order header) T 12 number roots.Header m.decoder s reads fits b in
       let now = stepped_now C (order header) T 12 number roots.Header m.decoder s reads fits b in
       let due_is = due_here (said_by C kept) header roots.Header (is_request header) In_header (after_header (said_by C kept) header) (after_header_goes (said_by C kept) header) head_steps (after_header_silent (said_by C kept) header)
-          C number [] [] s s refl T (header_message (said_by C kept) header s T S_found) m.decoder reads fits b in
+      C number [] [] s s refl T (header_message (said_by C kept) header s T S_found) m.decoder reads fits b in
       e ∙ (ap (λ r. first_id m.id (heard_of true r).request_id) more
       ∙ (id_heard (is_request header) ((12 + length s) + 1) reads.lines St (one_of ((12 + length s) + 1) St now) m.id (f.id ∙ ap id_said told_here)
       ∙ sym (ap id_said (told_more (said_by C kept) header s (b ∷ [])) ∙ (id_both (told_of (message (said_by C kept) header s)) (due (said_by C kept) header s (b ∷ []))
@@ -249,7 +248,7 @@ module _ (C : Table) (kept : Kept) (number : ℕ) (header : List ℕ) (m : Struc
       n.number ≡ k.number → n.header ≡ k.header → n.at ≡ k.at → n.id ≡ k.id → Took C kept number header n s b false
   header_done end named p is_done answer k n number_k header_k at_k id_k arrives number_n header_n at_n id_n =
       let g = done_here (said_by C kept) header roots.Header (is_request header) In_header (after_header (said_by C kept) header) (after_header_goes (said_by C kept) header) head_steps (after_header_silent (said_by C kept) header)
-          C number [] [] s s refl T (header_message (said_by C kept) header s T S_found) m.decoder reads fits b end named p is_done answer in
+      C number [] [] s s refl T (header_message (said_by C kept) header s T S_found) m.decoder reads fits b end named p is_done answer in
       follows_with C kept number header m n s b f (number_n ∙ number_k) (header_n ∙ header_k) (at_n ∙ at_k) (header_id n.id (id_n ∙ id_k))
       (arrives (at_more number header m k s b f.same_number f.same_header f.at number_k header_k at_k) g.0 g.1)
 

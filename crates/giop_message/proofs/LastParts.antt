@@ -1,5 +1,5 @@
 -- The last part of a Request's header is no operation, so a header never ends with one.
-use Rattle.std.proofs.Common.{◌≡◌, ℕ, zero, suc, ◌+◌, ◌-◌, ◌<◌, ◌≤◌, ◌⊎◌, inl, inr, Bool, true, false, List, [], ◌∷◌, ◌++◌, length, Option, Some, None, refl, sym, ap, subst, ◌∙◌, append-nil, arith}
+use Rattle.std.proofs.Common.{◌≡◌, ℕ, zero, suc, ◌+◌, ◌-◌, ◌<◌, ◌≤◌, ◌⊎◌, inl, inr, Bool, true, false, List, [], ◌∷◌, ◌++◌, Option, Some, None, refl, sym, ap, subst, ◌∙◌, append-nil, arith}
 use Rattle.std.specs.Prelude.{◌&&◌, codes, IfSome}
 use Rattle.std.specs.List.{AllByRecursion as Each}
 use Rattle.std.specs.Option.{option_map}
@@ -7,24 +7,22 @@ use Rattle.std.specs.Str.{bytes_eq}
 use Rattle.std.proofs.lemmas.Bool.{false≢true, cases_lt}
 use Rattle.std.proofs.lemmas.List.Elements.{All-from_recursion}
 use Rattle.giop_cdr.specs.declared.order.Order.{Order}
-use Rattle.giop_sig.specs.Types.{Ty, Struct, part_of}
+use Rattle.giop_sig.specs.Types.{Ty, Struct}
 use Rattle.giop_sig.specs.Fits.{IsFit}
-use Rattle.giop_sig.specs.Table.{Table}
 use Rattle.giop_sig.specs.Trees.{trees_after, type_in}
 use Rattle.giop_sig.specs.Builtin.{builtin_types, builtin_table}
 use Rattle.giop_sig.specs.Headers.{header_type, header_number, IsTable, IsCall, IsRaised}
 use Rattle.giop_sig.proofs.Builtins.{builtin_are, builtin_fit, header_built_in}
 use Rattle.giop_decode.specs.Spine
 use Rattle.giop_decode.specs.Spine.{Seg, Name, Switch, Line, Place, Part, Member, Leaf, Head, Content, Read, Done, Short, Fault, lines_of, with_front, followed, within}
-use Rattle.giop_decode.specs.Reading.{read, parts_from}
+use Rattle.giop_decode.specs.Reading.{parts_from}
 use Rattle.giop_decode.specs.Steps.{Now, part_at, path_in, seg_of, seg_in, step, resumed}
-use Rattle.giop_decode.specs.Fits.{FitsIn, HasHead, HasContent}
+use Rattle.giop_decode.specs.Fits.{FitsIn}
 use Rattle.giop_decode.specs.Heard.{is_member, ends_operation, ends_text}
-use Rattle.giop_decode.proofs.Law.{with_front_none}
 use Rattle.giop_decode.proofs.Now.{step_now}
 use Rattle.giop_decode.proofs.Around.{next_part}
 use Rattle.giop_decode.proofs.Hearing.{switch_member}
-use Rattle.giop_message.proofs.Saying.{IsOf, AreOf, now_within, step_of, fits_say}
+use Rattle.giop_message.proofs.Saying.{IsOf, step_of, fits_say}
 
 -- a struct whose last part has another name
 abbrev pub EndsOtherwise : Ty → Type 0

@@ -20,4 +20,5 @@ pub mod Results
 pub mod Dues
 pub mod Closing
 pub mod Remarks
+pub mod Closes
 pub mod Rows

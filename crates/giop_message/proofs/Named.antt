@@ -19,7 +19,7 @@ use Rattle.giop_decode.specs.Reading.{read, parts_from}
 use Rattle.giop_decode.specs.Steps.{part_at}
 use Rattle.giop_decode.specs.Heard.{Heard, nothing, heard, is_member, ends_operation}
 use Rattle.giop_decode.proofs.Now.{Quiet, quiet_parts, part_quiet}
-use Rattle.giop_message.specs.Headers.{minor, kind, order, has_more, may_be_fragmented, is_opener, is_fragment, is_cancel, goes_by_id}
+use Rattle.giop_message.specs.Headers.{minor, kind, order, has_more, may_be_fragmented, is_opener, is_fragment, is_cancel, has_name}
 use Rattle.giop_message.specs.Reading.{Value, is_last, IsEnding, IsNamed}
 use Rattle.giop_message.specs.Signatures.{Signatures, Kept, said_by}
 use Rattle.giop_message.specs.Messages.{Said, Incomplete, Ends, Told, tell, calls, tells, may_lack, Stage, In_header, In_padding, In_exception, In_body, In_rest, Over, Message, Comes, with_front, passes, rest_in, rest, is_request, after_header, of_header, message, told_of, stage_of, close}
@@ -182,8 +182,8 @@ first_by : (two more fragmented seven cancel : Bool) → ((two && more && fragme
 first_by true more fragmented seven cancel e = inl refl
 first_by false more fragmented seven cancel e = inr e
 
-goes_first : (header : List ℕ) → goes_by_id header ≡ true → IdStandsFirst (minor header) (kind header)
-unfolding goes_by_id is_opener is_fragment is_cancel
+goes_first : (header : List ℕ) → has_name header ≡ true → IdStandsFirst (minor header) (kind header)
+unfolding is_opener is_fragment is_cancel
 goes_first header by = go (first_by (minor header == 2) (has_more header) (may_be_fragmented header) (kind header == 7) (kind header == 2) by)
   where
     go : ((minor header == 2) ≡ true) ⊎ ((kind header == 2) ≡ true) → IdStandsFirst (minor header) (kind header)

@@ -1,32 +1,28 @@
 -- One octet of a part that a decoder reads: what is told, its text, and the id.
-use Rattle.std.proofs.Common.{◌≡◌, ℕ, zero, suc, ◌+◌, ◌-◌, ◌<◌, ◌≤◌, Bool, true, false, List, [], ◌∷◌, ◌++◌, length, drop, flat_map, Option, Some, None, refl, sym, ap, subst, ◌∙◌, append_assoc, append-nil, add_assoc, arith}
-use Rattle.std.specs.Prelude.{◌&&◌, ◌||◌, cond, codes, if◌then◌else◌}
+use Rattle.std.proofs.Common.{◌≡◌, ℕ, ◌+◌, ◌-◌, Bool, List, [], ◌∷◌, ◌++◌, refl, sym, ap, ◌∙◌, append_assoc, append-nil, arith}
 use Rattle.std.specs.List.{AllByRecursion as Each}
 use Rattle.std.proofs.Math.Seq.{drop-append_seam}
 use Rattle.std.proofs.lemmas.List.Concat.{flat_map-append}
-use Rattle.giop_cdr.specs.declared.prim.Primitive.TheVariants as prims
 use Rattle.giop_print.specs.declared.path.Root.{Root}
-use Rattle.giop_print.specs.declared.path.Root.TheVariants as roots
-use Rattle.giop_sig.specs.Types.{Scalar, Plain, Enum, Ty, Text, Single, Octets, Struct, Union, Sequence, Array}
+use Rattle.giop_sig.specs.Types.{Ty}
 use Rattle.giop_decode.specs.Spine
 use Rattle.giop_decode.specs.Spine.{Seg, Line, Value, Number, Count, Piece, Place, Leaf, Read, Done, Short, Fault, lines_of}
 use Rattle.giop_decode.specs.Reading.{read}
 use Rattle.giop_decode.specs.Steps as decoder
 use Rattle.giop_decode.specs.Steps.{Now, OneAt}
-use Rattle.giop_decode.specs.Heard.{Heard, nothing, hear, hear_value, heard, heard_of, hushed, is_member, ends_operation, is_header_root}
+use Rattle.giop_decode.specs.Heard.{Heard, nothing, hear, heard, is_header_root}
 use Rattle.giop_decode.specs.Spelling.{line_text, lines_text}
-use Rattle.giop_decode.proofs.Law.{read_goes, length_one_more}
-use Rattle.giop_message.specs.Headers.{minor, kind, order}
-use Rattle.giop_message.specs.Text.{fault_word}
+use Rattle.giop_decode.proofs.Law.{read_goes}
+use Rattle.giop_message.specs.Headers.{order}
 use Rattle.giop_message.specs.Signatures.{Signatures}
-use Rattle.giop_message.specs.Messages.{Said, Called, Wrong, Told, tell, is_shown, call_of, calls, tells, Stage, Over, Message, Comes, with_front, passes, message, told_of, stage_of}
+use Rattle.giop_message.specs.Messages.{Said, Wrong, Told, tell, calls, tells, Stage, Message, Comes, with_front, passes, message, told_of, stage_of}
 use Rattle.giop_message.specs.Steps.{message_step, advance}
-use Rattle.giop_message.specs.MessageReading.{saying_of, text_of, id_in, first_id, id_said}
+use Rattle.giop_message.specs.MessageReading.{saying_of, text_of}
 use Rattle.giop_message.specs.Holding.{speech_line, told_text, due}
-use Rattle.giop_message.specs.Moves.{fault_text, called_text}
-use Rattle.giop_message.proofs.Going.{Goes, front_twice, front_none, front_advance, passes_front, passes_go, message_goes}
+use Rattle.giop_message.specs.Moves.{fault_text}
+use Rattle.giop_message.proofs.Going.{Goes, front_twice, front_advance, passes_front, passes_go, message_goes}
 use Rattle.giop_message.proofs.Causal.{Silent}
-use Rattle.giop_message.proofs.Spelling.{said_is_line, call_said}
+use Rattle.giop_message.proofs.Spelling.{said_is_line}
 use Rattle.giop_message.proofs.Saying.{IsOf}
 
 told_front : (front : List Told) (m : Message) → told_of (with_front front m) ≡ front ++ told_of m

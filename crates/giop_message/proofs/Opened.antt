@@ -1,11 +1,8 @@
 -- A message that follows a list inside a part that its decoder reads, and one octet more.
-use Rattle.std.proofs.Common.{◌≡◌, ℕ, zero, suc, ◌+◌, Bool, true, false, List, [], ◌∷◌, ◌++◌, length, Some, None, refl, sym, ap, subst, ◌∙◌, append-nil, append_assoc, arith}
+use Rattle.std.proofs.Common.{◌≡◌, ℕ, ◌+◌, Bool, true, false, List, [], ◌∷◌, ◌++◌, length, None, refl, sym, ap, subst, ◌∙◌, append-nil, append_assoc}
 use Rattle.giop_print.specs.declared.path.Root.{Root}
-use Rattle.giop_print.specs.declared.path.Root.TheVariants as roots
-use Rattle.giop_sig.specs.declared.types.Fixed.TheVariants.{ExceptionId}
 use Rattle.giop_sig.specs.Types.{Ty}
 use Rattle.giop_sig.specs.Table.{Table}
-use Rattle.giop_sig.specs.Headers.{header_type, fixed_type}
 use Rattle.giop_decode.specs.declared.progress.Kind.{Kind}
 use Rattle.giop_decode.specs.declared.progress.Progress.{Progress}
 use Rattle.giop_decode.specs.declared.progress.Progress.TheVariants as progress
@@ -16,20 +13,18 @@ use Rattle.giop_decode.specs.Steps as decoder
 use Rattle.giop_decode.specs.Holding as decoders
 use Rattle.giop_decode.specs.Spelling.{lines_text}
 use Rattle.giop_message.specs.declared.message.Message.{Message as Struct_of}
-use Rattle.giop_message.specs.declared.message.Part.{Part}
-use Rattle.giop_message.specs.declared.message.Part.TheVariants as parts
-use Rattle.giop_message.specs.Headers.{minor, kind, order}
-use Rattle.giop_message.specs.Signatures.{Signatures, Kept, said_by}
-use Rattle.giop_message.specs.Messages.{Told, tells, Stage, In_header, In_exception, In_body, Message, with_front, passes, rest, is_request, after_exception, after_header, message, told_of, stage_of}
+use Rattle.giop_message.specs.Headers.{kind, order}
+use Rattle.giop_message.specs.Signatures.{Kept, said_by}
+use Rattle.giop_message.specs.Messages.{tells, Stage, Message, passes}
 use Rattle.giop_message.specs.Steps.{message_step}
-use Rattle.giop_message.specs.MessageReading.{id_said, is_over}
+use Rattle.giop_message.specs.MessageReading.{id_said}
 use Rattle.giop_message.specs.Holding.{told_text, due, due_text, Decodes, Stands, Follows, Took}
 use Rattle.giop_message.specs.Moves.{fault_text, IsAt, Arrives}
 use Rattle.giop_message.proofs.Going.{Goes, no_call}
 use Rattle.giop_message.proofs.Causal.{Silent}
 use Rattle.giop_message.proofs.Octets.{wrongs, first_call}
-use Rattle.giop_message.proofs.Parts.{stepped, text_here, goes_more, due_here, done_here, fault_here, stepped_here}
-use Rattle.giop_message.proofs.Followings.{exception_no_id, body_no_id, follows_by, faulted, one_more_at}
+use Rattle.giop_message.proofs.Parts.{stepped, text_here, goes_more, due_here, done_here, fault_here}
+use Rattle.giop_message.proofs.Followings.{follows_by, faulted, one_more_at}
 
 -- what comes of an octet of a part without a call
 no_calls : (root : Root) (number place offset : ℕ) (h : Heard) (lines : List Line) → told_text number place offset (first_call root false h lines) ≡ []
@@ -57,7 +52,6 @@ module _ (C : Table) (kept : Kept) (number : ℕ) (header : List ℕ) (root : Ro
     (none_said : (h : Heard) (r : Read) → id_said (tells root false h (lines_of r) ++ wrongs r) ≡ None)
     (m : Struct_of) (s : List ℕ) (f : Follows C kept number header m s) (T : Ty) (e : Decodes C (said_by C kept) number header root stage next T m.decoder s)
     (fits : decoders.Fits C m.decoder) (b : ℕ) where
-
   -- what it comes to
   abbrev pub read_it : Read
   read_it = read (order header) [] T (12 + length e.front) (e.octets ++ b ∷ [])

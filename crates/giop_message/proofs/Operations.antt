@@ -1,23 +1,22 @@
 -- Where an operation ends: behind it no string has begun, and it isn't the last part of a Request's header.
-use Rattle.std.proofs.Common.{◌≡◌, ℕ, zero, suc, ◌+◌, ◌-◌, ◌<◌, ◌≤◌, ◌⊎◌, inl, inr, Bool, true, false, List, [], ◌∷◌, ◌++◌, length, take, Option, Some, None, refl, sym, ap, subst, ◌∙◌, append-nil, arith, lit<}
-use Rattle.std.specs.Prelude.{◌&&◌, cond, ltb, codes}
+use Rattle.std.proofs.Common.{◌≡◌, ℕ, zero, suc, ◌+◌, ◌-◌, ◌<◌, ◌≤◌, ◌⊎◌, inl, inr, true, false, List, [], ◌∷◌, ◌++◌, take, Option, Some, None, refl, ◌∙◌, arith, lit<}
+use Rattle.std.specs.Prelude.{cond, ltb}
 use Rattle.std.specs.List.{AllByRecursion as Each}
-use Rattle.std.specs.Str.{bytes_eq}
-use Rattle.std.proofs.lemmas.Bool.{false≢true, cases_lt, lt-ltb, le-ltb}
+use Rattle.std.proofs.lemmas.Bool.{cases_lt, lt-ltb, le-ltb}
 use Rattle.giop_cdr.specs.Numbers.{num}
 use Rattle.giop_cdr.specs.declared.order.Order.{Order}
-use Rattle.giop_sig.specs.Types.{Scalar, Ty, Single, Text, Octets, Struct, Union, Sequence, Array, part_of, width}
+use Rattle.giop_sig.specs.Types.{Ty, Single, Text, Octets, Struct, Union, Sequence, Array, part_of, width}
 use Rattle.giop_sig.specs.declared.types.Selected.{Selected}
 use Rattle.giop_sig.specs.declared.types.Selected.TheVariants.{Case, Nothing, Refused}
 use Rattle.giop_decode.specs.declared.progress.Kind.{Kind}
 use Rattle.giop_decode.specs.Spine
 use Rattle.giop_decode.specs.Spine.{Seg, Name, Index, Switch, Line, Count, Piece, line, Place, Part, Member, Leaf, Head, Content, Read, Done, Short, Fault, lines_of, with_front, followed, within}
-use Rattle.giop_decode.specs.Pieces.{Grab, Waiting, Got, unless, over, block, content, full_piece, full_pieces, last_piece, tail, ends, text, octets}
-use Rattle.giop_decode.specs.Reading.{read, headed, single, wrong, refused, member, parts_from}
-use Rattle.giop_decode.specs.Steps.{Now, after, around, block_step, head_width, leaf_step, number_step, part_at, path_in, seg_of, step, content_step}
-use Rattle.giop_decode.specs.Heard.{is_text, in_content, in_string, ends_text}
+use Rattle.giop_decode.specs.Pieces.{Grab, Waiting, Got, unless, over, block, content, full_piece, full_pieces, last_piece, tail, ends}
+use Rattle.giop_decode.specs.Reading.{read, headed, wrong, refused, member, parts_from}
+use Rattle.giop_decode.specs.Steps.{Now, after, block_step, head_width, leaf_step, number_step, part_at, seg_of, step}
+use Rattle.giop_decode.specs.Heard.{in_string, ends_text}
 use Rattle.giop_decode.proofs.Law.{inner_path, block_waits, width_pos}
-use Rattle.giop_decode.proofs.Now.{each_append, number_none, Quiet, quiet_followed, quiet_parts, quiet_within, part_quiet, read_quiet, parts_quiet, step_now}
+use Rattle.giop_decode.proofs.Now.{each_append, number_none, Quiet, quiet_within, part_quiet, read_quiet, parts_quiet, step_now}
 use Rattle.giop_decode.proofs.Resuming.{lines_front}
 use Rattle.giop_message.proofs.Saying.{IsAll, number_all, block_all, now_within}
 

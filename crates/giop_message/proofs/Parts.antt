@@ -1,5 +1,5 @@
 -- One octet of a part that a decoder reads, where the message follows a list: what it comes to, and its text.
-use Rattle.std.proofs.Common.{◌≡◌, ℕ, zero, suc, ◌+◌, Bool, true, false, List, [], ◌∷◌, ◌++◌, length, drop, Some, None, refl, sym, ap, subst, ◌∙◌, append-nil, add_assoc, arith, length-append}
+use Rattle.std.proofs.Common.{◌≡◌, ℕ, ◌+◌, Bool, true, List, [], ◌∷◌, ◌++◌, length, refl, sym, ap, subst, ◌∙◌, arith, length-append}
 use Rattle.std.specs.List.{AllByRecursion as Each}
 use Rattle.std.proofs.Math.Seq.{drop-append_seam}
 use Rattle.giop_cdr.specs.declared.order.Order.{Order}
@@ -25,7 +25,7 @@ use Rattle.giop_decode.proofs.Now.{step_now}
 use Rattle.giop_decode.proofs.Resuming.{lines_front}
 use Rattle.giop_message.specs.Headers.{order}
 use Rattle.giop_message.specs.Signatures.{Signatures}
-use Rattle.giop_message.specs.Messages.{Told, tells, Stage, Message, with_front, passes, message, told_of, stage_of}
+use Rattle.giop_message.specs.Messages.{Told, tells, Stage, Message, with_front, passes, message, stage_of}
 use Rattle.giop_message.specs.MessageReading.{is_over}
 use Rattle.giop_message.specs.Steps.{message_step}
 use Rattle.giop_message.specs.Holding.{told_text, due, due_text}
@@ -86,7 +86,6 @@ module _ (S : Signatures) (header : List ℕ) (root : Root) (is : Bool) (stage :
     (C : Table) (number : ℕ) (before : List Told) (front octets s : List ℕ) (since : s ≡ front ++ octets) (T : Ty)
     (told : message S header s ≡ with_front before (passes root is stage next nothing (read (order header) [] T (12 + length front) octets)))
     (d : Decoder) (reads : decoders.Reads C T (order header) (12 + length front) number root d octets) (fits : decoders.Fits C d) (b : ℕ) where
-
   abbrev pub stepped_here : Read
   stepped_here = stepped C (order header) T (12 + length front) number root d octets reads fits b
 

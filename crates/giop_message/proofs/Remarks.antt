@@ -1,7 +1,6 @@
 -- What a message writes, told by its reading alone.
-use Rattle.std.proofs.Common.{◌≡◌, ℕ, ◌+◌, ◌-◌, ◌<◌, ◌≤◌, List, [], ◌∷◌, ◌++◌, length, map, drop, flat_map, refl, sym, ap, ◌∙◌, arith}
+use Rattle.std.proofs.Common.{◌≡◌, ℕ, ◌+◌, ◌-◌, List, [], ◌∷◌, ◌++◌, length, map, drop, flat_map, refl, sym, ap, ◌∙◌, arith}
 use Rattle.std.proofs.lemmas.List.{drop-map, length-map}
-use Rattle.giop_message.specs.Reading.{Remark, Saying}
 use Rattle.giop_message.specs.Text.{saying_line}
 use Rattle.giop_message.specs.Signatures.{Signatures}
 use Rattle.giop_message.specs.Messages.{Speech, Told, message, told_of, stage_of, close}

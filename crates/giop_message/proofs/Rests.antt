@@ -1,6 +1,5 @@
 -- One octet in the padding, and in the rest.
-use Rattle.std.proofs.Common.{◌≡◌, ℕ, zero, suc, ◌+◌, ◌-◌, ◌<◌, ◌≤◌, Bool, true, false, List, [], ◌∷◌, ◌++◌, length, Some, None, refl, sym, ap, subst, ◌∙◌, append-nil, arith}
-use Rattle.std.specs.Prelude.{◌==◌, nat_lt, if◌then◌else◌}
+use Rattle.std.proofs.Common.{◌≡◌, ℕ, ◌+◌, ◌<◌, ◌≤◌, false, List, [], ◌∷◌, ◌++◌, length, None, refl, sym, ap, subst, ◌∙◌, append-nil, arith}
 use Rattle.std.proofs.lemmas.Bool.{lt-ltb, le-ltb}
 use Rattle.giop_cdr.specs.Alignment.{padding}
 use Rattle.giop_print.specs.Lines.{rest_line}
@@ -14,7 +13,7 @@ use Rattle.giop_message.specs.Messages.{Left, Told, tell, BodyType, Stage, In_pa
 use Rattle.giop_message.specs.Steps.{rest_step, message_step, advance}
 use Rattle.giop_message.specs.MessageReading.{saying_of, text_of, id_in, first_id, id_said}
 use Rattle.giop_message.specs.Holding.{speech_line, told_text, due, due_text, body_type, Stands, Follows, Took}
-use Rattle.giop_message.specs.Moves.{IsAt, Arrives}
+use Rattle.giop_message.specs.Moves.{Arrives}
 use Rattle.giop_message.proofs.Going.{message_goes, rest_step_full, rest_step_more}
 use Rattle.giop_message.proofs.Causal.{Silent, body_silent}
 use Rattle.giop_message.proofs.Octets.{due_is}
@@ -78,9 +77,11 @@ module _ (C : Table) (kept : Kept) (number : ℕ) (header : List ℕ) (m : Struc
   pub padding_took : (1 < padding Here 8) → (n : Struct_of) → n.number ≡ m.number → n.header ≡ m.header → n.at ≡ m.at + 1 → n.id ≡ m.id → n.part ≡ m.part → Took C kept number header n s b false
   padding_took h n same_number same_header at id part =
       follows_by C kept number header m n s b f same_number same_header at id (none_said _ (padding_told h))
-      (subst (Stands C kept number header n (s ++ b ∷ [])) (sym (part ∙ is))
-      (stands_padded.0 ++ [], comes_more (said_by C kept) header s b stands_padded.0 Here (In_padding (body_type C wanted)) stands_padded.1
-      ∙ (ap (with_front stands_padded.0) (padding_on (said_by C kept) header Here b (body_type C wanted) h) ∙ comes_next stands_padded.0 [] (Here + 1) (12 + length (s ++ b ∷ [])) (In_padding (body_type C wanted)) (next_at s b))))
+      (subst (Stands C kept number header n (s ++ b ∷ [])) (sym (part ∙ is)) (
+        stands_padded.0 ++ [],
+        comes_more (said_by C kept) header s b stands_padded.0 Here (In_padding (body_type C wanted)) stands_padded.1
+            ∙ (ap (with_front stands_padded.0) (padding_on (said_by C kept) header Here b (body_type C wanted) h) ∙ comes_next stands_padded.0 [] (Here + 1) (12 + length (s ++ b ∷ [])) (In_padding (body_type C wanted)) (next_at s b)),
+      ))
 
   pub last_took : padding Here 8 ≤ 1 → (k n : Struct_of) → k.number ≡ m.number → k.header ≡ m.header → k.at ≡ m.at + 1 → k.id ≡ m.id →
       Arrives C kept number header k n (s ++ b ∷ []) (body (said_by C kept) header (body_type C wanted) (12 + length (s ++ b ∷ [])) []) →
@@ -130,18 +131,22 @@ module _ (C : Table) (kept : Kept) (number : ℕ) (header : List ℕ) (m : Struc
       n.offset ≡ m.offset → n.held.items ≡ m.held.items ++ b ∷ [] → Took C kept number header n s b false
   more_took h n same_number same_header at id part offset held =
       follows_by C kept number header m n s b f same_number same_header at id (none_said _ (more_due h))
-      (subst (Stands C kept number header n (s ++ b ∷ [])) (sym (part ∙ is))
-      (stands_rest.0 ++ [], rw (offset, held) (comes_more (said_by C kept) header s b stands_rest.0 At (In_rest m.offset m.held.items) stands_rest.1
-      ∙ (ap (with_front stands_rest.0) (rest_steps ∙ rest_step_more m.offset (m.held.items ++ b ∷ []) (At + 1) h) ∙ comes_next stands_rest.0 [] (At + 1) (12 + length (s ++ b ∷ [])) (In_rest m.offset (m.held.items ++ b ∷ [])) (next_at s b)))))
+      (subst (Stands C kept number header n (s ++ b ∷ [])) (sym (part ∙ is)) (
+        stands_rest.0 ++ [],
+        rw (offset, held) (comes_more (said_by C kept) header s b stands_rest.0 At (In_rest m.offset m.held.items) stands_rest.1
+            ∙ (ap (with_front stands_rest.0) (rest_steps ∙ rest_step_more m.offset (m.held.items ++ b ∷ []) (At + 1) h) ∙ comes_next stands_rest.0 [] (At + 1) (12 + length (s ++ b ∷ [])) (In_rest m.offset (m.held.items ++ b ∷ [])) (next_at s b))),
+      ))
 
   pub full_took : length (m.held.items ++ b ∷ []) ≡ 32 → (n : Struct_of) → n.number ≡ m.number → n.header ≡ m.header → n.at ≡ m.at + 1 → n.id ≡ m.id → n.part ≡ m.part →
       n.offset ≡ m.offset + 32 → n.held.items ≡ [] → Took C kept number header n s b false
   full_took h n same_number same_header at id part offset held =
       follows_by C kept number header m n s b f same_number same_header at id (full_id h)
-      (subst (Stands C kept number header n (s ++ b ∷ [])) (sym (part ∙ is))
-      (stands_rest.0 ++ tell (At + 1) (Left m.offset (m.held.items ++ b ∷ [])) ∷ [], rw (offset, held) (comes_more (said_by C kept) header s b stands_rest.0 At (In_rest m.offset m.held.items) stands_rest.1
-      ∙ (ap (with_front stands_rest.0) (rest_steps ∙ rest_step_full m.offset (m.held.items ++ b ∷ []) (At + 1) h)
-      ∙ comes_next stands_rest.0 (tell (At + 1) (Left m.offset (m.held.items ++ b ∷ [])) ∷ []) (At + 1) (12 + length (s ++ b ∷ [])) (In_rest (m.offset + 32) []) (next_at s b)))))
+      (subst (Stands C kept number header n (s ++ b ∷ [])) (sym (part ∙ is)) (
+        stands_rest.0 ++ tell (At + 1) (Left m.offset (m.held.items ++ b ∷ [])) ∷ [],
+        rw (offset, held) (comes_more (said_by C kept) header s b stands_rest.0 At (In_rest m.offset m.held.items) stands_rest.1
+            ∙ (ap (with_front stands_rest.0) (rest_steps ∙ rest_step_full m.offset (m.held.items ++ b ∷ []) (At + 1) h)
+            ∙ comes_next stands_rest.0 (tell (At + 1) (Left m.offset (m.held.items ++ b ∷ [])) ∷ []) (At + 1) (12 + length (s ++ b ∷ [])) (In_rest (m.offset + 32) []) (next_at s b))),
+      ))
 
 -- nothing is written where nothing is told
 pub no_text : (S : Signatures) (number place : ℕ) (header s more : List ℕ) → due S header s more ≡ [] → due_text S number place header s more ≡ []

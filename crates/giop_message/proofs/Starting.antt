@@ -1,5 +1,5 @@
 -- A message whose header has come, and what begins behind a part of it.
-use Rattle.std.proofs.Common.{◌≡◌, ℕ, zero, suc, ◌+◌, ◌<◌, ◌≤◌, Bool, true, false, List, [], ◌∷◌, ◌++◌, length, drop, Option, Some, None, refl, sym, ap, ◌∙◌, append-nil, add-zero, arith}
+use Rattle.std.proofs.Common.{◌≡◌, ℕ, zero, suc, ◌<◌, ◌≤◌, Bool, true, false, List, [], Option, Some, None, refl, ap, ◌∙◌, append-nil, add-zero, arith}
 use Rattle.std.specs.Prelude.{◌||◌, ◌&&◌, ◌==◌, nat_lt, if◌then◌else◌}
 use Rattle.std.proofs.lemmas.Bool.{ltb-false, ne_eqb, false≢true}
 use Rattle.giop_cdr.specs.Alignment.{padding}

@@ -29,16 +29,17 @@ size header = num (order header) (drop 8 header)
 unfoldable pub may_be_fragmented : List ℕ → Bool
 may_be_fragmented header = (kind header == 0) || (kind header == 1) || (kind header == 3) || (kind header == 4)
 
--- the initial message of a fragmented one
+-- A 1.2 message of these types with the more bit is an opener.
 unfoldable pub is_opener : List ℕ → Bool
 is_opener header = (minor header == 2) && has_more header && may_be_fragmented header
 
+-- a 1.2 Fragment
 unfoldable pub is_fragment : List ℕ → Bool
 is_fragment header = (minor header == 2) && (kind header == 7)
 
 unfoldable pub is_cancel : List ℕ → Bool
 is_cancel header = kind header == 2
 
--- the messages that the stream knows by the request id with which they begin
-unfoldable pub goes_by_id : List ℕ → Bool
-goes_by_id header = is_opener header || is_fragment header || is_cancel header
+-- the messages that begin with their request id, by which the stream goes
+abbrev pub has_name : List ℕ → Bool
+has_name header = is_opener header || is_fragment header || is_cancel header

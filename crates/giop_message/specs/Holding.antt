@@ -1,6 +1,5 @@
 -- What a message holds of the octets that it has taken behind its header, one field a clause; and what its calls write.
 use Rattle.std.specs.Prelude.{◌≡◌, ℕ, ◌+◌, ◌-◌, ◌<◌, ◌≤◌, Bool, true, false, List, [], ◌∷◌, ◌++◌, length, take, drop, flat_map, Option, Some, None}
-use Rattle.giop_cdr.specs.declared.order.Order.{Order}
 use Rattle.giop_print.specs.declared.path.Root.{Root}
 use Rattle.giop_print.specs.declared.path.Root.TheVariants as roots
 use Rattle.giop_sig.specs.declared.types.Fixed.TheVariants.{ExceptionId}

@@ -8,7 +8,7 @@ use Rattle.giop_decode.specs.Heard.{is_member}
 use Rattle.giop_sig.specs.Types.{Plain}
 use Rattle.giop_sig.specs.Table.{Table}
 use Rattle.giop_sig.specs.Headers.{BeginsWithId}
-use Rattle.giop_message.specs.Headers.{minor, kind, goes_by_id}
+use Rattle.giop_message.specs.Headers.{minor, kind, has_name}
 use Rattle.giop_message.specs.Reading.{Saying, Value, Call, Rest, Fault, End, Remark, Reading}
 use Rattle.giop_message.specs.Text.{value_said, call_text, rest_text, fault_word}
 use Rattle.giop_message.specs.Signatures.{Signatures, Kept, said_by}
@@ -50,7 +50,7 @@ message_reading C kept = reading_by (said_by C kept)
 
 -- The headers of the messages that the stream knows by their request ids begin with them.
 pub record HasIds (S : Signatures) : Type 0 where
-  pub begins : (header : List ℕ) → goes_by_id header ≡ true → IfSome (S.header (minor header) (kind header)) BeginsWithId
+  pub begins : (header : List ℕ) → has_name header ≡ true → IfSome (S.header (minor header) (kind header)) BeginsWithId
 
 -- the request id that is said
 unfoldable pub id_in : Speech → Option ℕ

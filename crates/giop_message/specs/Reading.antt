@@ -1,8 +1,8 @@
 -- The reading of one message, as the stream takes it: what its octets say so far, and what its close adds. Octets of a
 -- message count from 1 behind its header.
-use Rattle.std.specs.Prelude.{◌≡◌, ℕ, ◌≤◌, ◌==◌, ◌⊎◌, Bool, true, false, List, [], ◌∷◌, ◌++◌, length, map}
+use Rattle.std.specs.Prelude.{◌≡◌, ℕ, suc, ◌≤◌, ◌==◌, ◌⊎◌, Bool, true, false, List, [], ◌∷◌, ◌++◌, length, map}
 use Rattle.std.specs.List.{filter, list_any, AllByRecursion as Each}
-use Rattle.giop_message.specs.Headers.{goes_by_id}
+use Rattle.giop_message.specs.Headers.{has_name}
 
 -- what a line of a message says, in the order in which the lines of one octet stand
 pub data Saying : Type 0 where
@@ -35,14 +35,34 @@ pub record IsCausal (R : Reading) : Type 0 where
 pub record IsEnding (R : Reading) : Type 0 where
   pub ends : (header xs : List ℕ) → list_any (λ l. is_last l.0) (R.closes header xs) ≡ true
 
--- The first four octets of a message that the stream knows by its request id say values alone.
-pub record IsNamed (R : Reading) : Type 0 where
-  pub named : (header xs : List ℕ) → goes_by_id header ≡ true → length xs ≤ 4 → Each (λ r. r.saying ≡ Value) (R.reads header xs)
+-- ---- What else the stream takes a reading for, where it goes by the request ids of messages.
 
--- the lines of one octet: none, a value, a value and its call, a part of the rest, or a fault
+-- Of the first four octets of a message that begins with its request id, nothing but values is said.
+pub record IsNamed (R : Reading) : Type 0 where
+  pub named : (header xs : List ℕ) → has_name header ≡ true → length xs ≤ 4 → Each (λ r. r.saying ≡ Value) (R.reads header xs)
+
+-- what is said at one octet: nothing, a value, a value and its call, a part of the rest, or a fault
 abbrev pub InTurn : List Saying → Type 0
 InTurn sayings = (sayings ≡ []) ⊎ (sayings ≡ Value ∷ []) ⊎ (sayings ≡ Value ∷ Call ∷ []) ⊎ (sayings ≡ Rest ∷ []) ⊎ (sayings ≡ Fault ∷ [])
 
--- The lines of one octet are told in their order, and no two say the same.
 pub record IsOrdered (R : Reading) : Type 0 where
   pub ordered : (header xs : List ℕ) (k : ℕ) → InTurn (map (λ r. r.saying) (filter (λ r. r.at == k) (R.reads header xs)))
+
+-- what one octet more lets be said
+abbrev pub due : Reading → List ℕ → List ℕ → ℕ → List Remark
+due R header xs x = filter (λ r. r.at == suc (length xs)) (R.reads header (xs ++ x ∷ []))
+
+-- what a close says: a fault, the end, or the last part of the rest and the end
+abbrev pub AtClose : List Saying → Type 0
+AtClose sayings = (sayings ≡ Fault ∷ []) ⊎ (sayings ≡ End ∷ []) ⊎ (sayings ≡ Rest ∷ End ∷ [])
+
+-- A close ends the message, once; a message that is faulted at its last octet has no rest left.
+pub record IsClosing (R : Reading) : Type 0 where
+  pub closed : (header xs : List ℕ) → AtClose (map (λ l. l.0) (R.closes header xs))
+  pub no_rest : (header xs : List ℕ) (x : ℕ) → map (λ r. r.saying) (due R header xs x) ≡ Fault ∷ [] → map (λ l. l.0) (R.closes header (xs ++ x ∷ [])) ≡ Rest ∷ End ∷ [] → ⊥
+
+-- what is asked of a reading whose lines are written as they come
+pub record IsInTurn (R : Reading) : Type 0 where
+  pub named : IsNamed R
+  pub ordered : IsOrdered R
+  pub closing : IsClosing R

@@ -1,38 +1,27 @@
 //! What begins behind a part of a message that has ended.
 
-ghost use Rattle.std.specs.Prelude.{◌≡◌, ℕ, ◌+◌, ◌^◌, ◌<◌, ◌≤◌, ◌↔◌, Bool, true, false, List, [], ◌∷◌, ◌++◌, length, IfOk, IfSome, OnOk, IsTrue, Some, None};
+ghost use Rattle.std.specs.Prelude.{◌≡◌, ℕ, ◌+◌, ◌<◌, true, false, List, [], length, IfSome, Some, None};
 ghost use Rattle.std.specs.Option.{option_map};
-ghost use Rattle.arrayvec.specs.ArrayVec.{array_vec_len};
-ghost use Rattle.giop_print.specs.Output.{Writes};
 
-use crate::message::{Message, Part};
 use crate::header::{kind_of, minor_of, order_of};
-use crate::wanted::{Wanted, may_lack, reply_body, request_body};
-use crate::word::{fault_word, is_shown};
-use arrayvec::ArrayVec;
+use crate::message::{Message, Part};
+use crate::wanted::{Wanted, reply_body, request_body};
 use giop_cdr::pad;
-use giop_decode::{Decoder, Progress};
-use giop_print::{Out, OutFault, Root, call_line, end_line, fault_line, rest_line};
+use giop_decode::Decoder;
+use giop_print::Root;
 use giop_sig::{Catalogue, Fixed, Requests, TypeId};
 
 impl Message {
     ghost use Rattle.giop_message.specs.Signatures.{Kept, said_by};
     ghost use Rattle.giop_sig.specs.Table.{Table};
     ghost use Rattle.giop_sig.specs.Trees.{tree};
-    ghost use Rattle.giop_sig.specs.Fits.{IsFit};
-    ghost use Rattle.giop_cdr.specs.declared.order.Order.{Order as ByteOrder};
-    ghost use Rattle.giop_print.specs.declared.path.Root.{Root as PathRoot};
-    ghost use Rattle.giop_sig.specs.Types.{Ty};
     ghost use Rattle.giop_decode.specs.Spine.{Read as Reading};
-    ghost use Rattle.giop_decode.specs.Reading.{read};
     ghost use Rattle.giop_decode.specs.Heard.{heard_of};
-    ghost use Rattle.giop_decode.specs.Spelling.{lines_text};
-    ghost use Rattle.giop_decode.specs.Holding.{Reads, Takes, Minds, GoesOn, Fits as FitsIt, due as due_lines};
+    ghost use Rattle.giop_decode.specs.Holding.{Minds};
     ghost use Rattle.giop_message.specs.Headers.{order};
-    ghost use Rattle.giop_message.specs.Messages.{Raised, members_of, body_of, message, rest, typed, body, after_header, after_exception, told_of, stage_of, close};
-    ghost use Rattle.giop_message.specs.Moves.{fault_text, request_call, is_padded, last_rest_text, Arrives};
-    ghost use Rattle.giop_message.specs.MessageReading.{first_id, id_said};
-    ghost use Rattle.giop_message.specs.Holding.{AreOf, body_type, IsKnown, Fits, Follows, due, due_text, Took, TookAll, reach, closing_text, is_short};
+    ghost use Rattle.giop_message.specs.Messages.{Raised, members_of, body_of, message, rest, typed, body, after_header, after_exception};
+    ghost use Rattle.giop_message.specs.Moves.{is_padded, Arrives};
+    ghost use Rattle.giop_message.specs.Holding.{AreOf, body_type, IsKnown, Fits};
 
     /// Begins the rest.
     pub(crate) fn begin_rest(&mut self)
@@ -82,8 +71,7 @@ impl Message {
     {
         let order = order_of(&self.header);
         let of = catalogue.fixed(Fixed::ExceptionId);
-        self.decoder =
-            Decoder::start(catalogue, of, order, self.at, self.number, Root::Exception);
+        self.decoder = Decoder::start(catalogue, of, order, self.at, self.number, Root::Exception);
         self.part = Part::Exception;
     }
 

@@ -7,7 +7,7 @@ ghost use Rattle.giop_sig.specs.Types.{Ty};
 ghost use Rattle.giop_sig.specs.Table.{Table};
 ghost use Rattle.giop_sig.specs.Headers.{BeginsWithId, header_type};
 ghost use Rattle.giop_message.specs.Headers.{minor, kind, order};
-ghost use Rattle.giop_message.specs.Reading.{IsCausal, IsEnding, IsNamed, IsOrdered};
+ghost use Rattle.giop_message.specs.Reading.{IsCausal, IsEnding, IsNamed, IsOrdered, IsClosing};
 ghost use Rattle.giop_message.specs.Signatures.{Kept, said_by};
 ghost use Rattle.giop_message.specs.Messages.{message, told_of, stage_of, close};
 ghost use Rattle.giop_message.specs.Holding.{due_text, remarks_text, closing_text, closes_text};
@@ -32,8 +32,9 @@ pub fn message_laws()
     ensures ending { (C : Table) (kept : Kept) → IsEnding (message_reading C kept) }
     // the first four octets of a message that goes by its request id say values alone,
     ensures named { (C : Table) (kept : Kept) → IsNamed (message_reading C kept) }
-    // and the lines of one octet come in their order.
+    // the lines of one octet come in their order, and a message that is faulted at its last octet has no rest left.
     ensures ordered { (C : Table) (kept : Kept) → IsOrdered (message_reading C kept) }
+    ensures closing { (C : Table) (kept : Kept) → IsClosing (message_reading C kept) }
     // The request id of a header that begins with it is the number of the first four octets.
     ensures id { (C : Table) (kept : Kept) (header : List ℕ) (T : Ty) → header_type (minor header) (kind header) ≡ Some T → BeginsWithId T →
         (a b c d : ℕ) (xs : List ℕ) → id_said (told_of (message (said_by C kept) header (a ∷ b ∷ c ∷ d ∷ xs))) ≡ Some (num (order header) (a ∷ b ∷ c ∷ d ∷ [])) }

@@ -10,8 +10,7 @@ mod wanted;
 mod word;
 
 pub use laws::message_laws;
-pub use message::{Message, Part};
-pub use wanted::Wanted;
+pub use message::Message;
 
 #[cfg(test)]
 mod tests;

@@ -1,17 +1,14 @@
 //! One joined message: what it has begun and not ended, and what its octets say.
 
-ghost use Rattle.std.specs.Prelude.{◌≡◌, ℕ, ◌+◌, ◌^◌, ◌<◌, ◌≤◌, ◌↔◌, Bool, true, false, List, [], ◌∷◌, ◌++◌, length, IfOk, IfSome, OnOk, IsTrue, Some, None};
-ghost use Rattle.std.specs.Option.{option_map};
+ghost use Rattle.std.specs.Prelude.{◌≡◌, ℕ, ◌+◌, ◌^◌, ◌<◌, ◌≤◌, true, false, List, [], length, IfOk, IfSome, Some, None};
 ghost use Rattle.arrayvec.specs.ArrayVec.{array_vec_len};
 ghost use Rattle.giop_print.specs.Output.{Writes};
 
 use crate::header::{kind_of, minor_of, order_of};
-use crate::wanted::{Wanted, may_lack, reply_body, request_body};
-use crate::word::{fault_word, is_shown};
+use crate::wanted::{Wanted, may_lack};
 use arrayvec::ArrayVec;
-use giop_cdr::pad;
-use giop_decode::{Decoder, Progress};
-use giop_print::{Out, OutFault, Root, call_line, end_line, fault_line, rest_line};
+use giop_decode::Decoder;
+use giop_print::{Out, OutFault, Root, end_line, fault_line, rest_line};
 use giop_sig::{Catalogue, Fixed, Requests, TypeId};
 
 /// What the next octet belongs to.
@@ -50,25 +47,19 @@ impl Message {
     ghost use Rattle.giop_sig.specs.Table.{Table};
     ghost use Rattle.giop_sig.specs.Trees.{tree};
     ghost use Rattle.giop_sig.specs.Fits.{IsFit};
-    ghost use Rattle.giop_cdr.specs.declared.order.Order.{Order as ByteOrder};
-    ghost use Rattle.giop_print.specs.declared.path.Root.{Root as PathRoot};
-    ghost use Rattle.giop_sig.specs.Types.{Ty};
-    ghost use Rattle.giop_decode.specs.Spine.{Read as Reading};
     ghost use Rattle.giop_decode.specs.Reading.{read};
-    ghost use Rattle.giop_decode.specs.Heard.{heard_of};
-    ghost use Rattle.giop_decode.specs.Spelling.{lines_text};
-    ghost use Rattle.giop_decode.specs.Holding.{Reads, Takes, Minds, GoesOn, Fits as FitsIt, due as due_lines};
+    ghost use Rattle.giop_decode.specs.Holding.{Reads, Takes, Fits as FitsIt};
     ghost use Rattle.giop_message.specs.Headers.{order};
-    ghost use Rattle.giop_message.specs.Messages.{Raised, members_of, body_of, message, rest, typed, body, after_header, after_exception, told_of, stage_of, close};
-    ghost use Rattle.giop_message.specs.Moves.{fault_text, request_call, is_padded, last_rest_text, Arrives};
-    ghost use Rattle.giop_message.specs.MessageReading.{first_id, id_said};
-    ghost use Rattle.giop_message.specs.Holding.{AreOf, body_type, IsKnown, Fits, Follows, due, due_text, Took, TookAll, reach, closing_text, is_short};
+    ghost use Rattle.giop_message.specs.Messages.{message, rest, body, told_of, stage_of, close};
+    ghost use Rattle.giop_message.specs.Moves.{last_rest_text};
+    ghost use Rattle.giop_message.specs.MessageReading.{id_said};
+    ghost use Rattle.giop_message.specs.Holding.{AreOf, Fits, Follows, due_text, TookAll, reach, closing_text, is_short};
 
     /// A message of this number whose header has come.
     pub fn start(catalogue: &Catalogue, number: u64, header: [u8; 12]) -> Message
         ensures follows { (kept : Kept) → Follows catalogue.now kept number header result [] }
         ensures fits { Fits catalogue.now result }
-        ensures at { result.at ≡ 12 }
+        ensures reach { reach result ≡ 12 }
     {
         let Some(of) = catalogue.header(minor_of(&header), kind_of(&header)) else {
             let unused = catalogue.fixed(Fixed::Addressing);

@@ -1,25 +1,20 @@
 //! What one octet does to a message, by the part that it belongs to.
 
-ghost use Rattle.std.specs.Prelude.{◌≡◌, ℕ, ◌+◌, ◌^◌, ◌<◌, ◌≤◌, ◌↔◌, Bool, true, false, List, [], ◌∷◌, ◌++◌, length, IfOk, IfSome, OnOk, IsTrue, Some, None};
-ghost use Rattle.std.specs.Option.{option_map};
-ghost use Rattle.arrayvec.specs.ArrayVec.{array_vec_len};
+ghost use Rattle.std.specs.Prelude.{◌≡◌, ℕ, ◌+◌, ◌^◌, ◌<◌, ◌≤◌, true, false, List, [], ◌∷◌, ◌++◌, IfOk, OnOk, Some};
 ghost use Rattle.giop_print.specs.Output.{Writes};
 
+use crate::header::kind_of;
 use crate::message::{Message, Part};
-use crate::header::{kind_of, minor_of, order_of};
-use crate::wanted::{Wanted, may_lack, reply_body, request_body};
+use crate::wanted::Wanted;
 use crate::word::{fault_word, is_shown};
-use arrayvec::ArrayVec;
 use giop_cdr::pad;
-use giop_decode::{Decoder, Progress};
-use giop_print::{Out, OutFault, Root, call_line, end_line, fault_line, rest_line};
-use giop_sig::{Catalogue, Fixed, Requests, TypeId};
+use giop_decode::Progress;
+use giop_print::{Out, OutFault, Root, call_line, fault_line, rest_line};
+use giop_sig::{Catalogue, Requests};
 
 impl Message {
     ghost use Rattle.giop_message.specs.Signatures.{Kept, said_by};
     ghost use Rattle.giop_sig.specs.Table.{Table};
-    ghost use Rattle.giop_sig.specs.Trees.{tree};
-    ghost use Rattle.giop_sig.specs.Fits.{IsFit};
     ghost use Rattle.giop_cdr.specs.declared.order.Order.{Order as ByteOrder};
     ghost use Rattle.giop_print.specs.declared.path.Root.{Root as PathRoot};
     ghost use Rattle.giop_sig.specs.Types.{Ty};
@@ -28,11 +23,10 @@ impl Message {
     ghost use Rattle.giop_decode.specs.Heard.{heard_of};
     ghost use Rattle.giop_decode.specs.Spelling.{lines_text};
     ghost use Rattle.giop_decode.specs.Holding.{Reads, Takes, Minds, GoesOn, Fits as FitsIt, due as due_lines};
-    ghost use Rattle.giop_message.specs.Headers.{order};
-    ghost use Rattle.giop_message.specs.Messages.{Raised, members_of, body_of, message, rest, typed, body, after_header, after_exception, told_of, stage_of, close};
-    ghost use Rattle.giop_message.specs.Moves.{fault_text, request_call, is_padded, last_rest_text, Arrives};
-    ghost use Rattle.giop_message.specs.MessageReading.{first_id, id_said};
-    ghost use Rattle.giop_message.specs.Holding.{AreOf, body_type, IsKnown, Fits, Follows, due, due_text, Took, TookAll, reach, closing_text, is_short};
+    ghost use Rattle.giop_message.specs.Messages.{message, rest, body};
+    ghost use Rattle.giop_message.specs.Moves.{fault_text, request_call};
+    ghost use Rattle.giop_message.specs.MessageReading.{first_id};
+    ghost use Rattle.giop_message.specs.Holding.{AreOf, IsKnown, Fits, Follows, due, due_text, Took};
 
     /// Takes an octet of the part that the decoder reads, behind so many octets of the stream, and writes its line, or
     /// that of its fault.

@@ -253,30 +253,21 @@ const ROWS: [Row; 24] = [
         name: "a CancelRequest",
         header: "47494f50 0101 01 02 06000000",
         octets: "04000000 0506",
-        lines: &[
-            "m1 header.request_id ulong 4",
-            "m1 rest @0 0506",
-            "m1 end",
-        ],
+        lines: &["m1 header.request_id ulong 4", "m1 rest @0 0506", "m1 end"],
         closing: Closing::Ends,
     },
     Row {
         name: "a CancelRequest that is short",
         header: "47494f50 0100 00 02 00000002",
         octets: "0000",
-        lines: &[
-            "m1 fault short at 14",
-        ],
+        lines: &["m1 fault short at 14"],
         closing: Closing::Short,
     },
     Row {
         name: "a target of no disposition",
         header: "47494f50 0102 00 03 00000006",
         octets: "00000001 0003",
-        lines: &[
-            "m1 header.request_id ulong 1",
-            "m1 fault disposition at 18",
-        ],
+        lines: &["m1 header.request_id ulong 1", "m1 fault disposition at 18"],
         closing: Closing::Fault(18),
     },
     Row {
@@ -367,9 +358,7 @@ const ROWS: [Row; 24] = [
         name: "no header type",
         header: "47494f50 0100 00 05 00000000",
         octets: "",
-        lines: &[
-            "m1 end",
-        ],
+        lines: &["m1 end"],
         closing: Closing::Ends,
     },
     Row {
@@ -443,6 +432,15 @@ fn takes<O: Out>(
     }
 }
 
+/// The header of a row.
+fn header_of(rt: &impl Abort, alloc: Global, row: &Row) -> Result<[u8; 12], AllocError> {
+    let header = octets(rt, alloc, row.header)?;
+    match header.as_slice().try_into() {
+        Ok(header) => Ok(header),
+        Err(_) => panic!(rt; "{}: a header of 12 octets", row.name),
+    }
+}
+
 /// Compares what is written of a row, cut in two behind so many octets.
 fn writes(
     rt: &impl Abort,
@@ -472,17 +470,52 @@ fn lines_do_not_depend_on_the_pieces(rt: HostRuntime) -> Result<(), Fail> {
     let catalogue = Catalogue::builtin(rt.alloc())?;
     let requests = Requests::parse(rt.alloc(), b"", &catalogue)?;
     for row in &ROWS {
-        let header = octets(&rt, rt.alloc(), row.header)?;
-        let header: [u8; 12] = match header.as_slice().try_into() {
-            Ok(header) => header,
-            Err(_) => panic!(&rt; "{}: a header of 12 octets", row.name),
-        };
+        let header = header_of(&rt, rt.alloc(), row)?;
         let octets = octets(&rt, rt.alloc(), row.octets)?;
         let want = text(rt.alloc(), row.lines)?;
         assert!(rt; octets.len() <= 1000, "{}", row.name);
         for cut in 0..octets.len() + 1 {
-            writes(
-                &rt, &catalogue, &requests, row, header, &octets, &want, cut,
+            writes(&rt, &catalogue, &requests, row, header, &octets, &want, cut);
+        }
+    }
+    Ok(())
+}
+
+/// Compares what is written over an out that has room for so many octets and no more.
+fn fails(
+    rt: &impl Abort,
+    catalogue: &Catalogue,
+    requests: &Requests,
+    row: &Row,
+    header: [u8; 12],
+    octets: &[u8],
+    want: &[u8],
+    size: usize,
+)
+    requires of { AreOf catalogue.now requests.now }
+    requires octets { length octets.now ≤ 1000 }
+{
+    let name = row.name;
+    let mut room = [0; 1024];
+    assert!(rt; size <= want.len() && size <= room.len(), "{name}");
+    let mut sheet = Sheet::new(&mut room[..size]);
+    let closing = takes(catalogue, requests, header, octets, &[], &mut sheet);
+    assert!(rt; closing.is_err(), "{name}, room for {size}");
+    assert_eq!(rt; sheet.held(), &want[..size], "{name}, room for {size}");
+}
+
+#[test]
+fn a_front_is_written_where_an_out_fails(rt: HostRuntime) -> Result<(), Fail> {
+    let catalogue = Catalogue::builtin(rt.alloc())?;
+    let requests = Requests::parse(rt.alloc(), b"", &catalogue)?;
+    for row in &ROWS {
+        let header = header_of(&rt, rt.alloc(), row)?;
+        let octets = octets(&rt, rt.alloc(), row.octets)?;
+        let want = text(rt.alloc(), row.lines)?;
+        assert!(rt; octets.len() <= 1000, "{}", row.name);
+        for size in 0..want.len() {
+            fails(
+                &rt, &catalogue, &requests, row, header, &octets, &want, size,
             );
         }
     }
@@ -515,5 +548,8 @@ fn ids(rt: &impl Abort, catalogue: &Catalogue, requests: &Requests) -> Result<()
     let taken = message.take(catalogue, requests, front, 12, &mut sheet);
     assert!(rt; taken == Ok(None));
     assert!(rt; message.request_id().is_none());
+    let taken = message.take(catalogue, requests, b"\x02", 27, &mut sheet);
+    assert!(rt; taken == Ok(None));
+    assert!(rt; message.request_id() == Some(0x0203_0405));
     Ok(())
 }

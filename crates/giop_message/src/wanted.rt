@@ -1,6 +1,6 @@
 //! Which type a body has (GIOP Message Formats, Request Body, Reply Body).
 
-ghost use Rattle.std.specs.Prelude.{◌≡◌, ℕ, ◌<◌, List, length};
+ghost use Rattle.std.specs.Prelude.{◌≡◌, ◌<◌, length};
 ghost use Rattle.std.specs.Option.{option_map};
 ghost use Rattle.giop_sig.specs.Trees.{tree};
 ghost use Rattle.giop_message.specs.Signatures.{Kept, said_by};

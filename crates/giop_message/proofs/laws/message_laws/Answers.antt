@@ -2,6 +2,7 @@ use Rattle.giop_message.specs.Signatures.{said_by}
 use Rattle.giop_message.proofs.Going.{message_goes, message_resumes}
 use Rattle.giop_message.proofs.Faults.{over_where_faulted}
 use Rattle.giop_message.proofs.Causal.{is_causal, is_ordered}
+use Rattle.giop_message.proofs.Closes.{is_closing}
 use Rattle.giop_message.proofs.Named.{is_ending, is_named, id_is_said, has_ids}
 use Rattle.giop_message.proofs.Remarks.{text_is, close_is}
 use Rattle.giop_message.proofs.laws.message_laws.Goals as goal
@@ -16,6 +17,7 @@ returns c = record {
   ending = λ C kept. is_ending (said_by C kept);
   named = λ C kept. is_named (said_by C kept) (has_ids C kept);
   ordered = λ C kept. is_ordered (said_by C kept);
+  closing = λ C kept. is_closing (said_by C kept);
   id = λ C kept. id_is_said (said_by C kept);
   writes = λ C kept. text_is (said_by C kept);
   closes = λ C kept. close_is (said_by C kept);

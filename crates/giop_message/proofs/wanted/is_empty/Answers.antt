@@ -1,4 +1,4 @@
-use Rattle.std.proofs.Common.{◌≡◌, sym, ◌∙◌}
+use Rattle.std.proofs.Common.{sym, ◌∙◌}
 use Rattle.giop_sig.specs.Trees.{tree}
 use Rattle.giop_message.proofs.Closing.{lacks_members, lacks_none}
 use Rattle.giop_message.proofs.wanted.is_empty.Goals as goal

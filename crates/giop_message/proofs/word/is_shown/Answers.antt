@@ -1,4 +1,4 @@
-use Rattle.std.proofs.Common.{◌≡◌, ◌<◌, length, refl, arith, rules, tests}
+use Rattle.std.proofs.Common.{◌≡◌, ◌<◌, length, arith, rules, tests}
 use Rattle.std.specs.List.{list_all}
 use Rattle.std.proofs.lemmas.Bool.{lt-ltb}
 use Rattle.std.proofs.lemmas.Iterator.{YieldsList-from_slice}

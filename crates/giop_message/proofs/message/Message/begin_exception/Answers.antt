@@ -1,6 +1,6 @@
-use Rattle.std.proofs.Common.{◌+◌, [], length, refl, sym, ap, ◌∙◌, append-nil, rules, tests}
+use Rattle.std.proofs.Common.{[], sym, append-nil}
 use Rattle.giop_sig.specs.Trees.{tree}
-use Rattle.giop_message.specs.Messages.{with_front, body}
+use Rattle.giop_message.specs.Messages.{body}
 use Rattle.giop_message.specs.Signatures.{said_by}
 use Rattle.giop_message.proofs.Starting.{fit_some}
 use Rattle.giop_message.proofs.message.Message.begin_exception.Goals as goal

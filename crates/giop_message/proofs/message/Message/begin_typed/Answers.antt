@@ -1,4 +1,4 @@
-use Rattle.std.proofs.Common.{◌+◌, [], length, refl, sym, ap, ◌∙◌, append-nil, rules, tests}
+use Rattle.std.proofs.Common.{◌+◌, [], length, sym, ap, ◌∙◌, append-nil}
 use Rattle.giop_sig.specs.Trees.{tree}
 use Rattle.giop_message.specs.Headers.{order}
 use Rattle.giop_message.specs.Messages.{with_front, typed}
@@ -15,12 +15,14 @@ returns-then-is_done-clause-arrives c kept number header s at before e =
 pub returns-clause-arrives : goal.returns-clause-arrives
 unfolding typed
 returns-clause-arrives c kept number header s at before e =
-    let C = c.args.catalogue.now in
-    (tree C c.args.of.0, record {
-      before = before;
-      front = s;
-      octets = [];
-      since = sym (append-nil s);
-      is = e;
-      reads = rw (← at.same_header, ← at.same_number, ← at.at, ← c.order_of-order.ensures) c.start-decoder.ensures.reads;
-    })
+    let C = c.args.catalogue.now in (
+      tree C c.args.of.0,
+      record {
+        before = before;
+        front = s;
+        octets = [];
+        since = sym (append-nil s);
+        is = e;
+        reads = rw (← at.same_header, ← at.same_number, ← at.at, ← c.order_of-order.ensures) c.start-decoder.ensures.reads;
+      },
+    )

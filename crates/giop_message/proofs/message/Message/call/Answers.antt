@@ -1,5 +1,4 @@
-use Rattle.std.proofs.Common.{◌≡◌, ℕ, List, true, sym, ap, ◌∙◌, None, Some}
-use Rattle.std.specs.Option.{option_map}
+use Rattle.std.proofs.Common.{◌≡◌, true, sym, ◌∙◌}
 use Rattle.giop_print.specs.declared.path.Root.TheVariants.{Header}
 use Rattle.giop_print.proofs.Writing.{wrote-nil}
 use Rattle.giop_decode.specs.Heard.{heard_of}
@@ -22,11 +21,19 @@ returns-in_default-name g c r minds =
 pub returns-then-is_shown : goal.returns-then-is_shown
 returns-then-is_shown g c r minds =
     let is : kind c.args.self.now.header ≡ 0 = sym c.kind_of.ensures ∙ c.if-kind_of-ne0.false in
-    rw (request_called c.args.self.now.number c.args.self.now.header (heard_of true r) c.in-Some.id c.in-Some-name.operation.now is
-    (sym (c.in-Some.ensures Header r minds)) (sym (c.in-Some-name.ensures Header r minds)), ← c.is_shown.ensures, c.if-is_shown.true) c.call_line.ensures
+    rw (
+      request_called c.args.self.now.number c.args.self.now.header (heard_of true r) c.in-Some.id c.in-Some-name.operation.now is
+          (sym (c.in-Some.ensures Header r minds)) (sym (c.in-Some-name.ensures Header r minds)),
+      ← c.is_shown.ensures,
+      c.if-is_shown.true,
+    ) c.call_line.ensures
 
 pub returns-else-is_shown : goal.returns-else-is_shown
 returns-else-is_shown g c r minds =
     let is : kind c.args.self.now.header ≡ 0 = sym c.kind_of.ensures ∙ c.if-kind_of-ne0.false in
-    rw (request_called c.args.self.now.number c.args.self.now.header (heard_of true r) c.in-Some.id c.in-Some-name.operation.now is
-    (sym (c.in-Some.ensures Header r minds)) (sym (c.in-Some-name.ensures Header r minds)), ← c.is_shown.ensures, c.if-is_shown.false) (wrote-nil _)
+    rw (
+      request_called c.args.self.now.number c.args.self.now.header (heard_of true r) c.in-Some.id c.in-Some-name.operation.now is
+          (sym (c.in-Some.ensures Header r minds)) (sym (c.in-Some-name.ensures Header r minds)),
+      ← c.is_shown.ensures,
+      c.if-is_shown.false,
+    ) (wrote-nil _)

@@ -1,4 +1,4 @@
-use Rattle.std.proofs.Common.{◌≡◌, true, false, sym, ap, ◌∙◌}
+use Rattle.std.proofs.Common.{◌≡◌, true, false, sym, ◌∙◌}
 use Rattle.giop_print.proofs.Writing.{writes_err, wrote-append, wrote-front}
 use Rattle.giop_decode.proofs.Advancing.{err_writes}
 use Rattle.giop_message.specs.Signatures.{said_by}

@@ -1,6 +1,5 @@
-use Rattle.std.proofs.Common.{◌≡◌, sym, ap, ◌∙◌, refl}
+use Rattle.std.proofs.Common.{ap, refl}
 use Rattle.std.specs.Prelude.{not}
-use Rattle.giop_message.specs.Messages.{close}
 use Rattle.giop_message.specs.Holding.{is_short}
 use Rattle.giop_message.proofs.Closing.{header_short, exception_short, body_short, padding_stage, rest_stage, padding_short, rest_short}
 use Rattle.giop_message.proofs.message.Message.is_short.Goals as goal

@@ -1,5 +1,4 @@
-use Rattle.std.proofs.Common.{◌≡◌, ◌+◌, false, [], length, None, Some, sym, ap, ◌∙◌}
-use Rattle.std.specs.Option.{option_map}
+use Rattle.std.proofs.Common.{◌+◌, false, length, sym, ap, ◌∙◌}
 use Rattle.giop_sig.specs.Trees.{tree}
 use Rattle.giop_decode.specs.Heard.{heard_of}
 use Rattle.giop_message.specs.Headers.{order}

@@ -1,9 +1,8 @@
-use Rattle.std.proofs.Common.{◌≡◌, ℕ, ◌+◌, ◌<◌, ◌≤◌, true, false, [], length, sym, ap, subst, ◌∙◌, arith}
+use Rattle.std.proofs.Common.{◌≡◌, ◌+◌, ◌<◌, ◌≤◌, true, false, [], length, sym, ap, ◌∙◌, arith}
 use Rattle.giop_decode.specs.Heard.{heard_of}
 use Rattle.giop_message.specs.Headers.{kind}
-use Rattle.giop_message.specs.Messages.{with_front, In_padding, body}
+use Rattle.giop_message.specs.Messages.{with_front, body}
 use Rattle.giop_message.specs.Signatures.{said_by}
-use Rattle.giop_message.specs.Holding.{body_type}
 use Rattle.giop_message.specs.Moves.{is_padded}
 use Rattle.giop_message.proofs.Starting.{others_rest, pads, bare, front_pads}
 use Rattle.giop_message.proofs.message.Message.leave_header.Goals as goal

@@ -1,4 +1,4 @@
-use Rattle.std.proofs.Common.{◌≡◌, None, refl, sym, ap, ◌∙◌}
+use Rattle.std.proofs.Common.{refl, ap}
 use Rattle.std.specs.Option.{option_map}
 use Rattle.giop_print.specs.declared.path.Root.TheVariants.{Exception}
 use Rattle.giop_sig.specs.Trees.{tree}

@@ -1,8 +1,6 @@
-use Rattle.std.proofs.Common.{◌≡◌, ◌+◌, ◌∷◌, [], ◌++◌, length, refl, sym, ap, ◌∙◌, append-nil}
+use Rattle.std.proofs.Common.{◌+◌, ◌∷◌, [], ◌++◌, refl, append-nil}
 use Rattle.giop_print.proofs.Writing.{writes_err, wrote-append, wrote-front}
 use Rattle.giop_decode.proofs.Advancing.{err_writes}
-use Rattle.giop_decode.specs.Heard.{names_operation, is_header_root}
-use Rattle.giop_decode.specs.Holding.{Takes, due}
 use Rattle.giop_decode.specs.Reading.{read}
 use Rattle.giop_message.proofs.Faulting.{fault_from, no_fault, not_fault}
 use Rattle.giop_message.proofs.message.Message.read.Goals as goal

@@ -1,4 +1,4 @@
-use Rattle.std.proofs.Common.{◌≡◌, [], None, refl, sym, ap, ◌∙◌, rules}
+use Rattle.std.proofs.Common.{◌≡◌, [], None, refl, sym}
 use Rattle.giop_sig.specs.Headers.{header_type}
 use Rattle.giop_sig.specs.Trees.{tree}
 use Rattle.giop_message.specs.Headers.{minor, kind}

@@ -1,11 +1,8 @@
-use Rattle.std.proofs.Common.{◌≡◌, ℕ, ◌+◌, ◌-◌, ◌<◌, ◌≤◌, true, false, List, [], ◌∷◌, ◌++◌, length, take, get_or, refl, sym, ap, subst, ◌∙◌, append-nil, append_assoc, take_all, arith}
+use Rattle.std.proofs.Common.{◌≡◌, ◌+◌, ◌++◌, take, refl, sym, ap, subst, ◌∙◌, append-nil, take_all, arith}
 use Rattle.std.proofs.lemmas.List.{length-take-le}
-use Rattle.giop_print.specs.Output.{Wrote}
 use Rattle.giop_print.proofs.Writing.{writes_err, wrote-append, wrote-front, wrote-nil}
 use Rattle.giop_message.specs.Signatures.{said_by}
-use Rattle.giop_message.specs.Messages.{message, stage_of}
-use Rattle.giop_message.specs.MessageReading.{is_over}
-use Rattle.giop_message.specs.Holding.{Follows, due_text}
+use Rattle.giop_message.specs.Holding.{Follows}
 use Rattle.giop_message.proofs.Dues.{text_none, text_more, text_split, text_ended, one_further, over_at, faulted_at}
 use Rattle.giop_message.proofs.Followings.{follows_goes}
 use Rattle.giop_message.proofs.message.Message.take.Goals as goal

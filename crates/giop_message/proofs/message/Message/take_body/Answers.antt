@@ -1,9 +1,9 @@
-use Rattle.std.proofs.Common.{◌≡◌, ◌+◌, ◌∷◌, [], ◌++◌, length, refl, sym, ap, ◌∙◌}
+use Rattle.std.proofs.Common.{◌+◌, ◌∷◌, [], ◌++◌, length}
 use Rattle.giop_print.specs.declared.path.Root.TheVariants.{Body}
 use Rattle.giop_decode.proofs.Advancing.{err_writes}
 use Rattle.giop_message.specs.Headers.{order}
 use Rattle.giop_message.proofs.Faulting.{more_no_fault, named_no_fault}
-use Rattle.giop_message.proofs.Bodies.{body_open, body_read, body_reads, body_text, body_on, body_done, body_fault}
+use Rattle.giop_message.proofs.Bodies.{body_open, body_reads, body_text, body_on, body_done, body_fault}
 use Rattle.giop_message.proofs.message.Message.take_body.Goals as goal
 
 pub returns-in_err-read-clause-writes : goal.returns-in_err-read-clause-writes

@@ -1,4 +1,4 @@
-use Rattle.std.proofs.Common.{◌≡◌, ◌+◌, ◌∷◌, [], ◌++◌, length, refl, sym, ap, ◌∙◌}
+use Rattle.std.proofs.Common.{◌+◌, ◌∷◌, [], ◌++◌, length}
 use Rattle.giop_print.specs.declared.path.Root.TheVariants.{Exception}
 use Rattle.giop_sig.specs.declared.types.Fixed.TheVariants.{ExceptionId}
 use Rattle.giop_sig.specs.Headers.{fixed_type}

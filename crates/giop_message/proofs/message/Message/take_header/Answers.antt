@@ -1,9 +1,9 @@
-use Rattle.std.proofs.Common.{◌≡◌, ◌+◌, ◌∷◌, [], ◌++◌, true, length, refl, sym, ap, subst, ◌∙◌}
+use Rattle.std.proofs.Common.{◌∷◌, [], ◌++◌, true, sym, ap, subst, ◌∙◌}
 use Rattle.giop_print.specs.declared.path.Root.TheVariants.{Header}
 use Rattle.giop_print.proofs.Writing.{writes_err, wrote-append, wrote-front}
 use Rattle.giop_decode.proofs.Advancing.{err_writes}
-use Rattle.giop_decode.specs.Heard.{heard_of, names_operation}
-use Rattle.giop_decode.specs.Holding.{Minds, Reads, due}
+use Rattle.giop_decode.specs.Heard.{heard_of}
+use Rattle.giop_decode.specs.Holding.{Minds, Reads}
 use Rattle.giop_message.specs.Headers.{order}
 use Rattle.giop_message.specs.MessageReading.{first_id}
 use Rattle.giop_message.proofs.Faulting.{more_no_fault, named_no_fault, more_unnamed, named_is}

@@ -1,4 +1,4 @@
-use Rattle.std.proofs.Common.{◌≡◌, [], ◌∷◌, refl}
+use Rattle.std.proofs.Common.{[], ◌∷◌}
 use Rattle.giop_print.proofs.Writing.{wrote-nil}
 use Rattle.giop_message.specs.Signatures.{said_by}
 use Rattle.giop_message.proofs.Rests.{no_text}

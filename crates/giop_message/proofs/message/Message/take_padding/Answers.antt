@@ -1,4 +1,4 @@
-use Rattle.std.proofs.Common.{◌≡◌, ◌+◌, ◌<◌, ◌≤◌, [], ◌∷◌, ◌++◌, length, refl, sym, ap, ◌∙◌, arith}
+use Rattle.std.proofs.Common.{◌+◌, ◌<◌, ◌≤◌, [], ◌∷◌, ◌++◌, length, refl, arith}
 use Rattle.giop_cdr.specs.Alignment.{padding}
 use Rattle.giop_message.proofs.Rests.{padding_told, last_told, padding_took, last_took}
 use Rattle.giop_message.proofs.message.Message.take_padding.Goals as goal

@@ -1,4 +1,4 @@
-use Rattle.std.proofs.Common.{◌≡◌, ◌+◌, ◌<◌, ◌≤◌, [], ◌∷◌, ◌++◌, length, refl, sym, ap, ◌∙◌, arith}
+use Rattle.std.proofs.Common.{◌≡◌, ◌<◌, [], ◌∷◌, ◌++◌, length, refl, ap, arith}
 use Rattle.giop_print.proofs.Writing.{wrote-nil}
 use Rattle.giop_decode.proofs.Law.{length_one_more}
 use Rattle.giop_message.proofs.Rests.{more_text, full_text, more_took, full_took}

@@ -1,7 +1,7 @@
-use Rattle.std.proofs.Common.{◌≡◌, true, sym, ap, ◌∙◌}
+use Rattle.std.proofs.Common.{true, sym, ap, ◌∙◌}
 use Rattle.giop_print.specs.declared.path.Root.TheVariants.{Header}
 use Rattle.giop_decode.specs.Heard.{heard_of}
-use Rattle.giop_message.specs.Messages.{request_body, reply_body}
+use Rattle.giop_message.specs.Messages.{request_body}
 use Rattle.giop_message.specs.Signatures.{said_by}
 use Rattle.giop_message.proofs.Starting.{request_by, reply_by}
 use Rattle.giop_message.proofs.message.Message.wanted.Goals as goal
