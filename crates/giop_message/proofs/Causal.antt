@@ -221,7 +221,7 @@ told_begins S header xs (b ∷ more) =
       each_append (λ t. 12 + length xs < t.at) one.0 all.0 (behind_at (12 + length xs) one.0 one.2.0) (behind_less (12 + length xs) (12 + length (xs ++ b ∷ [])) all.0 (omega (arith, length_one_more xs b)) all.2),
     )
 
-map_both : {A B : Type 0} (f : A → B) (xs ys : List A) → map f (xs ++ ys) ≡ map f xs ++ map f ys
+pub map_both : {A B : Type 0} (f : A → B) (xs ys : List A) → map f (xs ++ ys) ≡ map f xs ++ map f ys
 map_both f [] ys = refl
 map_both {A} {B} f (x ∷ xs) ys = ap (λ (zs : List B). f x ∷ zs) (map_both f xs ys)
 
@@ -310,7 +310,7 @@ module _ (k : ℕ) where
           turn_of (length xs) old one.0 h.0 h.1 one.2,
         )
 
-    ordered : (xs : List ℕ) → Ordered xs
+    pub ordered : (xs : List ℕ) → Ordered xs
     unfolding message
     ordered xs = grown Ordered ordered_more [] xs (ordered_none (message S header []) (of_header_silent S header (S.header (minor header) (kind header)) 12))
 

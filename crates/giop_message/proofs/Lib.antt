@@ -2,6 +2,7 @@ pub mod Going
 pub mod Causal
 pub mod Named
 pub mod Faults
+pub mod AtOctet
 pub mod Spelling
 pub mod Saying
 pub mod Starting

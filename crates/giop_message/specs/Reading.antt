@@ -66,3 +66,10 @@ pub record IsInTurn (R : Reading) : Type 0 where
   pub named : IsNamed R
   pub ordered : IsOrdered R
   pub closing : IsClosing R
+
+abbrev pub is_fault : Saying → Bool
+is_fault Value = false
+is_fault Call = false
+is_fault Rest = false
+is_fault Fault = true
+is_fault End = false

@@ -1,5 +1,5 @@
 -- The text of what a reading says of a message, without the message's number, and of its lines (docs/FORMATS.md, Lines).
-use Rattle.std.specs.Prelude.{ℕ, List, [], ◌∷◌, ◌++◌, Option, Some, None, codes, decimal}
+use Rattle.std.specs.Prelude.{ℕ, List, [], ◌∷◌, ◌++◌, Option, Some, None, codes, decimal, flat_map}
 use Rattle.giop_cdr.specs.Numbers.{taken_as}
 use Rattle.giop_cdr.specs.Primitives.{size_of}
 use Rattle.giop_cdr.specs.declared.number.Number.{Number as Taken}
@@ -11,7 +11,7 @@ use Rattle.giop_decode.specs.Spine as spine
 use Rattle.giop_decode.specs.Spine.{Number, Count, Piece}
 use Rattle.giop_decode.specs.declared.progress.Kind.{Kind}
 use Rattle.giop_decode.specs.declared.progress.Kind.TheVariants as kinds
-use Rattle.giop_message.specs.Reading.{Saying, Value, Call, Rest, Fault, End}
+use Rattle.giop_message.specs.Reading.{Saying, Value, Call, Rest, Fault, End, Remark}
 
 -- ---- what is said
 
@@ -59,3 +59,7 @@ saying_line place number Call text = said_line number text
 saying_line place number Rest text = said_line number text
 saying_line place number Fault text = fault_line number text place
 saying_line place number End text = said_line number text
+
+-- what is said at one place
+unfoldable pub said_text : ℕ → ℕ → List Remark → List ℕ
+said_text place number remarks = flat_map (λ r. saying_line place number r.saying r.text) remarks

@@ -5,12 +5,14 @@ mod begin;
 mod header;
 mod laws;
 mod message;
+mod sayings;
 mod taking;
 mod wanted;
 mod word;
 
 pub use laws::message_laws;
 pub use message::Message;
+pub use sayings::saying_laws;
 
 #[cfg(test)]
 mod tests;

@@ -8,10 +8,11 @@ use Rattle.std.proofs.lemmas.List.{append-nil, length_push}
 use Rattle.std.proofs.lemmas.List.Elements.{filter-append}
 use Rattle.giop_stream.specs.declared.fault.StreamFault.{StreamFault}
 use Rattle.giop_stream.specs.declared.fault.StreamFault.TheVariants.{StreamLimit}
-use Rattle.giop_stream.specs.Headers.{fronts, wrong, first_wrong, offence, size}
+use Rattle.giop_stream.specs.Headers.{fronts, wrong, first_wrong, offence}
+use Rattle.giop_message.specs.Headers.{size}
 use Rattle.giop_stream.specs.Framing.{Message, with_payload, Cut, limit, limited, cut_from, cut, messages, read_of}
 use Rattle.giop_stream.specs.Events.{Happening, Event, title, place, happens, events_of, events_from, events, joined}
-use Rattle.giop_stream.specs.Reading.{Reading, IsCausal}
+use Rattle.giop_message.specs.Reading.{Reading, IsCausal}
 use Rattle.giop_stream.specs.Lines.{Line, told, by_class, in_order, is_last_of, standing, said, stop_line, lines}
 use Rattle.giop_stream.specs.Stream.{is_fault, is_start, start_count, fault_count, is_over}
 use Rattle.giop_stream.specs.Holding.{octets_of}

@@ -6,12 +6,13 @@ use Rattle.std.specs.List.{list_any}
 use Rattle.std.proofs.lemmas.Bool.{lt-ltb, le-ltb, eq-eqb, ne_eqb, cases_eq}
 use Rattle.std.proofs.lemmas.List.{get_or_push, length_push}
 use Rattle.std.proofs.lemmas.List.Concat.{flat_map-append}
-use Rattle.giop_stream.specs.Headers.{size}
+use Rattle.giop_message.specs.Headers.{size}
 use Rattle.giop_stream.specs.Framing.{Message, with_payload}
 use Rattle.giop_stream.specs.Events.{Happening, Begins, Takes, Closes, Event, title, place, own, at_header, at_octet, at_end, happens, octet, joined}
-use Rattle.giop_stream.specs.Reading.{Saying, Value, Rest, Fault, End, Remark, Reading}
+use Rattle.giop_message.specs.Reading.{Saying, Value, Rest, Fault, End, Remark, Reading}
 use Rattle.giop_stream.specs.Lines.{Content, Started, Said, Line, line, tells, classes, by_class, is_last_of, standing}
-use Rattle.giop_stream.specs.Text.{rest_text, saying_line, line_text, lines_text}
+use Rattle.giop_message.specs.Text.{rest_text, saying_line}
+use Rattle.giop_stream.specs.Text.{line_text, lines_text}
 use Rattle.giop_stream.specs.FirstReading.{rest_part, whole_part, last_part, is_short, first_closes, reading}
 use Rattle.giop_stream.specs.Stream.{is_fault, fault_count}
 use Rattle.giop_stream.specs.Machine.{State, Step, Kept, own_of, utters_kept, taking, utters, written, kept_as, writes, now_written, deal}

@@ -7,10 +7,11 @@ use Rattle.std.proofs.lemmas.List.{append-nil, map-append, length_push}
 use Rattle.std.proofs.lemmas.List.Elements.{filter-append}
 use Rattle.giop_stream.specs.declared.fault.StreamFault.{StreamFault}
 use Rattle.giop_stream.specs.declared.fault.StreamFault.TheVariants.{StreamLimit}
-use Rattle.giop_stream.specs.Headers.{wrong, size}
+use Rattle.giop_stream.specs.Headers.{wrong}
+use Rattle.giop_message.specs.Headers.{size}
 use Rattle.giop_stream.specs.Framing.{Message, with_payload, Cut, limit, cut, messages}
 use Rattle.giop_stream.specs.Events.{Happening, Begins, Takes, Closes, Event, title, place, own, at_header, at_octet, at_end, happens, events_from, events, joined}
-use Rattle.giop_stream.specs.Reading.{Saying, Reading, IsCausal, IsEnding, is_last}
+use Rattle.giop_message.specs.Reading.{Saying, Reading, IsCausal, IsEnding, is_last}
 use Rattle.giop_stream.specs.Lines.{Class, Start, Said_value, Said_call, Said_rest, Said_fault, Said_end, Stop, rank, Content, Started, Said, Stopped, class_of, Line, line, tells, classes, by_class, is_last_of, standing, said}
 use Rattle.giop_stream.specs.Stream.{is_over, unfinished}
 use Rattle.giop_stream.specs.Holding.{octets_of}

@@ -6,9 +6,10 @@ use Rattle.std.proofs.lemmas.Bool.{lt-ltb, le-ltb, le-leb, lt-leb, eq-eqb, ne_eq
 use Rattle.std.proofs.lemmas.List.{take-append-le, drop-append-le, take_all, drop_all, length_push}
 use Rattle.std.proofs.lemmas.List.Elements.{filter-append}
 use Rattle.giop_cdr.specs.Numbers.{num}
-use Rattle.giop_stream.specs.Headers.{order}
-use Rattle.giop_stream.specs.Reading.{Saying, Value, Rest, Fault, End, Remark, IsCausal, IsEnding, is_last}
-use Rattle.giop_stream.specs.Text.{id_text, rest_text}
+use Rattle.giop_message.specs.Headers.{order}
+use Rattle.giop_message.specs.Reading.{Saying, Value, Rest, Fault, End, Remark, IsCausal, IsEnding, is_last}
+use Rattle.giop_stream.specs.Text.{id_text}
+use Rattle.giop_message.specs.Text.{rest_text}
 use Rattle.giop_stream.specs.FirstReading.{has_id, rest_part, rest_front, whole_part, last_part, rest_remarks, first_reads, is_short, last_rest, first_closes, reading}
 use Rattle.giop_stream.proofs.Lists.{by_growth, each_append, each_weaker, filter_keeps, filter_drops, any_append}
 

@@ -3,8 +3,8 @@ use Rattle.std.proofs.Common.{inl, inr, ◌⊎◌, ◌≡◌, ℕ, suc, ◌+◌,
 use Rattle.std.specs.Prelude.{nat_lt, ◌==◌, ◌&&◌, if◌then◌else◌, codes, flat_map}
 use Rattle.std.proofs.lemmas.Bool.{lt-ltb, le-ltb, eq-eqb, ne_eqb, cases_eq, cases_lt}
 use Rattle.std.proofs.lemmas.List.{take-append-le, drop-append-le, take_all, drop_all, length_push}
-use Rattle.giop_stream.specs.Reading.{Saying, Value, Rest, Fault, End, Remark}
-use Rattle.giop_stream.specs.Text.{saying_line}
+use Rattle.giop_message.specs.Reading.{Saying, Value, Rest, Fault, End, Remark}
+use Rattle.giop_message.specs.Text.{saying_line}
 use Rattle.giop_stream.specs.FirstReading.{has_id, id_part, rest_part, whole_part, last_part, is_short, last_rest, first_closes}
 use Rattle.giop_stream.specs.Remembering.{MessageMemory}
 use Rattle.giop_stream.specs.Holding.{Follows}

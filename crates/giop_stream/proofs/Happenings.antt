@@ -4,7 +4,8 @@ use Rattle.std.specs.List.{AllByRecursion as Each}
 use Rattle.std.specs.Prelude.{◌==◌, if◌then◌else◌, flat_map}
 use Rattle.std.proofs.lemmas.List.{append-nil}
 use Rattle.std.proofs.lemmas.List.Concat.{flat_map-append}
-use Rattle.giop_stream.specs.Headers.{fronts, size}
+use Rattle.giop_stream.specs.Headers.{fronts}
+use Rattle.giop_message.specs.Headers.{size}
 use Rattle.giop_stream.specs.Framing.{Message, with_payload}
 use Rattle.giop_stream.specs.Events.{Happening, Begins, Takes, Closes, Title, Event, title, place, own, at_header, at_octet, at_end, happens, events_of, events_from}
 use Rattle.giop_stream.proofs.Lists.{fronts_push, each_append}

@@ -15,7 +15,7 @@ pub mod Places
 pub mod Cases
 pub mod Beginning
 pub mod FirstTurns
-pub mod FirstPlays
+pub mod ReadingPlays
 pub mod Exits
 pub mod Keepers
 pub mod Naming

@@ -2,14 +2,16 @@
 use Rattle.std.proofs.Common.{◌≡◌, ℕ, List, [], ◌∷◌, refl, codes}
 use Rattle.std.specs.Fmt.{digits}
 use Rattle.giop_cdr.specs.Numbers.{num}
-use Rattle.giop_stream.specs.Headers.{fronts, wrong, first_wrong, offence, minor, kind, order, has_more, size}
+use Rattle.giop_stream.specs.Headers.{fronts, wrong, first_wrong, offence}
+use Rattle.giop_message.specs.Headers.{minor, kind, order, has_more, size}
 use Rattle.giop_stream.specs.Framing.{with_first, cut_from, limit, limited, cut, messages, read_of}
 use Rattle.giop_stream.specs.Events.{place, own, at_header, at_octet, at_end, happens, events_of, events_from, events, octet, joined}
 use Rattle.giop_stream.specs.Lines.{classes, line, tells, told, by_class, in_order, is_last_of, standing, said, stop_line, lines}
 use Rattle.giop_print.specs.Text.{hex}
 use Rattle.giop_print.specs.Lines.{type_word, fault_line, stream_fault_line, unfinished_line, total_line}
 use Rattle.giop_print.specs.Lines as print
-use Rattle.giop_stream.specs.Text.{start_line, said_line, id_text, rest_text, lines_text}
+use Rattle.giop_stream.specs.Text.{start_line, id_text, lines_text}
+use Rattle.giop_message.specs.Text.{said_line, rest_text}
 use Rattle.giop_stream.specs.FirstReading.{has_id, rest_remarks, first_reads, first_closes}
 use Rattle.giop_stream.specs.Stream.{text, start_count, fault_count, tally_of, tally, is_inside, is_truncated, is_over, unfinished, final, closing}
 

@@ -5,7 +5,8 @@ use Rattle.giop_cdr.specs.declared.number.Number.TheVariants.{Unsigned}
 use Rattle.giop_print.specs.declared.value.Value.TheVariants as values
 use Rattle.giop_print.specs.Text.{hex}
 use Rattle.giop_print.specs.Lines.{kind_line, value_line, rest_line, end_line}
-use Rattle.giop_stream.specs.Text.{said_line, id_text, rest_text}
+use Rattle.giop_message.specs.Text.{said_line, rest_text}
+use Rattle.giop_stream.specs.Text.{id_text}
 
 pub id_said : (number id : ℕ) → value_line number (codes "header.request_id") (values.Primitive ULong (Unsigned id)) ≡ said_line number (id_text id)
 unfolding kind_line said_line id_text

@@ -1,6 +1,7 @@
 -- What each octet of each message does, and to which message. From this come the octets of each message and its lines.
 use Rattle.std.specs.Prelude.{ℕ, ◌+◌, ◌-◌, List, [], ◌∷◌, ◌++◌, length, get_or, flat_map, ◌==◌, if◌then◌else◌}
-use Rattle.giop_stream.specs.Headers.{fronts, size}
+use Rattle.giop_stream.specs.Headers.{fronts}
+use Rattle.giop_message.specs.Headers.{size}
 use Rattle.giop_stream.specs.Framing.{Message, with_payload, cut, messages}
 
 -- what may happen to a message

@@ -2,9 +2,10 @@
 -- request id, then the rest in parts of 32 octets, then the end. All octets of every other message are rest.
 use Rattle.std.specs.Prelude.{ℕ, zero, suc, ◌+◌, ◌*◌, ◌/◌, ◌%◌, Bool, true, false, List, [], ◌∷◌, ◌++◌, length, take, drop, nat_lt, nat_le, ◌==◌, ◌&&◌, if◌then◌else◌, codes}
 use Rattle.giop_cdr.specs.Numbers.{num}
-use Rattle.giop_stream.specs.Headers.{kind, order}
-use Rattle.giop_stream.specs.Reading.{Saying, Value, Rest, Fault, End, Remark, Reading}
-use Rattle.giop_stream.specs.Text.{id_text, rest_text}
+use Rattle.giop_message.specs.Headers.{kind, order}
+use Rattle.giop_message.specs.Reading.{Saying, Value, Rest, Fault, End, Remark, Reading}
+use Rattle.giop_stream.specs.Text.{id_text}
+use Rattle.giop_message.specs.Text.{rest_text}
 
 -- a CancelRequest begins with a request id
 unfoldable pub has_id : List ℕ → Bool

@@ -2,7 +2,8 @@
 use Rattle.std.specs.Prelude.{ℕ, zero, suc, Bool, true, false, ◌+◌, ◌^◌, List, [], ◌∷◌, ◌++◌, length, take, drop, Option, Some, None, nat_lt, if◌then◌else◌, option_to_list}
 use Rattle.giop_stream.specs.declared.fault.StreamFault.{StreamFault}
 use Rattle.giop_stream.specs.declared.fault.StreamFault.TheVariants.{StreamLimit}
-use Rattle.giop_stream.specs.Headers.{offence, size}
+use Rattle.giop_stream.specs.Headers.{offence}
+use Rattle.giop_message.specs.Headers.{size}
 
 pub record Message : Type 0 where
   pub number : ℕ  -- from 1

@@ -43,24 +43,3 @@ first_wrong (front ∷ more) = wrong_or (wrong front) (length front) (first_wron
 
 unfoldable pub offence : List ℕ → Option (ℕ × StreamFault)
 offence header = first_wrong (fronts header)
-
--- ---- The fields of a whole header.
-
-unfoldable pub minor : List ℕ → ℕ
-minor header = get_or header 5 0
-
--- the message type
-unfoldable pub kind : List ℕ → ℕ
-kind header = get_or header 7 0
-
--- In 1.0 octet 7 is the byte order; in 1.1 and 1.2 it is bit 0 of the flags.
-unfoldable pub order : List ℕ → Order
-order header = if get_or header 6 0 % 2 == 1 then Little else Big
-
--- Bit 1 of the flags says that more fragments follow; 1.0 has no flags.
-unfoldable pub has_more : List ℕ → Bool
-has_more header = nat_lt 0 (minor header) && (get_or header 6 0 / 2 % 2 == 1)
-
--- how many octets come after the header
-unfoldable pub size : List ℕ → ℕ
-size header = num (order header) (drop 8 header)

@@ -7,10 +7,10 @@ use Rattle.giop_stream.specs.declared.status.Status.TheVariants.{Running, Stoppe
 use Rattle.giop_stream.specs.declared.fault.Stop.{Stop}
 use Rattle.giop_stream.specs.declared.fault.Stop.TheVariants as stop
 use Rattle.giop_cdr.specs.Numbers.{AreOctets}
-use Rattle.giop_stream.specs.Headers.{size}
+use Rattle.giop_message.specs.Headers.{size}
 use Rattle.giop_stream.specs.Framing.{Message, Cut, cut, fault_of}
 use Rattle.giop_stream.specs.Events.{events, joined}
-use Rattle.giop_stream.specs.Reading.{Reading}
+use Rattle.giop_message.specs.Reading.{Reading}
 use Rattle.giop_stream.specs.FirstReading.{id_part, rest_part, whole_part, last_part, reading}
 use Rattle.giop_stream.specs.Stream.{tally, is_over}
 use Rattle.giop_print.specs.Output.{OutLog, Wrote, WroteFront}

@@ -1,6 +1,5 @@
 -- The stream whose messages are joined from their fragments.
 pub mod Kinds
-pub mod Readings
 pub mod Events
 pub mod Shares
 pub mod Lines

@@ -1,7 +1,6 @@
 pub mod Headers
 pub mod Framing
 pub mod Events
-pub mod Reading
 pub mod Lines
 pub mod Text
 pub mod FirstReading

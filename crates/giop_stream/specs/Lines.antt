@@ -3,7 +3,7 @@ use Rattle.std.specs.Prelude.{◌≡◌, ℕ, zero, suc, Bool, true, false, ◌&
 use Rattle.giop_stream.specs.declared.fault.StreamFault.{StreamFault}
 use Rattle.giop_stream.specs.Framing.{cut}
 use Rattle.giop_stream.specs.Events.{Event, Happening, Begins, Takes, Closes, events, joined}
-use Rattle.giop_stream.specs.Reading.{Saying, Value, Call, Rest, Fault, End, Reading, is_last}
+use Rattle.giop_message.specs.Reading.{Saying, Value, Call, Rest, Fault, End, Reading, is_last}
 
 pub data Class : Type 0 where
   Start Said_value Said_call Said_rest Said_fault Said_end Stop : Class

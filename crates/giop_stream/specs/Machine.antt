@@ -4,10 +4,11 @@ use Rattle.std.specs.Prelude.{ℕ, suc, ◌+◌, ◌-◌, Bool, true, false, Lis
 use Rattle.std.specs.List.{list_any}
 use Rattle.giop_stream.specs.declared.fault.StreamFault.{StreamFault}
 use Rattle.giop_stream.specs.declared.fault.StreamFault.TheVariants.{StreamLimit}
-use Rattle.giop_stream.specs.Headers.{wrong, size}
+use Rattle.giop_stream.specs.Headers.{wrong}
+use Rattle.giop_message.specs.Headers.{size}
 use Rattle.giop_stream.specs.Framing.{Message, with_payload, limit, cut, messages, read_of}
 use Rattle.giop_stream.specs.Events.{Event, happens, events, joined}
-use Rattle.giop_stream.specs.Reading.{Reading}
+use Rattle.giop_message.specs.Reading.{Reading}
 use Rattle.giop_stream.specs.Lines.{Line, tells, by_class, standing, is_last_of, stop_line, lines}
 use Rattle.giop_stream.specs.Stream.{start_count, fault_count}
 use Rattle.giop_stream.specs.Holding.{octets_of}

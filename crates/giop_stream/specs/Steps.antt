@@ -5,11 +5,13 @@ use Rattle.giop_stream.specs.declared.fault.StreamFault.{StreamFault}
 use Rattle.giop_stream.specs.declared.fault.StreamFault.TheVariants.{StreamLimit}
 use Rattle.giop_stream.specs.declared.status.Totals.{Totals}
 use Rattle.giop_cdr.specs.Numbers.{num}
-use Rattle.giop_stream.specs.Headers.{wrong, order, size}
+use Rattle.giop_stream.specs.Headers.{wrong}
+use Rattle.giop_message.specs.Headers.{order, size}
 use Rattle.giop_stream.specs.Framing.{limit}
 use Rattle.giop_stream.specs.FirstReading.{has_id}
 use Rattle.giop_print.specs.Lines.{fault_line, stream_fault_line, unfinished_line, total_line}
-use Rattle.giop_stream.specs.Text.{start_line, said_line, id_text, rest_text, stream_word, truncated_line}
+use Rattle.giop_stream.specs.Text.{start_line, id_text, stream_word, truncated_line}
+use Rattle.giop_message.specs.Text.{said_line, rest_text}
 use Rattle.giop_stream.specs.Remembering.{MessageMemory, Memory}
 
 -- ---- The current message.

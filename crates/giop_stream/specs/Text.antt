@@ -5,8 +5,9 @@ use Rattle.giop_print.specs.Lines.{fault_line, stream_fault_line}
 use Rattle.giop_print.specs.Lines as print
 use Rattle.giop_stream.specs.declared.fault.StreamFault.{StreamFault}
 use Rattle.giop_stream.specs.declared.fault.StreamFault.TheVariants.{Magic, Version, ByteOrder, StreamLimit}
-use Rattle.giop_stream.specs.Headers.{minor, order, kind, size, has_more}
-use Rattle.giop_stream.specs.Reading.{Saying, Value, Call, Rest, Fault, End}
+use Rattle.giop_message.specs.Headers.{minor, order, kind, size, has_more}
+use Rattle.giop_message.specs.Reading.{Saying, Value, Call, Rest, Fault, End}
+use Rattle.giop_message.specs.Text.{saying_line}
 use Rattle.giop_stream.specs.Lines.{Line, Content, Started, Said, Stopped}
 
 abbrev pub stream_word : StreamFault → List ℕ
@@ -20,10 +21,6 @@ unfoldable pub start_line : ℕ → List ℕ → List ℕ
 start_line number header =
     print.start_line number (minor header) (order header) (kind header) (size header) (has_more header)
 
--- what a reading says of the message
-unfoldable pub said_line : ℕ → List ℕ → List ℕ
-said_line number text = joined (codes "m" ∷ decimal number ∷ codes " " ∷ text ∷ codes "\n" ∷ [])
-
 abbrev pub stop_text : StreamFault → ℕ → List ℕ
 stop_text fault place = stream_fault_line (stream_word fault) place
 
@@ -35,17 +32,7 @@ truncated_line place = stream_fault_line (codes "truncated") place
 unfoldable pub id_text : ℕ → List ℕ
 id_text id = joined (codes "header.request_id ulong " ∷ decimal id ∷ [])
 
-unfoldable pub rest_text : ℕ → List ℕ → List ℕ
-rest_text offset octets = joined (codes "rest @" ∷ decimal offset ∷ codes " " ∷ hex octets ∷ [])
-
 -- ---- A stamped line.
-
-abbrev pub saying_line : ℕ → ℕ → Saying → List ℕ → List ℕ
-saying_line place number Value text = said_line number text
-saying_line place number Call text = said_line number text
-saying_line place number Rest text = said_line number text
-saying_line place number Fault text = fault_line number text place
-saying_line place number End text = said_line number text
 
 abbrev pub content_line : ℕ → ℕ → Content → List ℕ
 content_line place number (Started header) = start_line number header

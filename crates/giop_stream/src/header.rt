@@ -2,7 +2,8 @@
 
 ghost use Rattle.std.specs.Prelude.{◌≡◌, ◌≤◌, ◌<◌, ℕ, List, length};
 ghost use Rattle.giop_cdr.specs.Numbers.{num};
-ghost use Rattle.giop_stream.specs.Headers.{minor, order, has_more, kind, size, wrong};
+ghost use Rattle.giop_message.specs.Headers.{minor, order, has_more, kind, size};
+ghost use Rattle.giop_stream.specs.Headers.{wrong};
 
 use crate::fault::StreamFault;
 use giop_cdr::{Carry, Number, Order, Prim};
@@ -31,7 +32,7 @@ fn carried(octets: &[u8]) -> Carry
 }
 
 /// The order of a message's numbers.
-#[tactic(auto, unfolding(crate::specs::Headers::order))]
+#[tactic(auto, unfolding(giop_message::specs::Headers::order))]
 pub fn order_of(header: &[u8]) -> Order
     requires { length header.now ≡ 12 }
     ensures { result ≡ order header.now }
@@ -44,7 +45,7 @@ pub fn order_of(header: &[u8]) -> Order
 }
 
 /// The minor version.
-#[tactic(auto, unfolding(crate::specs::Headers::minor))]
+#[tactic(auto, unfolding(giop_message::specs::Headers::minor))]
 pub fn minor_of(header: &[u8]) -> u8
     requires { length header.now ≡ 12 }
     ensures { result ≡ minor header.now }
@@ -53,7 +54,7 @@ pub fn minor_of(header: &[u8]) -> u8
 }
 
 /// The message type.
-#[tactic(auto, unfolding(crate::specs::Headers::kind))]
+#[tactic(auto, unfolding(giop_message::specs::Headers::kind))]
 pub fn kind_of(header: &[u8]) -> u8
     requires { length header.now ≡ 12 }
     ensures { result ≡ kind header.now }
@@ -62,7 +63,7 @@ pub fn kind_of(header: &[u8]) -> u8
 }
 
 /// Whether more fragments follow.
-#[tactic(auto, unfolding(crate::specs::Headers::has_more, crate::specs::Headers::minor))]
+#[tactic(auto, unfolding(giop_message::specs::Headers::has_more, giop_message::specs::Headers::minor))]
 pub fn more_of(header: &[u8]) -> bool
     requires { length header.now ≡ 12 }
     ensures { result ≡ has_more header.now }
@@ -71,7 +72,7 @@ pub fn more_of(header: &[u8]) -> bool
 }
 
 /// How many octets come after the header.
-#[tactic(auto, unfolding(crate::specs::Headers::size))]
+#[tactic(auto, unfolding(giop_message::specs::Headers::size))]
 pub fn size_of(header: &[u8]) -> u32
     requires { length header.now ≡ 12 }
     ensures { result ≡ size header.now }

@@ -3,11 +3,10 @@
 ghost use Rattle.std.specs.Prelude.{◌≡◌, ◌≤◌, ◌<◌, ℕ, suc, List, [], ◌∷◌, ◌++◌, length, true, Some, None, slice_get, slice_set};
 ghost use Rattle.std.specs.List.{remove};
 ghost use Rattle.giop_stream.specs.Headers.{wrong};
-ghost use Rattle.giop_stream.specs.Reading.{Reading, IsCausal, IsEnding};
+ghost use Rattle.giop_message.specs.Reading.{Reading, IsCausal, IsEnding, IsInTurn};
 ghost use Rattle.giop_stream.specs.FirstReading.{reading};
 ghost use Rattle.giop_stream.specs.Framing.{Message, limit, cut, messages};
-ghost use Rattle.giop_stream.specs.Joined.Kinds.{has_name};
-ghost use Rattle.giop_stream.specs.Joined.Readings.{IsInTurn};
+ghost use Rattle.giop_message.specs.Headers.{has_name};
 ghost use Rattle.giop_stream.specs.Joined.Events.{Event, Open, Opens, Continues, most_open, happens, events, open_after, joined, Rising};
 ghost use Rattle.giop_stream.specs.Joined.Shares.{shares};
 ghost use Rattle.giop_stream.specs.Joined.Lines.{lines};

@@ -4,7 +4,8 @@ ghost use Rattle.std.specs.Prelude.{◌≡◌, ◌≤◌, length, codes};
 ghost use Rattle.giop_print.specs.Output.{Writes};
 ghost use Rattle.giop_print.specs.Lines.{fault_line};
 ghost use Rattle.giop_stream.specs.Joined.Text.{imposed_word};
-ghost use Rattle.giop_stream.specs.Text.{stream_word, id_text, rest_text, start_line, said_line, stop_text, truncated_line};
+ghost use Rattle.giop_stream.specs.Text.{stream_word, id_text, start_line, stop_text, truncated_line};
+ghost use Rattle.giop_message.specs.Text.{rest_text, said_line};
 
 use crate::fault::{ImposedFault, StreamFault};
 use crate::header::{kind_of, minor_of, more_of, order_of, size_of};

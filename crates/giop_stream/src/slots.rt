@@ -2,18 +2,23 @@
 
 ghost use Rattle.std.specs.Prelude.{◌≡◌, ◌+◌, ℕ, List, [], length, Option, Some, None, OnOk, IfOk, true, false, if◌then◌else◌};
 ghost use Rattle.giop_print.specs.Output.{Writes};
-ghost use Rattle.giop_stream.specs.FirstReading.{reading};
+ghost use Rattle.giop_sig.specs.Table.{Table};
+ghost use Rattle.giop_message.specs.Signatures.{Kept as Listed};
+ghost use Rattle.giop_message.specs.MessageReading.{message_reading};
 ghost use Rattle.giop_stream.specs.Joined.Events.{Title, Takes, Imposed, Closes};
 ghost use Rattle.giop_stream.specs.Joined.Text.{lines_text, imposed_word};
 ghost use Rattle.giop_stream.specs.Joined.Stream.{fault_count};
 ghost use Rattle.giop_stream.specs.Joined.Plays.{Scene, plays, lines_of, octets_then};
-ghost use Rattle.giop_stream.specs.Joined.Keeping.{IsKept, IsShort, event};
+ghost use Rattle.giop_stream.specs.Joined.Keeping.{IsKept, IsReady, event};
+ghost use Rattle.std.specs.Prelude.{◌≤◌, ◌^◌};
+ghost use Rattle.giop_message.specs.Holding.{AreOf};
 
 use crate::fault::ImposedFault;
 use crate::lines::imposed_line;
-use crate::message::Message;
 use arrayvec::ArrayVec;
+use giop_message::Message;
 use giop_print::{Out, OutFault, cancelled_line};
+use giop_sig::{Catalogue, Requests};
 
 /// An open message.
 #[derive(Default, Drop)]
@@ -47,24 +52,32 @@ pub struct Slots {
 /// Gives a message an octet; says whether that faults it.
 fn give<O: Out>(
     message: &mut Option<Message>,
+    catalogue: &Catalogue,
+    requests: &Requests,
     octet: u8,
     place: u64,
     out: &mut O,
 ) -> Result<bool, OutFault>
-    ensures text { (w : Title) (o : Option (List ℕ)) → IsKept message.old w o →
-        Writes result (O.log out.old) (O.log out.new) (lines_text (lines_of reading (event place w (Takes octet)) o)) }
-    ensures kept { (w : Title) (o : Option (List ℕ)) → IsKept message.old w o → IsShort o →
-        OnOk result (IsKept message.new w (octets_then reading (event place w (Takes octet)) o)) }
-    ensures faults { (w : Title) (o : Option (List ℕ)) → IsKept message.old w o →
-        IfOk result (λ fault. fault_count (lines_of reading (event place w (Takes octet)) o) ≡ (if fault then 1 else 0)) }
+    requires ready { IsReady catalogue.now place message.old }
+    requires of { AreOf catalogue.now requests.now }
+    requires limit { place ≤ 2 ^ 48 }
+    ensures text { (w : Title) (o : Option (List ℕ)) → IsKept catalogue.now requests.now message.old w o →
+        Writes result (O.log out.old) (O.log out.new) (lines_text (lines_of (message_reading catalogue.now requests.now) (event place w (Takes octet)) o)) }
+    ensures kept { (w : Title) (o : Option (List ℕ)) → IsKept catalogue.now requests.now message.old w o →
+        OnOk result (IsKept catalogue.now requests.now message.new w (octets_then (message_reading catalogue.now requests.now) (event place w (Takes octet)) o)) }
+    ensures faults { (w : Title) (o : Option (List ℕ)) → IsKept catalogue.now requests.now message.old w o →
+        IfOk result (λ fault. fault_count (lines_of (message_reading catalogue.now requests.now) (event place w (Takes octet)) o) ≡ (if fault then 1 else 0)) }
+    ensures ready { OnOk result (IsReady catalogue.now (place + 1) message.new) }
 {
-    match message {
-        Some(m) => {
-            m.take(octet, place, out)?;
-            Ok(false)
-        }
-        None => Ok(false),
+    let Some(m) = message else {
+        return Ok(false);
+    };
+    let before = place - 1;
+    if m.take(catalogue, requests, &[octet], before, out)?.is_none() {
+        return Ok(false);
     }
+    *message = None;
+    Ok(true)
 }
 
 /// Faults a message of this number, unless it is over; says whether it does.
@@ -75,12 +88,13 @@ fn impose<O: Out>(
     place: u64,
     out: &mut O,
 ) -> Result<bool, OutFault>
-    ensures text { (w : Title) (o : Option (List ℕ)) → IsKept message.old w o → w.number ≡ number →
-        Writes result (O.log out.old) (O.log out.new) (lines_text (lines_of reading (event place w (Imposed fault)) o)) }
-    ensures kept { (w : Title) (o : Option (List ℕ)) → IsKept message.old w o →
-        OnOk result (IsKept message.new w (octets_then reading (event place w (Imposed fault)) o)) }
-    ensures faults { (w : Title) (o : Option (List ℕ)) → IsKept message.old w o →
-        IfOk result (λ does. fault_count (lines_of reading (event place w (Imposed fault)) o) ≡ (if does then 1 else 0)) }
+    ensures text { (C : Table) (l : Listed) (w : Title) (o : Option (List ℕ)) → IsKept C l message.old w o → w.number ≡ number →
+        Writes result (O.log out.old) (O.log out.new) (lines_text (lines_of (message_reading C l) (event place w (Imposed fault)) o)) }
+    ensures kept { (C : Table) (l : Listed) (w : Title) (o : Option (List ℕ)) → IsKept C l message.old w o →
+        OnOk result (IsKept C l message.new w (octets_then (message_reading C l) (event place w (Imposed fault)) o)) }
+    ensures faults { (C : Table) (l : Listed) (w : Title) (o : Option (List ℕ)) → IsKept C l message.old w o →
+        IfOk result (λ does. fault_count (lines_of (message_reading C l) (event place w (Imposed fault)) o) ≡ (if does then 1 else 0)) }
+    ensures ready { (C : Table) (n : ℕ) → IsReady C n message.new }
 {
     if message.take().is_none() {
         return Ok(false);
@@ -90,20 +104,26 @@ fn impose<O: Out>(
 }
 
 /// Closes a message, unless it is over; says whether that faults it.
-fn shut<O: Out>(message: Option<Message>, place: u64, out: &mut O) -> Result<bool, OutFault>
-    ensures text { (w : Title) (o : Option (List ℕ)) → IsKept message w o →
-        Writes result (O.log out.old) (O.log out.new) (lines_text (lines_of reading (event place w Closes) o)) }
-    ensures faults { (w : Title) (o : Option (List ℕ)) → IsKept message w o →
-        IfOk result (λ short. fault_count (lines_of reading (event place w Closes) o) ≡ (if short then 1 else 0)) }
+fn shut<O: Out>(
+    message: Option<Message>,
+    catalogue: &Catalogue,
+    place: u64,
+    out: &mut O,
+) -> Result<bool, OutFault>
+    requires ready { IsReady catalogue.now (place + 1) message }
+    ensures text { (l : Listed) (w : Title) (o : Option (List ℕ)) → IsKept catalogue.now l message w o →
+        Writes result (O.log out.old) (O.log out.new) (lines_text (lines_of (message_reading catalogue.now l) (event place w Closes) o)) }
+    ensures faults { (l : Listed) (w : Title) (o : Option (List ℕ)) → IsKept catalogue.now l message w o →
+        IfOk result (λ short. fault_count (lines_of (message_reading catalogue.now l) (event place w Closes) o) ≡ (if short then 1 else 0)) }
 {
     match message {
-        Some(m) => m.close(place, out),
+        Some(m) => m.close(catalogue, place, out),
         None => Ok(false),
     }
 }
 
 impl Slots {
-    ghost use Rattle.giop_stream.specs.Joined.Keeping.{Keeps, AreShort, scene_to, lines_to};
+    ghost use Rattle.giop_stream.specs.Joined.Keeping.{Keeps, AreReady, scene_to, lines_to};
     ghost use Rattle.std.specs.Prelude.{◌<◌, slice_get};
     ghost use Rattle.std.specs.List.{AllByRecursion as Each};
     ghost use Rattle.giop_stream.specs.declared.slots.Payload.TheVariants as Payload;
@@ -116,18 +136,29 @@ impl Slots {
     ghost use Rattle.std.specs.Prelude.{◌==◌};
 
     /// Gives an octet of the payload to the message whose it is; says whether that faults it.
-    pub fn take<O: Out>(&mut self, octet: u8, place: u64, out: &mut O) -> Result<bool, OutFault>
-        ensures text { (c : Scene) (whose : Option Title) → Keeps self.old c whose →
-            Writes result (O.log out.old) (O.log out.new) (lines_text (lines_to place c whose (Takes octet))) }
-        ensures kept { (c : Scene) (whose : Option Title) → Keeps self.old c whose → AreShort c → Rising c.live →
-            OnOk result (Keeps self.new (scene_to place c whose (Takes octet)) whose) }
-        ensures faults { (c : Scene) (whose : Option Title) → Keeps self.old c whose →
-            IfOk result (λ fault. fault_count (lines_to place c whose (Takes octet)) ≡ (if fault then 1 else 0)) }
+    pub fn take<O: Out>(
+        &mut self,
+        catalogue: &Catalogue,
+        requests: &Requests,
+        octet: u8,
+        place: u64,
+        out: &mut O,
+    ) -> Result<bool, OutFault>
+        requires ready { AreReady catalogue.now place self.old }
+        requires of { AreOf catalogue.now requests.now }
+        requires limit { place ≤ 2 ^ 48 }
+        ensures text { (c : Scene) (whose : Option Title) → Keeps catalogue.now requests.now self.old c whose →
+            Writes result (O.log out.old) (O.log out.new) (lines_text (lines_to catalogue.now requests.now place c whose (Takes octet))) }
+        ensures kept { (c : Scene) (whose : Option Title) → Keeps catalogue.now requests.now self.old c whose → Rising c.live →
+            OnOk result (Keeps catalogue.now requests.now self.new (scene_to catalogue.now requests.now place c whose (Takes octet)) whose) }
+        ensures faults { (c : Scene) (whose : Option Title) → Keeps catalogue.now requests.now self.old c whose →
+            IfOk result (λ fault. fault_count (lines_to catalogue.now requests.now place c whose (Takes octet)) ≡ (if fault then 1 else 0)) }
+        ensures ready { OnOk result (AreReady catalogue.now (place + 1) self.new) }
     {
         match self.payload {
-            Payload::Own => give(&mut self.own, octet, place, out),
+            Payload::Own => give(&mut self.own, catalogue, requests, octet, place, out),
             Payload::Open(k) => match self.slots.get_mut(k) {
-                Some(slot) => give(&mut slot.message, octet, place, out),
+                Some(slot) => give(&mut slot.message, catalogue, requests, octet, place, out),
                 None => Ok(false),
             },
             Payload::Nobody => Ok(false),
@@ -142,12 +173,13 @@ impl Slots {
         place: u64,
         out: &mut O,
     ) -> Result<bool, OutFault>
-        ensures text { (c : Scene) (w : Title) → Keeps self.old c (Some w) → w.number ≡ number →
-            Writes result (O.log out.old) (O.log out.new) (lines_text (lines_to place c (Some w) (Imposed fault))) }
-        ensures kept { (c : Scene) (w : Title) → Keeps self.old c (Some w) → Rising c.live →
-            OnOk result (Keeps self.new (scene_to place c (Some w) (Imposed fault)) (Some w)) }
-        ensures faults { (c : Scene) (w : Title) → Keeps self.old c (Some w) →
-            IfOk result (λ does. fault_count (lines_to place c (Some w) (Imposed fault)) ≡ (if does then 1 else 0)) }
+        ensures text { (C : Table) (l : Listed) (c : Scene) (w : Title) → Keeps C l self.old c (Some w) → w.number ≡ number →
+            Writes result (O.log out.old) (O.log out.new) (lines_text (lines_to C l place c (Some w) (Imposed fault))) }
+        ensures kept { (C : Table) (l : Listed) (c : Scene) (w : Title) → Keeps C l self.old c (Some w) → Rising c.live →
+            OnOk result (Keeps C l self.new (scene_to C l place c (Some w) (Imposed fault)) (Some w)) }
+        ensures faults { (C : Table) (l : Listed) (c : Scene) (w : Title) → Keeps C l self.old c (Some w) →
+            IfOk result (λ does. fault_count (lines_to C l place c (Some w) (Imposed fault)) ≡ (if does then 1 else 0)) }
+        ensures ready { (C : Table) (n : ℕ) → AreReady C n self.old → AreReady C n self.new }
     {
         match self.payload {
             Payload::Own => impose(&mut self.own, number, fault, place, out),
@@ -160,20 +192,27 @@ impl Slots {
     }
 
     /// Closes the message whose the payload is, unless it is over; says whether that faults it.
-    pub fn close<O: Out>(&mut self, place: u64, out: &mut O) -> Result<bool, OutFault>
-        ensures text { (c : Scene) (whose : Option Title) → Keeps self.old c whose →
-            Writes result (O.log out.old) (O.log out.new) (lines_text (lines_to place c whose Closes)) }
-        ensures kept { (c : Scene) (whose : Option Title) → Keeps self.old c whose → Rising c.live →
-            OnOk result (Keeps self.new (scene_to place c whose Closes) None) }
-        ensures faults { (c : Scene) (whose : Option Title) → Keeps self.old c whose →
-            IfOk result (λ short. fault_count (lines_to place c whose Closes) ≡ (if short then 1 else 0)) }
+    pub fn close<O: Out>(
+        &mut self,
+        catalogue: &Catalogue,
+        place: u64,
+        out: &mut O,
+    ) -> Result<bool, OutFault>
+        requires ready { AreReady catalogue.now (place + 1) self.old }
+        ensures text { (l : Listed) (c : Scene) (whose : Option Title) → Keeps catalogue.now l self.old c whose →
+            Writes result (O.log out.old) (O.log out.new) (lines_text (lines_to catalogue.now l place c whose Closes)) }
+        ensures kept { (l : Listed) (c : Scene) (whose : Option Title) → Keeps catalogue.now l self.old c whose → Rising c.live →
+            OnOk result (Keeps catalogue.now l self.new (scene_to catalogue.now l place c whose Closes) None) }
+        ensures faults { (l : Listed) (c : Scene) (whose : Option Title) → Keeps catalogue.now l self.old c whose →
+            IfOk result (λ short. fault_count (lines_to catalogue.now l place c whose Closes) ≡ (if short then 1 else 0)) }
+        ensures ready { AreReady catalogue.now (place + 1) self.new }
     {
         let payload = self.payload;
         self.payload = Payload::Nobody;
         match payload {
-            Payload::Own => shut(self.own.take(), place, out),
+            Payload::Own => shut(self.own.take(), catalogue, place, out),
             Payload::Open(k) => match self.slots.pop_at(k) {
-                Some(slot) => shut(slot.message, place, out),
+                Some(slot) => shut(slot.message, catalogue, place, out),
                 None => Ok(false),
             },
             Payload::Nobody => Ok(false),
@@ -183,8 +222,9 @@ impl Slots {
     /// Makes the message whose payload comes an open one.
     pub fn open(&mut self, number: u64, header: [u8; 12], id: u32)
         requires { length self.old.slots.items < 16 }
-        ensures kept { (c : Scene) (w : Title) (place : ℕ) → Keeps self.old c (Some w) → self.old.payload ≡ Payload.Own →
-            w.number ≡ number → w.header ≡ header → Keeps self.new (scene_to place c (Some w) (Opens id)) (Some w) }
+        ensures kept { (C : Table) (l : Listed) (c : Scene) (w : Title) (place : ℕ) → Keeps C l self.old c (Some w) → self.old.payload ≡ Payload.Own →
+            w.number ≡ number → w.header ≡ header → Keeps C l self.new (scene_to C l place c (Some w) (Opens id)) (Some w) }
+        ensures ready { (C : Table) (n : ℕ) → AreReady C n self.old → AreReady C n self.new }
     {
         let message = self.own.take();
         self.payload = Payload::Open(self.slots.len());
@@ -198,8 +238,9 @@ impl Slots {
 
     /// The payload is of the open message at this place, from now on.
     pub fn pass_on(&mut self, k: usize)
-        ensures kept { (c : Scene) (whose : Option Title) (o : Open) → Keeps self.old c whose → slice_get c.live k ≡ Some o →
-            Keeps self.new c (Some o.opener) }
+        ensures kept { (C : Table) (l : Listed) (c : Scene) (whose : Option Title) (o : Open) → Keeps C l self.old c whose → slice_get c.live k ≡ Some o →
+            Keeps C l self.new c (Some o.opener) }
+        ensures ready { (C : Table) (n : ℕ) → AreReady C n self.old → AreReady C n self.new }
     {
         self.own = None;
         self.payload = Payload::Open(k);
@@ -207,18 +248,20 @@ impl Slots {
 
     /// The payload is no message's, from now on.
     pub fn lose(&mut self)
-        ensures kept { (c : Scene) (whose : Option Title) → Keeps self.old c whose → Keeps self.new c None }
+        ensures kept { (C : Table) (l : Listed) (c : Scene) (whose : Option Title) → Keeps C l self.old c whose → Keeps C l self.new c None }
+        ensures ready { (C : Table) (n : ℕ) → AreReady C n self.old → AreReady C n self.new }
     {
         self.own = None;
         self.payload = Payload::Nobody;
     }
 
     /// A message begins.
-    pub fn begin(&mut self, number: u64, header: [u8; 12])
-        ensures kept { (c : Scene) (whose : Option Title) → Keeps self.old c whose → (w : Title) → w.number ≡ number → w.header ≡ header →
-            c.known w.number ≡ Some [] → Each (λ o. o.opener.number ≡ w.number → ⊥) c.live → Keeps self.new c (Some w) }
+    pub fn begin(&mut self, catalogue: &Catalogue, number: u64, header: [u8; 12])
+        ensures kept { (l : Listed) (c : Scene) (whose : Option Title) → Keeps catalogue.now l self.old c whose → (w : Title) → w.number ≡ number → w.header ≡ header →
+            c.known w.number ≡ Some [] → Each (λ o. o.opener.number ≡ w.number → ⊥) c.live → Keeps catalogue.now l self.new c (Some w) }
+        ensures ready { (n : ℕ) → AreReady catalogue.now n self.old → 12 < n → AreReady catalogue.now n self.new }
     {
-        self.own = Some(Message::start(number, header));
+        self.own = Some(Message::start(catalogue, number, header));
         self.payload = Payload::Own;
     }
 
@@ -237,11 +280,12 @@ impl Slots {
         place: u64,
         out: &mut O,
     ) -> Result<(), OutFault>
-        ensures text { (c : Scene) (whose : Option Title) (o : Open) → Keeps self.old c whose → slice_get c.live k ≡ Some o →
-            Writes result (O.log out.old) (O.log out.new) (lines_text (lines_to place c (Some o.opener) (Cancelled by))) }
-        ensures kept { (c : Scene) (w : Title) (o : Open) → Keeps self.old c (Some w) → self.old.payload ≡ Payload.Own →
+        ensures text { (C : Table) (l : Listed) (c : Scene) (whose : Option Title) (o : Open) → Keeps C l self.old c whose → slice_get c.live k ≡ Some o →
+            Writes result (O.log out.old) (O.log out.new) (lines_text (lines_to C l place c (Some o.opener) (Cancelled by))) }
+        ensures kept { (C : Table) (l : Listed) (c : Scene) (w : Title) (o : Open) → Keeps C l self.old c (Some w) → self.old.payload ≡ Payload.Own →
             slice_get c.live k ≡ Some o → Rising c.live →
-            OnOk result (Keeps self.new (scene_to place c (Some o.opener) (Cancelled by)) (Some w)) }
+            OnOk result (Keeps C l self.new (scene_to C l place c (Some o.opener) (Cancelled by)) (Some w)) }
+        ensures ready { (C : Table) (n : ℕ) → AreReady C n self.old → AreReady C n self.new }
     {
         match self.slots.pop_at(k) {
             Some(slot) => {

@@ -6,11 +6,11 @@ use Rattle.std.proofs.lemmas.Bool.{le-ltb, eq-eqb, ne_eqb, and_parts, and_right,
 use Rattle.std.proofs.lemmas.List.{length_push, get_or_push}
 use Rattle.giop_stream.specs.declared.fault.StreamFault.{StreamFault}
 use Rattle.giop_stream.specs.declared.fault.StreamFault.TheVariants.{StreamLimit}
-use Rattle.giop_stream.specs.Headers.{minor, kind, has_more, size, wrong}
+use Rattle.giop_message.specs.Headers.{minor, kind, has_more, size, may_be_fragmented, is_opener, is_fragment, is_cancel, has_name}
+use Rattle.giop_stream.specs.Headers.{wrong}
 use Rattle.giop_stream.specs.Framing.{Message, Cut, limit, cut, messages}
-use Rattle.giop_stream.specs.Reading.{Saying, Value, Reading, IsCausal}
-use Rattle.giop_stream.specs.Joined.Kinds.{may_be_fragmented, is_opener, is_fragment, is_cancel, has_name, refused}
-use Rattle.giop_stream.specs.Joined.Readings.{IsInTurn, due}
+use Rattle.giop_message.specs.Reading.{Saying, Value, Reading, IsCausal, IsInTurn, due}
+use Rattle.giop_stream.specs.Joined.Kinds.{refused}
 use Rattle.giop_stream.specs.Joined.Events.{Takes, Title, Event, Open, title, place, goes_past, at_header, at_octet, happens, octet, joined, open_after}
 use Rattle.giop_stream.specs.Joined.Lines.{Line, Said, line, tells, is_last_of, standing}
 use Rattle.giop_stream.specs.Joined.State.{octets_of}

@@ -4,15 +4,15 @@ use Rattle.std.proofs.Common.{inl, inr, ◌≡◌, ℕ, suc, ◌+◌, ◌-◌, �
 use Rattle.std.specs.Prelude.{nat_lt, ◌==◌, if◌then◌else◌, ◌||◌, option_map, option_to_list, IfSome}
 use Rattle.std.specs.List.{filter, list_any, AllByRecursion as Each}
 use Rattle.std.proofs.lemmas.Bool.{ltb-true, le-ltb, and_right, eq-eqb, cases_eq, eqb-true}
-use Rattle.giop_stream.specs.Joined.Kinds.{is_fragment}
+use Rattle.giop_message.specs.Headers.{is_fragment, size}
 use Rattle.std.proofs.lemmas.List.{append-nil, length_push}
 use Rattle.std.proofs.lemmas.List.Elements.{filter-append}
 use Rattle.std.proofs.lemmas.List.Concat.{flat_map-append}
 use Rattle.giop_stream.specs.declared.fault.StreamFault.{StreamFault}
 use Rattle.giop_stream.specs.declared.fault.StreamFault.TheVariants.{StreamLimit}
-use Rattle.giop_stream.specs.Headers.{fronts, wrong, first_wrong, offence, size}
+use Rattle.giop_stream.specs.Headers.{fronts, wrong, first_wrong, offence}
 use Rattle.giop_stream.specs.Framing.{Message, with_payload, Cut, limit, limited, cut_from, cut, messages, read_of}
-use Rattle.giop_stream.specs.Reading.{Reading, IsCausal}
+use Rattle.giop_message.specs.Reading.{Reading, IsCausal}
 use Rattle.giop_stream.specs.Joined.Events.{Happening, Event, Open, place, has_named, goes_past, happens, events_of, opened, events_from, events, open_after, most_open, joined, Rising}
 use Rattle.giop_stream.specs.Joined.Lines.{Line, told, by_class, in_order, is_last_of, standing, said, stop_line, lines}
 use Rattle.giop_stream.specs.Joined.Text.{line_text, lines_text}

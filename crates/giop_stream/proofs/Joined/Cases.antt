@@ -4,10 +4,10 @@ use Rattle.std.specs.Prelude.{nat_lt, ◌||◌}
 use Rattle.std.proofs.lemmas.Bool.{lt-ltb, le-ltb, lt-leb, le-leb, and_right}
 use Rattle.giop_stream.specs.declared.fault.ImposedFault.{ImposedFault}
 use Rattle.giop_stream.specs.declared.fault.ImposedFault.TheVariants.{Short, NoOpen, IdOpen, TooManyOpen, FragmentOrder}
-use Rattle.giop_stream.specs.Headers.{order, has_more, size}
+use Rattle.giop_message.specs.Headers.{order, has_more, size, is_fragment, is_opener, is_cancel}
 use Rattle.giop_stream.specs.Framing.{Message}
-use Rattle.giop_stream.specs.Reading.{Reading}
-use Rattle.giop_stream.specs.Joined.Kinds.{is_fragment, is_opener, is_cancel, may_be_cancelled, refused}
+use Rattle.giop_message.specs.Reading.{Reading}
+use Rattle.giop_stream.specs.Joined.Kinds.{may_be_cancelled, refused}
 use Rattle.giop_stream.specs.Joined.Events.{Happening, Begins, Takes, Opens, Continues, Cancelled, Imposed, Closes, Title, Event, Open, title, place, id, own, about, opener_of, goes_past, at_header, at_octet, opens, most_open, same_order, continues, cancels, at_id, at_end}
 use Rattle.giop_stream.specs.Joined.Lines.{Line, line, tells, standing}
 use Rattle.giop_stream.specs.Joined.Machine.{utters_kept}

@@ -3,11 +3,10 @@ use Rattle.std.proofs.Common.{◌≡◌, ℕ, suc, ◌<◌, ◌≤◌, Bool, tru
 use Rattle.std.specs.Prelude.{nat_lt, nat_le, ◌==◌, if◌then◌else◌, IfSome}
 use Rattle.std.proofs.lemmas.Bool.{and_right, lt-leb, le-ltb, eq-eqb}
 use Rattle.std.proofs.lemmas.List.{length_push}
-use Rattle.giop_stream.specs.Headers.{wrong, size}
+use Rattle.giop_stream.specs.Headers.{wrong}
+use Rattle.giop_message.specs.Headers.{size, is_fragment, has_name}
 use Rattle.giop_stream.specs.Framing.{Message, limit, cut, read_of}
-use Rattle.giop_stream.specs.Reading.{Reading, IsCausal}
-use Rattle.giop_stream.specs.Joined.Kinds.{is_fragment, has_name}
-use Rattle.giop_stream.specs.Joined.Readings.{IsInTurn}
+use Rattle.giop_message.specs.Reading.{Reading, IsCausal, IsInTurn}
 use Rattle.giop_stream.specs.Joined.Events.{Open, has_named, happens, opened, events, open_after, joined}
 use Rattle.giop_stream.specs.Joined.Lines.{Line}
 use Rattle.giop_stream.specs.Joined.Stream.{is_over}

@@ -10,12 +10,13 @@ use Rattle.giop_stream.specs.declared.fault.StreamFault.{StreamFault}
 use Rattle.giop_stream.specs.declared.fault.StreamFault.TheVariants.{StreamLimit}
 use Rattle.giop_stream.specs.declared.fault.ImposedFault.{ImposedFault}
 use Rattle.giop_stream.specs.declared.fault.ImposedFault.TheVariants.{Short, IdOpen, TooManyOpen}
-use Rattle.giop_stream.specs.Headers.{wrong, size, kind, minor, has_more}
+use Rattle.giop_stream.specs.Headers.{wrong}
+use Rattle.giop_message.specs.Headers.{size, kind, minor, has_more, may_be_fragmented, is_fragment, is_opener, is_cancel}
 use Rattle.giop_stream.specs.Framing.{Message, with_payload, Cut, limit, cut, messages, read_of}
-use Rattle.giop_stream.specs.Reading.{Saying, Reading, IsCausal, IsEnding, is_last}
+use Rattle.giop_message.specs.Reading.{Saying, Reading, IsCausal, IsEnding, is_last}
 use Rattle.giop_stream.specs.Text.{truncated_line}
 use Rattle.giop_stream.specs.Stream.{is_inside, is_truncated}
-use Rattle.giop_stream.specs.Joined.Kinds.{may_be_fragmented, is_fragment, is_opener, is_cancel, may_be_cancelled}
+use Rattle.giop_stream.specs.Joined.Kinds.{may_be_cancelled}
 use Rattle.giop_stream.specs.Joined.Events.{Happening, Begins, Takes, Opens, Continues, Cancelled, Imposed, Closes, Title, Event, Open, place, id, own, about, opener_of, has_named, at_header, at_octet, opens_by, opens, most_open, continues, cancels_by, cancels, at_id, at_end, happens, changed, opened, events_from, events, open_after, joined}
 use Rattle.giop_stream.specs.Joined.Lines.{Class, Start, Said_value, Said_call, Continuing, Cancelling, Imposing, Said_rest, Said_fault, Said_end, Stop, rank, Said, class_of, Line, line, tells, classes, by_class, is_last_of, standing, said}
 use Rattle.giop_stream.specs.Joined.Stream.{tally, is_over, heads, unfinished, final, closing}

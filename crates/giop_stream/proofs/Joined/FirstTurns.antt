@@ -4,9 +4,8 @@ use Rattle.std.specs.Prelude.{nat_le, ◌==◌, ◌&&◌, if◌then◌else◌}
 use Rattle.std.specs.List.{filter, AllByRecursion as Each}
 use Rattle.std.proofs.lemmas.Bool.{ne_eqb, cases_eq}
 use Rattle.std.proofs.lemmas.List.Elements.{filter-append}
-use Rattle.giop_stream.specs.Reading.{Saying, Value, Rest, Fault, Remark}
+use Rattle.giop_message.specs.Reading.{Saying, Value, Rest, Fault, Remark, IsNamed, InTurn, IsOrdered, AtClose, IsClosing, IsInTurn}
 use Rattle.giop_stream.specs.FirstReading.{has_id, rest_part, rest_front, id_remark, id_remarks, rest_remarks, first_reads, first_closes, reading}
-use Rattle.giop_stream.specs.Joined.Readings.{IsNamed, InTurn, IsOrdered, AtClose, IsClosing, IsInTurn}
 use Rattle.giop_stream.proofs.Lists.{by_growth, each_weaker, filter_drops}
 use Rattle.giop_stream.proofs.FirstLaws.{more, reads_push, reads_now, reads_none, more_at, IsFront, more_is, IsBack, closes_is}
 

@@ -5,11 +5,10 @@ use Rattle.std.specs.Prelude.{nat_lt, ◌==◌}
 use Rattle.std.specs.List.{AllByRecursion as Each}
 use Rattle.std.proofs.lemmas.Bool.{le-ltb, eq-eqb}
 use Rattle.std.proofs.lemmas.List.{length_push}
-use Rattle.giop_stream.specs.Headers.{wrong, size}
+use Rattle.giop_stream.specs.Headers.{wrong}
+use Rattle.giop_message.specs.Headers.{size, has_name}
 use Rattle.giop_stream.specs.Framing.{Message, Cut, limit, cut, messages}
-use Rattle.giop_stream.specs.Reading.{Reading, IsCausal}
-use Rattle.giop_stream.specs.Joined.Kinds.{has_name}
-use Rattle.giop_stream.specs.Joined.Readings.{IsInTurn}
+use Rattle.giop_message.specs.Reading.{Reading, IsCausal, IsInTurn}
 use Rattle.giop_stream.specs.Joined.Events.{Happening, Event, Open, place, happens, opened, events_from, events, open_after, joined}
 use Rattle.giop_stream.specs.Joined.Lines.{lines}
 use Rattle.giop_stream.specs.Joined.State.{octets_of}

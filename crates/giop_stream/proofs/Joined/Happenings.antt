@@ -7,9 +7,10 @@ use Rattle.std.proofs.lemmas.List.{append-nil, length_push}
 use Rattle.std.proofs.lemmas.List.Concat.{flat_map-append}
 use Rattle.giop_stream.specs.declared.fault.ImposedFault.{ImposedFault}
 use Rattle.giop_stream.specs.declared.fault.ImposedFault.TheVariants.{Short, NoOpen, IdOpen, TooManyOpen, FragmentOrder}
-use Rattle.giop_stream.specs.Headers.{fronts, order, has_more, size}
+use Rattle.giop_stream.specs.Headers.{fronts}
+use Rattle.giop_message.specs.Headers.{order, has_more, size, is_fragment, is_opener, is_cancel}
 use Rattle.giop_stream.specs.Framing.{Message, with_payload}
-use Rattle.giop_stream.specs.Joined.Kinds.{is_fragment, is_opener, is_cancel, may_be_cancelled, refused}
+use Rattle.giop_stream.specs.Joined.Kinds.{may_be_cancelled, refused}
 use Rattle.giop_stream.specs.Joined.Events.{Happening, Begins, Takes, Opens, Continues, Cancelled, Imposed, Closes, Title, Event, Open, title, place, own, about, id, opener_of, has_named, goes_past, imposed, at_header, at_octet, opens_by, opens, most_open, same_order, continues_by, continues, cancels_by, cancels, at_id, at_end, happens, events_of, changed, opened, events_from, Rising}
 use Rattle.giop_stream.proofs.Lists.{fronts_push, by_growth, each_append, each_filter}
 

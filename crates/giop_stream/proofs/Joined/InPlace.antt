@@ -4,7 +4,7 @@ use Rattle.std.specs.Prelude.{◌==◌, option_map, slice_get, slice_set}
 use Rattle.std.specs.List.{filter, list_any, remove, AllByRecursion as Each}
 use Rattle.std.proofs.lemmas.Bool.{eq-eqb, ne_eqb}
 use Rattle.std.proofs.lemmas.List.{append-nil, map-append}
-use Rattle.giop_stream.specs.Reading.{Reading}
+use Rattle.giop_message.specs.Reading.{Reading}
 use Rattle.giop_stream.specs.Joined.Events.{Event, Open, octet, joined}
 use Rattle.giop_stream.specs.Joined.Lines.{Line, is_last_of, standing}
 use Rattle.giop_stream.specs.Joined.State.{Slot, Kept, slots_of}

@@ -7,15 +7,11 @@ use Rattle.giop_stream.specs.Joined.Events.{Open}
 use Rattle.giop_stream.specs.Joined.State.{Kept, slots_of}
 use Rattle.giop_stream.specs.Joined.Plays.{Scene}
 use Rattle.giop_stream.specs.Joined.Keeping.{AreSlots}
+use Rattle.giop_sig.specs.Table.{Table}
+use Rattle.giop_message.specs.Signatures.{Kept as Listed}
+use Rattle.giop_message.specs.MessageReading.{message_reading}
 
 -- ---- The open message with a request id.
-
-ids_found : (ks : List Kept_slot) (K : Kept) (live : List Open) (i n : ℕ) → AreSlots ks (slots_of K live) → position_from (λ slot. slot.id == i) n ks ≡ position_from (λ o. o.id == i) n live
-unfolding slots_of
-ids_found [] K [] i n h = refl
-ids_found [] K (o ∷ live) i n h = absurd h
-ids_found (k ∷ ks) K [] i n h = absurd h
-ids_found (k ∷ ks) K (o ∷ live) i n h = let same = h.0.id in rw same (ap (λ (r : Option ℕ). cond (o.id == i) (Some n) r) (ids_found ks K live i (n + 1) h.1))
 
 -- where a search ends
 pub Found : List Open → ℕ → ℕ → Option ℕ → Type 0
@@ -37,18 +33,26 @@ unfolding Found
 found [] i n = refl
 found (a ∷ live) i n = found_by a live i n (a.id == i) refl (found live i (n + 1))
 
-pub none_open : (ks : List Kept_slot) (c : Scene) (i : ℕ) → AreSlots ks (slots_of c.known c.live) → position_from (λ slot. slot.id == i) 0 ks ≡ None → find (λ o. o.id == i) c.live ≡ None
-unfolding Found
-none_open ks c i h e = subst (Found c.live i 0) (sym (ids_found ks c.known c.live i 0 h) ∙ e) (found c.live i 0)
-
 pub record OpenAt (c : Scene) (i k : ℕ) : Type 0 where
   pub o : Open
   pub here : slice_get c.live k ≡ Some o
   pub is : find (λ o. o.id == i) c.live ≡ Some o
 
-pub one_open : (ks : List Kept_slot) (c : Scene) (i k : ℕ) → AreSlots ks (slots_of c.known c.live) → position_from (λ slot. slot.id == i) 0 ks ≡ Some k → OpenAt c i k
-unfolding Found
-one_open ks c i k h e =
-    let f = subst (Found c.live i 0) (sym (ids_found ks c.known c.live i 0 h) ∙ e) (found c.live i 0) in
-    let same : f.1 ≡ k = omega (arith, f.2) in
-    record { o = f.0; here = subst (λ (n : ℕ). slice_get c.live n ≡ Some f.0) same f.3; is = f.4 }
+module _ (C : Table) (l : Listed) where
+  ids_found : (ks : List Kept_slot) (K : Kept) (live : List Open) (i n : ℕ) → AreSlots C l ks (slots_of K live) → position_from (λ slot. slot.id == i) n ks ≡ position_from (λ o. o.id == i) n live
+  unfolding slots_of
+  ids_found [] K [] i n h = refl
+  ids_found [] K (o ∷ live) i n h = absurd h
+  ids_found (k ∷ ks) K [] i n h = absurd h
+  ids_found (k ∷ ks) K (o ∷ live) i n h = let same = h.0.id in rw same (ap (λ (r : Option ℕ). cond (o.id == i) (Some n) r) (ids_found ks K live i (n + 1) h.1))
+
+  pub none_open : (ks : List Kept_slot) (c : Scene) (i : ℕ) → AreSlots C l ks (slots_of c.known c.live) → position_from (λ slot. slot.id == i) 0 ks ≡ None → find (λ o. o.id == i) c.live ≡ None
+  unfolding Found
+  none_open ks c i h e = subst (Found c.live i 0) (sym (ids_found ks c.known c.live i 0 h) ∙ e) (found c.live i 0)
+
+  pub one_open : (ks : List Kept_slot) (c : Scene) (i k : ℕ) → AreSlots C l ks (slots_of c.known c.live) → position_from (λ slot. slot.id == i) 0 ks ≡ Some k → OpenAt c i k
+  unfolding Found
+  one_open ks c i k h e =
+      let f = subst (Found c.live i 0) (sym (ids_found ks c.known c.live i 0 h) ∙ e) (found c.live i 0) in
+      let same : f.1 ≡ k = omega (arith, f.2) in
+      record { o = f.0; here = subst (λ (n : ℕ). slice_get c.live n ≡ Some f.0) same f.3; is = f.4 }

@@ -5,7 +5,7 @@ use Rattle.std.specs.List.{filter, list_any, AllByRecursion as Each}
 use Rattle.std.proofs.lemmas.Bool.{ne_eqb, eqb-true}
 use Rattle.std.proofs.lemmas.List.{append-nil}
 use Rattle.std.proofs.lemmas.List.Elements.{filter-append}
-use Rattle.giop_stream.specs.Reading.{Reading}
+use Rattle.giop_message.specs.Reading.{Reading}
 use Rattle.giop_stream.specs.Joined.Events.{Event, opened, joined}
 use Rattle.giop_stream.specs.Joined.Lines.{Class, Start, Said_value, Said_call, Continuing, Cancelling, Imposing, Said_rest, Said_fault, Said_end, Stop, rank, class_of, Line, has_class, classes, by_class, is_last_of, standing}
 use Rattle.giop_stream.specs.Joined.State.{Kept}

@@ -3,7 +3,7 @@ use Rattle.std.proofs.Common.{inl, inr, ◌≡◌, ℕ, Bool, true, false, not, 
 use Rattle.std.specs.Prelude.{◌==◌, ◌&&◌, ◌||◌, if◌then◌else◌, slice_get, slice_set}
 use Rattle.std.specs.List.{filter, remove}
 use Rattle.std.proofs.lemmas.Bool.{cases_eq, ne_eqb}
-use Rattle.giop_stream.specs.Reading.{Reading}
+use Rattle.giop_message.specs.Reading.{Reading}
 use Rattle.giop_stream.specs.Joined.Events.{Happening, Begins, Takes, Opens, Continues, Cancelled, Imposed, Closes, Title, Event, Open, octet, changed, Rising}
 use Rattle.giop_stream.specs.Joined.Lines.{line, tells, is_last_of, standing}
 use Rattle.giop_stream.specs.Joined.State.{slots_of}

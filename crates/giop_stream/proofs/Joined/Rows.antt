@@ -7,12 +7,14 @@ use Rattle.giop_cdr.specs.Numbers.{num}
 use Rattle.giop_print.specs.Text.{hex}
 use Rattle.giop_print.specs.Lines.{type_word, continues_line, cancelled_line, fault_line, stream_fault_line, unfinished_line, total_line}
 use Rattle.giop_print.specs.Lines as print
-use Rattle.giop_stream.specs.Headers.{fronts, wrong, first_wrong, offence, minor, kind, order, has_more, size}
+use Rattle.giop_stream.specs.Headers.{fronts, wrong, first_wrong, offence}
+use Rattle.giop_message.specs.Headers.{minor, kind, order, has_more, size, may_be_fragmented, is_opener, is_fragment, is_cancel, has_name}
 use Rattle.giop_stream.specs.Framing.{with_first, cut_from, limit, limited, cut, messages, read_of}
-use Rattle.giop_stream.specs.Reading.{Saying, Value, Rest, Fault, End, Remark, Reading}
-use Rattle.giop_stream.specs.Text.{start_line, said_line, id_text, rest_text}
+use Rattle.giop_message.specs.Reading.{Saying, Value, Rest, Fault, End, Remark, Reading}
+use Rattle.giop_stream.specs.Text.{start_line, id_text}
+use Rattle.giop_message.specs.Text.{said_line, rest_text}
 use Rattle.giop_stream.specs.Stream.{is_inside, is_truncated}
-use Rattle.giop_stream.specs.Joined.Kinds.{may_be_fragmented, is_opener, is_fragment, is_cancel, may_be_cancelled, has_name, refused}
+use Rattle.giop_stream.specs.Joined.Kinds.{may_be_cancelled, refused}
 use Rattle.giop_stream.specs.Joined.Events.{place, own, about, id, opener_of, has_named, goes_past, at_header, at_octet, opens, continues, cancels, at_id, at_end, happens, events_of, changed, opened, events_from, events, open_after, octet, joined}
 use Rattle.giop_stream.specs.Joined.Lines.{classes, line, tells, told, by_class, in_order, is_last_of, standing, said, stop_line, lines}
 use Rattle.giop_stream.specs.Joined.Text.{lines_text}

@@ -6,11 +6,11 @@ use Rattle.std.proofs.lemmas.Bool.{ne_eqb, eq-eqb}
 use Rattle.std.proofs.lemmas.List.Elements.{filter-append}
 use Rattle.giop_stream.specs.declared.fault.ImposedFault.{ImposedFault}
 use Rattle.giop_stream.specs.declared.fault.ImposedFault.TheVariants.{Short, NoOpen, IdOpen, TooManyOpen, FragmentOrder}
-use Rattle.giop_stream.specs.Headers.{order, has_more, size}
+use Rattle.giop_message.specs.Headers.{order, has_more, size, is_fragment, is_opener, is_cancel}
 use Rattle.giop_stream.specs.Framing.{Message}
-use Rattle.giop_stream.specs.Joined.Kinds.{is_fragment, is_opener, is_cancel, may_be_cancelled, refused}
+use Rattle.giop_stream.specs.Joined.Kinds.{may_be_cancelled, refused}
 use Rattle.giop_stream.specs.Joined.Events.{Happening, Begins, Takes, Opens, Continues, Cancelled, Imposed, Closes, Event, Open, title, place, id, own, about, opener_of, goes_past, imposed, at_header, at_octet, opens_by, opens, most_open, same_order, continues_by, continues, cancels_by, cancels, at_id, at_end, happens, joined}
-use Rattle.giop_stream.specs.Reading.{Saying, Value, Call, Rest, Fault, End, Reading}
+use Rattle.giop_message.specs.Reading.{Saying, Value, Call, Rest, Fault, End, Reading}
 use Rattle.giop_stream.specs.Joined.Lines.{Start, Content, Started, Said, Goes_on, Ended_by, Faulted, Stopped, Line, has_class, line, tells, classes, by_class, is_last_of, standing}
 use Rattle.giop_stream.specs.Joined.Stream.{is_start, start_count}
 use Rattle.giop_stream.specs.Joined.State.{Kept}

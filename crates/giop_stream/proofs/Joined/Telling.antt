@@ -7,7 +7,7 @@ use Rattle.std.proofs.lemmas.List.{append-nil, length_push}
 use Rattle.std.proofs.lemmas.List.Elements.{filter-append}
 use Rattle.std.proofs.lemmas.List.Concat.{flat_map-append}
 use Rattle.giop_stream.specs.Joined.Events.{Happening, Begins, Takes, Opens, Continues, Cancelled, Imposed, Closes, Event, octet, joined}
-use Rattle.giop_stream.specs.Reading.{Reading, IsCausal}
+use Rattle.giop_message.specs.Reading.{Reading, IsCausal}
 use Rattle.giop_stream.specs.Joined.Lines.{Class, Content, Started, Said, Goes_on, Ended_by, Faulted, Line, has_class, line, tells, told, classes, by_class, in_order, is_last_of, standing}
 use Rattle.giop_stream.specs.Joined.State.{Kept}
 use Rattle.giop_stream.specs.Joined.Machine.{utters_kept, taking, utters}

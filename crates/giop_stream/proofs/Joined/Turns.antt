@@ -7,11 +7,10 @@ use Rattle.std.proofs.lemmas.Bool.{cases_lt, cases_eq, le-ltb, lt-ltb, eq-eqb, n
 use Rattle.std.proofs.lemmas.List.{append-nil, length_push}
 use Rattle.giop_stream.specs.declared.fault.ImposedFault.{ImposedFault}
 use Rattle.giop_stream.specs.declared.fault.ImposedFault.TheVariants.{Short, NoOpen, IdOpen, TooManyOpen, FragmentOrder}
-use Rattle.giop_stream.specs.Headers.{order, has_more, size}
+use Rattle.giop_message.specs.Headers.{order, has_more, size, is_fragment, is_opener, is_cancel, has_name}
 use Rattle.giop_stream.specs.Framing.{Message}
-use Rattle.giop_stream.specs.Reading.{Saying, Value, Call, Rest, Fault, End, Reading}
-use Rattle.giop_stream.specs.Joined.Kinds.{is_fragment, is_opener, is_cancel, may_be_cancelled, has_name, refused}
-use Rattle.giop_stream.specs.Joined.Readings.{InTurn, IsOrdered, due, AtClose, IsClosing, IsInTurn}
+use Rattle.giop_message.specs.Reading.{Saying, Value, Call, Rest, Fault, End, Reading, InTurn, IsOrdered, due, AtClose, IsClosing, IsInTurn}
+use Rattle.giop_stream.specs.Joined.Kinds.{may_be_cancelled, refused}
 use Rattle.giop_stream.specs.Joined.Plays.{IsBegun}
 use Rattle.giop_stream.specs.Joined.Events.{Happening, Begins, Takes, Opens, Continues, Cancelled, Imposed, Closes, Title, Event, Open, title, place, own, about, id, opener_of, goes_past, imposed, at_header, at_octet, opens_by, opens, most_open, same_order, continues_by, continues, cancels_by, cancels, at_id, at_end, happens, octet, joined}
 use Rattle.giop_stream.specs.Joined.Lines.{Said, Line, line, tells}

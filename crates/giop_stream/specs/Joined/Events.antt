@@ -7,9 +7,10 @@ use Rattle.giop_cdr.specs.declared.order.Order.TheVariants.{Big, Little}
 use Rattle.giop_cdr.specs.Numbers.{num}
 use Rattle.giop_stream.specs.declared.fault.ImposedFault.{ImposedFault}
 use Rattle.giop_stream.specs.declared.fault.ImposedFault.TheVariants.{Short, NoOpen, IdOpen, TooManyOpen, FragmentOrder}
-use Rattle.giop_stream.specs.Headers.{fronts, order, has_more, size}
+use Rattle.giop_stream.specs.Headers.{fronts}
+use Rattle.giop_message.specs.Headers.{order, has_more, size, is_opener, is_fragment, is_cancel}
 use Rattle.giop_stream.specs.Framing.{Message, with_payload, cut, messages}
-use Rattle.giop_stream.specs.Joined.Kinds.{is_opener, is_fragment, is_cancel, may_be_cancelled, refused}
+use Rattle.giop_stream.specs.Joined.Kinds.{may_be_cancelled, refused}
 
 -- what may happen to a message
 pub data Happening : Type 0 where

@@ -3,30 +3,11 @@
 use Rattle.std.specs.Prelude.{ℕ, Bool, ◌&&◌, ◌||◌, List, Option, Some, None, nat_lt, ◌==◌, if◌then◌else◌}
 use Rattle.giop_stream.specs.declared.fault.ImposedFault.{ImposedFault}
 use Rattle.giop_stream.specs.declared.fault.ImposedFault.TheVariants.{MessageType, OldFragment}
-use Rattle.giop_stream.specs.Headers.{minor, kind, has_more}
-
--- Request, Reply, LocateRequest, LocateReply
-unfoldable pub may_be_fragmented : List ℕ → Bool
-may_be_fragmented header = (kind header == 0) || (kind header == 1) || (kind header == 3) || (kind header == 4)
-
--- A 1.2 message of these types with the more bit is an opener.
-unfoldable pub is_opener : List ℕ → Bool
-is_opener header = (minor header == 2) && has_more header && may_be_fragmented header
-
--- a 1.2 Fragment
-unfoldable pub is_fragment : List ℕ → Bool
-is_fragment header = (minor header == 2) && (kind header == 7)
-
-unfoldable pub is_cancel : List ℕ → Bool
-is_cancel header = kind header == 2
+use Rattle.giop_message.specs.Headers.{minor, kind, has_more, may_be_fragmented}
 
 -- what a CancelRequest may close: a Request or a LocateRequest
 unfoldable pub may_be_cancelled : List ℕ → Bool
 may_be_cancelled header = (kind header == 0) || (kind header == 3)
-
--- the messages that begin with their request id, by which the stream goes
-abbrev pub has_name : List ℕ → Bool
-has_name header = is_opener header || is_fragment header || is_cancel header
 
 -- Only 1.1 and 1.2 have Fragments, and those of 1.1 are not joined.
 unfoldable pub refused : List ℕ → Option ImposedFault

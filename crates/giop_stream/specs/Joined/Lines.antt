@@ -3,7 +3,7 @@ use Rattle.std.specs.Prelude.{ℕ, zero, suc, Bool, true, false, ◌&&◌, ◌||
 use Rattle.giop_stream.specs.declared.fault.StreamFault.{StreamFault}
 use Rattle.giop_stream.specs.declared.fault.ImposedFault.{ImposedFault}
 use Rattle.giop_stream.specs.Framing.{cut}
-use Rattle.giop_stream.specs.Reading.{Saying, Value, Call, Rest, Fault, End, Reading, is_last}
+use Rattle.giop_message.specs.Reading.{Saying, Value, Call, Rest, Fault, End, Reading, is_last}
 use Rattle.giop_stream.specs.Joined.Events.{Event, Happening, Begins, Takes, Opens, Continues, Cancelled, Imposed, Closes, events, joined}
 
 -- An imposed fault stands before the rest, so that the rest, the end and the other faults of its octet come after it.

@@ -4,13 +4,13 @@ use Rattle.std.specs.List.{list_any}
 use Rattle.giop_stream.specs.declared.fault.StreamFault.{StreamFault}
 use Rattle.giop_stream.specs.declared.fault.StreamFault.TheVariants.{StreamLimit}
 use Rattle.giop_stream.specs.declared.status.Totals.{Totals}
-use Rattle.giop_stream.specs.Headers.{wrong, size}
+use Rattle.giop_stream.specs.Headers.{wrong}
+use Rattle.giop_message.specs.Headers.{size, is_fragment}
 use Rattle.giop_stream.specs.Framing.{Message, with_payload, limit}
-use Rattle.giop_stream.specs.Reading.{Reading}
+use Rattle.giop_message.specs.Reading.{Reading}
 use Rattle.giop_stream.specs.Stream.{is_inside, with_truncated}
 use Rattle.giop_stream.specs.Text.{truncated_line}
 use Rattle.giop_print.specs.Lines.{unfinished_line, total_line}
-use Rattle.giop_stream.specs.Joined.Kinds.{is_fragment}
 use Rattle.giop_stream.specs.Joined.Events.{Event, happens, opened, joined}
 use Rattle.giop_stream.specs.Joined.Lines.{Line, tells, by_class, standing, is_last_of, stop_line}
 use Rattle.giop_stream.specs.Joined.Stream.{fault_count}

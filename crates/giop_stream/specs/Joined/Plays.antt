@@ -1,10 +1,10 @@
 -- What an octet does, an event after the other: the machine of the code does no more at once.
 use Rattle.std.specs.Prelude.{Bool, true, ◌≡◌, ℕ, suc, ◌<◌, ◌≤◌, false, List, [], ◌∷◌, ◌++◌, length, map, Option, Some, None, nat_lt, if◌then◌else◌, option_map}
 use Rattle.std.specs.List.{list_any, AllByRecursion as Each}
-use Rattle.giop_stream.specs.Reading.{Reading}
+use Rattle.giop_message.specs.Reading.{Reading}
 use Rattle.giop_stream.specs.Joined.Events.{Happening, Begins, Takes, Opens, Continues, Cancelled, Imposed, Closes, Title, Event, Open, place, octet, changed, open_after}
 use Rattle.giop_stream.specs.Joined.Lines.{Line, Started, Goes_on, is_last_of, standing}
-use Rattle.giop_stream.specs.Headers.{size}
+use Rattle.giop_message.specs.Headers.{size}
 use Rattle.giop_stream.specs.Framing.{Message, with_payload}
 use Rattle.giop_stream.specs.Joined.State.{Slot, State, Kept, octets_of, slots_of, own_of}
 use Rattle.giop_stream.specs.Joined.Machine.{Step, kept, utters_kept, taking, written, writes}

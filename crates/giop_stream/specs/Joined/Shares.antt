@@ -1,7 +1,7 @@
 -- The joined message in other words: the octets of the message, then of each that continues it those after the request id.
 use Rattle.std.specs.Prelude.{ℕ, List, [], ◌∷◌, ◌++◌, take, drop, Option, Some, None, ◌==◌, if◌then◌else◌}
 use Rattle.giop_stream.specs.Framing.{Message}
-use Rattle.giop_stream.specs.Joined.Kinds.{is_fragment}
+use Rattle.giop_message.specs.Headers.{is_fragment}
 use Rattle.giop_stream.specs.Joined.Events.{Open, opener_of, events_of, opened}
 
 unfoldable pub continued : ℕ → Option Open → List ℕ → List ℕ

@@ -3,7 +3,7 @@ use Rattle.std.specs.Prelude.{ℕ, Bool, ◌||◌, List, length, map, Option, So
 use Rattle.std.specs.List.{list_any}
 use Rattle.giop_stream.specs.declared.fault.StreamFault.{StreamFault}
 use Rattle.giop_stream.specs.Framing.{Message, cut, messages, read_of}
-use Rattle.giop_stream.specs.Reading.{Reading}
+use Rattle.giop_message.specs.Reading.{Reading}
 use Rattle.giop_stream.specs.Joined.Events.{Open, has_named, events, open_after, joined}
 use Rattle.giop_stream.specs.Joined.Lines.{lines}
 use Rattle.giop_stream.specs.Joined.Stream.{fault_count, is_over}

@@ -3,11 +3,11 @@ use Rattle.std.specs.Prelude.{ℕ, Bool, true, false, not, List, [], ◌++◌, l
 use Rattle.std.specs.List.{list_any}
 use Rattle.giop_stream.specs.declared.status.Totals.{Totals}
 use Rattle.giop_stream.specs.Framing.{Message, cut, messages, read_of}
-use Rattle.giop_stream.specs.Reading.{Value, Call, Rest, Fault, End, Reading}
+use Rattle.giop_message.specs.Reading.{Value, Call, Rest, Fault, End, Reading}
 use Rattle.giop_stream.specs.Text.{truncated_line}
 use Rattle.giop_stream.specs.Stream.{is_truncated, with_truncated}
 use Rattle.giop_print.specs.Lines.{unfinished_line, total_line}
-use Rattle.giop_stream.specs.Joined.Kinds.{is_fragment}
+use Rattle.giop_message.specs.Headers.{is_fragment}
 use Rattle.giop_stream.specs.Joined.Lines.{Content, Started, Said, Goes_on, Ended_by, Faulted, Stopped, Line, is_last_of, said, lines}
 use Rattle.giop_stream.specs.Joined.Text.{lines_text}
 

@@ -3,7 +3,8 @@ use Rattle.std.specs.Prelude.{ℕ, List, flat_map, codes}
 use Rattle.giop_print.specs.Lines.{fault_line, continues_line, cancelled_line}
 use Rattle.giop_stream.specs.declared.fault.ImposedFault.{ImposedFault}
 use Rattle.giop_stream.specs.declared.fault.ImposedFault.TheVariants.{MessageType, OldFragment, Short, NoOpen, IdOpen, TooManyOpen, FragmentOrder}
-use Rattle.giop_stream.specs.Text.{start_line, saying_line, stop_text}
+use Rattle.giop_stream.specs.Text.{start_line, stop_text}
+use Rattle.giop_message.specs.Text.{saying_line}
 use Rattle.giop_stream.specs.Joined.Lines.{Content, Started, Said, Goes_on, Ended_by, Faulted, Stopped, Line}
 
 abbrev pub imposed_word : ImposedFault → List ℕ

@@ -1,5 +1,9 @@
+use Rattle.std.proofs.Common.{arith}
 use Rattle.giop_stream.proofs.Joined.Keepers.{begin_keeps}
 use Rattle.giop_stream.proofs.slots.Slots.begin.Goals as goal
 
 pub returns : goal.returns
-returns c = record { kept = λ c' whose h w n f known apart. begin_keeps c.args.self.now c.start.result c' whose w c.args.number c.args.header h c.start.ensures.shown n f known apart }
+returns c = record {
+  kept = λ l c' whose h w n f known apart. begin_keeps c.args.catalogue.now l c.args.self.now c.start.result c' whose w c.args.number c.args.header h (c.start.ensures.follows l) n f known apart;
+  ready = λ n h more. record { own_ready = (c.start.ensures.fits, omega (arith, c.start.ensures.reach)); each_ready = h.each_ready };
+}

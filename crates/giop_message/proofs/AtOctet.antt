@@ -1,0 +1,133 @@
+-- What a message writes and answers at one octet, and at its close, is what its reading says.
+use Rattle.std.proofs.Common.{◌≡◌, ℕ, suc, ◌+◌, ◌-◌, ◌≤◌, Bool, true, false, List, [], ◌∷◌, ◌++◌, length, map, drop, refl, sym, ap, ◌∙◌, arith}
+use Rattle.std.specs.Prelude.{◌||◌, ◌==◌, if◌then◌else◌}
+use Rattle.std.specs.List.{filter, list_any, AllByRecursion as Each}
+use Rattle.std.proofs.Math.Seq.{drop-append_seam}
+use Rattle.std.proofs.lemmas.Bool.{eq-eqb, ne_eqb}
+use Rattle.std.proofs.lemmas.List.Elements.{filter-append}
+use Rattle.giop_message.specs.Reading as said
+use Rattle.giop_message.specs.Reading.{Remark, is_fault}
+use Rattle.giop_message.specs.Text.{saying_line, said_text}
+use Rattle.giop_message.specs.Signatures.{Signatures}
+use Rattle.giop_message.specs.Messages.{Speech, Said, Called, Left, Wrong, Incomplete, Ends, Told, may_lack, Stage, In_header, In_padding, In_exception, In_body, In_rest, Over, message, told_of, stage_of, close}
+use Rattle.giop_message.specs.MessageReading.{saying_of, text_of, remark_of, closing_of, reading_by, is_over, is_wrong}
+use Rattle.giop_message.specs.Holding.{speech_line, told_text, due, due_text, is_short}
+use Rattle.giop_message.proofs.Going.{message_goes}
+use Rattle.giop_message.proofs.Causal.{ToldAt, map_both, stands, one_more, ordered}
+use Rattle.giop_message.proofs.Faults.{over_where_faulted}
+
+-- ---- what is told of an octet, and what is said at it
+
+none_before : (n : ℕ) (told : List Told) → Each (λ t. t.at ≤ 12 + n) told → filter (λ r. r.at == suc n) (map remark_of told) ≡ []
+none_before n [] h = refl
+none_before n (t ∷ ts) h = rw (ne_eqb (t.at - 12) (suc n) (λ e. omega (arith, h.0))) (none_before n ts h.1)
+
+all_here : (n : ℕ) (told : List Told) → ToldAt ((12 + n) + 1) told → filter (λ r. r.at == suc n) (map remark_of told) ≡ map remark_of told
+all_here n [] h = refl
+all_here n (t ∷ ts) h =
+    let e : t.at - 12 ≡ suc n = omega (arith, h.0) in
+    rw (eq-eqb (t.at - 12) (suc n) e) (ap (λ (rs : List Remark). remark_of t ∷ rs) (all_here n ts h.1))
+
+-- What is told of one octet more: where it stands, and that the reading says it.
+record One (S : Signatures) (header xs : List ℕ) (x : ℕ) : Type 0 where
+  told : told_of (message S header (xs ++ x ∷ [])) ≡ told_of (message S header xs) ++ due S header xs (x ∷ [])
+  here : ToldAt ((12 + length xs) + 1) (due S header xs (x ∷ []))
+  said : said.due (reading_by S) header xs x ≡ map remark_of (due S header xs (x ∷ []))
+
+one_octet : (S : Signatures) (header xs : List ℕ) (x : ℕ) → One S header xs x
+unfolding due reading_by
+one_octet S header xs x =
+    let one = one_more S header (12 + length xs) (message S header xs) x (stands S header xs) in
+    let old = told_of (message S header xs) in
+    let told : told_of (message S header (xs ++ x ∷ [])) ≡ old ++ one.0 = ap told_of (message_goes S header xs x) ∙ one.1 in
+    let due_is : drop (length old) (told_of (message S header (xs ++ x ∷ []))) ≡ one.0 = ap (drop (length old)) told ∙ drop-append_seam old one.0 in
+    let here : Remark → Bool = λ r. r.at == suc (length xs) in
+    let said_is : filter here (map remark_of (told_of (message S header (xs ++ x ∷ [])))) ≡ map remark_of one.0 =
+        ap (λ ts. filter here (map remark_of ts)) told
+        ∙ (ap (filter here) (map_both remark_of old one.0)
+        ∙ (filter-append here (map remark_of old) (map remark_of one.0)
+        ∙ (ap (λ rs. rs ++ filter here (map remark_of one.0)) (none_before (length xs) old (ordered 0 S header xs).0)
+        ∙ all_here (length xs) one.0 one.2.0))) in
+    record {
+      told = told ∙ ap (λ ts. old ++ ts) (sym due_is);
+      here = rw due_is one.2.0;
+      said = said_is ∙ ap (map remark_of) (sym due_is);
+    }
+
+told_here : (number place offset : ℕ) (told : List Told) → ToldAt (offset + 1) told → told_text number place offset told ≡ said_text (suc place) number (map remark_of told)
+unfolding told_text said_text speech_line
+told_here number place offset [] h = refl
+told_here number place offset (t ∷ ts) h =
+    let e : place + (t.at - offset) ≡ suc place = omega (arith, h.0) in
+    rw e (ap (λ (z : List ℕ). saying_line (suc place) number (saying_of t.speech) (text_of t.speech) ++ z) (told_here number place offset ts h.1))
+
+-- The text of an octet is that of what is said at it.
+pub octet_text : (S : Signatures) (number place : ℕ) (header xs : List ℕ) (x : ℕ) → due_text S number place header xs (x ∷ []) ≡ said_text (suc place) number (said.due (reading_by S) header xs x)
+unfolding due_text
+octet_text S number place header xs x =
+    let one = one_octet S header xs x in
+    told_here number place (12 + length xs) (due S header xs (x ∷ [])) one.here ∙ ap (said_text (suc place) number) (sym one.said)
+
+-- ---- faults
+
+wrong_is : (t : Told) → is_wrong t ≡ is_fault (saying_of t.speech)
+unfolding is_wrong saying_of
+wrong_is t = go t.speech
+  where
+    go : (s : Speech) → is_wrong (record { at = t.at; speech = s }) ≡ is_fault (saying_of s)
+    go (Said root path v) = refl
+    go (Called id operation) = refl
+    go (Left offset octets) = refl
+    go (Wrong why) = refl
+    go Incomplete = refl
+    go Ends = refl
+
+wrongs_are : (told : List Told) → list_any is_wrong told ≡ list_any (λ r. is_fault r.saying) (map remark_of told)
+wrongs_are [] = refl
+wrongs_are (t ∷ ts) = rw (wrong_is t, wrongs_are ts) refl
+
+or_of : (a b c : Bool) → (b ≡ c) → (a || b) ≡ (a || c)
+or_of a b c e = ap (λ (d : Bool). a || d) e
+
+any_both : (xs ys : List Told) → list_any is_wrong (xs ++ ys) ≡ (list_any is_wrong xs || list_any is_wrong ys)
+any_both [] ys = refl
+any_both (x ∷ xs) ys = or_of (is_wrong x) (list_any is_wrong (xs ++ ys)) (list_any is_wrong xs || list_any is_wrong ys) (any_both xs ys) ∙ or_more (is_wrong x) (list_any is_wrong xs) (list_any is_wrong ys)
+  where
+    or_more : (a b c : Bool) → (a || (b || c)) ≡ ((a || b) || c)
+    or_more true b c = refl
+    or_more false b c = refl
+
+over_more : (S : Signatures) (header xs : List ℕ) (x : ℕ) →
+    is_over (stage_of (message S header (xs ++ x ∷ []))) ≡ (is_over (stage_of (message S header xs)) || list_any (λ r. is_fault r.saying) (said.due (reading_by S) header xs x))
+over_more S header xs x =
+    let one = one_octet S header xs x in
+    let old = told_of (message S header xs) in
+    over_where_faulted S header (xs ++ x ∷ [])
+    ∙ (ap (list_any is_wrong) one.told
+    ∙ (any_both old (due S header xs (x ∷ []))
+    ∙ rw (over_where_faulted S header xs, one.said, wrongs_are (due S header xs (x ∷ []))) refl))
+
+-- A message that isn't over is so behind an octet exactly where a fault is said at it.
+pub octet_over : (S : Signatures) (header xs : List ℕ) (x : ℕ) → is_over (stage_of (message S header xs)) ≡ false →
+    is_over (stage_of (message S header (xs ++ x ∷ []))) ≡ list_any (λ r. is_fault r.saying) (said.due (reading_by S) header xs x)
+octet_over S header xs x h = over_more S header xs x ∙ rw h refl
+
+-- ---- a close
+
+-- A close says a fault where it is short.
+pub close_short : (S : Signatures) (header xs : List ℕ) → is_short (close (stage_of (message S header xs))) ≡ list_any (λ l. is_fault l.0) ((reading_by S).closes header xs)
+unfolding reading_by is_short saying_of close
+close_short S header xs = go (stage_of (message S header xs))
+  where
+    lack : (test : Bool) → is_short (if test then Ends ∷ [] else Incomplete ∷ []) ≡ list_any (λ l. is_fault l.0) (map closing_of (if test then Ends ∷ [] else Incomplete ∷ []))
+    lack true = refl
+    lack false = refl
+
+    go : (stage : Stage) → is_short (close stage) ≡ list_any (λ l. is_fault l.0) (map closing_of (close stage))
+    go (In_header h outer leaf) = refl
+    go (In_padding t) = lack (may_lack t)
+    go (In_exception h outer leaf) = refl
+    go (In_body outer leaf) = refl
+    go (In_rest offset []) = refl
+    go (In_rest offset (x ∷ held)) = refl
+    go Over = refl

@@ -1,0 +1,12 @@
+use Rattle.giop_message.specs.Signatures.{said_by}
+use Rattle.giop_message.proofs.AtOctet.{octet_text, octet_over, close_short}
+use Rattle.giop_message.proofs.Followings.{follows_goes}
+use Rattle.giop_message.proofs.sayings.saying_laws.Goals as goal
+
+pub returns : goal.returns
+returns c = record {
+  text = λ C kept. octet_text (said_by C kept);
+  over = λ C kept. octet_over (said_by C kept);
+  going = λ C kept number header m s f. follows_goes C kept number header m s f;
+  short = λ C kept. close_short (said_by C kept);
+}
