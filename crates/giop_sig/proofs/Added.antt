@@ -67,7 +67,7 @@ none_by false i e = refl
 none_any : {X : Type 0} (p : X → Bool) (xs : List X) → position p xs ≡ None → list_any p xs ≡ false
 none_any p xs e = sym (some_position p xs) ∙ none_by (ltb (position_or_len p xs) (length xs)) (position_or_len p xs) e
 
-list_any-map : {X Y : Type 0} (p : Y → Bool) (f : X → Y) (xs : List X) → list_any p (map f xs) ≡ list_any (λ x. p (f x)) xs
+pub list_any-map : {X Y : Type 0} (p : Y → Bool) (f : X → Y) (xs : List X) → list_any p (map f xs) ≡ list_any (λ x. p (f x)) xs
 list_any-map p f [] = refl
 list_any-map p f (x ∷ xs) = ap (λ b. p (f x) || b) (list_any-map p f xs)
 
@@ -75,7 +75,7 @@ neither : (a b : Bool) → (a || b) ≡ false → (a ≡ false) × (b ≡ false)
 neither true b e = absurd cc
 neither false b e = (refl, e)
 
-entry_last : {K V : Type 0} (eq : K → K → Bool) (es : List (K × V)) (k : K) (v : V) → list_any (λ (e : K × V). eq k e.0) es ≡ false → insert_entry eq es k v ≡ es ++ (k, v) ∷ []
+pub entry_last : {K V : Type 0} (eq : K → K → Bool) (es : List (K × V)) (k : K) (v : V) → list_any (λ (e : K × V). eq k e.0) es ≡ false → insert_entry eq es k v ≡ es ++ (k, v) ∷ []
 entry_last eq [] k v none = refl
 entry_last eq (e ∷ es) k v none = let n = neither (eq k e.0) (list_any (λ x. eq k x.0) es) none in rw (n.0) (ap (λ xs. e ∷ xs) (entry_last eq es k v n.1))
 

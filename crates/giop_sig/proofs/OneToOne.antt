@@ -3,7 +3,7 @@ use Rattle.std.proofs.Common.{◌≡◌, ℕ, List, get_or, Option, Some, sym, �
 use Rattle.std.specs.Str.{bytes_eq}
 use Rattle.std.proofs.lemmas.Slice.Eq.{bytes_eq-Decides}
 use Rattle.std.proofs.lemmas.List.Quantifiers.{position-Some}
-use Rattle.giop_sig.specs.Table.{Operation, Table, no_operation, operation_number}
+use Rattle.giop_sig.specs.Table.{Table, no_operation, operation_number}
 
 abbrev pub IsOneToOne : (List ℕ → Option ℕ) → Type 0
 IsOneToOne find = (m n : List ℕ) (i : ℕ) → find m ≡ Some i → find n ≡ Some i → m ≡ n

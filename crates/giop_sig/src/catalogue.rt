@@ -9,10 +9,10 @@ ghost use Rattle.giop_sig.specs.Headers.{header_number, header_type, fixed_numbe
 
 use crate::builtin::{builtin_list, fixed_id, header_id};
 use crate::entries::{Entry, Types};
-use crate::fault::SigFault;
 use crate::types::{Counts, Fixed, OpId, Selected, Shape, TypeId};
 use arrayvec::ArrayVec;
 use giop_cdr::Number;
+use giop_tokens::SigFault;
 use indexmap::IndexMap;
 use std::alloc::Global;
 use std::marker::Model;
@@ -51,8 +51,8 @@ impl Model for Catalogue {
 
 impl Catalogue {
     ghost use Rattle.giop_sig.specs.Builtin.{builtin_table};
-    ghost use Rattle.giop_sig.specs.Faults.{no_memory};
-    ghost use Rattle.giop_sig.specs.Views.{node_view};
+    ghost use Rattle.giop_tokens.specs.Faults.{no_memory};
+    ghost use Rattle.giop_sig.specs.Views.{node_view, IsSized};
 
     /// The catalogue of no declarations: the built-in types alone. Refused only for memory.
     pub fn builtin(alloc: Global) -> Result<Catalogue, SigFault>
@@ -239,6 +239,15 @@ impl Catalogue {
         ensures known { result.0 < length self.now.types }
     {
         self.signature(operation).reply
+    }
+
+    /// The entry of a type.
+    pub(crate) fn entry(&self, t: TypeId) -> &Entry
+        requires { t.0 < length self.now.types }
+        ensures node { node_view result.now ≡ node_at self.now t.0 }
+        ensures sized { IsSized result.now }
+    {
+        self.types.entry(t)
     }
 
     /// The depth of a type.

@@ -3,17 +3,29 @@
 
 mod builtin;
 mod catalogue;
+mod draft;
 mod entries;
 mod fault;
+mod labels;
+mod parse;
+mod read_calls;
+mod read_enums;
+mod read_items;
+mod read_types;
+mod read_unions;
 mod requests;
+mod stop;
 mod types;
 
 pub use catalogue::Catalogue;
-pub use fault::{ListFault, ListFaultKind, SigFault, SigFaultKind};
+pub use fault::{ListFault, ListFaultKind};
+pub use giop_tokens::{SigFault, SigFaultKind};
 pub use requests::{Requests, one_list};
 pub use types::{Counts, Fixed, OpId, Selected, Shape, TypeId};
 
 #[cfg(test)]
 mod list_tests;
+#[cfg(test)]
+mod parse_tests;
 #[cfg(test)]
 mod tests;

@@ -90,7 +90,7 @@ fn row_of(alloc: Global, catalogue: &Catalogue, t: TypeId) -> Result<Vec<u8>, Al
 }
 
 // The part at a place, where there is one.
-fn inner(rt: &impl Abort, catalogue: &Catalogue, t: TypeId, place: u32) -> TypeId
+pub(crate) fn inner(rt: &impl Abort, catalogue: &Catalogue, t: TypeId, place: u32) -> TypeId
     requires { t.0 < length catalogue.now.types }
     ensures { result.0 < length catalogue.now.types }
 {
@@ -110,7 +110,7 @@ fn inner(rt: &impl Abort, catalogue: &Catalogue, t: TypeId, place: u32) -> TypeI
 }
 
 // Whether a type has these members or cases.
-fn expect_row(
+pub(crate) fn expect_row(
     rt: &(impl Abort + AllocGlobal),
     catalogue: &Catalogue,
     t: TypeId,

@@ -6,7 +6,7 @@ use Rattle.std.proofs.lemmas.List.Elements.{All-push}
 use Rattle.giop_sig.specs.RequestList.{lines, IsEntry, line_of, Entry, joined}
 use Rattle.giop_sig.specs.Table.{operation_number}
 use Rattle.giop_sig.proofs.OneToOne.{operation_number_one}
-use Rattle.giop_sig.proofs.ListKept.{found_is, kept_step, is_of}
+use Rattle.giop_sig.proofs.ListKept.{kept_step, is_of}
 use Rattle.giop_sig.proofs.requests.read.Goals as goal
 
 spelled_more : (es : List Entry) (e : Entry) (all after : List (List ℕ)) (line : List ℕ) → line ≡ line_of e → all ≡ map line_of es ++ (line ∷ after) → all ≡ map line_of (es ++ e ∷ []) ++ after

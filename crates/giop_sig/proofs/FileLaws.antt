@@ -1,0 +1,252 @@
+-- What reading gives of a signature file, and what one that was read is spelled as.
+use Rattle.std.proofs.Common.{◌≡◌, ℕ, zero, suc, ◌<◌, ◌≤◌, Bool, true, false, cond, eqb, List, [], ◌∷◌, ◌++◌, length, Option, Some, None, Result, Ok, Err, refl, sym, ap, subst, ◌∙◌, lit<, arith}
+use Rattle.std.specs.Prelude.{MatchResult, codes}
+use Rattle.std.specs.Str.{bytes_eq}
+use Rattle.std.proofs.lemmas.Bool.{eqb-true}
+use Rattle.std.proofs.lemmas.Slice.Eq.{bytes_eq-Decides}
+use Rattle.giop_tokens.specs.declared.fault.Refusal.{Refusal}
+use Rattle.giop_tokens.specs.declared.fault.SigFaultKind.TheVariants as kinds
+use Rattle.giop_tokens.specs.declared.marks.Mark.TheVariants as marks
+use Rattle.giop_tokens.specs.Tokens.{Token, word, number, repository, mark, next, AreTokens}
+use Rattle.giop_tokens.specs.Reading.{◌>>=◌}
+use Rattle.giop_tokens.specs.Readers.{misplaced, word_at, number_at, mark_at, keyword_at, is_end, end_at}
+use Rattle.giop_tokens.proofs.ReaderLaws.{bind_ok, ok_is, Takes, word_again, number_again, mark_again, keyword_again, end_again, end_other, word_takes, number_takes, mark_takes, keyword_takes}
+use Rattle.giop_sig.specs.Grammar.{TypeExpr, Item, UnionCase, spell_type, spell_names, spell_items, spell_cases, spell_params, spell_return, Declaration, Enumeration, Structure, Choice, Raise, Call, spell, spell_all, spell_file}
+use Rattle.giop_sig.specs.Scopes.{Scope, builtin_scope, declare, scope_after, table}
+use Rattle.giop_sig.specs.Validity.{Kind, OfDeclaration, IsShallow, HasFreeNames, Each, AreValid, Spells, Refuses}
+use Rattle.giop_sig.specs.ItemReading.{Declared, structure_at, raise_at}
+use Rattle.giop_sig.specs.CallReading.{operation_at}
+use Rattle.giop_sig.specs.EnumReading.{enumeration_at}
+use Rattle.giop_sig.specs.UnionReading.{union_at}
+use Rattle.giop_sig.specs.FileReading.{declaration_after, declaration_at, declarations_run, version_at, file_at}
+use Rattle.giop_sig.proofs.PlaceLaws.{deepest, size, declare_longer, scope_deeper}
+use Rattle.giop_sig.proofs.ReadingLaws.{Breaks, Out}
+use Rattle.giop_sig.proofs.DeclaredLaws.{TakenDeclaration, structure_reads, structure_takes, raise_reads, raise_takes}
+use Rattle.giop_sig.proofs.CallLaws.{operation_reads, operation_takes}
+use Rattle.giop_sig.proofs.EnumLaws.{enumeration_reads, TakenEnumeration, enumeration_takes}
+use Rattle.giop_sig.proofs.TokensFew.{tokens_few, next_none}
+use Rattle.giop_sig.proofs.SpellLaws.{spelled_few}
+use Rattle.giop_sig.proofs.FreeLaws.{free_declared}
+use Rattle.giop_sig.specs.Builtin.{builtin_types}
+
+-- ---- a declaration
+
+abbrev spell_raise : List ℕ → List ℕ → List Item → List Token → List Token
+spell_raise n r is more = word n ∷ repository r ∷ mark marks.OpenBrace ∷ spell_items is (mark marks.Semicolon ∷ more)
+
+abbrev pub DeclarationOut : Scope → Declaration → List Token → Result Declared Refusal → Type 0
+DeclarationOut s d more r = Out {X = Declared} (λ rest. (declare s d, rest)) (λ k. OfDeclaration k s d) (declare s d).table.types more r
+
+-- what is read of a union
+abbrev pub UnionReads : Type 0
+UnionReads = (s : Scope) (n : List ℕ) (e : TypeExpr) (cs : List UnionCase) (text : List ℕ) (more : List Token) → 0 < size s → OfDeclaration kinds.Syntax s (Choice n e cs)
+    → AreTokens text (word n ∷ word (codes "switch") ∷ mark marks.OpenParenthesis ∷ spell_type e (mark marks.CloseParenthesis ∷ mark marks.OpenBrace ∷ spell_cases cs (mark marks.Semicolon ∷ more)))
+    → DeclarationOut s (Choice n e cs) more (union_at s text)
+
+abbrev pub UnionTakes : Type 0
+UnionTakes = (s : Scope) (whole text : List ℕ) (x : Declared) → Takes whole (word (codes "union")) text → union_at s text ≡ Ok x → TakenDeclaration s whole x
+
+declaration_reads : UnionReads → (d : Declaration) (s : Scope) (text : List ℕ) (more : List Token) → 0 < size s → OfDeclaration kinds.Syntax s d → AreTokens text (spell d more) → DeclarationOut s d more (declaration_at s text)
+unfolding declaration_at
+declaration_reads union (Enumeration n names) s text more some free h =
+    rw (word_again text (codes "enum") (word n ∷ mark marks.OpenBrace ∷ spell_names names (mark marks.Semicolon ∷ more)) h) (enumeration_reads n names s h.0 more free h.2)
+declaration_reads union (Structure n is) s text more some free h =
+    rw (word_again text (codes "struct") (word n ∷ mark marks.OpenBrace ∷ spell_items is (mark marks.Semicolon ∷ more)) h) (structure_reads s n is h.0 more some free h.2)
+declaration_reads union (Choice n e cs) s text more some free h =
+    rw (word_again text (codes "union") (word n ∷ word (codes "switch") ∷ mark marks.OpenParenthesis ∷ spell_type e (mark marks.CloseParenthesis ∷ mark marks.OpenBrace ∷ spell_cases cs (mark marks.Semicolon ∷ more))) h) (union s n e cs h.0 more some free h.2)
+declaration_reads union (Raise n r is) s text more some free h =
+    rw (word_again text (codes "exception") (spell_raise n r is more) h) (raise_reads s n r is h.0 more some free h.2)
+declaration_reads union (Call o n ps) s text more some free h =
+    rw (word_again text (codes "operation") (spell_return o (word n ∷ mark marks.OpenParenthesis ∷ spell_params ps (mark marks.Semicolon ∷ more))) h) (operation_reads s o n ps h.0 more some free h.2)
+
+enumeration_taken : (s : Scope) (whole text : List ℕ) (x : Declared) → Takes whole (word (codes "enum")) text → TakenEnumeration s text x → TakenDeclaration s whole x
+enumeration_taken s whole text x before t = record {
+  declaration = Enumeration t.name t.names;
+  took = record { free = t.took.free; front = λ more m. before (word t.name ∷ mark marks.OpenBrace ∷ spell_names t.names (mark marks.Semicolon ∷ more)) (t.took.front more m) };
+}
+
+after_by : UnionTakes → (s : Scope) (text w rest : List ℕ) (x : Declared) (a b c d e : Bool) → bytes_eq w (codes "enum") ≡ a → bytes_eq w (codes "struct") ≡ b → bytes_eq w (codes "union") ≡ c → bytes_eq w (codes "exception") ≡ d → bytes_eq w (codes "operation") ≡ e
+    → Takes text (word w) rest → cond a (enumeration_at s rest) (cond b (structure_at s rest) (cond c (union_at s rest) (cond d (raise_at s rest) (cond e (operation_at s rest) (Err (misplaced text)))))) ≡ Ok x → TakenDeclaration s text x
+after_by union s text w rest x true b c d e p q r u v t h =
+    enumeration_taken s text rest x (subst (λ v. Takes text (word v) rest) ((bytes_eq-Decides w (codes "enum")).0 p) t) (enumeration_takes s rest x h)
+after_by union s text w rest x false true c d e p q r u v t h = structure_takes s text rest x (subst (λ v. Takes text (word v) rest) ((bytes_eq-Decides w (codes "struct")).0 q) t) h
+after_by union s text w rest x false false true d e p q r u v t h = union s text rest x (subst (λ v. Takes text (word v) rest) ((bytes_eq-Decides w (codes "union")).0 r) t) h
+after_by union s text w rest x false false false true e p q r u v t h = raise_takes s text rest x (subst (λ v. Takes text (word v) rest) ((bytes_eq-Decides w (codes "exception")).0 u) t) h
+after_by union s text w rest x false false false false true p q r u v t h = operation_takes s text rest x (subst (λ v. Takes text (word v) rest) ((bytes_eq-Decides w (codes "operation")).0 v) t) h
+after_by union s text w rest x false false false false false p q r u v t h = absurd cc
+
+declaration_takes : UnionTakes → (s : Scope) (text : List ℕ) (x : Declared) → declaration_at s text ≡ Ok x → TakenDeclaration s text x
+unfolding declaration_at
+declaration_takes union s text x e =
+    let w = bind_ok (word_at text) (λ w. declaration_after s text w.0 w.1) x e in
+    let v = (w.0).0 in
+    after_by union s text v (w.0).1 x (bytes_eq v (codes "enum")) (bytes_eq v (codes "struct")) (bytes_eq v (codes "union")) (bytes_eq v (codes "exception")) (bytes_eq v (codes "operation")) refl refl refl refl refl (word_takes text w.0 w.1) w.2
+
+-- ---- declarations
+
+-- one of the declarations breaks a rule, or makes the types too deep
+pub record BrokenIn (k : Kind) (s : Scope) (ds : List Declaration) : Type 0 where
+  pub before : List Declaration
+  pub broken : Declaration
+  pub after : List Declaration
+  pub all : ds ≡ before ++ broken ∷ after
+  pub breaks : Breaks k (λ k. OfDeclaration k (scope_after s before) broken) (declare (scope_after s before) broken).table.types
+
+broken_later : (k : Kind) (s : Scope) (d : Declaration) (ds : List Declaration) → BrokenIn k (declare s d) ds → BrokenIn k s (d ∷ ds)
+broken_later k s d ds b = record { before = d ∷ b.before; broken = b.broken; after = b.after; all = ap (λ es. d ∷ es) b.all; breaks = b.breaks }
+
+-- what is read of declarations
+abbrev FileOut : Scope → List Declaration → Result Scope Refusal → Type 0
+FileOut s ds r = MatchResult r (λ t. (t ≡ scope_after s ds) × ((k : Kind) → Each (λ s d. OfDeclaration k s d) s ds)) (λ e. BrokenIn e.kind s ds)
+
+file_more : (s : Scope) (d : Declaration) (ds : List Declaration) (r : Result Scope Refusal) → ((k : Kind) → OfDeclaration k s d) → FileOut (declare s d) ds r → FileOut s (d ∷ ds) r
+unfolding Each
+file_more s d ds (Ok t) keeps o = (o.0, λ k. (keeps k, o.1 k))
+file_more s d ds (Err e) keeps o = broken_later e.kind s d ds o
+
+file_on : (n : ℕ) (s : Scope) (d : Declaration) (ds : List Declaration) (r : Result Declared Refusal) → DeclarationOut s d (spell_all ds) r
+    → ((rest : List ℕ) → AreTokens rest (spell_all ds) → FileOut (declare s d) ds (declarations_run n (declare s d) rest)) → FileOut s (d ∷ ds) (r >>= λ x. declarations_run n x.0 x.1)
+file_on n s d ds (Ok x) o on =
+    let g = o.out in
+    subst (λ (y : Declared). FileOut s (d ∷ ds) (declarations_run n y.0 y.1)) (sym g.is) (file_more s d ds (declarations_run n (declare s d) g.rest) g.keeps (on g.rest g.tokens))
+file_on n s d ds (Err e) o on = record { before = []; broken = d; after = ds; all = refl; breaks = o.out }
+
+not_over : (d : Declaration) (text : List ℕ) (more : List Token) → AreTokens text (spell d more) → end_at text ≡ Ok false
+not_over (Enumeration n names) text more h = end_other text (word (codes "enum")) (word n ∷ mark marks.OpenBrace ∷ spell_names names (mark marks.Semicolon ∷ more)) h
+not_over (Structure n is) text more h = end_other text (word (codes "struct")) (word n ∷ mark marks.OpenBrace ∷ spell_items is (mark marks.Semicolon ∷ more)) h
+not_over (Choice n e cs) text more h =
+    end_other text (word (codes "union")) (word n ∷ word (codes "switch") ∷ mark marks.OpenParenthesis ∷ spell_type e (mark marks.CloseParenthesis ∷ mark marks.OpenBrace ∷ spell_cases cs (mark marks.Semicolon ∷ more))) h
+not_over (Raise n r is) text more h = end_other text (word (codes "exception")) (spell_raise n r is more) h
+not_over (Call o n ps) text more h = end_other text (word (codes "operation")) (spell_return o (word n ∷ mark marks.OpenParenthesis ∷ spell_params ps (mark marks.Semicolon ∷ more))) h
+
+run_on : (n : ℕ) (s : Scope) (text : List ℕ) → end_at text ≡ Ok false → declarations_run (suc n) s text ≡ (declaration_at s text >>= λ d. declarations_run n d.0 d.1)
+unfolding declarations_run
+run_on n s text h = rw h refl
+
+run_over : (n : ℕ) (s : Scope) (text : List ℕ) → end_at text ≡ Ok true → declarations_run (suc n) s text ≡ Ok s
+unfolding declarations_run
+run_over n s text h = rw h refl
+
+declarations_read : UnionReads → (ds : List Declaration) (n : ℕ) (s : Scope) (text : List ℕ) → length ds < n → 0 < size s → Each HasFreeNames s ds → AreTokens text (spell_all ds) → FileOut s ds (declarations_run n s text)
+unfolding Each
+declarations_read union [] zero s text lt some free h = absurd (omega arith)
+declarations_read union (d ∷ ds) zero s text lt some free h = absurd (omega arith)
+declarations_read union [] (suc n) s text lt some free h = rw (run_over n s text (end_again text h)) (refl, λ k. tt)
+declarations_read union (d ∷ ds) (suc n) s text lt some free h =
+    rw (run_on n s text (not_over d text (spell_all ds) h))
+    (file_on n s d ds (declaration_at s text) (declaration_reads union d s text (spell_all ds) some free.0 h) (λ rest m. declarations_read union ds n (declare s d) rest (omega arith) (omega (arith, declare_longer s d)) free.1 m))
+
+-- ---- the whole file
+
+version_again : (text : List ℕ) (more : List Token) (h : AreTokens text (number 1 ∷ more)) → version_at text ≡ Ok h.0
+unfolding version_at
+version_again text more h = rw (number_again text 1 more h) refl
+
+built_in : 0 < size builtin_scope
+unfolding builtin_types
+built_in = lit< tt
+
+-- what reading gives of a file
+pub file_reads : UnionReads → (text : List ℕ) (ds : List Declaration) → Spells text ds → FileOut builtin_scope ds (file_at text)
+unfolding file_at
+file_reads union text ds spells =
+    let h = spells.tokens in
+    let few = tokens_few (spell_file ds) text h in
+    rw (keyword_again (codes "signatures") text (number 1 ∷ mark marks.Semicolon ∷ spell_all ds) h, version_again h.0 (mark marks.Semicolon ∷ spell_all ds) h.2, mark_again marks.Semicolon (h.2).0 (spell_all ds) (h.2).2)
+    (declarations_read union ds (length text) builtin_scope ((h.2).2).0 (omega (arith, few, spelled_few ds)) built_in spells.names ((h.2).2).2)
+
+-- ---- what was read
+
+pub record TakenAll (text : List ℕ) : Type 0 where
+  pub declarations : List Declaration
+  pub free : (s : Scope) → Each HasFreeNames s declarations
+  pub tokens : AreTokens text (spell_all declarations)
+
+end_none : (text : List ℕ) (o : Option Token) (rest : List ℕ) → next text ≡ Ok (o, rest) → is_end o ≡ true → AreTokens text []
+end_none text None rest h e = h ∙ ap (λ r. Ok (None, r)) (next_none text rest h)
+end_none text (Some t) rest h e = absurd cc
+
+end_from : (text : List ℕ) → end_at text ≡ Ok true → AreTokens text []
+unfolding end_at
+end_from text e =
+    let t = bind_ok (next text) (λ t. Ok (is_end t.0)) true e in
+    end_none text (t.0).0 (t.0).1 t.1 (ok_is (is_end (t.0).0) true t.2)
+
+over_by : (n : ℕ) (s : Scope) (text : List ℕ) (t : Scope) (v : Bool) → end_at text ≡ Ok v → cond v (Ok s) (declaration_at s text >>= λ d. declarations_run n d.0 d.1) ≡ Ok t → UnionTakes
+    → ((s : Scope) (text : List ℕ) → declarations_run n s text ≡ Ok t → TakenAll text) → TakenAll text
+unfolding Each
+over_by n s text t true over e union on = record { declarations = []; free = λ s. tt; tokens = end_from text over }
+over_by n s text t false over e union on =
+    let d = bind_ok (declaration_at s text) (λ d. declarations_run n d.0 d.1) t e in
+    let k = declaration_takes union s text d.0 d.1 in
+    let rest = on (d.0).0 (d.0).1 d.2 in
+    record {
+      declarations = k.declaration ∷ rest.declarations;
+      free = λ u. (free_declared k.declaration s u k.took.free, rest.free (declare u k.declaration));
+      tokens = k.took.front (spell_all rest.declarations) rest.tokens;
+    }
+
+declarations_take : UnionTakes → (n : ℕ) (s : Scope) (text : List ℕ) (t : Scope) → declarations_run n s text ≡ Ok t → TakenAll text
+unfolding declarations_run
+declarations_take union zero s text t e = absurd cc
+declarations_take union (suc n) s text t e =
+    let o = bind_ok (end_at text) (λ over. cond over (Ok s) (declaration_at s text >>= λ d. declarations_run n d.0 d.1)) t e in
+    over_by n s text t o.0 o.1 o.2 union (λ s text run. declarations_take union n s text t run)
+
+version_by : (text : List ℕ) (n : ℕ × List ℕ) (x : List ℕ) (v : Bool) → eqb n.0 1 ≡ v → cond v (Ok n.1) (Err (misplaced text)) ≡ Ok x → Takes text (number n.0) n.1 → Takes text (number 1) x
+version_by text n x true h e t = subst (Takes text (number 1)) (ok_is n.1 x e) (subst (λ k. Takes text (number k) n.1) (eqb-true n.0 1 h) t)
+version_by text n x false h e t = absurd cc
+
+version_takes : (text x : List ℕ) → version_at text ≡ Ok x → Takes text (number 1) x
+unfolding version_at
+version_takes text x e =
+    let n = bind_ok (number_at text) (λ n. cond (eqb n.0 1) (Ok n.1) (Err (misplaced text))) x e in
+    version_by text n.0 x (eqb (n.0).0 1) refl n.2 (number_takes text n.0 n.1)
+
+pub file_takes : UnionTakes → (text : List ℕ) (t : Scope) → length text ≤ 1048576 → file_at text ≡ Ok t → (ds : List Declaration) × Spells text ds
+unfolding file_at
+file_takes union text t short e =
+    let k = bind_ok (keyword_at (codes "signatures") text) (λ k. version_at k >>= λ v. mark_at marks.Semicolon v >>= λ r. declarations_run (length text) builtin_scope r) t e in
+    let v = bind_ok (version_at k.0) (λ v. mark_at marks.Semicolon v >>= λ r. declarations_run (length text) builtin_scope r) t k.2 in
+    let r = bind_ok (mark_at marks.Semicolon v.0) (λ r. declarations_run (length text) builtin_scope r) t v.2 in
+    let all = declarations_take union (length text) builtin_scope r.0 t r.2 in
+    let tail = spell_all all.declarations in
+    let tokens : AreTokens text (spell_file all.declarations) = keyword_takes (codes "signatures") text k.0 k.1 (number 1 ∷ mark marks.Semicolon ∷ tail) (version_takes k.0 v.0 v.1 (mark marks.Semicolon ∷ tail) (mark_takes marks.Semicolon v.0 r.0 r.1 tail all.tokens)) in
+    (all.declarations, record { short = short; tokens = tokens; names = all.free builtin_scope })
+
+-- ---- in the words of the contract
+
+each_shallow : (ds : List Declaration) (s : Scope) → deepest (scope_after s ds) ≤ 24 → Each IsShallow s ds
+unfolding Each
+each_shallow [] s le = tt
+each_shallow (d ∷ ds) s le = (omega (arith, scope_deeper (declare s d) ds), each_shallow ds (declare s d) le)
+
+-- what was read is the table of valid declarations
+pub file_valid : UnionReads → (text : List ℕ) (t : Scope) (ds : List Declaration) → Spells text ds → file_at text ≡ Ok t → deepest t ≤ 24 → AreValid ds × (t.table ≡ table ds)
+file_valid union text t ds spells e shallow =
+    let o : FileOut builtin_scope ds (Ok t) = subst (FileOut builtin_scope ds) e (file_reads union text ds spells) in (
+      record {
+        known = o.1 kinds.UnknownType;
+        distinct = o.1 kinds.Duplicate;
+        some = o.1 kinds.Empty;
+        labels = o.1 kinds.Label;
+        shallow = each_shallow ds builtin_scope (subst (λ (x : Scope). deepest x ≤ 24) o.0 shallow);
+        within = o.1 kinds.Limit;
+      },
+      ap (λ (x : Scope). x.table) o.0,
+    )
+
+refuses : (k : Kind) (ds : List Declaration) → BrokenIn k builtin_scope ds → Refuses k ds
+refuses kinds.Token ds b = b.breaks
+refuses kinds.Syntax ds b = b.breaks
+refuses kinds.OutOfMemory ds b = tt
+refuses kinds.Depth ds b = record { before = b.before; broken = b.broken; after = b.after; all = b.all; breaks = λ le. let deep = b.breaks in omega arith }
+refuses kinds.UnknownType ds b = record { before = b.before; broken = b.broken; after = b.after; all = b.all; breaks = b.breaks }
+refuses kinds.Duplicate ds b = record { before = b.before; broken = b.broken; after = b.after; all = b.all; breaks = b.breaks }
+refuses kinds.Limit ds b = record { before = b.before; broken = b.broken; after = b.after; all = b.all; breaks = b.breaks }
+refuses kinds.Label ds b = record { before = b.before; broken = b.broken; after = b.after; all = b.all; breaks = b.breaks }
+refuses kinds.Empty ds b = record { before = b.before; broken = b.broken; after = b.after; all = b.all; breaks = b.breaks }
+
+-- a text that spells declarations is refused for a rule that one of them breaks
+pub file_refuses : UnionReads → (text : List ℕ) (e : Refusal) (ds : List Declaration) → Spells text ds → file_at text ≡ Err e → Refuses e.kind ds
+file_refuses union text e ds spells h = let o : FileOut builtin_scope ds (Err e) = subst (FileOut builtin_scope ds) h (file_reads union text ds spells) in refuses e.kind ds o

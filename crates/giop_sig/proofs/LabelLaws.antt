@@ -1,0 +1,231 @@
+-- The numbers that labels name: two labels are the same where their numbers are.
+use Rattle.std.proofs.Common.{◌≡◌, ℕ, zero, suc, ◌<◌, Bool, true, false, cond, leb, pos, negsuc, List, [], ◌∷◌, map, get_or, Option, Some, None, eqb-true, refl, sym, ap, subst, ◌∙◌, arith}
+use Rattle.std.specs.List.{list_any, AllByRecursion, position}
+use Rattle.std.specs.Str.{bytes_eq}
+use Rattle.std.proofs.Math.IntN.{+ℤ_idl}
+use Rattle.std.proofs.lemmas.Bool.{eq-eqb}
+use Rattle.std.proofs.lemmas.Bool.Decides.{Decides-int_eq}
+use Rattle.std.proofs.lemmas.List.Quantifiers.{position-Some}
+use Rattle.std.proofs.lemmas.Slice.Eq.{bytes_eq-Decides}
+use mathlib.Core.Bool.{beq}
+use Rattle.giop_cdr.specs.declared.prim.Primitive.{Primitive}
+use Rattle.giop_cdr.specs.declared.prim.Primitive.TheVariants as prims
+use Rattle.giop_cdr.specs.declared.number.Number.{Number}
+use Rattle.giop_cdr.specs.declared.number.Number.TheVariants as numbers
+use Rattle.giop_sig.specs.Table.{Node, same_number}
+use Rattle.giop_sig.specs.Table as nodes
+use Rattle.giop_sig.specs.Grammar.{Value, Plain, Below, Truth, Enumerator, Label, Default, Of}
+use Rattle.giop_sig.specs.Scopes.{below, if_at_most, numbered, label_number}
+use Rattle.giop_sig.specs.Validity.{same_value, same_label}
+use Rattle.giop_sig.specs.UnionReading.{Mark, same_mark}
+
+-- ---- Booleans
+
+bool_same : (a b : Bool) → (a ≡ true → b ≡ true) → (b ≡ true → a ≡ true) → a ≡ b
+bool_same true b f g = sym (f refl)
+bool_same false true f g = g refl
+bool_same false false f g = refl
+
+beq_true : (a b : Bool) → beq a b ≡ true → a ≡ b
+beq_true true true e = refl
+beq_true true false e = absurd cc
+beq_true false true e = absurd cc
+beq_true false false e = refl
+
+beq_self : (a : Bool) → beq a a ≡ true
+beq_self true = refl
+beq_self false = refl
+
+-- ---- numbers and values
+
+number_same : (m n : Number) → same_number m n ≡ true → m ≡ n
+number_same (numbers.Unsigned m) (numbers.Unsigned n) e = ap numbers.Unsigned (eqb-true m n e)
+number_same (numbers.Unsigned m) (numbers.Signed n) e = absurd cc
+number_same (numbers.Unsigned m) (numbers.Bits n) e = absurd cc
+number_same (numbers.Unsigned m) (numbers.Truth n) e = absurd cc
+number_same (numbers.Unsigned m) (numbers.Char n) e = absurd cc
+number_same (numbers.Signed m) (numbers.Unsigned n) e = absurd cc
+number_same (numbers.Signed m) (numbers.Signed n) e = ap numbers.Signed ((Decides-int_eq m n).0 e)
+number_same (numbers.Signed m) (numbers.Bits n) e = absurd cc
+number_same (numbers.Signed m) (numbers.Truth n) e = absurd cc
+number_same (numbers.Signed m) (numbers.Char n) e = absurd cc
+number_same (numbers.Bits m) (numbers.Unsigned n) e = absurd cc
+number_same (numbers.Bits m) (numbers.Signed n) e = absurd cc
+number_same (numbers.Bits m) (numbers.Bits n) e = ap numbers.Bits (eqb-true m n e)
+number_same (numbers.Bits m) (numbers.Truth n) e = absurd cc
+number_same (numbers.Bits m) (numbers.Char n) e = absurd cc
+number_same (numbers.Truth m) (numbers.Unsigned n) e = absurd cc
+number_same (numbers.Truth m) (numbers.Signed n) e = absurd cc
+number_same (numbers.Truth m) (numbers.Bits n) e = absurd cc
+number_same (numbers.Truth m) (numbers.Truth n) e = ap numbers.Truth (beq_true m n e)
+number_same (numbers.Truth m) (numbers.Char n) e = absurd cc
+number_same (numbers.Char m) (numbers.Unsigned n) e = absurd cc
+number_same (numbers.Char m) (numbers.Signed n) e = absurd cc
+number_same (numbers.Char m) (numbers.Bits n) e = absurd cc
+number_same (numbers.Char m) (numbers.Truth n) e = absurd cc
+number_same (numbers.Char m) (numbers.Char n) e = ap numbers.Char (eqb-true m n e)
+
+number_self : (n : Number) → same_number n n ≡ true
+number_self (numbers.Unsigned n) = eq-eqb n n refl
+number_self (numbers.Signed n) = (Decides-int_eq n n).1 refl
+number_self (numbers.Bits n) = eq-eqb n n refl
+number_self (numbers.Truth b) = beq_self b
+number_self (numbers.Char n) = eq-eqb n n refl
+
+value_same : (v w : Value) → same_value v w ≡ true → v ≡ w
+value_same (Plain v) (Plain w) e = ap Plain (eqb-true v w e)
+value_same (Plain v) (Below w) e = absurd cc
+value_same (Plain v) (Truth w) e = absurd cc
+value_same (Plain v) (Enumerator w) e = absurd cc
+value_same (Below v) (Plain w) e = absurd cc
+value_same (Below v) (Below w) e = ap Below (eqb-true v w e)
+value_same (Below v) (Truth w) e = absurd cc
+value_same (Below v) (Enumerator w) e = absurd cc
+value_same (Truth v) (Plain w) e = absurd cc
+value_same (Truth v) (Below w) e = absurd cc
+value_same (Truth v) (Truth w) e = ap Truth (beq_true v w e)
+value_same (Truth v) (Enumerator w) e = absurd cc
+value_same (Enumerator v) (Plain w) e = absurd cc
+value_same (Enumerator v) (Below w) e = absurd cc
+value_same (Enumerator v) (Truth w) e = absurd cc
+value_same (Enumerator v) (Enumerator w) e = ap Enumerator ((bytes_eq-Decides v w).0 e)
+
+value_self : (v : Value) → same_value v v ≡ true
+value_self (Plain n) = eq-eqb n n refl
+value_self (Below n) = eq-eqb n n refl
+value_self (Truth b) = beq_self b
+value_self (Enumerator w) = (bytes_eq-Decides w w).1 refl
+
+-- ---- one value for each number
+
+-- what is below zero isn't 0
+abbrev pub IsAbove : Value → Type 0
+IsAbove (Below n) = 0 < n
+IsAbove v = Unit {0}
+
+-- the value of a primitive type that a number is
+abbrev value_from : Number → Value
+value_from (numbers.Unsigned n) = Plain n
+value_from (numbers.Signed (pos n)) = Plain n
+value_from (numbers.Signed (negsuc n)) = Below (suc n)
+value_from (numbers.Bits n) = Plain n
+value_from (numbers.Truth b) = Truth b
+value_from (numbers.Char n) = Plain n
+
+within : (b : Bool) (m n : Number) → cond b (Some m) None ≡ Some n → m ≡ n
+within true m n e = cc
+within false m n e = absurd cc
+
+from_below : (n : ℕ) → 0 < n → value_from (numbers.Signed (below n)) ≡ Below n
+from_below zero lt = absurd (omega arith)
+from_below (suc n) lt = ap (λ z. value_from (numbers.Signed z)) (+ℤ_idl (negsuc n))
+
+plain_again : (m n : Number) (most k : ℕ) → value_from m ≡ Plain k → if_at_most most k m ≡ Some n → value_from n ≡ Plain k
+plain_again m n most k is e = ap value_from (sym (within (leb k most) m n e)) ∙ is
+
+below_again : (n : Number) (most k : ℕ) → 0 < k → if_at_most most k (numbers.Signed (below k)) ≡ Some n → value_from n ≡ Below k
+below_again n most k lt e = ap value_from (sym (within (leb k most) (numbers.Signed (below k)) n e)) ∙ from_below k lt
+
+prim_again : (p : Primitive) (v : Value) (n : Number) → IsAbove v → label_number (nodes.prim p) v ≡ Some n → value_from n ≡ v
+prim_again prims.Octet v n above e = absurd cc
+prim_again prims.Char (Plain k) n above e = plain_again (numbers.Char k) n 255 k refl e
+prim_again prims.Char (Below k) n above e = absurd cc
+prim_again prims.Char (Truth k) n above e = absurd cc
+prim_again prims.Char (Enumerator k) n above e = absurd cc
+prim_again prims.Boolean (Plain k) n above e = absurd cc
+prim_again prims.Boolean (Below k) n above e = absurd cc
+prim_again prims.Boolean (Truth k) n above e = let same : numbers.Truth k ≡ n = cc in ap value_from (sym same)
+prim_again prims.Boolean (Enumerator k) n above e = absurd cc
+prim_again prims.Short (Plain k) n above e = plain_again (numbers.Signed (pos k)) n 32767 k refl e
+prim_again prims.Short (Below k) n above e = below_again n 32768 k above e
+prim_again prims.Short (Truth k) n above e = absurd cc
+prim_again prims.Short (Enumerator k) n above e = absurd cc
+prim_again prims.UShort (Plain k) n above e = plain_again (numbers.Unsigned k) n 65535 k refl e
+prim_again prims.UShort (Below k) n above e = absurd cc
+prim_again prims.UShort (Truth k) n above e = absurd cc
+prim_again prims.UShort (Enumerator k) n above e = absurd cc
+prim_again prims.Long (Plain k) n above e = plain_again (numbers.Signed (pos k)) n 2147483647 k refl e
+prim_again prims.Long (Below k) n above e = below_again n 2147483648 k above e
+prim_again prims.Long (Truth k) n above e = absurd cc
+prim_again prims.Long (Enumerator k) n above e = absurd cc
+prim_again prims.ULong (Plain k) n above e = plain_again (numbers.Unsigned k) n 4294967295 k refl e
+prim_again prims.ULong (Below k) n above e = absurd cc
+prim_again prims.ULong (Truth k) n above e = absurd cc
+prim_again prims.ULong (Enumerator k) n above e = absurd cc
+prim_again prims.LongLong (Plain k) n above e = plain_again (numbers.Signed (pos k)) n 9223372036854775807 k refl e
+prim_again prims.LongLong (Below k) n above e = below_again n 9223372036854775808 k above e
+prim_again prims.LongLong (Truth k) n above e = absurd cc
+prim_again prims.LongLong (Enumerator k) n above e = absurd cc
+prim_again prims.ULongLong (Plain k) n above e = plain_again (numbers.Unsigned k) n 18446744073709551615 k refl e
+prim_again prims.ULongLong (Below k) n above e = absurd cc
+prim_again prims.ULongLong (Truth k) n above e = absurd cc
+prim_again prims.ULongLong (Enumerator k) n above e = absurd cc
+prim_again prims.Float v n above e = absurd cc
+prim_again prims.Double v n above e = absurd cc
+
+numbered_is : (names : List (List ℕ)) (w : List ℕ) (o : Option ℕ) (n : Number) → position (bytes_eq w) names ≡ o → numbered o ≡ Some n → (i : ℕ) × (n ≡ numbers.Unsigned i) × (w ≡ get_or names i [])
+numbered_is names w None n p e = absurd cc
+numbered_is names w (Some i) n p e =
+    let same : n ≡ numbers.Unsigned i = cc in
+    (i, same, (bytes_eq-Decides w (get_or names i [])).0 (position-Some (bytes_eq w) names i [] p).1)
+
+unsigned_same : (i j : ℕ) → numbers.Unsigned i ≡ numbers.Unsigned j → i ≡ j
+unsigned_same i j e = cc
+
+enumerators_again : (names : List (List ℕ)) (v w : List ℕ) (n : Number) → numbered (position (bytes_eq v) names) ≡ Some n → numbered (position (bytes_eq w) names) ≡ Some n → v ≡ w
+enumerators_again names v w n e f =
+    let a = numbered_is names v (position (bytes_eq v) names) n refl e in
+    let b = numbered_is names w (position (bytes_eq w) names) n refl f in
+    a.2 ∙ ap (λ i. get_or names i []) (unsigned_same a.0 b.0 (sym a.1 ∙ b.1)) ∙ sym b.2
+
+values_again : (node : Node) (v w : Value) (n : Number) → IsAbove v → IsAbove w → label_number node v ≡ Some n → label_number node w ≡ Some n → v ≡ w
+values_again (nodes.prim p) v w n above also e f = sym (prim_again p v n above e) ∙ prim_again p w n also f
+values_again (nodes.enumeration names) (Enumerator v) (Enumerator w) n above also e f = ap Enumerator (enumerators_again names v w n e f)
+values_again (nodes.enumeration names) (Enumerator v) (Plain w) n above also e f = absurd cc
+values_again (nodes.enumeration names) (Enumerator v) (Below w) n above also e f = absurd cc
+values_again (nodes.enumeration names) (Enumerator v) (Truth w) n above also e f = absurd cc
+values_again (nodes.enumeration names) (Plain v) w n above also e f = absurd cc
+values_again (nodes.enumeration names) (Below v) w n above also e f = absurd cc
+values_again (nodes.enumeration names) (Truth v) w n above also e f = absurd cc
+values_again (nodes.text bound) v w n above also e f = absurd cc
+values_again (nodes.octets bound) v w n above also e f = absurd cc
+values_again (nodes.members parts) v w n above also e f = absurd cc
+values_again (nodes.union switch cases otherwise) v w n above also e f = absurd cc
+values_again (nodes.sequence bound element) v w n above also e f = absurd cc
+values_again (nodes.array count element) v w n above also e f = absurd cc
+
+-- ---- labels and what is kept of them
+
+-- the number that a label names, none for the default
+abbrev pub mark_of : Node → Label → Mark
+mark_of node Default = None
+mark_of node (Of v) = label_number node v
+
+-- a label that names a number, if any value
+abbrev pub IsKept : Node → Label → Type 0
+IsKept node Default = Unit {0}
+IsKept node (Of v) = (n : Number) × (label_number node v ≡ Some n) × IsAbove v
+
+some_same : (m n : Number) → Some m ≡ Some n → m ≡ n
+some_same m n e = cc
+
+of_marks : (node : Node) (v w : Value) (m n : Number) → IsAbove v → IsAbove w → label_number node v ≡ Some m → label_number node w ≡ Some n → same_number n m ≡ same_value v w
+of_marks node v w m n above also e f =
+    bool_same (same_number n m) (same_value v w)
+    (λ t. let same : n ≡ m = number_same n m t in
+    let one : v ≡ w = values_again node v w m above also e (f ∙ ap Some same) in
+    subst (λ u. same_value v u ≡ true) one (value_self v))
+    (λ t. let one : v ≡ w = value_same v w t in
+    let same : n ≡ m = some_same n m (sym f ∙ ap (label_number node) (sym one) ∙ e) in
+    subst (λ k. same_number n k ≡ true) same (number_self n))
+
+same_marks : (node : Node) (x y : Label) → IsKept node x → IsKept node y → same_mark (mark_of node y) (mark_of node x) ≡ same_label x y
+same_marks node Default Default k l = refl
+same_marks node Default (Of w) k l = rw l.1 refl
+same_marks node (Of v) Default k l = rw k.1 refl
+same_marks node (Of v) (Of w) k l = rw (k.1, l.1) (of_marks node v w k.0 l.0 k.2 l.2 k.1 l.1)
+
+-- a label stands among others where its number does
+pub any_marks : (node : Node) (x : Label) (seen : List Label) → IsKept node x → AllByRecursion (IsKept node) seen → list_any (λ s. same_mark s (mark_of node x)) (map (mark_of node) seen) ≡ list_any (same_label x) seen
+any_marks node x [] k all = refl
+any_marks node x (y ∷ ys) k all = rw (same_marks node x y k all.0, any_marks node x ys k all.1) refl

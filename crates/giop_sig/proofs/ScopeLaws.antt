@@ -1,0 +1,116 @@
+-- What is looked up in a scope, and that a scope stays one when types are added.
+use Rattle.std.proofs.Common.{◌≡◌, ℕ, ◌≤◌, Bool, true, false, cond, ◌||◌, List, [], ◌∷◌, ◌++◌, length, map, Option, Some, None, append_assoc, refl, sym, ap, subst, ◌∙◌, arith, Bor}
+use Rattle.std.specs.List.{AllByRecursion, list_any}
+use Rattle.std.specs.Map.{lookup}
+use Rattle.std.specs.Option.{option_map, option_copied, is_some}
+use Rattle.std.specs.Str.{bytes_eq}
+use Rattle.std.proofs.lemmas.List.{length-append, get_or_append_left, map-append}
+use Rattle.indexmap.specs.IndexMap.{insert_entry}
+use Rattle.giop_sig.proofs.Added.{entry_last}
+use Rattle.arrayvec.specs.ArrayVec.{ArrayVec}
+use Rattle.giop_cdr.specs.declared.prim.Primitive.TheVariants.{Octet}
+use Rattle.giop_sig.specs.declared.types.TypeId.{TypeId}
+use Rattle.giop_sig.specs.Table.{Node, Table, IsInner, TakesOctet, node_in, with_type}
+use Rattle.giop_sig.specs.Table as nodes
+use Rattle.giop_sig.specs.Builtin.{builtin_types}
+use Rattle.giop_sig.specs.RequestList.{flat}
+use Rattle.giop_sig.specs.Scopes.{Names, Scope, named, with_node, with_name}
+use Rattle.giop_sig.specs.ScopeViews.{name_view, scope_view, IsKnown, IsKnownType, IsDeclaredName, IsScope}
+
+-- ---- look-ups
+
+abbrev pub number_of_id : Option TypeId → Option ℕ
+number_of_id t = option_map (λ (x : TypeId). x.0) t
+
+abbrev pub key_is : ArrayVec ℕ → ArrayVec ℕ → Bool
+key_is a b = bytes_eq a.items b.items
+
+cond_map : {X Y : Type 0} (f : X → Y) (v : Bool) (x : X) (o : Option X) → cond v (Some (f x)) (option_map f o) ≡ option_map f (cond v (Some x) o)
+cond_map f true x o = refl
+cond_map f false x o = refl
+
+view_found : (key : ArrayVec ℕ) (es : List (ArrayVec ℕ × Option TypeId)) → lookup (bytes_eq key.items) (map name_view es) ≡ option_map number_of_id (lookup (key_is key) es)
+view_found key [] = refl
+view_found key (e ∷ es) =
+    ap (λ o. cond (bytes_eq key.items (e.0).items) (Some (number_of_id e.1)) o) (view_found key es) ∙ cond_map number_of_id (bytes_eq key.items (e.0).items) e.1 (lookup (key_is key) es)
+
+some_map : {X Y : Type 0} (f : X → Y) (o : Option X) → is_some (option_map f o) ≡ is_some o
+some_map f None = refl
+some_map f (Some x) = refl
+
+flat_map : (o : Option (Option TypeId)) → number_of_id (flat o) ≡ flat (option_map number_of_id o)
+flat_map None = refl
+flat_map (Some t) = refl
+
+-- what is found by a key, in the names of a scope
+pub name_found : (s : Scope) (t : Table) (es : List (ArrayVec ℕ × Option TypeId)) (key : ArrayVec ℕ) (w : List ℕ) → scope_view t es ≡ s → key.items ≡ w → lookup (bytes_eq w) s.names ≡ option_map number_of_id (lookup (key_is key) es)
+name_found s t es key w view same = ap (λ (x : Scope). lookup (bytes_eq w) x.names) (sym view) ∙ ap (λ v. lookup (bytes_eq v) (map name_view es)) (sym same) ∙ view_found key es
+
+pub name_declared : (s : Scope) (t : Table) (es : List (ArrayVec ℕ × Option TypeId)) (key : ArrayVec ℕ) (w : List ℕ) → scope_view t es ≡ s → key.items ≡ w → is_some (lookup (key_is key) es) ≡ is_some (lookup (bytes_eq w) s.names)
+name_declared s t es key w view same = sym (some_map number_of_id (lookup (key_is key) es)) ∙ ap is_some (sym (name_found s t es key w view same))
+
+pub name_typed : (s : Scope) (t : Table) (es : List (ArrayVec ℕ × Option TypeId)) (key : ArrayVec ℕ) (w : List ℕ) → scope_view t es ≡ s → key.items ≡ w → number_of_id (flat (lookup (key_is key) es)) ≡ named s.names w
+name_typed s t es key w view same = flat_map (lookup (key_is key) es) ∙ ap flat (sym (name_found s t es key w view same))
+
+-- ---- scopes that grow
+
+pub known_stays : (types more : List Node) (i : ℕ) → IsKnown types i → IsKnown (types ++ more) i
+known_stays types more i is = record {
+  below = let b = is.below in omega (arith, length-append types more);
+  takes = subst TakesOctet (sym (get_or_append_left types more (nodes.prim Octet) i is.below)) is.takes;
+}
+
+type_stays : (types more : List Node) (o : Option ℕ) → IsKnownType types o → IsKnownType (types ++ more) o
+type_stays types more None is = tt
+type_stays types more (Some i) is = known_stays types more i is
+
+names_stay : (types more : List Node) (names : Names) → AllByRecursion (IsDeclaredName types) names → AllByRecursion (IsDeclaredName (types ++ more)) names
+names_stay types more [] all = tt
+names_stay types more (e ∷ es) all = (record { short = (all.0).short; type = type_stays types more e.1 (all.0).type }, names_stay types more es all.1)
+
+-- a scope with a type more
+pub scope_grows : (s : Scope) (n : Node) → IsScope s → IsScope (with_node s n).0
+scope_grows s n is = record {
+  begins = let b = is.begins in (b.0 ++ n ∷ [], ap (λ types. types ++ n ∷ []) b.1 ∙ append_assoc builtin_types b.0 (n ∷ []));
+  names = names_stay s.table.types (n ∷ []) s.names is.names;
+}
+
+-- the fields after a type is added
+pub grown_draft : (t new : Table) (es : List (ArrayVec ℕ × Option TypeId)) (n : Node) → IsScope (scope_view t es) → new ≡ with_type t n → IsScope (scope_view new es)
+grown_draft t new es n is put = subst (λ u. IsScope (scope_view u es)) (sym put) (scope_grows (scope_view t es) n is)
+
+pub some_copied : {X : Type 0} (o : Option (Bor X)) → is_some o ≡ is_some (option_copied o)
+some_copied None = refl
+some_copied (Some x) = refl
+
+-- ---- a name more
+
+none_by : (key : ArrayVec ℕ) (e : ArrayVec ℕ × Option TypeId) (es : List (ArrayVec ℕ × Option TypeId)) (v : Bool) → key_is key e.0 ≡ v → cond v (Some e.1) (lookup (key_is key) es) ≡ None
+    → (lookup (key_is key) es ≡ None → list_any (λ (x : ArrayVec ℕ × Option TypeId). key_is key x.0) es ≡ false) → (v || list_any (λ (x : ArrayVec ℕ × Option TypeId). key_is key x.0) es) ≡ false
+none_by key e es true same h on = absurd cc
+none_by key e es false same h on = on h
+
+none_found : (key : ArrayVec ℕ) (es : List (ArrayVec ℕ × Option TypeId)) → lookup (key_is key) es ≡ None → list_any (λ (x : ArrayVec ℕ × Option TypeId). key_is key x.0) es ≡ false
+none_found key [] h = refl
+none_found key (e ∷ es) h = none_by key e es (key_is key e.0) refl h (none_found key es)
+
+none_before : {X Y : Type 0} (f : X → Y) (o : Option X) → option_map f o ≡ None → o ≡ None
+none_before f None e = refl
+none_before f (Some x) e = absurd cc
+
+-- the fields after a new name is put
+pub put_name : (s : Scope) (t : Table) (es new : List (ArrayVec ℕ × Option TypeId)) (key : ArrayVec ℕ) (v : Option TypeId) (w : List ℕ) → scope_view t es ≡ s → key.items ≡ w → lookup (bytes_eq w) s.names ≡ None → new ≡ insert_entry key_is es key v
+    → scope_view t new ≡ with_name s w (number_of_id v)
+put_name s t es new key v w view same none is =
+    let fresh : lookup (key_is key) es ≡ None = none_before number_of_id (lookup (key_is key) es) (sym (name_found s t es key w view same) ∙ none) in
+    let last : new ≡ es ++ (key, v) ∷ [] = is ∙ entry_last key_is es key v (none_found key es fresh) in
+    ap (scope_view t) last ∙ ap (λ (ns : Names). record { table = t; names = ns }) (map-append name_view es ((key, v) ∷ []))
+    ∙ ap (λ (x : Scope). with_name x key.items (number_of_id v)) view ∙ ap (λ n. with_name s n (number_of_id v)) same
+
+all_last : (types : List Node) (names : Names) (e : List ℕ × Option ℕ) → AllByRecursion (IsDeclaredName types) names → IsDeclaredName types e → AllByRecursion (IsDeclaredName types) (names ++ e ∷ [])
+all_last types [] e all is = (is, tt)
+all_last types (n ∷ ns) e all is = (all.0, all_last types ns e all.1 is)
+
+-- a scope with a name more
+pub scope_named : (s : Scope) (w : List ℕ) (o : Option ℕ) → IsScope s → length w ≤ 64 → IsKnownType s.table.types o → IsScope (with_name s w o)
+scope_named s w o is short known = record { begins = is.begins; names = all_last s.table.types s.names (w, o) is.names (record { short = short; type = known }) }

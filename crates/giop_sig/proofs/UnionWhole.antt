@@ -1,0 +1,10 @@
+-- Unions, as the file's laws ask for them.
+use Rattle.giop_sig.proofs.FileLaws.{UnionReads, UnionTakes}
+use Rattle.giop_sig.proofs.UnionReads.{union_reads}
+use Rattle.giop_sig.proofs.UnionDeclared.{union_takes}
+
+pub union_read : UnionReads
+union_read = union_reads
+
+pub union_taken : UnionTakes
+union_taken = union_takes

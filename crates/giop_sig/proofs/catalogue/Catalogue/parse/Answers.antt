@@ -1,0 +1,22 @@
+use Rattle.std.proofs.Common.{◌≤◌, sym, subst, ◌∙◌, arith}
+use Rattle.giop_sig.specs.Table.{Table}
+use Rattle.giop_sig.specs.Trees.{depth_of}
+use Rattle.giop_sig.specs.Outcomes.{Stops}
+use Rattle.giop_sig.specs.FileReading.{file_at}
+use Rattle.giop_sig.specs.Validity.{Refuses}
+use Rattle.giop_sig.proofs.FileLaws.{file_takes, file_valid, file_refuses}
+use Rattle.giop_sig.proofs.UnionWhole.{union_read, union_taken}
+use Rattle.giop_sig.proofs.catalogue.Catalogue.parse.Goals as goal
+
+pub returns-in-Ok-clause-ok : goal.returns-in-Ok-clause-ok
+returns-in-Ok-clause-ok c =
+    let text = c.args.text.now in
+    let s = file_takes union_taken text c.in-Ok.draft (let few = c.if-text-gt-TEXT_MAX.false in omega arith) c.in-Ok.ensures in
+    let shallow = subst (λ (t : Table). depth_of t.types ≤ 24) c.into_catalogue-catalogue.ensures c.laws.ensures.types.shallow in
+    let v = file_valid union_read text c.in-Ok.draft s.0 s.1 c.in-Ok.ensures shallow in
+    (s.0, s.1, v.0, c.into_catalogue-catalogue.ensures ∙ v.1)
+
+pub returns-in-Err-Refused-clause-err : goal.returns-in-Err-Refused-clause-err
+returns-in-Err-Refused-clause-err c = λ ds spells.
+    let e = subst (λ stop. Stops stop (file_at c.args.text.now)) c.in-Err-Refused.field-0-is c.in-Err-Refused.ensures in
+    subst (λ f. Refuses f.kind ds) (sym c.fault_in.ensures) (file_refuses union_read c.args.text.now c.in-Err-Refused.refusal ds spells e)

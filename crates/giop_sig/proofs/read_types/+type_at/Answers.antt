@@ -1,0 +1,6 @@
+use Rattle.std.proofs.Common.{◌-◌}
+use Rattle.giop_sig.proofs.TypeTaken.{type_takes}
+use Rattle.giop_sig.proofs.read_types.+type_at.Goals as goal
+
+pub sequence_of-requires : goal.sequence_of-requires
+sequence_of-requires t c = ((type_takes c.args.at (c.args.left - 1) c.args.draft.now _ _ c.in_ok-element.ensures).sound c.laws.ensures.scope).known

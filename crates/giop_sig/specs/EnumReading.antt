@@ -1,0 +1,63 @@
+-- Reading an enum from left to right, and what it adds to the scope.
+use Rattle.std.specs.Prelude.{ℕ, Bool, true, false, if◌then◌else◌, nat_le, List, [], ◌∷◌, ◌++◌, length, Option, Some, None, Result, Ok, Err}
+use Rattle.giop_tokens.specs.declared.fault.Refusal.{Refusal}
+use Rattle.giop_tokens.specs.declared.fault.SigFaultKind.TheVariants as kinds
+use Rattle.giop_tokens.specs.declared.marks.Mark.TheVariants as marks
+use Rattle.giop_tokens.specs.Tokens.{left_of}
+use Rattle.giop_tokens.specs.Reading.{◌>>=◌}
+use Rattle.giop_tokens.specs.Readers.{mark_at, mark_if}
+use Rattle.giop_tokens.specs.Names.{identifier_at}
+use Rattle.giop_sig.specs.Table as nodes
+use Rattle.giop_sig.specs.Scopes.{Scope, with_named}
+use Rattle.giop_sig.specs.Validity.{is_among}
+use Rattle.giop_sig.specs.Outcomes.{refused}
+use Rattle.giop_sig.specs.TypeReading.{added}
+use Rattle.giop_sig.specs.ItemReading.{declared_at, Declared}
+use Rattle.giop_sig.specs.Repeats.{in_steps}
+
+-- enumerators, and what follows them
+abbrev pub NamesRead : Type 0
+NamesRead = List (List ℕ) × List ℕ
+
+-- an enumerator behind others
+unfoldable pub enumerator_at : List (List ℕ) → List ℕ → Result NamesRead Refusal
+enumerator_at seen text = do
+  w ← identifier_at text
+  if is_among seen w.0 then Err (refused kinds.Duplicate text) else (if nat_le 1024 (length seen) then Err (refused kinds.Limit text) else Ok (seen ++ w.0 ∷ [], w.1))
+
+-- a comma, behind which another enumerator stands, or the closing mark
+abbrev pub names_end : NamesRead → Option (List ℕ) → Result (Bool × NamesRead) Refusal
+names_end names (Some rest) = Ok (false, (names.0, rest))
+names_end names None = do
+  rest ← mark_at marks.CloseBrace names.1
+  Ok (true, (names.0, rest))
+
+-- an enumerator, and the mark behind it
+unfoldable pub names_step : NamesRead → Result (Bool × NamesRead) Refusal
+names_step seen = do
+  names ← enumerator_at seen.0 seen.1
+  comma ← mark_if marks.Comma names.1
+  names_end names comma
+
+abbrev pub too_many_names : NamesRead → Refusal
+too_many_names names = refused kinds.Limit names.1
+
+abbrev pub names_by : List ℕ → Option (List ℕ) → Result NamesRead Refusal
+names_by text (Some rest) = Err (refused kinds.Empty text)
+names_by text None = in_steps names_step too_many_names 1025 ([], text)
+
+-- the enumerators of an enum, behind its opening mark
+unfoldable pub names_at : List ℕ → Result NamesRead Refusal
+names_at text = do
+  closed ← mark_if marks.CloseBrace text
+  names_by text closed
+
+-- an enum, behind its word
+unfoldable pub enumeration_at : Scope → List ℕ → Result Declared Refusal
+enumeration_at s text = do
+  n ← declared_at s s.table.declared text
+  o ← mark_at marks.OpenBrace n.1
+  names ← names_at o
+  r ← mark_at marks.Semicolon names.1
+  p ← added (left_of text) s (nodes.enumeration names.0)
+  Ok (with_named n.0 p, r)

@@ -1,0 +1,45 @@
+-- Reading a signature file from left to right.
+use Rattle.std.specs.Prelude.{ℕ, zero, suc, ◌==◌, if◌then◌else◌, List, length, Result, Ok, Err, codes}
+use Rattle.std.specs.Str.{bytes_eq}
+use Rattle.giop_tokens.specs.declared.fault.Refusal.{Refusal}
+use Rattle.giop_tokens.specs.declared.marks.Mark.TheVariants as marks
+use Rattle.giop_tokens.specs.Reading.{◌>>=◌}
+use Rattle.giop_tokens.specs.Readers.{misplaced, word_at, number_at, mark_at, keyword_at, end_at}
+use Rattle.giop_sig.specs.Scopes.{Scope, builtin_scope}
+use Rattle.giop_sig.specs.ItemReading.{Declared, structure_at, raise_at}
+use Rattle.giop_sig.specs.CallReading.{operation_at}
+use Rattle.giop_sig.specs.EnumReading.{enumeration_at}
+use Rattle.giop_sig.specs.UnionReading.{union_at}
+
+abbrev pub declaration_after : Scope → List ℕ → List ℕ → List ℕ → Result Declared Refusal
+declaration_after s text w rest =
+    if bytes_eq w (codes "enum") then enumeration_at s rest else
+    (if bytes_eq w (codes "struct") then structure_at s rest else
+    (if bytes_eq w (codes "union") then union_at s rest else
+    (if bytes_eq w (codes "exception") then raise_at s rest else
+    (if bytes_eq w (codes "operation") then operation_at s rest else Err (misplaced text)))))
+
+unfoldable pub declaration_at : Scope → List ℕ → Result Declared Refusal
+declaration_at s text = do
+  w ← word_at text
+  declaration_after s text w.0 w.1
+
+-- declarations up to the end of the text, in so many steps
+unfoldable pub declarations_run : ℕ → Scope → List ℕ → Result Scope Refusal
+declarations_run zero s text = Err (misplaced text)
+declarations_run (suc n) s text = do
+  over ← end_at text
+  if over then Ok s else (declaration_at s text >>= λ d. declarations_run n d.0 d.1)
+
+-- the version of the format, a number
+unfoldable pub version_at : List ℕ → Result (List ℕ) Refusal
+version_at text = do
+  n ← number_at text
+  if n.0 == 1 then Ok n.1 else Err (misplaced text)
+
+unfoldable pub file_at : List ℕ → Result Scope Refusal
+file_at text = do
+  k ← keyword_at (codes "signatures") text
+  v ← version_at k
+  r ← mark_at marks.Semicolon v
+  declarations_run (length text) builtin_scope r

@@ -1,0 +1,186 @@
+-- Signature files: what a list of declarations is, and the tokens that spell it (docs/FORMATS.md, Signature file). Each
+-- spelling is written in front of what follows it.
+use Rattle.std.specs.Prelude.{ℕ, Bool, true, false, List, [], ◌∷◌, Option, Some, None, codes}
+use Rattle.giop_cdr.specs.declared.prim.Primitive.{Primitive}
+use Rattle.giop_cdr.specs.declared.prim.Primitive.TheVariants as prims
+use Rattle.giop_tokens.specs.declared.marks.Mark.{Mark}
+use Rattle.giop_tokens.specs.declared.marks.Mark.TheVariants as marks
+use Rattle.giop_sig.specs.declared.read_calls.Direction.{Direction}
+use Rattle.giop_sig.specs.declared.read_calls.Direction.TheVariants as directions
+use Rattle.giop_tokens.specs.Tokens.{Token, word, number, negative, repository, mark}
+
+-- ---- types
+
+pub data TypeExpr : Type 0 where
+  Base : Primitive → TypeExpr
+  -- a string, perhaps with a bound
+  Text : Option ℕ → TypeExpr
+  -- an object reference
+  Reference : TypeExpr
+  -- an enum, struct or union by its name
+  Named : List ℕ → TypeExpr
+  SequenceOf : TypeExpr → Option ℕ → TypeExpr
+
+abbrev pub base_word : Primitive → List ℕ
+base_word prims.Octet = codes "octet"
+base_word prims.Char = codes "char"
+base_word prims.Boolean = codes "boolean"
+base_word prims.Short = codes "short"
+base_word prims.UShort = codes "ushort"
+base_word prims.Long = codes "long"
+base_word prims.ULong = codes "ulong"
+base_word prims.LongLong = codes "longlong"
+base_word prims.ULongLong = codes "ulonglong"
+base_word prims.Float = codes "float"
+base_word prims.Double = codes "double"
+
+-- a size between two marks, where there is one
+abbrev pub spell_between : Mark → Mark → Option ℕ → List Token → List Token
+spell_between before close None more = more
+spell_between before close (Some n) more = mark before ∷ number n ∷ mark close ∷ more
+
+-- the bound of a string: < N >
+abbrev pub spell_bound : Option ℕ → List Token → List Token
+spell_bound bound more = spell_between marks.OpenAngle marks.CloseAngle bound more
+
+-- the bound of a sequence, behind its element's type: , N
+abbrev pub spell_most : Option ℕ → List Token → List Token
+spell_most None more = more
+spell_most (Some n) more = mark marks.Comma ∷ number n ∷ more
+
+abbrev pub spell_type : TypeExpr → List Token → List Token
+spell_type (Base p) more = word (base_word p) ∷ more
+spell_type (Text bound) more = word (codes "string") ∷ spell_bound bound more
+spell_type Reference more = word (codes "Object") ∷ more
+spell_type (Named w) more = word w ∷ more
+spell_type (SequenceOf e bound) more = word (codes "sequence") ∷ mark marks.OpenAngle ∷ spell_type e (spell_most bound (mark marks.CloseAngle ∷ more))
+
+-- ---- items: members, cases and parameters
+
+-- a name with its type, an array where there is a length
+pub record Item : Type 0 where
+  pub type : TypeExpr
+  pub name : List ℕ
+  pub length : Option ℕ
+
+-- the length of an array: [ N ]
+abbrev pub spell_length : Option ℕ → List Token → List Token
+spell_length count more = spell_between marks.OpenBracket marks.CloseBracket count more
+
+abbrev pub spell_item : Item → List Token → List Token
+spell_item i more = spell_type i.type (word i.name ∷ spell_length i.length more)
+
+-- members, each with its semicolon, and the closing mark
+abbrev pub spell_items : List Item → List Token → List Token
+spell_items [] more = mark marks.CloseBrace ∷ more
+spell_items (i ∷ is) more = spell_item i (mark marks.Semicolon ∷ spell_items is more)
+
+-- ---- the names of an enum
+
+abbrev pub spell_more_names : List (List ℕ) → List Token → List Token
+spell_more_names [] more = mark marks.CloseBrace ∷ more
+spell_more_names (n ∷ ns) more = mark marks.Comma ∷ word n ∷ spell_more_names ns more
+
+-- names with commas between them, and the closing mark
+abbrev pub spell_names : List (List ℕ) → List Token → List Token
+spell_names [] more = mark marks.CloseBrace ∷ more
+spell_names (n ∷ ns) more = word n ∷ spell_more_names ns more
+
+-- ---- the cases of a union
+
+-- a value that a label names
+pub data Value : Type 0 where
+  Plain : ℕ → Value
+  Below : ℕ → Value
+  Truth : Bool → Value
+  Enumerator : List ℕ → Value
+
+abbrev pub truth_word : Bool → List ℕ
+truth_word true = codes "true"
+truth_word false = codes "false"
+
+abbrev pub spell_value : Value → List Token → List Token
+spell_value (Plain n) more = number n ∷ more
+spell_value (Below n) more = negative n ∷ more
+spell_value (Truth b) more = word (truth_word b) ∷ more
+spell_value (Enumerator w) more = word w ∷ more
+
+pub data Label : Type 0 where
+  Default : Label
+  Of : Value → Label
+
+abbrev pub spell_label : Label → List Token → List Token
+spell_label Default more = word (codes "default") ∷ mark marks.Colon ∷ more
+spell_label (Of v) more = word (codes "case") ∷ spell_value v (mark marks.Colon ∷ more)
+
+abbrev pub spell_labels : List Label → List Token → List Token
+spell_labels [] more = more
+spell_labels (l ∷ ls) more = spell_label l (spell_labels ls more)
+
+-- a case: one label or more, and the item that they select
+pub record UnionCase : Type 0 where
+  pub label : Label
+  pub others : List Label
+  pub item : Item
+
+abbrev pub spell_cases : List UnionCase → List Token → List Token
+spell_cases [] more = mark marks.CloseBrace ∷ more
+spell_cases (c ∷ cs) more = spell_label c.label (spell_labels c.others (spell_item c.item (mark marks.Semicolon ∷ spell_cases cs more)))
+
+-- ---- the parameters of an operation
+
+abbrev pub direction_word : Direction → List ℕ
+direction_word directions.In = codes "in"
+direction_word directions.Out = codes "out"
+direction_word directions.Inout = codes "inout"
+
+pub record Param : Type 0 where
+  pub direction : Direction
+  pub item : Item
+
+abbrev pub spell_param : Param → List Token → List Token
+spell_param p more = word (direction_word p.direction) ∷ spell_item p.item more
+
+abbrev pub spell_more_params : List Param → List Token → List Token
+spell_more_params [] more = mark marks.CloseParenthesis ∷ more
+spell_more_params (p ∷ ps) more = mark marks.Comma ∷ spell_param p (spell_more_params ps more)
+
+-- parameters with commas between them, and the closing mark
+abbrev pub spell_params : List Param → List Token → List Token
+spell_params [] more = mark marks.CloseParenthesis ∷ more
+spell_params (p ∷ ps) more = spell_param p (spell_more_params ps more)
+
+-- what an operation returns, perhaps nothing
+abbrev pub spell_return : Option TypeExpr → List Token → List Token
+spell_return None more = word (codes "void") ∷ more
+spell_return (Some e) more = spell_type e more
+
+-- ---- declarations
+
+pub data Declaration : Type 0 where
+  Enumeration : List ℕ → List (List ℕ) → Declaration
+  Structure : List ℕ → List Item → Declaration
+  -- its discriminator, its cases
+  Choice : List ℕ → TypeExpr → List UnionCase → Declaration
+  -- an exception: its name, its repository id, its members
+  Raise : List ℕ → List ℕ → List Item → Declaration
+  -- an operation: what it returns, its name, its parameters
+  Call : Option TypeExpr → List ℕ → List Param → Declaration
+
+abbrev pub spell : Declaration → List Token → List Token
+spell (Enumeration n names) more = word (codes "enum") ∷ word n ∷ mark marks.OpenBrace ∷ spell_names names (mark marks.Semicolon ∷ more)
+spell (Structure n items) more = word (codes "struct") ∷ word n ∷ mark marks.OpenBrace ∷ spell_items items (mark marks.Semicolon ∷ more)
+spell (Choice n switch cases) more =
+    word (codes "union") ∷ word n ∷ word (codes "switch") ∷ mark marks.OpenParenthesis
+    ∷ spell_type switch (mark marks.CloseParenthesis ∷ mark marks.OpenBrace ∷ spell_cases cases (mark marks.Semicolon ∷ more))
+spell (Raise n r items) more = word (codes "exception") ∷ word n ∷ repository r ∷ mark marks.OpenBrace ∷ spell_items items (mark marks.Semicolon ∷ more)
+spell (Call returned n params) more =
+    word (codes "operation") ∷ spell_return returned (word n ∷ mark marks.OpenParenthesis ∷ spell_params params (mark marks.Semicolon ∷ more))
+
+abbrev pub spell_all : List Declaration → List Token
+spell_all [] = []
+spell_all (d ∷ ds) = spell d (spell_all ds)
+
+-- the whole file
+abbrev pub spell_file : List Declaration → List Token
+spell_file ds = word (codes "signatures") ∷ number 1 ∷ mark marks.Semicolon ∷ spell_all ds

@@ -1,0 +1,129 @@
+-- Reading members from left to right: items, structs and exceptions.
+use Rattle.std.specs.Prelude.{ℕ, zero, suc, Bool, true, false, if◌then◌else◌, nat_le, nat_lt, List, [], ◌∷◌, ◌++◌, length, Option, Some, None, Result, Ok, Err}
+use Rattle.std.specs.Map.{lookup}
+use Rattle.std.specs.Option.{is_some}
+use Rattle.std.specs.Str.{bytes_eq}
+use Rattle.giop_tokens.specs.declared.fault.Refusal.{Refusal}
+use Rattle.giop_tokens.specs.declared.fault.SigFaultKind.TheVariants as kinds
+use Rattle.giop_tokens.specs.declared.marks.Mark.TheVariants as marks
+use Rattle.giop_tokens.specs.Tokens.{left_of}
+use Rattle.giop_tokens.specs.Reading.{◌>>=◌}
+use Rattle.giop_tokens.specs.Readers.{mark_at, mark_if, repository_at}
+use Rattle.giop_tokens.specs.Names.{identifier_at}
+use Rattle.giop_sig.specs.Table.{Part, exception_in}
+use Rattle.giop_sig.specs.Table as nodes
+use Rattle.giop_sig.specs.Scopes.{Scope, Placed, part, with_named, with_raised}
+use Rattle.giop_sig.specs.Validity.{is_among}
+use Rattle.giop_sig.specs.Outcomes.{refused}
+use Rattle.giop_sig.specs.TypeReading.{added, enclosed_at, type_at}
+
+-- ---- names
+
+-- a name behind those of its list, which may have so many
+unfoldable pub new_name_at : ℕ → List (List ℕ) → List ℕ → Result (List ℕ × List ℕ) Refusal
+new_name_at most seen text = do
+  n ← identifier_at text
+  if is_among seen n.0 then Err (refused kinds.Duplicate text) else (if nat_le most (length seen) then Err (refused kinds.Limit text) else Ok (n.0, n.1))
+
+-- the name of an enum, struct, union or exception, of which the scope has so many
+unfoldable pub declared_at : Scope → ℕ → List ℕ → Result (List ℕ × List ℕ) Refusal
+declared_at s count text = do
+  n ← identifier_at text
+  if is_some (lookup (bytes_eq n.0) s.names) then Err (refused kinds.Duplicate text) else (if nat_le 4096 count then Err (refused kinds.Limit text) else Ok (n.0, n.1))
+
+-- ---- items
+
+abbrev pub array_type : ℕ → Scope → ℕ → Option ℕ → Result Placed Refusal
+array_type at s element None = Ok (s, element)
+array_type at s element (Some n) = added at s (nodes.array n element)
+
+abbrev pub ItemRead : Type 0
+ItemRead = Scope × Part × List ℕ
+
+unfoldable pub item_at : ℕ → ℕ → List (List ℕ) → Scope → List ℕ → Result ItemRead Refusal
+item_at at most seen s text = do
+  t ← type_at at 25 s text
+  n ← new_name_at most seen t.2
+  l ← enclosed_at marks.OpenBracket marks.CloseBracket n.1
+  p ← array_type at t.0 t.1 l.0
+  Ok (p.0, part n.0 p.1, l.1)
+
+-- ---- members
+
+-- members that were read, with their names, and whether the closing mark was
+pub record Members : Type 0 where
+  pub scope : Scope
+  pub seen : List (List ℕ)
+  pub parts : List Part
+  pub rest : List ℕ
+  pub closed : Bool
+
+unfoldable pub member_at : ℕ → List (List ℕ) → List Part → Scope → List ℕ → Result Members Refusal
+member_at at seen parts s text = do
+  i ← item_at at 256 seen s text
+  r ← mark_at marks.Semicolon i.2
+  Ok (record { scope = i.0; seen = seen ++ (i.1).name ∷ []; parts = parts ++ i.1 ∷ []; rest = r; closed = false })
+
+abbrev pub member_after : ℕ → List (List ℕ) → List Part → Scope → List ℕ → Option (List ℕ) → Result Members Refusal
+member_after at seen parts s text (Some r) = Ok (record { scope = s; seen = seen; parts = parts; rest = r; closed = true })
+member_after at seen parts s text None = member_at at seen parts s text
+
+-- the closing mark, or a member more
+unfoldable pub member_step : ℕ → List (List ℕ) → List Part → Scope → List ℕ → Result Members Refusal
+member_step at seen parts s text = do
+  c ← mark_if marks.CloseBrace text
+  member_after at seen parts s text c
+
+abbrev pub MembersRead : Type 0
+MembersRead = Scope × List Part × List ℕ
+
+-- members up to the closing mark, in so many steps
+unfoldable pub members_run : ℕ → ℕ → List (List ℕ) → List Part → Scope → List ℕ → Result MembersRead Refusal
+members_run at zero seen parts s text = Err (refused kinds.Limit text)
+members_run at (suc n) seen parts s text = do
+  m ← member_step at seen parts s text
+  if m.closed then Ok (m.scope, m.parts, m.rest) else members_run at n m.seen m.parts m.scope m.rest
+
+abbrev pub members_at : ℕ → Scope → List ℕ → Result MembersRead Refusal
+members_at at s text = members_run at 257 [] [] s text
+
+abbrev pub unless_closed : List ℕ → Option (List ℕ) → Result (List ℕ) Refusal
+unless_closed text None = Ok text
+unless_closed text (Some r) = Err (refused kinds.Empty text)
+
+-- a list that doesn't end at once
+unfoldable pub filled_at : List ℕ → Result (List ℕ) Refusal
+filled_at text = do
+  c ← mark_if marks.CloseBrace text
+  unless_closed text c
+
+-- ---- declarations of members, each behind its first word
+
+abbrev pub Declared : Type 0
+Declared = Scope × List ℕ
+
+unfoldable pub structure_at : Scope → List ℕ → Result Declared Refusal
+structure_at s text = do
+  n ← declared_at s s.table.declared text
+  o ← mark_at marks.OpenBrace n.1
+  f ← filled_at o
+  m ← members_at (left_of text) s f
+  r ← mark_at marks.Semicolon m.2
+  p ← added (left_of text) m.0 (nodes.members m.1)
+  Ok (with_named n.0 p, r)
+
+-- a repository id that is new, and not too long
+unfoldable pub new_repository_at : Scope → List ℕ → Result (List ℕ × List ℕ) Refusal
+new_repository_at s text = do
+  i ← repository_at text
+  if nat_lt 128 (length i.0) then Err (refused kinds.Limit text) else (if is_some (exception_in s.table i.0) then Err (refused kinds.Duplicate text) else Ok (i.0, i.1))
+
+unfoldable pub raise_at : Scope → List ℕ → Result Declared Refusal
+raise_at s text = do
+  n ← declared_at s (length s.table.exceptions) text
+  i ← new_repository_at s n.1
+  o ← mark_at marks.OpenBrace i.1
+  m ← members_at (left_of text) s o
+  r ← mark_at marks.Semicolon m.2
+  p ← added (left_of text) m.0 (nodes.members m.1)
+  Ok (with_raised n.0 i.0 p, r)

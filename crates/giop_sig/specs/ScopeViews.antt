@@ -1,0 +1,32 @@
+-- What a caller sees of a draft, and what holds of it.
+use Rattle.std.specs.Prelude.{◌≡◌, ℕ, ◌≤◌, List, ◌++◌, length, map, Option, Some, None}
+use Rattle.std.specs.List.{AllByRecursion}
+use Rattle.std.specs.Option.{option_map}
+use Rattle.arrayvec.specs.ArrayVec.{ArrayVec}
+use Rattle.giop_sig.specs.declared.types.TypeId.{TypeId}
+use Rattle.giop_sig.specs.Table.{Node, Table, IsInner}
+use Rattle.giop_sig.specs.Builtin.{builtin_types}
+use Rattle.giop_sig.specs.Scopes.{Scope}
+
+abbrev pub name_view : ArrayVec ℕ × Option TypeId → List ℕ × Option ℕ
+name_view e = (e.0.items, option_map (λ t. t.0) e.1)
+
+abbrev pub scope_view : Table → List (ArrayVec ℕ × Option TypeId) → Scope
+scope_view t es = record { table = t; names = map name_view es }
+
+-- a type that others can have for a part
+abbrev pub IsKnown : List Node → ℕ → Type 0
+IsKnown types i = IsInner types (length types) i
+
+abbrev pub IsKnownType : List Node → Option ℕ → Type 0
+IsKnownType types None = Unit {0}
+IsKnownType types (Some i) = IsKnown types i
+
+pub record IsDeclaredName (types : List Node) (e : List ℕ × Option ℕ) : Type 0 where
+  pub short : length e.0 ≤ 64
+  pub type : IsKnownType types e.1
+
+-- the named types are in the table, and can be parts
+pub record IsScope (s : Scope) : Type 0 where
+  pub begins : (more : List Node) × (s.table.types ≡ builtin_types ++ more)
+  pub names : AllByRecursion (IsDeclaredName s.table.types) s.names

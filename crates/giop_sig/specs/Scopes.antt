@@ -1,0 +1,245 @@
+-- What declarations add: the types, operations and exceptions of a table, and the names that later declarations may use
+-- (docs/FORMATS.md, Signature file).
+use Rattle.std.specs.Prelude.{ℕ, ◌+◌, ◌==◌, ◌-ℤ◌, Bool, true, false, if◌then◌else◌, nat_le, ℤ, pos, List, [], ◌∷◌, ◌++◌, length, Option, Some, None, codes, position}
+use Rattle.std.specs.Map.{lookup}
+use Rattle.std.specs.Str.{bytes_eq}
+use Rattle.giop_cdr.specs.declared.prim.Primitive.{Primitive}
+use Rattle.giop_cdr.specs.declared.prim.Primitive.TheVariants as prims
+use Rattle.giop_cdr.specs.declared.number.Number.{Number}
+use Rattle.giop_cdr.specs.declared.number.Number.TheVariants as numbers
+use Rattle.giop_sig.specs.declared.read_calls.Direction.{Direction}
+use Rattle.giop_sig.specs.declared.read_calls.Direction.TheVariants as directions
+use Rattle.giop_sig.specs.declared.types.Selected.{Selected}
+use Rattle.giop_sig.specs.declared.types.Selected.TheVariants as selecteds
+use Rattle.giop_sig.specs.Table.{Part, Case, Node, Table, node_at, with_type, with_declared, with_operation, with_exception}
+use Rattle.giop_sig.specs.Table as nodes
+use Rattle.giop_sig.specs.Builtin.{builtin_table}
+use Rattle.giop_sig.specs.RequestList.{flat}
+use Rattle.giop_sig.specs.Grammar.{TypeExpr, Base, Text, Reference, Named, SequenceOf, Item, Value, Plain, Below, Truth, Enumerator, Label, Default, Of, UnionCase, Param, Declaration, Enumeration, Structure, Choice, Raise, Call}
+
+-- the names of enums, structs and unions, each with its type's number, and of exceptions, with none
+abbrev pub Names : Type 0
+Names = List (List ℕ × Option ℕ)
+
+-- what the declarations so far made
+pub record Scope : Type 0 where
+  pub table : Table
+  pub names : Names
+
+abbrev pub builtin_scope : Scope
+builtin_scope = record { table = builtin_table; names = [] }
+
+-- the type of a name
+abbrev pub named : Names → List ℕ → Option ℕ
+named names w = flat (lookup (bytes_eq w) names)
+
+abbrev pub number_or : Option ℕ → ℕ
+number_or None = 0
+number_or (Some n) = n
+
+-- ---- types
+
+-- a scope, and the number of a type in it
+abbrev pub Placed : Type 0
+Placed = Scope × ℕ
+
+-- one node more, and its number
+abbrev pub with_node : Scope → Node → Placed
+with_node s node = (record s { table = with_type s.table node }, length s.table.types)
+
+-- the primitives are the first of the built-in types
+abbrev pub base_number : Primitive → ℕ
+base_number prims.Octet = 0
+base_number prims.Char = 1
+base_number prims.Boolean = 2
+base_number prims.Short = 3
+base_number prims.UShort = 4
+base_number prims.Long = 5
+base_number prims.ULong = 6
+base_number prims.LongLong = 7
+base_number prims.ULongLong = 8
+base_number prims.Float = 9
+base_number prims.Double = 10
+
+-- a sequence of octets, whose type has the number 0, is of a kind of its own
+abbrev pub sequence_node : Option ℕ → ℕ → Node
+sequence_node bound element = if element == 0 then nodes.octets bound else nodes.sequence bound element
+
+abbrev pub place_text : Scope → Option ℕ → Placed
+place_text s None = (s, 11)
+place_text s (Some n) = with_node s (nodes.text (Some n))
+
+abbrev pub place_sequence : Option ℕ → Placed → Placed
+place_sequence bound p = with_node p.0 (sequence_node bound p.1)
+
+-- the types that an expression adds, and its own number
+unfoldable pub place : Scope → TypeExpr → Placed
+place s (Base p) = (s, base_number p)
+place s (Text bound) = place_text s bound
+place s Reference = (s, 17)
+place s (Named w) = (s, number_or (named s.names w))
+place s (SequenceOf e bound) = place_sequence bound (place s e)
+
+-- ---- items
+
+abbrev pub place_length : Option ℕ → Placed → Placed
+place_length None p = p
+place_length (Some n) p = with_node p.0 (nodes.array n p.1)
+
+abbrev pub place_item : Scope → Item → Placed
+place_item s i = place_length i.length (place s i.type)
+
+abbrev pub part : List ℕ → ℕ → Part
+part w number = record { name = w; type = number }
+
+abbrev pub item_part : Item → Placed → Part
+item_part i p = part i.name p.1
+
+abbrev pub with_part : Part → Scope × List Part → Scope × List Part
+with_part p x = (x.0, p ∷ x.1)
+
+-- the members of a struct, with the numbers of their types
+unfoldable pub place_items : Scope → List Item → Scope × List Part
+place_items s [] = (s, [])
+place_items s (i ∷ is) = with_part (item_part i (place_item s i)) (place_items (place_item s i).0 is)
+
+-- ---- the cases of a union
+
+-- the number that a signed type has for a label
+abbrev pub below : ℕ → ℤ
+below n = pos 0 -ℤ pos n
+
+abbrev pub if_at_most : ℕ → ℕ → Number → Option Number
+if_at_most most n number = if nat_le n most then Some number else None
+
+-- the enumerator of a name, by its number
+abbrev pub numbered : Option ℕ → Option Number
+numbered None = None
+numbered (Some i) = Some (numbers.Unsigned i)
+
+-- the number of a discriminator's type that a label names; none where the type has no such value
+abbrev pub label_number : Node → Value → Option Number
+label_number (nodes.prim prims.Char) (Plain n) = if_at_most 255 n (numbers.Char n)
+label_number (nodes.prim prims.Boolean) (Truth b) = Some (numbers.Truth b)
+label_number (nodes.prim prims.Short) (Plain n) = if_at_most 32767 n (numbers.Signed (pos n))
+label_number (nodes.prim prims.Short) (Below n) = if_at_most 32768 n (numbers.Signed (below n))
+label_number (nodes.prim prims.UShort) (Plain n) = if_at_most 65535 n (numbers.Unsigned n)
+label_number (nodes.prim prims.Long) (Plain n) = if_at_most 2147483647 n (numbers.Signed (pos n))
+label_number (nodes.prim prims.Long) (Below n) = if_at_most 2147483648 n (numbers.Signed (below n))
+label_number (nodes.prim prims.ULong) (Plain n) = if_at_most 4294967295 n (numbers.Unsigned n)
+label_number (nodes.prim prims.LongLong) (Plain n) = if_at_most 9223372036854775807 n (numbers.Signed (pos n))
+label_number (nodes.prim prims.LongLong) (Below n) = if_at_most 9223372036854775808 n (numbers.Signed (below n))
+label_number (nodes.prim prims.ULongLong) (Plain n) = if_at_most 18446744073709551615 n (numbers.Unsigned n)
+label_number (nodes.enumeration names) (Enumerator w) = numbered (position (bytes_eq w) names)
+label_number node v = None
+
+abbrev pub onto_some : Option Number → List Number → List Number
+onto_some None ns = ns
+onto_some (Some n) ns = n ∷ ns
+
+-- the numbers that labels name; default names none
+abbrev pub label_numbers : Node → List Label → List Number
+label_numbers node [] = []
+label_numbers node (Default ∷ ls) = label_numbers node ls
+label_numbers node (Of v ∷ ls) = onto_some (label_number node v) (label_numbers node ls)
+
+abbrev pub has_default : List Label → Bool
+has_default [] = false
+has_default (Default ∷ ls) = true
+has_default (Of v ∷ ls) = has_default ls
+
+abbrev pub labels_of : UnionCase → List Label
+labels_of c = c.label ∷ c.others
+
+abbrev pub union_case : Node → UnionCase → Placed → Case
+union_case node c p = record { labels = label_numbers node (labels_of c); part = item_part c.item p }
+
+abbrev pub with_case : Case → Scope × List Case → Scope × List Case
+with_case c x = (x.0, c ∷ x.1)
+
+-- the cases of a union whose discriminator has a type of this node
+unfoldable pub place_cases : Scope → Node → List UnionCase → Scope × List Case
+place_cases s node [] = (s, [])
+place_cases s node (c ∷ cs) = with_case (union_case node c (place_item s c.item)) (place_cases (place_item s c.item).0 node cs)
+
+-- what is selected where no label is the number: the case with the default, counted from the first
+abbrev pub default_from : ℕ → List UnionCase → Selected
+default_from i [] = selecteds.Nothing
+default_from i (c ∷ cs) = if has_default (labels_of c) then selecteds.Case i else default_from (i + 1) cs
+
+-- ---- the parameters of an operation
+
+-- a scope, and the members of an operation's requests and of its replies
+abbrev pub Ways : Type 0
+Ways = Scope × List Part × List Part
+
+abbrev pub onto_request : Direction → Part → List Part → List Part
+onto_request directions.In p ps = p ∷ ps
+onto_request directions.Out p ps = ps
+onto_request directions.Inout p ps = p ∷ ps
+
+abbrev pub onto_reply : Direction → Part → List Part → List Part
+onto_reply directions.In p ps = ps
+onto_reply directions.Out p ps = p ∷ ps
+onto_reply directions.Inout p ps = p ∷ ps
+
+abbrev pub with_param : Direction → Part → Ways → Ways
+with_param d p x = (x.0, onto_request d p x.1, onto_reply d p x.2)
+
+unfoldable pub place_params : Scope → List Param → Ways
+place_params s [] = (s, [], [])
+place_params s (p ∷ ps) = with_param p.direction (item_part p.item (place_item s p.item)) (place_params (place_item s p.item).0 ps)
+
+-- what an operation returns is a member of its replies
+abbrev pub place_return : Scope → Option TypeExpr → Scope × List Part
+place_return s None = (s, [])
+place_return s (Some e) = ((place s e).0, part (codes "return") (place s e).1 ∷ [])
+
+-- ---- declarations
+
+abbrev pub with_name : Scope → List ℕ → Option ℕ → Scope
+with_name s w number = record s { names = s.names ++ (w, number) ∷ [] }
+
+-- an enum, struct or union of a new name
+abbrev pub with_named : List ℕ → Placed → Scope
+with_named w p = with_name (record (p.0) { table = with_declared (p.0).table }) w (Some p.1)
+
+abbrev pub with_raised : List ℕ → List ℕ → Placed → Scope
+with_raised w repository p = with_name (record (p.0) { table = with_exception (p.0).table (record { repository = repository; members = p.1 }) }) w None
+
+abbrev pub with_call : List ℕ → ℕ → Placed → Scope
+with_call w request p = record (p.0) { table = with_operation (p.0).table (record { name = w; request = request; reply = p.1 }) }
+
+-- a struct of these members
+abbrev pub place_struct : Scope × List Part → Placed
+place_struct x = with_node x.0 (nodes.members x.1)
+
+abbrev pub place_union : ℕ → List UnionCase → Scope × List Case → Placed
+place_union switch cases x = with_node x.0 (nodes.union switch x.1 (default_from 0 cases))
+
+-- the cases of a union whose discriminator was placed
+abbrev pub place_choice : List UnionCase → Placed → Placed
+place_choice cases p = place_union p.1 cases (place_cases p.0 (node_at (p.0).table p.1) cases)
+
+-- the two structs of an operation, the request first
+abbrev pub place_call : List ℕ → List Part → Ways → Scope
+place_call w returned x = with_call w (length (x.0).table.types) (place_struct ((place_struct (x.0, x.1)).0, returned ++ x.2))
+
+abbrev pub place_operation : List ℕ → List Param → Scope × List Part → Scope
+place_operation w params x = place_call w x.1 (place_params x.0 params)
+
+-- the scope after a declaration
+unfoldable pub declare : Scope → Declaration → Scope
+declare s (Enumeration n names) = with_named n (with_node s (nodes.enumeration names))
+declare s (Structure n items) = with_named n (place_struct (place_items s items))
+declare s (Choice n switch cases) = with_named n (place_choice cases (place s switch))
+declare s (Raise n repository items) = with_raised n repository (place_struct (place_items s items))
+declare s (Call returned n params) = place_operation n params (place_return s returned)
+
+abbrev pub scope_after : Scope → List Declaration → Scope
+scope_after s [] = s
+scope_after s (d ∷ ds) = scope_after (declare s d) ds
+
+-- the table of a list of declarations, the built-in types included
+abbrev pub table : List Declaration → Table
+table ds = (scope_after builtin_scope ds).table

@@ -1,0 +1,123 @@
+-- Reading a type from left to right, and what it adds to the scope.
+use Rattle.std.specs.Prelude.{ℕ, zero, suc, ◌==◌, if◌then◌else◌, nat_le, nat_lt, List, length, Option, Some, None, Result, Ok, Err, codes}
+use Rattle.std.specs.Str.{bytes_eq}
+use Rattle.giop_tokens.specs.declared.fault.Refusal.{Refusal}
+use Rattle.giop_tokens.specs.declared.fault.SigFaultKind.TheVariants as kinds
+use Rattle.giop_tokens.specs.declared.marks.Mark.{Mark}
+use Rattle.giop_tokens.specs.declared.marks.Mark.TheVariants as marks
+use Rattle.giop_tokens.specs.Reading.{◌>>=◌}
+use Rattle.giop_tokens.specs.Readers.{misplaced, word_at, number_at, mark_at, mark_if}
+use Rattle.giop_tokens.specs.Names.{is_reserved}
+use Rattle.giop_sig.specs.Types.{depth}
+use Rattle.giop_sig.specs.Table.{Node}
+use Rattle.giop_sig.specs.Table as nodes
+use Rattle.giop_sig.specs.Trees.{grow, tree}
+use Rattle.giop_sig.specs.Scopes.{Scope, Placed, named, with_node, sequence_node}
+use Rattle.giop_sig.specs.Outcomes.{refused}
+
+-- too many levels, in the declaration whose name is at this place
+abbrev pub too_deep : ℕ → Refusal
+too_deep at = record { kind = kinds.Depth; left = at }
+
+-- one node more, where it isn't too deep
+unfoldable pub added : ℕ → Scope → Node → Result Placed Refusal
+added at s node = if nat_le (depth (grow (tree s.table) node)) 24 then Ok (with_node s node) else Err (too_deep at)
+
+-- ---- sizes
+
+-- a length or bound
+unfoldable pub size_at : List ℕ → Result (ℕ × List ℕ) Refusal
+size_at text = do
+  n ← number_at text
+  if n.0 == 0 then Err (refused kinds.Empty text) else (if nat_lt 4294967295 n.0 then Err (refused kinds.Limit text) else Ok (n.0, n.1))
+
+-- what was found by looking one token ahead
+abbrev pub size_within : Mark → List ℕ → Option (List ℕ) → Result (Option ℕ × List ℕ) Refusal
+size_within close text None = Ok (None, text)
+size_within close text (Some inner) = do
+  n ← size_at inner
+  r ← mark_at close n.1
+  Ok (Some n.0, r)
+
+-- a size between two marks, where the first stands
+unfoldable pub enclosed_at : Mark → Mark → List ℕ → Result (Option ℕ × List ℕ) Refusal
+enclosed_at open_mark close text = do
+  inner ← mark_if open_mark text
+  size_within close text inner
+
+abbrev pub size_behind : List ℕ → Option (List ℕ) → Result (Option ℕ × List ℕ) Refusal
+size_behind text None = Ok (None, text)
+size_behind text (Some inner) = do
+  n ← size_at inner
+  Ok (Some n.0, n.1)
+
+-- a size behind a comma, where one stands
+unfoldable pub most_at : List ℕ → Result (Option ℕ × List ℕ) Refusal
+most_at text = do
+  inner ← mark_if marks.Comma text
+  size_behind text inner
+
+-- ---- types
+
+-- what a type that was read is: a scope, its number, what follows
+abbrev pub TypeRead : Type 0
+TypeRead = Scope × ℕ × List ℕ
+
+abbrev pub base_of : List ℕ → Option ℕ
+base_of w =
+    if bytes_eq w (codes "octet") then Some 0 else
+    (if bytes_eq w (codes "char") then Some 1 else
+    (if bytes_eq w (codes "boolean") then Some 2 else
+    (if bytes_eq w (codes "short") then Some 3 else
+    (if bytes_eq w (codes "ushort") then Some 4 else
+    (if bytes_eq w (codes "long") then Some 5 else
+    (if bytes_eq w (codes "ulong") then Some 6 else
+    (if bytes_eq w (codes "longlong") then Some 7 else
+    (if bytes_eq w (codes "ulonglong") then Some 8 else
+    (if bytes_eq w (codes "float") then Some 9 else
+    (if bytes_eq w (codes "double") then Some 10 else None))))))))))
+
+abbrev pub text_type : ℕ → Scope → Option ℕ → Result Placed Refusal
+text_type at s None = Ok (s, 11)
+text_type at s (Some n) = added at s (nodes.text (Some n))
+
+-- a string, behind its word
+unfoldable pub text_at : ℕ → Scope → List ℕ → Result TypeRead Refusal
+text_at at s rest = do
+  b ← enclosed_at marks.OpenAngle marks.CloseAngle rest
+  t ← text_type at s b.0
+  Ok (t.0, t.1, b.1)
+
+-- a sequence, behind its word; element reads the element's type
+abbrev pub sequence_at : ℕ → (List ℕ → Result TypeRead Refusal) → List ℕ → Result TypeRead Refusal
+sequence_at at element rest = do
+  inner ← mark_at marks.OpenAngle rest
+  e ← element inner
+  b ← most_at e.2
+  r ← mark_at marks.CloseAngle b.1
+  t ← added at e.0 (sequence_node b.0 e.1)
+  Ok (t.0, t.1, r)
+
+abbrev pub found_type : Scope → List ℕ → List ℕ → Option ℕ → Result TypeRead Refusal
+found_type s text rest None = Err (refused kinds.UnknownType text)
+found_type s text rest (Some n) = Ok (s, n, rest)
+
+-- a type by its name, the first word of the text
+unfoldable pub named_type : Scope → List ℕ → List ℕ → List ℕ → Result TypeRead Refusal
+named_type s text w rest =
+    if is_reserved w then Err (misplaced text) else
+    (if nat_lt 64 (length w) then Err (refused kinds.Limit text) else found_type s text rest (named s.names w))
+
+abbrev pub type_after : ℕ → (List ℕ → Result TypeRead Refusal) → Scope → List ℕ → List ℕ → List ℕ → Option ℕ → Result TypeRead Refusal
+type_after at element s text w rest (Some base) = Ok (s, base, rest)
+type_after at element s text w rest None =
+    if bytes_eq w (codes "string") then text_at at s rest else
+    (if bytes_eq w (codes "Object") then Ok (s, 17, rest) else
+    (if bytes_eq w (codes "sequence") then sequence_at at element rest else named_type s text w rest))
+
+-- a type of at most so many words
+unfoldable pub type_at : ℕ → ℕ → Scope → List ℕ → Result TypeRead Refusal
+type_at at zero s text = Err (too_deep at)
+type_at at (suc left) s text = do
+  w ← word_at text
+  type_after at (type_at at left s) s text w.0 w.1 (base_of w.0)

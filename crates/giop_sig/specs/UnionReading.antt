@@ -1,0 +1,224 @@
+-- Reading a union from left to right, and what it adds to the scope.
+use Rattle.std.specs.Prelude.{ℕ, Bool, true, false, ◌||◌, if◌then◌else◌, nat_le, nat_lt, List, [], ◌∷◌, ◌++◌, length, Option, Some, None, is_some, Result, Ok, Err, codes}
+use Rattle.std.specs.List.{list_any}
+use Rattle.std.specs.Str.{bytes_eq}
+use Rattle.giop_cdr.specs.declared.number.Number.{Number}
+use Rattle.giop_cdr.specs.declared.prim.Primitive.TheVariants as prims
+use Rattle.giop_tokens.specs.declared.fault.Refusal.{Refusal}
+use Rattle.giop_tokens.specs.declared.fault.SigFaultKind.TheVariants as kinds
+use Rattle.giop_tokens.specs.declared.marks.Mark.TheVariants as marks
+use Rattle.giop_tokens.specs.Tokens.{Token, word, number, negative, repository, mark, left_of, next}
+use Rattle.giop_tokens.specs.Reading.{◌>>=◌}
+use Rattle.giop_tokens.specs.Readers.{misplaced, mark_at, keyword_at, mark_if, keyword_if}
+use Rattle.giop_tokens.specs.Names.{is_reserved}
+use Rattle.giop_sig.specs.declared.types.Selected.{Selected}
+use Rattle.giop_sig.specs.declared.types.Selected.TheVariants as selecteds
+use Rattle.giop_sig.specs.Table.{Part, Case, Node, node_at, same_number}
+use Rattle.giop_sig.specs.Table as nodes
+use Rattle.giop_sig.specs.Grammar.{Value, Plain, Below, Truth, Enumerator}
+use Rattle.giop_sig.specs.Scopes.{Scope, label_number, with_named}
+use Rattle.giop_sig.specs.Outcomes.{refused}
+use Rattle.giop_sig.specs.TypeReading.{added, TypeRead, type_at}
+use Rattle.giop_sig.specs.ItemReading.{declared_at, item_at, filled_at, Declared}
+use Rattle.giop_sig.specs.Repeats.{in_steps}
+
+-- ---- a label
+
+-- the value that a word is
+abbrev pub word_value : List ℕ → List ℕ → List ℕ → Result (Value × List ℕ) Refusal
+word_value text w rest =
+    if bytes_eq w (codes "true") then Ok (Truth true, rest) else
+    (if bytes_eq w (codes "false") then Ok (Truth false, rest) else
+    (if is_reserved w then Err (misplaced text) else
+    (if nat_lt 64 (length w) then Err (refused kinds.Limit text) else Ok (Enumerator w, rest))))
+
+abbrev pub token_value : List ℕ → Option Token → List ℕ → Result (Value × List ℕ) Refusal
+token_value text None rest = Err (misplaced text)
+token_value text (Some (word w)) rest = word_value text w rest
+token_value text (Some (number n)) rest = Ok (Plain n, rest)
+token_value text (Some (negative n)) rest = Ok (Below n, rest)
+token_value text (Some (repository r)) rest = Err (misplaced text)
+token_value text (Some (mark m)) rest = Err (misplaced text)
+
+-- the value of a label
+unfoldable pub value_at : List ℕ → Result (Value × List ℕ) Refusal
+value_at text = do
+  t ← next text
+  token_value text t.0 t.1
+
+-- a label that was read: the number that it names, none for the default
+abbrev pub Mark : Type 0
+Mark = Option Number
+
+abbrev pub same_mark : Mark → Mark → Bool
+same_mark None None = true
+same_mark (Some m) (Some n) = same_number m n
+same_mark _ _ = false
+
+abbrev pub LabelRead : Type 0
+LabelRead = Mark × List ℕ
+
+abbrev pub fitting : List ℕ → List ℕ → Option Number → Result LabelRead Refusal
+fitting text rest None = Err (refused kinds.Label text)
+fitting text rest (Some n) = Ok (Some n, rest)
+
+-- the number that a value of the discriminator's type names
+unfoldable pub number_of_value : Node → List ℕ → Result LabelRead Refusal
+number_of_value node text = do
+  v ← value_at text
+  fitting text v.1 (label_number node v.0)
+
+-- a label behind others of its union
+unfoldable pub fresh : List Mark → Mark → List ℕ → Result Mark Refusal
+fresh seen m text =
+    if list_any (λ s. same_mark s m) seen then Err (refused kinds.Duplicate text) else (if nat_le 1024 (length seen) then Err (refused kinds.Limit text) else Ok m)
+
+abbrev pub label_by : Node → List Mark → List ℕ → Option (List ℕ) → Result LabelRead Refusal
+label_by node seen text (Some inner) = do
+  v ← number_of_value node inner
+  m ← fresh seen v.0 inner
+  rest ← mark_at marks.Colon v.1
+  Ok (m, rest)
+label_by node seen text None = do
+  inner ← keyword_at (codes "default") text
+  m ← fresh seen None text
+  rest ← mark_at marks.Colon inner
+  Ok (m, rest)
+
+-- a label, with its colon
+unfoldable pub label_at : Node → List Mark → List ℕ → Result LabelRead Refusal
+label_at node seen text = do
+  value ← keyword_if (codes "case") text
+  label_by node seen text value
+
+-- ---- the labels of a case
+
+-- all labels of the union so far; of the case, the numbers, and whether it has the default; what follows
+abbrev pub LabelsRead : Type 0
+LabelsRead = List Mark × List Number × Bool × List ℕ
+
+abbrev pub with_label : LabelsRead → LabelRead → LabelsRead
+with_label ls (None, rest) = (ls.0 ++ None ∷ [], ls.1, true, rest)
+with_label ls (Some n, rest) = (ls.0 ++ Some n ∷ [], ls.1 ++ n ∷ [], ls.2, rest)
+
+-- whether a label comes
+unfoldable pub begins_label : List ℕ → Result Bool Refusal
+begins_label text = do
+  value ← keyword_if (codes "case") text
+  default ← keyword_if (codes "default") text
+  Ok (is_some value || is_some default)
+
+abbrev pub label_or_end : Node → LabelsRead → Bool → Result (Bool × LabelsRead) Refusal
+label_or_end node ls false = Ok (true, ls)
+label_or_end node ls true = do
+  l ← label_at node ls.0 ls.3
+  Ok (false, with_label ls l)
+
+-- a label more, where one comes
+unfoldable pub labels_step : Node → LabelsRead → Result (Bool × LabelsRead) Refusal
+labels_step node ls = do
+  more ← begins_label ls.3
+  label_or_end node ls more
+
+abbrev pub too_many_labels : LabelsRead → Refusal
+too_many_labels ls = refused kinds.Limit ls.3
+
+abbrev pub labels_by : Node → List Mark → List ℕ → Bool → Result LabelsRead Refusal
+labels_by node seen text false = Err (misplaced text)
+labels_by node seen text true = in_steps (labels_step node) too_many_labels 1025 (seen, [], false, text)
+
+-- the labels of a case, one at least
+unfoldable pub labels_at : Node → List Mark → List ℕ → Result LabelsRead Refusal
+labels_at node seen text = do
+  some ← begins_label text
+  labels_by node seen text some
+
+-- ---- cases
+
+-- the labels and names of the cases so far, the cases, and which of them has the default
+pub record Cases : Type 0 where
+  pub labels : List Mark
+  pub names : List (List ℕ)
+  pub cases : List Case
+  pub otherwise : Selected
+
+abbrev pub no_cases : Cases
+no_cases = record { labels = []; names = []; cases = []; otherwise = selecteds.Nothing }
+
+-- the first with the default
+abbrev pub chosen : Selected → Bool → ℕ → Selected
+chosen selecteds.Nothing true i = selecteds.Case i
+chosen selecteds.Nothing false i = selecteds.Nothing
+chosen (selecteds.Case j) default i = selecteds.Case j
+chosen selecteds.Refused default i = selecteds.Refused
+
+abbrev pub with_case : Cases → LabelsRead → Part → Cases
+with_case cs ls p = record {
+  labels = ls.0;
+  names = cs.names ++ p.name ∷ [];
+  cases = cs.cases ++ (record { labels = ls.1; part = p }) ∷ [];
+  otherwise = chosen cs.otherwise ls.2 (length cs.names);
+}
+
+abbrev pub CasesRead : Type 0
+CasesRead = Scope × Cases × List ℕ
+
+-- a case of a union in the declaration whose name is at this place, and whose discriminator has the type of a number
+unfoldable pub case_at : ℕ → ℕ → CasesRead → Result CasesRead Refusal
+case_at at switch x = do
+  ls ← labels_at (node_at (x.0).table switch) (x.1).labels x.2
+  i ← item_at at 256 (x.1).names x.0 ls.3
+  rest ← mark_at marks.Semicolon i.2
+  Ok (i.0, with_case x.1 ls i.1, rest)
+
+abbrev pub case_or_end : ℕ → ℕ → CasesRead → Option (List ℕ) → Result (Bool × CasesRead) Refusal
+case_or_end at switch x (Some rest) = Ok (true, (x.0, x.1, rest))
+case_or_end at switch x None = do
+  c ← case_at at switch x
+  Ok (false, c)
+
+-- the closing mark, or a case more
+unfoldable pub cases_step : ℕ → ℕ → CasesRead → Result (Bool × CasesRead) Refusal
+cases_step at switch x = do
+  closed ← mark_if marks.CloseBrace x.2
+  case_or_end at switch x closed
+
+abbrev pub too_many_cases : CasesRead → Refusal
+too_many_cases x = refused kinds.Limit x.2
+
+-- cases up to the closing mark, one at least
+unfoldable pub cases_at : ℕ → ℕ → Scope → List ℕ → Result CasesRead Refusal
+cases_at at switch s text = do
+  some ← filled_at text
+  in_steps (cases_step at switch) too_many_cases 257 (s, no_cases, some)
+
+-- ---- the declaration
+
+-- whether values of a type can be a discriminator's
+abbrev pub can_switch : Node → Bool
+can_switch (nodes.prim prims.Octet) = false
+can_switch (nodes.prim prims.Float) = false
+can_switch (nodes.prim prims.Double) = false
+can_switch (nodes.prim p) = true
+can_switch (nodes.enumeration names) = true
+can_switch node = false
+
+-- the type of a discriminator
+unfoldable pub switch_at : ℕ → Scope → List ℕ → Result TypeRead Refusal
+switch_at at s text = do
+  t ← type_at at 25 s text
+  if can_switch (node_at (t.0).table t.1) then Ok t else Err (refused kinds.Label text)
+
+-- a union, behind its word
+unfoldable pub union_at : Scope → List ℕ → Result Declared Refusal
+union_at s text = do
+  n ← declared_at s s.table.declared text
+  w ← keyword_at (codes "switch") n.1
+  p ← mark_at marks.OpenParenthesis w
+  t ← switch_at (left_of text) s p
+  q ← mark_at marks.CloseParenthesis t.2
+  o ← mark_at marks.OpenBrace q
+  cs ← cases_at (left_of text) t.1 t.0 o
+  r ← mark_at marks.Semicolon cs.2
+  u ← added (left_of text) cs.0 (nodes.union t.1 (cs.1).cases (cs.1).otherwise)
+  Ok (with_named n.0 u, r)

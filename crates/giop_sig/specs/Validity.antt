@@ -1,0 +1,259 @@
+-- When declarations are valid (docs/FORMATS.md, Signature file): six rules, each the kind of its refusal. What a kind asks of
+-- a declaration is what it asks of the names, sizes, lists and labels in it; of what isn't told it asks nothing.
+use Rattle.std.specs.Prelude.{◌≡◌, ℕ, ◌^◌, ◌<◌, ◌≤◌, ◌==◌, Bool, true, false, List, [], ◌∷◌, ◌++◌, length, map, Option, Some, None}
+use Rattle.std.specs.List.{list_any}
+use Rattle.std.specs.Map.{lookup}
+use Rattle.std.specs.Str.{bytes_eq}
+use mathlib.Core.Bool.{beq}
+use Rattle.giop_cdr.specs.declared.prim.Primitive.TheVariants as prims
+use Rattle.giop_cdr.specs.declared.number.Number.{Number}
+use Rattle.giop_tokens.specs.declared.fault.SigFaultKind.{SigFaultKind}
+use Rattle.giop_tokens.specs.declared.fault.SigFaultKind.TheVariants as kinds
+use Rattle.giop_tokens.specs.Names.{is_reserved}
+use Rattle.giop_tokens.specs.Tokens.{AreTokens}
+use Rattle.giop_sig.specs.Table.{Node, node_at, operation_in, exception_in}
+use Rattle.giop_sig.specs.Table as nodes
+use Rattle.giop_sig.specs.Trees.{depth_of}
+use Rattle.giop_sig.specs.Grammar.{TypeExpr, Base, Text, Reference, Named, SequenceOf, Item, Value, Plain, Below, Truth, Enumerator, Label, Default, Of, UnionCase, Param, Declaration, Enumeration, Structure, Choice, Raise, Call, spell_file}
+use Rattle.giop_sig.specs.Scopes.{Names, Scope, Placed, builtin_scope, named, place, label_number, labels_of, declare, scope_after}
+
+abbrev pub Kind : Type 0
+Kind = SigFaultKind
+
+-- ---- names and sizes
+
+-- a name is no reserved word
+abbrev pub IsFree : List ℕ → Type 0
+IsFree w = is_reserved w ≡ false
+
+-- a name that is used as a type
+abbrev pub OfTypeName : Kind → Names → List ℕ → Type 0
+OfTypeName kinds.Syntax names w = IsFree w
+OfTypeName kinds.Limit names w = length w ≤ 64
+OfTypeName kinds.UnknownType names w = (i : ℕ) × (named names w ≡ Some i)
+OfTypeName k names w = Unit {0}
+
+-- a bound, or the length of an array
+abbrev pub OfSize : Kind → ℕ → Type 0
+OfSize kinds.Empty n = 0 < n
+OfSize kinds.Limit n = n < 2 ^ 32
+OfSize k n = Unit {0}
+
+abbrev pub OfBound : Kind → Option ℕ → Type 0
+OfBound k None = Unit {0}
+OfBound k (Some n) = OfSize k n
+
+abbrev pub is_among : List (List ℕ) → List ℕ → Bool
+is_among seen w = list_any (λ n. bytes_eq n w) seen
+
+-- a name behind those of its list, which may have so many
+abbrev pub OfNewName : Kind → ℕ → List (List ℕ) → List ℕ → Type 0
+OfNewName kinds.Syntax most seen w = IsFree w
+OfNewName kinds.Limit most seen w = (length w ≤ 64) × (length seen < most)
+OfNewName kinds.Duplicate most seen w = is_among seen w ≡ false
+OfNewName k most seen w = Unit {0}
+
+-- a list that isn't empty
+abbrev pub OfSome : {X : Type 0} → Kind → List X → Type 0
+OfSome kinds.Empty [] = ⊥
+OfSome k xs = Unit {0}
+
+-- ---- types and items
+
+unfoldable pub OfType : Kind → Names → TypeExpr → Type 0
+OfType k names (Base p) = Unit {0}
+OfType k names (Text bound) = OfBound k bound
+OfType k names Reference = Unit {0}
+OfType k names (Named w) = OfTypeName k names w
+OfType k names (SequenceOf e bound) = OfType k names e × OfBound k bound
+
+abbrev pub OfItem : Kind → Names → ℕ → List (List ℕ) → Item → Type 0
+OfItem k names most seen i = OfType k names i.type × OfNewName k most seen i.name × OfBound k i.length
+
+-- items behind others of these names
+unfoldable pub OfItems : Kind → Names → ℕ → List (List ℕ) → List Item → Type 0
+OfItems k names most seen [] = Unit {0}
+OfItems k names most seen (i ∷ is) = OfItem k names most seen i × OfItems k names most (seen ++ i.name ∷ []) is
+
+-- enumerators behind others
+unfoldable pub OfNames : Kind → List (List ℕ) → List (List ℕ) → Type 0
+OfNames k seen [] = Unit {0}
+OfNames k seen (n ∷ ns) = OfNewName k 1024 seen n × OfNames k (seen ++ n ∷ []) ns
+
+-- ---- unions
+
+-- a type that can be a discriminator's
+abbrev pub IsDiscriminator : Node → Type 0
+IsDiscriminator (nodes.prim prims.Octet) = ⊥
+IsDiscriminator (nodes.prim prims.Float) = ⊥
+IsDiscriminator (nodes.prim prims.Double) = ⊥
+IsDiscriminator (nodes.prim p) = Unit {0}
+IsDiscriminator (nodes.enumeration names) = Unit {0}
+IsDiscriminator node = ⊥
+
+abbrev pub OfSwitch : Kind → Node → Type 0
+OfSwitch kinds.Label node = IsDiscriminator node
+OfSwitch k node = Unit {0}
+
+-- the name of an enumerator in a label
+abbrev pub OfEnumerator : Kind → List ℕ → Type 0
+OfEnumerator kinds.Syntax w = IsFree w
+OfEnumerator kinds.Limit w = length w ≤ 64
+OfEnumerator k w = Unit {0}
+
+-- a value of the discriminator's type
+abbrev pub OfFit : Kind → Node → Value → Type 0
+OfFit kinds.Label node v = (n : Number) × (label_number node v ≡ Some n)
+OfFit k node v = Unit {0}
+
+abbrev pub OfValueName : Kind → Value → Type 0
+OfValueName k (Plain n) = Unit {0}
+OfValueName k (Below n) = Unit {0}
+OfValueName k (Truth b) = Unit {0}
+OfValueName k (Enumerator w) = OfEnumerator k w
+
+abbrev pub OfLabelValue : Kind → Node → Label → Type 0
+OfLabelValue k node Default = Unit {0}
+OfLabelValue k node (Of v) = OfValueName k v × OfFit k node v
+
+abbrev pub same_value : Value → Value → Bool
+same_value (Plain m) (Plain n) = m == n
+same_value (Below m) (Below n) = m == n
+same_value (Truth a) (Truth b) = beq a b
+same_value (Enumerator v) (Enumerator w) = bytes_eq v w
+same_value _ _ = false
+
+abbrev pub same_label : Label → Label → Bool
+same_label Default Default = true
+same_label (Of v) (Of w) = same_value v w
+same_label _ _ = false
+
+-- a label behind those of its union
+abbrev pub OfNewLabel : Kind → List Label → Label → Type 0
+OfNewLabel kinds.Limit seen l = length seen < 1024
+OfNewLabel kinds.Duplicate seen l = list_any (same_label l) seen ≡ false
+OfNewLabel k seen l = Unit {0}
+
+abbrev pub OfLabel : Kind → Node → List Label → Label → Type 0
+OfLabel k node seen l = OfLabelValue k node l × OfNewLabel k seen l
+
+unfoldable pub OfLabels : Kind → Node → List Label → List Label → Type 0
+OfLabels k node seen [] = Unit {0}
+OfLabels k node seen (l ∷ ls) = OfLabel k node seen l × OfLabels k node (seen ++ l ∷ []) ls
+
+-- cases behind others of these labels and names
+unfoldable pub OfCases : Kind → Names → Node → List Label → List (List ℕ) → List UnionCase → Type 0
+OfCases k names node labels seen [] = Unit {0}
+OfCases k names node labels seen (c ∷ cs) =
+    OfLabels k node labels (labels_of c) × OfItem k names 256 seen c.item × OfCases k names node (labels ++ labels_of c) (seen ++ c.item.name ∷ []) cs
+
+-- the node of a discriminator's type
+abbrev pub placed_node : Placed → Node
+placed_node p = node_at (p.0).table p.1
+
+-- ---- declarations
+
+-- the name of an enum, struct, union or exception, of which the scope has so many
+abbrev pub OfDeclared : Kind → Scope → ℕ → List ℕ → Type 0
+OfDeclared kinds.Syntax s count w = IsFree w
+OfDeclared kinds.Limit s count w = (length w ≤ 64) × (count < 4096)
+OfDeclared kinds.Duplicate s count w = lookup (bytes_eq w) s.names ≡ None
+OfDeclared k s count w = Unit {0}
+
+-- the repository id of an exception
+abbrev pub OfRepository : Kind → Scope → List ℕ → Type 0
+OfRepository kinds.Limit s r = length r ≤ 128
+OfRepository kinds.Duplicate s r = exception_in s.table r ≡ None
+OfRepository k s r = Unit {0}
+
+-- the name of an operation
+abbrev pub OfOperation : Kind → Scope → List ℕ → Type 0
+OfOperation kinds.Limit s w = (length w ≤ 128) × (length s.table.operations < 4096)
+OfOperation kinds.Duplicate s w = operation_in s.table w ≡ None
+OfOperation k s w = Unit {0}
+
+abbrev pub OfReturn : Kind → Names → Option TypeExpr → Type 0
+OfReturn k names None = Unit {0}
+OfReturn k names (Some e) = OfType k names e
+
+abbrev pub items_of : List Param → List Item
+items_of ps = map (λ p. p.item) ps
+
+unfoldable pub OfDeclaration : Kind → Scope → Declaration → Type 0
+OfDeclaration k s (Enumeration n names) = OfDeclared k s s.table.declared n × OfSome k names × OfNames k [] names
+OfDeclaration k s (Structure n items) = OfDeclared k s s.table.declared n × OfSome k items × OfItems k s.names 256 [] items
+OfDeclaration k s (Choice n switch cases) =
+    OfDeclared k s s.table.declared n × OfType k s.names switch × OfSwitch k (placed_node (place s switch)) × OfSome k cases × OfCases k s.names (placed_node (place s switch)) [] [] cases
+OfDeclaration k s (Raise n r items) = OfDeclared k s (length s.table.exceptions) n × OfRepository k s r × OfItems k s.names 256 [] items
+OfDeclaration k s (Call returned n params) = OfReturn k s.names returned × OfOperation k s n × OfItems k s.names 255 [] (items_of params)
+
+-- ---- the rules, of a declaration behind those that made the scope
+
+-- each name that is used as a type is that of an enum, struct or union declared before it
+abbrev pub TypesAreKnown : Scope → Declaration → Type 0
+TypesAreKnown s d = OfDeclaration kinds.UnknownType s d
+
+-- names, repository ids and labels are new where they stand
+abbrev pub NamesAreDistinct : Scope → Declaration → Type 0
+NamesAreDistinct s d = OfDeclaration kinds.Duplicate s d
+
+-- enums, structs and unions have something in them, and no length or bound is 0
+abbrev pub IsNotEmpty : Scope → Declaration → Type 0
+IsNotEmpty s d = OfDeclaration kinds.Empty s d
+
+-- a discriminator is of a type that can be one, and each label is a value of it
+abbrev pub LabelsFit : Scope → Declaration → Type 0
+LabelsFit s d = OfDeclaration kinds.Label s d
+
+-- the declaration adds no type of more than 24 levels
+abbrev pub IsShallow : Scope → Declaration → Type 0
+IsShallow s d = depth_of (declare s d).table.types ≤ 24
+
+-- names are short, lengths and bounds fit in 32 bits, and there are not too many of anything
+abbrev pub IsWithinLimits : Scope → Declaration → Type 0
+IsWithinLimits s d = OfDeclaration kinds.Limit s d
+
+-- the names are no reserved words; this is grammar
+abbrev pub HasFreeNames : Scope → Declaration → Type 0
+HasFreeNames s d = OfDeclaration kinds.Syntax s d
+
+-- the rule of a kind
+abbrev pub Rule : Kind → Scope → Declaration → Type 0
+Rule kinds.Depth s d = IsShallow s d
+Rule k s d = OfDeclaration k s d
+
+-- ---- lists of declarations
+
+-- a rule holds of each, in the scope of those before it
+unfoldable pub Each : (Scope → Declaration → Type 0) → Scope → List Declaration → Type 0
+Each R s [] = Unit {0}
+Each R s (d ∷ ds) = R s d × Each R (declare s d) ds
+
+pub record AreValid (ds : List Declaration) : Type 0 where
+  pub known : Each TypesAreKnown builtin_scope ds
+  pub distinct : Each NamesAreDistinct builtin_scope ds
+  pub some : Each IsNotEmpty builtin_scope ds
+  pub labels : Each LabelsFit builtin_scope ds
+  pub shallow : Each IsShallow builtin_scope ds
+  pub within : Each IsWithinLimits builtin_scope ds
+
+-- the text is the file of these declarations
+pub record Spells (text : List ℕ) (ds : List Declaration) : Type 0 where
+  pub short : length text ≤ 1048576
+  pub tokens : AreTokens text (spell_file ds)
+  pub names : Each HasFreeNames builtin_scope ds
+
+-- the rule of a kind is broken by one of the declarations
+pub record IsBroken (k : Kind) (ds : List Declaration) : Type 0 where
+  pub before : List Declaration
+  pub broken : Declaration
+  pub after : List Declaration
+  pub all : ds ≡ before ++ broken ∷ after
+  pub breaks : Rule k (scope_after builtin_scope before) broken → ⊥
+
+-- a refusal of this kind, of a text that spells the declarations: only memory needs no reason
+abbrev pub Refuses : Kind → List Declaration → Type 0
+Refuses kinds.OutOfMemory ds = Unit {0}
+Refuses kinds.Token ds = ⊥
+Refuses kinds.Syntax ds = ⊥
+Refuses k ds = IsBroken k ds

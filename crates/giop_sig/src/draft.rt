@@ -1,0 +1,232 @@
+//! What the declarations so far made: a catalogue, and the names that later declarations may use.
+ghost use Rattle.std.specs.Prelude.{◌≡◌, ◌<◌, ◌≤◌, length, IfOk, IfErr, IfSome, IfNone, OnOk, None};
+ghost use Rattle.std.specs.Option.{option_map, is_some};
+ghost use Rattle.std.specs.Map.{lookup};
+ghost use Rattle.std.specs.Str.{bytes_eq};
+ghost use Rattle.giop_cdr.specs.declared.prim.Primitive.TheVariants as prims;
+ghost use Rattle.giop_sig.specs.Table.{IsFormed, node_at, prim, operation_in, exception_in};
+ghost use Rattle.giop_sig.specs.Scopes.{builtin_scope, named, with_name, with_named, with_raised, with_call};
+ghost use Rattle.giop_sig.specs.ScopeViews.{IsScope, IsKnown, IsKnownType};
+ghost use Rattle.giop_sig.specs.Outcomes.{Gives};
+ghost use Rattle.giop_sig.specs.TypeReading.{added};
+ghost use Rattle.giop_sig.specs.Views.{node_view, IsSized};
+ghost use Rattle.giop_sig.specs.Headers.{IsTable};
+
+use crate::catalogue::Catalogue;
+use crate::entries::Entry;
+use crate::stop::Stop;
+use crate::types::TypeId;
+use arrayvec::ArrayVec;
+use giop_tokens::{Refusal, SigFaultKind};
+use indexmap::IndexMap;
+use std::alloc::Global;
+use std::marker::Model;
+
+/// The octets of a name.
+pub(crate) type Key = ArrayVec<u8, 64>;
+
+/// The catalogue of the declarations so far, with the names of enums, structs and unions, each with its type, and of
+/// exceptions. A contract sees the `Scope`.
+#[derive(Drop)]
+pub(crate) struct Draft {
+    catalogue: Catalogue,
+    names: IndexMap<Key, Option<TypeId>>,
+}
+
+impl Model for Draft {
+    ghost use Rattle.giop_sig.specs.Scopes.{Scope};
+    ghost use Rattle.giop_sig.specs.ScopeViews.{scope_view, IsScope};
+
+    ghost Value = { Scope };
+
+    ghost view = { λ a. scope_view a.catalogue a.names.entries };
+
+    ghost invariant = { λ a. IsScope (scope_view a.catalogue a.names.entries) };
+}
+
+impl Draft {
+    /// The draft of no declarations.
+    pub(crate) fn new(alloc: Global) -> Result<Draft, Stop>
+        ensures ok { IfOk result (λ draft. draft ≡ builtin_scope) }
+        ensures err { IfErr result (λ stop. stop ≡ Stop.Memory) }
+    {
+        let Ok(catalogue) = Catalogue::builtin(alloc) else {
+            return Err(Stop::Memory);
+        };
+        Ok(Draft {
+            catalogue,
+            names: IndexMap::new(alloc),
+        })
+    }
+
+    /// What holds of every draft: it has no body, and is called for its contract.
+    pub(crate) fn laws(&self)
+        ensures scope { IsScope self.now }
+        ensures table { IsTable self.now.table }
+    {
+        let _names = &self.names;
+        self.catalogue.laws();
+    }
+
+    /// The type of an enum, struct or union, by its name.
+    pub(crate) fn type_named(&self, name: &[u8]) -> Option<TypeId>
+        requires { length name.now ≤ 64 }
+        ensures { option_map (λ t. t.0) result ≡ named self.now.names name.now }
+    {
+        let names = &self.names;
+        let key: Key = ArrayVec::try_from(name).unwrap();
+        *names.get(&key)?
+    }
+
+    /// Whether a name is declared, an exception's too.
+    pub(crate) fn is_declared(&self, name: &[u8]) -> bool
+        requires { length name.now ≤ 64 }
+        ensures { result ≡ is_some (lookup (bytes_eq name.now) self.now.names) }
+    {
+        let names = &self.names;
+        let key: Key = ArrayVec::try_from(name).unwrap();
+        names.get(&key).is_some()
+    }
+
+    /// Adds a type. One that is too deep is refused, in the declaration whose name is at this place.
+    #[tactic(auto, unfolding(crate::specs::TypeReading::added))]
+    pub(crate) fn add(&mut self, at: usize, entry: Entry) -> Result<TypeId, Stop>
+        requires { IsFormed self.old.table.types (length self.old.table.types) (node_view entry) }
+        ensures { Gives (λ t. (self.new, t.0)) result (added at self.old (node_view entry)) }
+    {
+        let _names = &self.names;
+        if self.catalogue.depth_above(&entry) > 24 {
+            return Err(Stop::Refused(Refusal {
+                kind: SigFaultKind::Depth,
+                left: at,
+            }));
+        }
+        let Ok(t) = self.catalogue.add_type(entry) else {
+            return Err(Stop::Memory);
+        };
+        Ok(t)
+    }
+
+    /// The entry of a type; none where no type has this number.
+    pub(crate) fn entry(&self, t: TypeId) -> Option<&Entry>
+        ensures some { IfSome result (λ entry. node_view entry.now ≡ node_at self.now.table t.0) }
+        ensures sized { IfSome result (λ entry. IsSized entry.now) }
+        ensures none { IfNone result (node_at self.now.table t.0 ≡ prim prims.Octet) }
+    {
+        let _names = &self.names;
+        if self.catalogue.has(t) {
+            Some(self.catalogue.entry(t))
+        } else {
+            None
+        }
+    }
+
+    /// How many enums, structs and unions are declared.
+    pub(crate) fn types_declared(&self) -> u32
+        ensures { result ≡ self.now.table.declared }
+    {
+        let _names = &self.names;
+        self.catalogue.counts().types
+    }
+
+    /// How many exceptions are declared.
+    pub(crate) fn exceptions_declared(&self) -> u32
+        ensures { result ≡ length self.now.table.exceptions }
+    {
+        let _names = &self.names;
+        self.catalogue.counts().exceptions
+    }
+
+    /// How many operations are declared.
+    pub(crate) fn operations_declared(&self) -> u32
+        ensures { result ≡ length self.now.table.operations }
+    {
+        let _names = &self.names;
+        self.catalogue.counts().operations
+    }
+
+    /// Whether an exception of this repository id is declared.
+    pub(crate) fn has_repository(&self, repository: &[u8]) -> bool
+        ensures { result ≡ is_some (exception_in self.now.table repository.now) }
+    {
+        let _names = &self.names;
+        self.catalogue.exception(repository).is_some()
+    }
+
+    /// Whether an operation of this name is declared.
+    pub(crate) fn has_operation(&self, name: &[u8]) -> bool
+        ensures { result ≡ is_some (operation_in self.now.table name.now) }
+    {
+        let _names = &self.names;
+        self.catalogue.operation(name).is_some()
+    }
+
+    // Adds a name that is new, perhaps a type's.
+    fn add_name(&mut self, name: &[u8], t: Option<TypeId>) -> Result<(), Stop>
+        requires short { length name.now ≤ 64 }
+        requires new { lookup (bytes_eq name.now) self.old.names ≡ None }
+        requires known { IsKnownType self.old.table.types (option_map (λ t. t.0) t) }
+        ensures added { OnOk result (self.new ≡ with_name self.old name.now (option_map (λ t. t.0) t)) }
+        ensures err { IfErr result (λ stop. stop ≡ Stop.Memory) }
+    {
+        let key: Key = ArrayVec::try_from(name).unwrap();
+        self.names.insert(key, t)?;
+        Ok(())
+    }
+
+    /// Declares an enum, struct or union by a new name.
+    pub(crate) fn name_type(&mut self, name: &[u8], t: TypeId) -> Result<(), Stop>
+        requires short { length name.now ≤ 64 }
+        requires new { lookup (bytes_eq name.now) self.old.names ≡ None }
+        requires few { self.old.table.declared < 4096 }
+        requires known { IsKnown self.old.table.types t.0 }
+        ensures added { OnOk result (self.new ≡ with_named name.now (self.old, t.0)) }
+        ensures err { IfErr result (λ stop. stop ≡ Stop.Memory) }
+    {
+        self.add_name(name, Some(t))?;
+        self.catalogue.count_declared();
+        Ok(())
+    }
+
+    /// Declares an exception by a new name and a new repository id.
+    pub(crate) fn raise(&mut self, name: &[u8], repository: &[u8], t: TypeId) -> Result<(), Stop>
+        requires short { length name.now ≤ 64 }
+        requires new { lookup (bytes_eq name.now) self.old.names ≡ None }
+        requires few { length self.old.table.exceptions < 4096 }
+        requires identity { length repository.now ≤ 128 }
+        requires different { exception_in self.old.table repository.now ≡ None }
+        requires known { t.0 < length self.old.table.types }
+        ensures added { OnOk result (self.new ≡ with_raised name.now repository.now (self.old, t.0)) }
+        ensures err { IfErr result (λ stop. stop ≡ Stop.Memory) }
+    {
+        self.add_name(name, None)?;
+        let Ok(()) = self.catalogue.add_exception(repository, t) else {
+            return Err(Stop::Memory);
+        };
+        Ok(())
+    }
+
+    /// Declares an operation by a new name.
+    pub(crate) fn call(&mut self, name: &[u8], request: TypeId, reply: TypeId) -> Result<(), Stop>
+        requires short { length name.now ≤ 128 }
+        requires new { operation_in self.old.table name.now ≡ None }
+        requires few { length self.old.table.operations < 4096 }
+        requires request { request.0 < length self.old.table.types }
+        requires reply { reply.0 < length self.old.table.types }
+        ensures added { OnOk result (self.new ≡ with_call name.now request.0 (self.old, reply.0)) }
+        ensures err { IfErr result (λ stop. stop ≡ Stop.Memory) }
+    {
+        let _names = &self.names;
+        let Ok(()) = self.catalogue.add_operation(name, request, reply) else {
+            return Err(Stop::Memory);
+        };
+        Ok(())
+    }
+
+    /// The catalogue.
+    pub(crate) fn into_catalogue(self) -> Catalogue
+        ensures { result ≡ self.table }
+    {
+        self.catalogue
+    }
+}

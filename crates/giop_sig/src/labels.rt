@@ -1,0 +1,178 @@
+//! The labels of a union: their values, and the numbers that these are of a discriminator's type.
+ghost use Rattle.std.specs.Prelude.{◌≡◌, ◌^◌, ◌<◌, ◌≤◌, pos, length, map, position};
+ghost use Rattle.std.specs.Str.{bytes_eq};
+ghost use Rattle.giop_sig.specs.Outcomes.{Gives};
+ghost use Rattle.giop_sig.specs.Table.{prim as prim_node};
+ghost use Rattle.giop_sig.specs.Scopes.{below, if_at_most, numbered, label_number};
+ghost use Rattle.giop_sig.specs.Grammar.{Plain, Below};
+ghost use Rattle.giop_sig.specs.Views.{node_view, IsSized};
+ghost use Rattle.giop_sig.specs.Labels.{value_view};
+ghost use Rattle.giop_sig.specs.UnionReading.{word_value, value_at};
+
+use crate::entries::Entry;
+use crate::read_types::refused;
+use crate::stop::Stop;
+use giop_cdr::{Number, Prim};
+use giop_tokens::{SigFaultKind, Token, is_reserved, misplaced, next};
+
+/// The most octets of a name.
+const NAME_MAX: usize = 64;
+
+/// The value of a label.
+#[derive(Clone, Copy, Debug, Drop)]
+pub(crate) enum LabelValue<'a> {
+    /// A number.
+    Plain(u64),
+    /// A number below zero, without its sign.
+    Below(u64),
+    /// `true` or `false`.
+    Truth(bool),
+    /// The name of an enumerator.
+    Enumerator(&'a [u8]),
+}
+
+// The value that a word is, the first of the text.
+fn word_value<'a>(
+    text: &[u8],
+    name: &'a [u8],
+    rest: &'a [u8],
+) -> Result<(LabelValue<'a>, &'a [u8]), Stop>
+    ensures { Gives (λ x. (value_view x.0, x.1.now)) result (word_value text.now name.now rest.now) }
+{
+    if name == b"true".as_slice() {
+        return Ok((LabelValue::Truth(true), rest));
+    }
+    if name == b"false".as_slice() {
+        return Ok((LabelValue::Truth(false), rest));
+    }
+    if is_reserved(name) {
+        return Err(Stop::Refused(misplaced(text)));
+    }
+    if name.len() > NAME_MAX {
+        return Err(Stop::Refused(refused(SigFaultKind::Limit, text)));
+    }
+    Ok((LabelValue::Enumerator(name), rest))
+}
+
+/// The value of a label.
+#[tactic(auto, unfolding(crate::specs::UnionReading::value_at))]
+pub(crate) fn value_at(text: &[u8]) -> Result<(LabelValue<'_>, &[u8]), Stop>
+    ensures { Gives (λ x. (value_view x.0, x.1.now)) result (value_at text.now) }
+{
+    let (token, rest) = next(text)?;
+    match token {
+        Some(Token::Word(name)) => word_value(text, name, rest),
+        Some(Token::Number(n)) => Ok((LabelValue::Plain(n), rest)),
+        Some(Token::Negative(n)) => Ok((LabelValue::Below(n), rest)),
+        _ => Err(Stop::Refused(misplaced(text))),
+    }
+}
+
+// A number that is at most so much, as a signed one.
+fn signed(most: u64, n: u64) -> Option<Number>
+    requires { most < 2 ^ 63 }
+    ensures { result ≡ if_at_most most n (Number.Signed (pos n)) }
+{
+    if n <= most {
+        Some(Number::Signed(n as i64))
+    } else {
+        None
+    }
+}
+
+fn unsigned(most: u64, n: u64) -> Option<Number>
+    ensures { result ≡ if_at_most most n (Number.Unsigned n) }
+{
+    if n <= most {
+        Some(Number::Unsigned(n))
+    } else {
+        None
+    }
+}
+
+// A number below zero, which without its sign is at most so much.
+fn signed_below(most: u64, n: u64) -> Option<Number>
+    requires { most ≤ 2 ^ 63 }
+    ensures { result ≡ if_at_most most n (Number.Signed (below n)) }
+{
+    if n > most {
+        None
+    } else if n == 9_223_372_036_854_775_808 {
+        Some(Number::Signed(i64::MIN))
+    } else {
+        Some(Number::Signed(0 - (n as i64)))
+    }
+}
+
+// The number of a primitive type that a number is.
+fn plain_label(prim: Prim, n: u64) -> Option<Number>
+    ensures { result ≡ label_number (prim_node prim) (Plain n) }
+{
+    match prim {
+        Prim::Char => {
+            if n <= 255 {
+                Some(Number::Char(n as u8))
+            } else {
+                None
+            }
+        }
+        Prim::Short => signed(32_767, n),
+        Prim::UShort => unsigned(65_535, n),
+        Prim::Long => signed(2_147_483_647, n),
+        Prim::ULong => unsigned(4_294_967_295, n),
+        Prim::LongLong => signed(9_223_372_036_854_775_807, n),
+        Prim::ULongLong => unsigned(18_446_744_073_709_551_615, n),
+        _ => None,
+    }
+}
+
+// The number of a primitive type that a number below zero is.
+fn below_label(prim: Prim, n: u64) -> Option<Number>
+    ensures { result ≡ label_number (prim_node prim) (Below n) }
+{
+    match prim {
+        Prim::Short => signed_below(32_768, n),
+        Prim::Long => signed_below(2_147_483_648, n),
+        Prim::LongLong => signed_below(9_223_372_036_854_775_808, n),
+        _ => None,
+    }
+}
+
+// The number of a primitive type that a value names.
+fn prim_label(prim: Prim, value: LabelValue<'_>) -> Option<Number>
+    ensures { result ≡ label_number (prim_node prim) (value_view value.entry) }
+{
+    match value {
+        LabelValue::Plain(n) => plain_label(prim, n),
+        LabelValue::Below(n) => below_label(prim, n),
+        LabelValue::Truth(truth) => match prim {
+            Prim::Boolean => Some(Number::Truth(truth)),
+            _ => None,
+        },
+        LabelValue::Enumerator(_) => None,
+    }
+}
+
+// The enumerator of a name.
+fn enumerator(names: &[Vec<u8>], name: &[u8]) -> Option<Number>
+    requires { length names.now ≤ 1024 }
+    ensures { result ≡ numbered (position (bytes_eq name.now) (map (λ n. n.items) names.now)) }
+{
+    let place = names.iter().position(|one| name == one.as_slice())?;
+    Some(Number::Unsigned(place as u64))
+}
+
+/// The number of a discriminator's type that a value names.
+pub(crate) fn label_number(switch: &Entry, value: LabelValue<'_>) -> Option<Number>
+    requires { IsSized switch.now }
+    ensures { result ≡ label_number (node_view switch.now) (value_view value.entry) }
+{
+    match switch {
+        Entry::Prim(prim) => prim_label(*prim, value),
+        Entry::Enumeration(names) => match value {
+            LabelValue::Enumerator(name) => enumerator(names, name),
+            _ => None,
+        },
+        _ => None,
+    }
+}

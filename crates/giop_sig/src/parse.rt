@@ -1,0 +1,116 @@
+//! Reading a signature file (docs/FORMATS.md).
+ghost use Rattle.std.specs.Prelude.{◌≡◌, List, IfOk, IfErr};
+ghost use Rattle.giop_sig.specs.Grammar.{Declaration};
+ghost use Rattle.giop_sig.specs.Scopes.{table};
+ghost use Rattle.giop_sig.specs.Validity.{AreValid, Spells, Refuses};
+ghost use Rattle.giop_sig.specs.Outcomes.{Gives};
+ghost use Rattle.giop_sig.specs.FileReading.{declaration_at, declarations_run, version_at, file_at};
+
+use crate::catalogue::Catalogue;
+use crate::draft::Draft;
+use crate::read_calls::operation_at;
+use crate::read_enums::enumeration;
+use crate::read_items::{raise_at, structure_at};
+use crate::read_unions::union;
+use crate::stop::Stop;
+use giop_tokens::{
+    Mark, SigFault, SigFaultKind, ends, fault_in, keyword, mark, misplaced, number, word,
+};
+use std::alloc::Global;
+
+/// The most octets of a text.
+const TEXT_MAX: usize = 1_048_576;
+/// The version of the format.
+const VERSION: u64 = 1;
+
+// A declaration: its first word tells which.
+#[tactic(auto, unfolding(crate::specs::FileReading::declaration_at))]
+fn declaration_at<'a>(alloc: Global, draft: &mut Draft, text: &'a [u8]) -> Result<&'a [u8], Stop>
+    ensures { Gives (λ x. (draft.new, x.now)) result (declaration_at draft.old text.now) }
+{
+    let (name, rest) = word(text)?;
+    if name == b"enum".as_slice() {
+        enumeration(alloc, draft, rest)
+    } else if name == b"struct".as_slice() {
+        structure_at(alloc, draft, rest)
+    } else if name == b"union".as_slice() {
+        union(alloc, draft, rest)
+    } else if name == b"exception".as_slice() {
+        raise_at(alloc, draft, rest)
+    } else if name == b"operation".as_slice() {
+        operation_at(alloc, draft, rest)
+    } else {
+        Err(Stop::Refused(misplaced(text)))
+    }
+}
+
+// Declarations up to the end of the text, in so many steps.
+fn declarations(alloc: Global, draft: Draft, steps: usize, text: &[u8]) -> Result<Draft, Stop>
+    ensures { Gives (λ x. x) result (declarations_run steps draft text.now) }
+{
+    let mut draft = draft;
+    let mut rest = text;
+    for _ in 0..steps {
+        if ends(rest)? {
+            return Ok(draft);
+        }
+        rest = declaration_at(alloc, &mut draft, rest)?;
+    }
+    Err(Stop::Refused(misplaced(rest)))
+}
+
+// The version of the format.
+#[tactic(auto, unfolding(crate::specs::FileReading::version_at))]
+fn version_at(text: &[u8]) -> Result<&[u8], Stop>
+    ensures { Gives (λ x. x.now) result (version_at text.now) }
+{
+    let (n, rest) = number(text)?;
+    if n == VERSION {
+        Ok(rest)
+    } else {
+        Err(Stop::Refused(misplaced(text)))
+    }
+}
+
+// The whole file.
+#[tactic(auto, unfolding(crate::specs::FileReading::file_at))]
+fn file_at(alloc: Global, text: &[u8]) -> Result<Draft, Stop>
+    ensures { Gives (λ x. x) result (file_at text.now) }
+{
+    let rest = keyword(text, b"signatures")?;
+    let rest = version_at(rest)?;
+    let rest = mark(rest, Mark::Semicolon)?;
+    let draft = Draft::new(alloc)?;
+    declarations(alloc, draft, text.len(), rest)
+}
+
+impl Catalogue {
+    /// The catalogue of a signature file: the types, operations and exceptions that its text declares, with the built-in
+    /// types. A refusal tells the first rule that is broken, and its line; nothing is kept after it.
+    pub fn parse(alloc: Global, text: &[u8]) -> Result<Catalogue, SigFault>
+        // The text spells some valid declarations, and this is their table.
+        ensures ok { IfOk result (λ c. (ds : List Declaration) × Spells text.now ds × AreValid ds × (c ≡ table ds)) }
+        // Of a text that spells declarations, the refusal is that of a rule which one of them breaks, unless memory was
+        // refused.
+        ensures err { (ds : List Declaration) → Spells text.now ds → IfErr result (λ f. Refuses f.kind ds) }
+    {
+        if text.len() > TEXT_MAX {
+            return Err(SigFault {
+                line: 1,
+                kind: SigFaultKind::Limit,
+            });
+        }
+        match file_at(alloc, text) {
+            Ok(draft) => {
+                let catalogue = draft.into_catalogue();
+                catalogue.laws();
+                Ok(catalogue)
+            }
+            Err(Stop::Memory) => Err(SigFault {
+                line: 0,
+                kind: SigFaultKind::OutOfMemory,
+            }),
+            Err(Stop::Refused(refusal)) => Err(fault_in(text, refusal)),
+        }
+    }
+}

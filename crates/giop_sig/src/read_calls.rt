@@ -1,0 +1,235 @@
+//! Reading operations.
+ghost use Rattle.std.specs.Prelude.{◌≡◌, ◌<◌, length, map};
+ghost use Rattle.giop_sig.specs.Outcomes.{Gives};
+ghost use Rattle.giop_sig.specs.Views.{part_view};
+ghost use Rattle.giop_sig.specs.CallReading.{Way, return_at, new_operation_at, direction_of, direction_at, in_request, in_reply, param_step, params_run, params_at, operation_at, no_way};
+ghost use Rattle.giop_sig.specs.Scopes.{part};
+ghost use Rattle.giop_sig.specs.WayViews.{way_view};
+
+use crate::draft::Draft;
+use crate::entries::{Entry, PartEntry};
+use crate::read_items::{DECLARED_MAX, WORDS_MAX, item_at};
+use crate::read_types::{refused, type_at};
+use crate::stop::Stop;
+use crate::types::TypeId;
+use giop_tokens::{
+    Mark, SigFaultKind, left_of, mark, misplaced, operation_name, starts_with_keyword,
+    starts_with_mark, word,
+};
+use std::alloc::Global;
+
+/// The most parameters of an operation.
+const PARAMS_MAX: usize = 255;
+
+/// Which way a parameter goes.
+#[derive(Clone, Copy, Debug, Drop)]
+pub(crate) enum Direction {
+    In,
+    Out,
+    Inout,
+}
+
+// A part of a name.
+fn part_of(alloc: Global, name: &[u8], type_id: TypeId) -> Result<PartEntry, Stop>
+    ensures { Gives part_view result (Ok (part name.now type_id.0)) }
+{
+    Ok(PartEntry {
+        name: Vec::from_slice(alloc, name)?,
+        type_id,
+    })
+}
+
+// What an operation returns, as a member of its replies.
+#[tactic(auto, unfolding(crate::specs::CallReading::return_at))]
+fn return_at<'a>(
+    alloc: Global,
+    draft: &mut Draft,
+    at: usize,
+    text: &'a [u8],
+) -> Result<(Vec<PartEntry>, &'a [u8]), Stop>
+    ensures { Gives (λ x. (draft.new, map part_view x.0.items, x.1.now)) result (return_at at draft.old text.now) }
+{
+    let mut returned = Vec::new(alloc);
+    if let Some(rest) = starts_with_keyword(text, b"void")? {
+        return Ok((returned, rest));
+    }
+    let (t, rest) = type_at(draft, at, WORDS_MAX, text)?;
+    returned.push(part_of(alloc, b"return", t)?)?;
+    Ok((returned, rest))
+}
+
+// The name of an operation, which is new.
+#[tactic(auto, unfolding(crate::specs::CallReading::new_operation_at))]
+fn new_operation_at<'a>(draft: &Draft, text: &'a [u8]) -> Result<(&'a [u8], &'a [u8]), Stop>
+    ensures { Gives (λ x. (x.0.now, x.1.now)) result (new_operation_at draft.now text.now) }
+{
+    let (name, rest) = operation_name(text)?;
+    if draft.has_operation(name) {
+        return Err(Stop::Refused(refused(SigFaultKind::Duplicate, text)));
+    }
+    if draft.operations_declared() >= DECLARED_MAX {
+        return Err(Stop::Refused(refused(SigFaultKind::Limit, text)));
+    }
+    Ok((name, rest))
+}
+
+// The direction of a word.
+fn direction_of(name: &[u8]) -> Option<Direction>
+    ensures { result ≡ direction_of name.now }
+{
+    if name == b"in".as_slice() {
+        Some(Direction::In)
+    } else if name == b"out".as_slice() {
+        Some(Direction::Out)
+    } else if name == b"inout".as_slice() {
+        Some(Direction::Inout)
+    } else {
+        None
+    }
+}
+
+#[tactic(auto, unfolding(crate::specs::CallReading::direction_at))]
+fn direction_at(text: &[u8]) -> Result<(Direction, &[u8]), Stop>
+    ensures { Gives (λ x. (x.0, x.1.now)) result (direction_at text.now) }
+{
+    let (name, rest) = word(text)?;
+    match direction_of(name) {
+        None => Err(Stop::Refused(misplaced(text))),
+        Some(direction) => Ok((direction, rest)),
+    }
+}
+
+// Adds a parameter to the members of requests, where it is one.
+fn to_request(
+    alloc: Global,
+    parts: &mut Vec<PartEntry>,
+    direction: Direction,
+    name: &[u8],
+    t: TypeId,
+) -> Result<(), Stop>
+    ensures { Gives (λ x. map part_view parts.new.items) result (Ok (in_request direction (part name.now t.0) (map part_view parts.old.items))) }
+{
+    match direction {
+        Direction::Out => {}
+        Direction::In => parts.push(part_of(alloc, name, t)?)?,
+        Direction::Inout => parts.push(part_of(alloc, name, t)?)?,
+    }
+    Ok(())
+}
+
+// Adds a parameter to the members of replies, where it is one.
+fn to_reply(
+    alloc: Global,
+    parts: &mut Vec<PartEntry>,
+    direction: Direction,
+    name: &[u8],
+    t: TypeId,
+) -> Result<(), Stop>
+    ensures { Gives (λ x. map part_view parts.new.items) result (Ok (in_reply direction (part name.now t.0) (map part_view parts.old.items))) }
+{
+    match direction {
+        Direction::In => {}
+        Direction::Out => parts.push(part_of(alloc, name, t)?)?,
+        Direction::Inout => parts.push(part_of(alloc, name, t)?)?,
+    }
+    Ok(())
+}
+
+/// Parameters that were read: their names, and the members of requests and of replies.
+#[derive(Drop)]
+struct Ways<'a> {
+    seen: Vec<&'a [u8]>,
+    request: Vec<PartEntry>,
+    reply: Vec<PartEntry>,
+}
+
+// Reads a parameter and the mark behind it: whether it was the closing one, and what follows.
+#[tactic(auto, unfolding(crate::specs::CallReading::param_step))]
+fn param_step<'a>(
+    alloc: Global,
+    draft: &mut Draft,
+    at: usize,
+    ways: &mut Ways<'a>,
+    text: &'a [u8],
+) -> Result<(bool, &'a [u8]), Stop>
+    ensures { Gives
+        (λ x. record { scope = draft.new; seen = map (λ n. n.now) ways.new.seen.items; request = map part_view ways.new.request.items; reply = map part_view ways.new.reply.items; rest = x.1.now; closed = x.0 })
+        result
+        (param_step at (way_view ways.old) draft.old text.now) }
+{
+    let (direction, rest) = direction_at(text)?;
+    let (name, t, rest) = item_at(draft, at, PARAMS_MAX, ways.seen.as_slice(), rest)?;
+    ways.seen.push(name)?;
+    to_request(alloc, &mut ways.request, direction, name, t)?;
+    to_reply(alloc, &mut ways.reply, direction, name, t)?;
+    if let Some(rest) = starts_with_mark(rest, Mark::Comma)? {
+        return Ok((false, rest));
+    }
+    let rest = mark(rest, Mark::CloseParenthesis)?;
+    Ok((true, rest))
+}
+
+// Parameters up to the closing mark, behind what the operation returns.
+#[tactic(auto, unfolding(crate::specs::CallReading::params_at))]
+fn params_at<'a>(
+    alloc: Global,
+    draft: &mut Draft,
+    at: usize,
+    returned: Vec<PartEntry>,
+    text: &'a [u8],
+) -> Result<(Vec<PartEntry>, Vec<PartEntry>, &'a [u8]), Stop>
+    ensures { Gives (λ x. (draft.new, map part_view x.0.items, map part_view x.1.items, x.2.now)) result (params_at at (map part_view returned.items) draft.old text.now) }
+{
+    if let Some(rest) = starts_with_mark(text, Mark::CloseParenthesis)? {
+        return Ok((Vec::new(alloc), returned, rest));
+    }
+    params_run(alloc, draft, at, returned, text)
+}
+
+// One parameter or more, and the closing mark.
+fn params_run<'a>(
+    alloc: Global,
+    draft: &mut Draft,
+    at: usize,
+    returned: Vec<PartEntry>,
+    text: &'a [u8],
+) -> Result<(Vec<PartEntry>, Vec<PartEntry>, &'a [u8]), Stop>
+    ensures { Gives (λ x. (draft.new, map part_view x.0.items, map part_view x.1.items, x.2.now)) result (params_run at 256 (no_way (map part_view returned.items)) draft.old text.now) }
+{
+    let mut ways = Ways {
+        seen: Vec::new(alloc),
+        request: Vec::new(alloc),
+        reply: returned,
+    };
+    let mut rest = text;
+    for _ in 0..256u32 {
+        let (closed, after) = param_step(alloc, draft, at, &mut ways, rest)?;
+        if closed {
+            return Ok((ways.request, ways.reply, after));
+        }
+        rest = after;
+    }
+    Err(Stop::Refused(refused(SigFaultKind::Limit, rest)))
+}
+
+/// An operation, behind its first word.
+#[tactic(auto, unfolding(crate::specs::CallReading::operation_at))]
+pub(crate) fn operation_at<'a>(
+    alloc: Global,
+    draft: &mut Draft,
+    text: &'a [u8],
+) -> Result<&'a [u8], Stop>
+    ensures { Gives (λ x. (draft.new, x.now)) result (operation_at draft.old text.now) }
+{
+    draft.laws();
+    let (returned, after) = return_at(alloc, draft, left_of(text), text)?;
+    let at = left_of(after);
+    let (name, rest) = new_operation_at(draft, after)?;
+    let rest = mark(rest, Mark::OpenParenthesis)?;
+    let (request, reply, rest) = params_at(alloc, draft, at, returned, rest)?;
+    let rest = mark(rest, Mark::Semicolon)?;
+    let q = draft.add(at, Entry::Members(request))?;
+    let r = draft.add(at, Entry::Members(reply))?;
+    draft.call(name, q, r)?;
+    Ok(rest)
+}

@@ -1,0 +1,103 @@
+//! Reading enums.
+ghost use Rattle.std.specs.Prelude.{◌≡◌, map, []};
+ghost use Rattle.giop_sig.specs.Outcomes.{Gives};
+ghost use Rattle.giop_sig.specs.Validity.{is_among};
+ghost use Rattle.giop_sig.specs.Repeats.{in_steps};
+ghost use Rattle.giop_sig.specs.EnumReading.{enumerator_at, names_step, too_many_names, names_at, enumeration_at};
+
+use crate::draft::Draft;
+use crate::entries::Entry;
+use crate::read_items::declared_at;
+use crate::read_types::refused;
+use crate::stop::Stop;
+use giop_tokens::{Mark, SigFaultKind, identifier, left_of, mark, starts_with_mark};
+use std::alloc::Global;
+
+/// The most names of an enum.
+const NAMES_MAX: usize = 1024;
+
+// Whether a name is one of these.
+fn is_among(names: &[Vec<u8>], name: &[u8]) -> bool
+    ensures { result ≡ is_among (map (λ n. n.items) names.now) name.now }
+{
+    names.iter().any(|one| one.as_slice() == name)
+}
+
+// An enumerator behind others; what follows it.
+#[tactic(auto, unfolding(crate::specs::EnumReading::enumerator_at))]
+fn enumerator<'a>(alloc: Global, names: &mut Vec<Vec<u8>>, text: &'a [u8]) -> Result<&'a [u8], Stop>
+    ensures { Gives (λ x. (map (λ n. n.items) names.new.items, x.now)) result (enumerator_at (map (λ n. n.items) names.old.items) text.now) }
+{
+    let (name, rest) = identifier(text)?;
+    if is_among(names, name) {
+        return Err(Stop::Refused(refused(SigFaultKind::Duplicate, text)));
+    }
+    if names.len() >= NAMES_MAX {
+        return Err(Stop::Refused(refused(SigFaultKind::Limit, text)));
+    }
+    names.push(Vec::from_slice(alloc, name)?)?;
+    Ok(rest)
+}
+
+// An enumerator, and the mark behind it; whether that is the closing one.
+#[tactic(auto, unfolding(crate::specs::EnumReading::names_step))]
+fn names_step<'a>(
+    alloc: Global,
+    names: &mut Vec<Vec<u8>>,
+    text: &'a [u8],
+) -> Result<(&'a [u8], bool), Stop>
+    ensures { Gives (λ x. (x.1, (map (λ n. n.items) names.new.items, x.0.now))) result (names_step (map (λ n. n.items) names.old.items, text.now)) }
+{
+    let rest = enumerator(alloc, names, text)?;
+    match starts_with_mark(rest, Mark::Comma)? {
+        Some(after) => Ok((after, false)),
+        None => Ok((mark(rest, Mark::CloseBrace)?, true)),
+    }
+}
+
+// The enumerators of an enum that isn't empty.
+fn some_names(alloc: Global, text: &[u8]) -> Result<(Vec<Vec<u8>>, &[u8]), Stop>
+    ensures { Gives (λ x. (map (λ n. n.items) x.0.items, x.1.now)) result (in_steps names_step too_many_names 1025 ([], text.now)) }
+{
+    let mut names = Vec::new(alloc);
+    let mut rest = text;
+    for _ in 0..1025u32 {
+        let (after, closed) = names_step(alloc, &mut names, rest)?;
+        if closed {
+            return Ok((names, after));
+        }
+        rest = after;
+    }
+    Err(Stop::Refused(refused(SigFaultKind::Limit, rest)))
+}
+
+// The enumerators of an enum, behind its opening mark.
+#[tactic(auto, unfolding(crate::specs::EnumReading::names_at))]
+fn names_at(alloc: Global, text: &[u8]) -> Result<(Vec<Vec<u8>>, &[u8]), Stop>
+    ensures { Gives (λ x. (map (λ n. n.items) x.0.items, x.1.now)) result (names_at text.now) }
+{
+    match starts_with_mark(text, Mark::CloseBrace)? {
+        Some(_) => Err(Stop::Refused(refused(SigFaultKind::Empty, text))),
+        None => some_names(alloc, text),
+    }
+}
+
+/// An enum, behind its word; what follows it.
+#[tactic(auto, unfolding(crate::specs::EnumReading::enumeration_at))]
+pub(crate) fn enumeration<'a>(
+    alloc: Global,
+    draft: &mut Draft,
+    text: &'a [u8],
+) -> Result<&'a [u8], Stop>
+    ensures { Gives (λ x. (draft.new, x.now)) result (enumeration_at draft.old text.now) }
+{
+    draft.laws();
+    let count = draft.types_declared();
+    let (name, rest) = declared_at(draft, count, text)?;
+    let rest = mark(rest, Mark::OpenBrace)?;
+    let (names, rest) = names_at(alloc, rest)?;
+    let rest = mark(rest, Mark::Semicolon)?;
+    let t = draft.add(left_of(text), Entry::Enumeration(names))?;
+    draft.name_type(name, t)?;
+    Ok(rest)
+}

@@ -1,0 +1,228 @@
+//! Reading members: items, structs and exceptions.
+ghost use Rattle.std.specs.Prelude.{◌≡◌, ◌<◌, length, map, IfSome};
+ghost use Rattle.giop_sig.specs.Outcomes.{Gives};
+ghost use Rattle.giop_sig.specs.Scopes.{part};
+ghost use Rattle.giop_sig.specs.ScopeViews.{IsKnown};
+ghost use Rattle.giop_sig.specs.TypeReading.{added};
+ghost use Rattle.giop_sig.specs.Validity.{is_among};
+ghost use Rattle.giop_sig.specs.Views.{part_view};
+ghost use Rattle.giop_sig.specs.Table.{array};
+ghost use Rattle.giop_sig.specs.ItemReading.{array_type, new_name_at, declared_at, item_at, member_step, members_at, filled_at, structure_at, new_repository_at, raise_at};
+
+use crate::draft::Draft;
+use crate::entries::{Entry, PartEntry};
+use crate::read_types::{enclosed_at, refused, type_at};
+use crate::stop::Stop;
+use crate::types::TypeId;
+use giop_tokens::{Mark, SigFaultKind, identifier, left_of, mark, repository_id, starts_with_mark};
+use std::alloc::Global;
+
+/// The most words `sequence` that are read before a type is too deep in any case.
+pub(crate) const WORDS_MAX: u8 = 25;
+/// The most members of a struct.
+const MEMBERS_MAX: usize = 256;
+/// The most octets of a repository id.
+const REPOSITORY_MAX: usize = 128;
+/// The most types, exceptions or operations.
+pub(crate) const DECLARED_MAX: u32 = 4_096;
+
+/// Whether a name stands among those of a list.
+pub(crate) fn is_among(seen: &[&[u8]], name: &[u8]) -> bool
+    ensures { result ≡ is_among (map (λ n. n.now) seen.now) name.now }
+{
+    seen.iter().any(|other| *other == name)
+}
+
+/// A name behind those of its list, which may have so many.
+#[tactic(auto, unfolding(crate::specs::ItemReading::new_name_at))]
+pub(crate) fn new_name_at<'a>(
+    most: usize,
+    seen: &[&[u8]],
+    text: &'a [u8],
+) -> Result<(&'a [u8], &'a [u8]), Stop>
+    ensures { Gives (λ x. (x.0.now, x.1.now)) result (new_name_at most (map (λ n. n.now) seen.now) text.now) }
+{
+    let (name, rest) = identifier(text)?;
+    if is_among(seen, name) {
+        return Err(Stop::Refused(refused(SigFaultKind::Duplicate, text)));
+    }
+    if seen.len() >= most {
+        return Err(Stop::Refused(refused(SigFaultKind::Limit, text)));
+    }
+    Ok((name, rest))
+}
+
+/// The name of an enum, struct, union or exception, of which there are so many.
+#[tactic(auto, unfolding(crate::specs::ItemReading::declared_at))]
+pub(crate) fn declared_at<'a>(
+    draft: &Draft,
+    count: u32,
+    text: &'a [u8],
+) -> Result<(&'a [u8], &'a [u8]), Stop>
+    ensures { Gives (λ x. (x.0.now, x.1.now)) result (declared_at draft.now count text.now) }
+{
+    let (name, rest) = identifier(text)?;
+    if draft.is_declared(name) {
+        return Err(Stop::Refused(refused(SigFaultKind::Duplicate, text)));
+    }
+    if count >= DECLARED_MAX {
+        return Err(Stop::Refused(refused(SigFaultKind::Limit, text)));
+    }
+    Ok((name, rest))
+}
+
+// Adds an array of elements of a type, where there is a length.
+fn array_of(
+    draft: &mut Draft,
+    at: usize,
+    element: TypeId,
+    count: Option<u32>,
+) -> Result<TypeId, Stop>
+    requires known { IsKnown draft.old.table.types element.0 }
+    requires some { IfSome count (λ n. 0 < n) }
+    ensures { Gives (λ t. (draft.new, t.0)) result (array_type at draft.old element.0 count) }
+{
+    match count {
+        None => Ok(element),
+        Some(n) => draft.add(at, Entry::Array(n, element)),
+    }
+}
+
+/// An item: a type, a name and perhaps the length of an array, behind others of these names.
+#[tactic(auto, unfolding(crate::specs::ItemReading::item_at))]
+pub(crate) fn item_at<'a>(
+    draft: &mut Draft,
+    at: usize,
+    most: usize,
+    seen: &[&[u8]],
+    text: &'a [u8],
+) -> Result<(&'a [u8], TypeId, &'a [u8]), Stop>
+    ensures { Gives (λ x. (draft.new, part x.0.now x.1.0, x.2.now)) result (item_at at most (map (λ n. n.now) seen.now) draft.old text.now) }
+{
+    draft.laws();
+    let (element, rest) = type_at(draft, at, WORDS_MAX, text)?;
+    let (name, rest) = new_name_at(most, seen, rest)?;
+    let (count, rest) = enclosed_at(Mark::OpenBracket, Mark::CloseBracket, rest)?;
+    let t = array_of(draft, at, element, count)?;
+    Ok((name, t, rest))
+}
+
+// Reads the closing mark, or one member more: whether it was the mark, and what follows.
+#[tactic(auto, unfolding(crate::specs::ItemReading::member_step, crate::specs::ItemReading::member_at))]
+fn member_step<'a>(
+    alloc: Global,
+    draft: &mut Draft,
+    at: usize,
+    seen: &mut Vec<&'a [u8]>,
+    parts: &mut Vec<PartEntry>,
+    text: &'a [u8],
+) -> Result<(bool, &'a [u8]), Stop>
+    ensures { Gives
+        (λ x. record { scope = draft.new; seen = map (λ n. n.now) seen.new.items; parts = map part_view parts.new.items; rest = x.1.now; closed = x.0 })
+        result
+        (member_step at (map (λ n. n.now) seen.old.items) (map part_view parts.old.items) draft.old text.now) }
+{
+    if let Some(rest) = starts_with_mark(text, Mark::CloseBrace)? {
+        return Ok((true, rest));
+    }
+    let (name, t, rest) = item_at(draft, at, MEMBERS_MAX, seen.as_slice(), text)?;
+    let rest = mark(rest, Mark::Semicolon)?;
+    seen.push(name)?;
+    parts.push(PartEntry {
+        name: Vec::from_slice(alloc, name)?,
+        type_id: t,
+    })?;
+    Ok((false, rest))
+}
+
+// Members up to the closing mark.
+fn members_at<'a>(
+    alloc: Global,
+    draft: &mut Draft,
+    at: usize,
+    text: &'a [u8],
+) -> Result<(Vec<PartEntry>, &'a [u8]), Stop>
+    ensures { Gives (λ x. (draft.new, map part_view x.0.items, x.1.now)) result (members_at at draft.old text.now) }
+{
+    let mut seen = Vec::new(alloc);
+    let mut parts = Vec::new(alloc);
+    let mut rest = text;
+    for _ in 0..257u32 {
+        let (closed, after) = member_step(alloc, draft, at, &mut seen, &mut parts, rest)?;
+        if closed {
+            return Ok((parts, after));
+        }
+        rest = after;
+    }
+    Err(Stop::Refused(refused(SigFaultKind::Limit, rest)))
+}
+
+// A list that doesn't end at once.
+#[tactic(auto, unfolding(crate::specs::ItemReading::filled_at))]
+pub(crate) fn filled_at(text: &[u8]) -> Result<&[u8], Stop>
+    ensures { Gives (λ x. x.now) result (filled_at text.now) }
+{
+    match starts_with_mark(text, Mark::CloseBrace)? {
+        None => Ok(text),
+        Some(_) => Err(Stop::Refused(refused(SigFaultKind::Empty, text))),
+    }
+}
+
+/// A struct, behind its first word.
+#[tactic(auto, unfolding(crate::specs::ItemReading::structure_at))]
+pub(crate) fn structure_at<'a>(
+    alloc: Global,
+    draft: &mut Draft,
+    text: &'a [u8],
+) -> Result<&'a [u8], Stop>
+    ensures { Gives (λ x. (draft.new, x.now)) result (structure_at draft.old text.now) }
+{
+    let at = left_of(text);
+    draft.laws();
+    let count = draft.types_declared();
+    let (name, rest) = declared_at(draft, count, text)?;
+    let rest = mark(rest, Mark::OpenBrace)?;
+    let rest = filled_at(rest)?;
+    let (parts, rest) = members_at(alloc, draft, at, rest)?;
+    let rest = mark(rest, Mark::Semicolon)?;
+    let t = draft.add(at, Entry::Members(parts))?;
+    draft.name_type(name, t)?;
+    Ok(rest)
+}
+
+// A repository id that is new, and not too long.
+#[tactic(auto, unfolding(crate::specs::ItemReading::new_repository_at))]
+fn new_repository_at<'a>(draft: &Draft, text: &'a [u8]) -> Result<(&'a [u8], &'a [u8]), Stop>
+    ensures { Gives (λ x. (x.0.now, x.1.now)) result (new_repository_at draft.now text.now) }
+{
+    let (repository, rest) = repository_id(text)?;
+    if repository.len() > REPOSITORY_MAX {
+        return Err(Stop::Refused(refused(SigFaultKind::Limit, text)));
+    }
+    if draft.has_repository(repository) {
+        return Err(Stop::Refused(refused(SigFaultKind::Duplicate, text)));
+    }
+    Ok((repository, rest))
+}
+
+/// An exception, behind its first word.
+#[tactic(auto, unfolding(crate::specs::ItemReading::raise_at))]
+pub(crate) fn raise_at<'a>(
+    alloc: Global,
+    draft: &mut Draft,
+    text: &'a [u8],
+) -> Result<&'a [u8], Stop>
+    ensures { Gives (λ x. (draft.new, x.now)) result (raise_at draft.old text.now) }
+{
+    let at = left_of(text);
+    draft.laws();
+    let count = draft.exceptions_declared();
+    let (name, rest) = declared_at(draft, count, text)?;
+    let (repository, rest) = new_repository_at(draft, rest)?;
+    let rest = mark(rest, Mark::OpenBrace)?;
+    let (parts, rest) = members_at(alloc, draft, at, rest)?;
+    let rest = mark(rest, Mark::Semicolon)?;
+    let t = draft.add(at, Entry::Members(parts))?;
+    draft.raise(name, repository, t)?;
+    Ok(rest)
+}

@@ -1,0 +1,345 @@
+//! Reading unions.
+ghost use Rattle.std.specs.Prelude.{◌≡◌, ◌+◌, ◌^◌, ◌<◌, ◌≤◌, false, [], length, OnOk, IfOk};
+ghost use Rattle.std.specs.List.{list_any};
+ghost use Rattle.giop_sig.specs.Outcomes.{Gives};
+ghost use Rattle.giop_sig.specs.Table.{node_at};
+ghost use Rattle.giop_sig.specs.Scopes.{label_number};
+ghost use Rattle.giop_sig.specs.Views.{node_view};
+ghost use Rattle.giop_sig.specs.Labels.{value_view, cases_view};
+ghost use Rattle.giop_sig.specs.Repeats.{in_steps};
+ghost use Rattle.giop_sig.specs.UnionReading.{same_mark, number_of_value, fresh, label_at, begins_label, labels_step, too_many_labels, labels_at, no_cases, chosen, case_at, cases_step, too_many_cases, cases_at, can_switch, switch_at, union_at};
+
+use crate::draft::Draft;
+use crate::entries::{CaseEntry, Entry, PartEntry};
+use crate::labels::{LabelValue, label_number, value_at};
+use crate::read_items::{WORDS_MAX, declared_at, item_at};
+use crate::read_types::{refused, type_at};
+use crate::stop::Stop;
+use crate::types::{Selected, TypeId};
+use giop_cdr::{Number, Prim};
+use giop_tokens::{
+    Mark, SigFaultKind, keyword, left_of, mark, misplaced, starts_with_keyword, starts_with_mark,
+};
+use std::alloc::Global;
+
+/// The most labels of a union.
+const LABELS_MAX: usize = 1024;
+/// The most cases of a union.
+const CASES_MAX: usize = 256;
+
+/// The cases of a union that is being read.
+#[derive(Drop)]
+struct Cases<'a> {
+    /// The numbers of all labels, none for the default.
+    labels: Vec<Option<Number>>,
+    /// The names of the cases.
+    names: Vec<&'a [u8]>,
+    cases: Vec<CaseEntry>,
+    /// The case with the default.
+    otherwise: Selected,
+}
+
+// The number of the discriminator's type that a value names.
+fn number_in(draft: &Draft, switch: TypeId, value: LabelValue<'_>) -> Option<Number>
+    ensures { result ≡ label_number (node_at draft.now.table switch.0) (value_view value.entry) }
+{
+    match draft.entry(switch) {
+        None => None,
+        Some(entry) => label_number(entry, value),
+    }
+}
+
+// The number that the value of a label names.
+#[tactic(auto, unfolding(crate::specs::UnionReading::number_of_value))]
+fn number_of_value<'a>(
+    draft: &Draft,
+    switch: TypeId,
+    text: &'a [u8],
+) -> Result<(Option<Number>, &'a [u8]), Stop>
+    ensures { Gives (λ x. (x.0, x.1.now)) result (number_of_value (node_at draft.now.table switch.0) text.now) }
+{
+    let (value, rest) = value_at(text)?;
+    match number_in(draft, switch, value) {
+        None => Err(Stop::Refused(refused(SigFaultKind::Label, text))),
+        Some(n) => Ok((Some(n), rest)),
+    }
+}
+
+// Whether a label stands among others.
+fn is_seen(seen: &[Option<Number>], label: Option<Number>) -> bool
+    ensures { result ≡ list_any (λ s. same_mark s label) seen.now }
+{
+    seen.contains(&label)
+}
+
+// A label behind others of its union: its value or its word stands at the front of the text.
+#[tactic(auto, unfolding(crate::specs::UnionReading::fresh))]
+fn fresh(
+    seen: &[Option<Number>],
+    label: Option<Number>,
+    text: &[u8],
+) -> Result<Option<Number>, Stop>
+    ensures { Gives (λ x. x) result (fresh seen.now label text.now) }
+{
+    if is_seen(seen, label) {
+        return Err(Stop::Refused(refused(SigFaultKind::Duplicate, text)));
+    }
+    if seen.len() >= LABELS_MAX {
+        return Err(Stop::Refused(refused(SigFaultKind::Limit, text)));
+    }
+    Ok(label)
+}
+
+// A label, with its colon.
+#[tactic(auto, unfolding(crate::specs::UnionReading::label_at))]
+fn label_at<'a>(
+    draft: &Draft,
+    switch: TypeId,
+    seen: &[Option<Number>],
+    text: &'a [u8],
+) -> Result<(Option<Number>, &'a [u8]), Stop>
+    ensures { Gives (λ x. (x.0, x.1.now)) result (label_at (node_at draft.now.table switch.0) seen.now text.now) }
+{
+    match starts_with_keyword(text, b"case")? {
+        Some(inner) => {
+            let (number, rest) = number_of_value(draft, switch, inner)?;
+            let label = fresh(seen, number, inner)?;
+            Ok((label, mark(rest, Mark::Colon)?))
+        }
+        None => {
+            let rest = keyword(text, b"default")?;
+            let label = fresh(seen, None, text)?;
+            Ok((label, mark(rest, Mark::Colon)?))
+        }
+    }
+}
+
+// Whether a label comes.
+#[tactic(auto, unfolding(crate::specs::UnionReading::begins_label))]
+fn begins_label(text: &[u8]) -> Result<bool, Stop>
+    ensures { Gives (λ x. x) result (begins_label text.now) }
+{
+    let value = starts_with_keyword(text, b"case")?;
+    let default = starts_with_keyword(text, b"default")?;
+    Ok(value.is_some() || default.is_some())
+}
+
+// A label more, where one comes: whether there was none, whether the case has the default, and what follows.
+#[tactic(auto, unfolding(crate::specs::UnionReading::labels_step))]
+fn labels_step<'a>(
+    draft: &Draft,
+    switch: TypeId,
+    seen: &mut Vec<Option<Number>>,
+    own: &mut Vec<Number>,
+    default: bool,
+    text: &'a [u8],
+) -> Result<(bool, bool, &'a [u8]), Stop>
+    ensures { Gives (λ x. (x.0, (seen.new.items, own.new.items, x.1, x.2.now))) result
+        (labels_step (node_at draft.now.table switch.0) (seen.old.items, own.old.items, default, text.now)) }
+{
+    if !begins_label(text)? {
+        return Ok((true, default, text));
+    }
+    let (label, rest) = label_at(draft, switch, seen, text)?;
+    seen.push(label)?;
+    match label {
+        None => Ok((false, true, rest)),
+        Some(number) => {
+            own.push(number)?;
+            Ok((false, default, rest))
+        }
+    }
+}
+
+// Labels, up to what is none: the numbers of them, and whether the default is among them.
+fn some_labels<'a>(
+    alloc: Global,
+    draft: &Draft,
+    switch: TypeId,
+    seen: &mut Vec<Option<Number>>,
+    text: &'a [u8],
+) -> Result<(Vec<Number>, bool, &'a [u8]), Stop>
+    ensures { Gives (λ x. (seen.new.items, x.0.items, x.1, x.2.now)) result
+        (in_steps (labels_step (node_at draft.now.table switch.0)) too_many_labels 1025 (seen.old.items, [], false, text.now)) }
+{
+    let mut own = Vec::new(alloc);
+    let mut default = false;
+    let mut rest = text;
+    for _ in 0..1025u32 {
+        let (closed, more, after) = labels_step(draft, switch, seen, &mut own, default, rest)?;
+        if closed {
+            return Ok((own, more, after));
+        }
+        default = more;
+        rest = after;
+    }
+    Err(Stop::Refused(refused(SigFaultKind::Limit, rest)))
+}
+
+// The labels of a case, one at least.
+#[tactic(auto, unfolding(crate::specs::UnionReading::labels_at))]
+fn labels_at<'a>(
+    alloc: Global,
+    draft: &Draft,
+    switch: TypeId,
+    seen: &mut Vec<Option<Number>>,
+    text: &'a [u8],
+) -> Result<(Vec<Number>, bool, &'a [u8]), Stop>
+    ensures { Gives (λ x. (seen.new.items, x.0.items, x.1, x.2.now)) result (labels_at (node_at draft.now.table switch.0) seen.old.items text.now) }
+{
+    if !begins_label(text)? {
+        return Err(Stop::Refused(misplaced(text)));
+    }
+    some_labels(alloc, draft, switch, seen, text)
+}
+
+// What is selected where no label is the number: the first case with the default.
+fn chosen(otherwise: Selected, default: bool, place: usize) -> Selected
+    requires { place < 2 ^ 32 }
+    ensures { result ≡ chosen otherwise default place }
+{
+    match otherwise {
+        Selected::Nothing if default => Selected::Case(place as u32),
+        _ => otherwise,
+    }
+}
+
+// Whether values of a type can be a discriminator's.
+fn can_switch(draft: &Draft, t: TypeId) -> bool
+    ensures { result ≡ can_switch (node_at draft.now.table t.0) }
+{
+    match draft.entry(t) {
+        Some(Entry::Prim(prim)) => match prim {
+            Prim::Octet | Prim::Float | Prim::Double => false,
+            _ => true,
+        },
+        Some(Entry::Enumeration(_)) => true,
+        _ => false,
+    }
+}
+
+// The type of a discriminator.
+#[tactic(auto, unfolding(crate::specs::UnionReading::switch_at))]
+fn switch_at<'a>(draft: &mut Draft, at: usize, text: &'a [u8]) -> Result<(TypeId, &'a [u8]), Stop>
+    ensures { Gives (λ x. (draft.new, x.0.0, x.1.now)) result (switch_at at draft.old text.now) }
+{
+    let (t, rest) = type_at(draft, at, WORDS_MAX, text)?;
+    if can_switch(draft, t) {
+        Ok((t, rest))
+    } else {
+        Err(Stop::Refused(refused(SigFaultKind::Label, text)))
+    }
+}
+
+// A case behind others, of a union in the declaration whose name is at this place; what follows it.
+#[tactic(auto, unfolding(crate::specs::UnionReading::case_at))]
+fn case_at<'a>(
+    alloc: Global,
+    draft: &mut Draft,
+    at: usize,
+    switch: TypeId,
+    cases: &mut Cases<'a>,
+    text: &'a [u8],
+) -> Result<&'a [u8], Stop>
+    requires { length cases.old.names.items ≤ 256 }
+    ensures gives { Gives (λ x. (draft.new, cases_view cases.new, x.now)) result (case_at at switch.0 (draft.old, cases_view cases.old, text.now)) }
+    ensures room { OnOk result (length cases.new.names.items ≤ length cases.old.names.items + 1) }
+{
+    let (labels, default, rest) = labels_at(alloc, draft, switch, &mut cases.labels, text)?;
+    let (name, type_id, rest) = item_at(draft, at, CASES_MAX, &cases.names, rest)?;
+    let rest = mark(rest, Mark::Semicolon)?;
+    let part = PartEntry {
+        name: Vec::from_slice(alloc, name)?,
+        type_id,
+    };
+    cases.otherwise = chosen(cases.otherwise, default, cases.names.len());
+    cases.names.push(name)?;
+    cases.cases.push(CaseEntry { labels, part })?;
+    Ok(rest)
+}
+
+// The closing mark, or a case more: whether it was the mark, and what follows.
+#[tactic(auto, unfolding(crate::specs::UnionReading::cases_step))]
+fn cases_step<'a>(
+    alloc: Global,
+    draft: &mut Draft,
+    at: usize,
+    switch: TypeId,
+    cases: &mut Cases<'a>,
+    text: &'a [u8],
+) -> Result<(bool, &'a [u8]), Stop>
+    requires { length cases.old.names.items ≤ 256 }
+    ensures gives { Gives (λ x. (x.0, (draft.new, cases_view cases.new, x.1.now))) result (cases_step at switch.0 (draft.old, cases_view cases.old, text.now)) }
+    ensures room { OnOk result (length cases.new.names.items ≤ length cases.old.names.items + 1) }
+{
+    match starts_with_mark(text, Mark::CloseBrace)? {
+        Some(rest) => Ok((true, rest)),
+        None => Ok((false, case_at(alloc, draft, at, switch, cases, text)?)),
+    }
+}
+
+// Cases up to the closing mark.
+fn some_cases<'a>(
+    alloc: Global,
+    draft: &mut Draft,
+    at: usize,
+    switch: TypeId,
+    text: &'a [u8],
+) -> Result<(Cases<'a>, &'a [u8]), Stop>
+    ensures { Gives (λ x. (draft.new, cases_view x.0, x.1.now)) result
+        (in_steps (cases_step at switch.0) too_many_cases 257 (draft.old, no_cases, text.now)) }
+{
+    let mut cases = Cases {
+        labels: Vec::new(alloc),
+        names: Vec::new(alloc),
+        cases: Vec::new(alloc),
+        otherwise: Selected::Nothing,
+    };
+    let mut rest = text;
+    for _ in 0..257u32 {
+        let (closed, after) = cases_step(alloc, draft, at, switch, &mut cases, rest)?;
+        if closed {
+            return Ok((cases, after));
+        }
+        rest = after;
+    }
+    Err(Stop::Refused(refused(SigFaultKind::Limit, rest)))
+}
+
+// Cases up to the closing mark, one at least.
+#[tactic(auto, unfolding(crate::specs::UnionReading::cases_at, crate::specs::ItemReading::filled_at))]
+fn cases_at<'a>(
+    alloc: Global,
+    draft: &mut Draft,
+    at: usize,
+    switch: TypeId,
+    text: &'a [u8],
+) -> Result<(Cases<'a>, &'a [u8]), Stop>
+    ensures { Gives (λ x. (draft.new, cases_view x.0, x.1.now)) result (cases_at at switch.0 draft.old text.now) }
+{
+    match starts_with_mark(text, Mark::CloseBrace)? {
+        Some(_) => Err(Stop::Refused(refused(SigFaultKind::Empty, text))),
+        None => some_cases(alloc, draft, at, switch, text),
+    }
+}
+
+/// A union, behind its word; what follows it.
+#[tactic(auto, unfolding(crate::specs::UnionReading::union_at))]
+pub(crate) fn union<'a>(alloc: Global, draft: &mut Draft, text: &'a [u8]) -> Result<&'a [u8], Stop>
+    ensures { Gives (λ x. (draft.new, x.now)) result (union_at draft.old text.now) }
+{
+    draft.laws();
+    let at = left_of(text);
+    let count = draft.types_declared();
+    let (name, rest) = declared_at(draft, count, text)?;
+    let rest = keyword(rest, b"switch")?;
+    let rest = mark(rest, Mark::OpenParenthesis)?;
+    let (switch, rest) = switch_at(draft, at, rest)?;
+    let rest = mark(rest, Mark::CloseParenthesis)?;
+    let rest = mark(rest, Mark::OpenBrace)?;
+    let (cases, rest) = cases_at(alloc, draft, at, switch, rest)?;
+    let rest = mark(rest, Mark::Semicolon)?;
+    let t = draft.add(at, Entry::Union(switch, cases.cases, cases.otherwise))?;
+    draft.name_type(name, t)?;
+    Ok(rest)
+}
