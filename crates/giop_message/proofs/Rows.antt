@@ -1,10 +1,13 @@
 -- The definitions at messages worked by hand.
-use Rattle.std.proofs.Common.{◌≡◌, ℕ, List, [], ◌∷◌, ◌++◌, replicate, Some, None, refl}
-use Rattle.std.specs.Prelude.{codes}
+use Rattle.std.proofs.Common.{◌≡◌, ℕ, zero, suc, Bool, true, false, List, [], ◌∷◌, ◌++◌, replicate, Some, None, refl}
+use Rattle.std.specs.Prelude.{codes, IfSome, nat_lt, ◌&&◌, ◌||◌}
 use Rattle.std.specs.Fmt.{digits}
 use Rattle.giop_cdr.specs.Alignment.{padding}
 use Rattle.giop_cdr.specs.Numbers.{num, twos_complement}
 use Rattle.giop_print.specs.Text.{hex, hex_number, escaped}
+use Rattle.giop_sig.specs.Types.{Enum, Ty, Single, Struct, Union, Sequence, Array, part_of, name_in}
+use Rattle.giop_sig.specs.Headers.{header_type}
+use Rattle.giop_decode.specs.Heard.{is_text}
 use Rattle.giop_sig.specs.Table.{Table, Operation, Exception, members, op_id}
 use Rattle.giop_sig.specs.Trees.{trees_after, type_in}
 use Rattle.giop_sig.specs.Builtin.{builtin_types, member}
@@ -299,3 +302,42 @@ no_header : Row (head 0 5) [] []
     ended
 unfolding rows head h t_nop t_say t_raw ended short
 no_header = record { reads_are = refl; closes_are = refl }
+
+-- ---- the operation is the last string of a Request's header, and the status the only enum of a Reply's
+
+any_below : ℕ → (ℕ → Bool) → Bool
+any_below zero test = false
+any_below (suc n) test = any_below n test || test n
+
+-- a type in which such a type stands
+has_type : (Ty → Bool) → Ty → Bool
+unfolding any_below
+has_type test (Struct count names parts) = any_below count (λ i. has_type test (parts i))
+has_type test (Union count scalar select names cases) = test (Single scalar) || any_below count (λ i. has_type test (cases i))
+has_type test (Sequence bound T) = has_type test T
+has_type test (Array count T) = has_type test T
+has_type test T = test T
+
+is_enum : Ty → Bool
+is_enum (Single (Enum count names)) = true
+is_enum T = false
+
+-- of a struct: whether such a type stands in a part behind that place
+behind : (Ty → Bool) → ℕ → Ty → Bool
+unfolding any_below has_type
+behind test k (Struct count names parts) = any_below count (λ i. nat_lt k i && has_type test (parts i))
+behind test k T = true
+
+-- the part in this place has this name and is of such a type, and none behind it has one in it
+record IsLast (test : Ty → Bool) (name : List ℕ) (k : ℕ) (T : Ty) : Type 0 where
+  named : name_in T k ≡ name
+  such : test (part_of T k) ≡ true
+  none : behind test k T ≡ false
+
+last_strings : IfSome (header_type 0 0) (IsLast is_text (codes "operation") 4) × IfSome (header_type 1 0) (IsLast is_text (codes "operation") 5) × IfSome (header_type 2 0) (IsLast is_text (codes "operation") 4)
+unfolding rows behind any_below has_type
+last_strings = (record { named = refl; such = refl; none = refl }, record { named = refl; such = refl; none = refl }, record { named = refl; such = refl; none = refl })
+
+last_enums : IfSome (header_type 0 1) (IsLast is_enum (codes "reply_status") 2) × IfSome (header_type 1 1) (IsLast is_enum (codes "reply_status") 2) × IfSome (header_type 2 1) (IsLast is_enum (codes "reply_status") 1)
+unfolding rows behind any_below has_type is_enum
+last_enums = (record { named = refl; such = refl; none = refl }, record { named = refl; such = refl; none = refl }, record { named = refl; such = refl; none = refl })

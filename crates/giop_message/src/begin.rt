@@ -47,7 +47,8 @@ impl Message {
         ensures at { self.new.at ≡ self.old.at }
         ensures fits { Fits catalogue.now self.new }
         ensures arrives { (kept : Kept) (number : ℕ) (header s : List ℕ) →
-            Arrives catalogue.now kept number header self.old self.new s (typed (order header) (tree catalogue.now of.0) (12 + length s) []) }
+            Arrives catalogue.now kept number header self.old self.new s (typed (order header)
+            (tree catalogue.now of.0) (12 + length s) []) }
     {
         let order = order_of(&self.header);
         let decoder = Decoder::start(catalogue, of, order, self.at, self.number, Root::Body);
@@ -67,7 +68,8 @@ impl Message {
         ensures at { self.new.at ≡ self.old.at }
         ensures fits { Fits catalogue.now self.new }
         ensures arrives { (kept : Kept) (number : ℕ) (header s : List ℕ) →
-            Arrives catalogue.now kept number header self.old self.new s (body (said_by catalogue.now kept) header Raised (12 + length s) []) }
+            Arrives catalogue.now kept number header self.old self.new s (body
+            (said_by catalogue.now kept) header Raised (12 + length s) []) }
     {
         let order = order_of(&self.header);
         let of = catalogue.fixed(Fixed::ExceptionId);
@@ -84,7 +86,9 @@ impl Message {
         ensures at { self.new.at ≡ self.old.at }
         ensures fits { Fits catalogue.now self.new }
         ensures arrives { (kept : Kept) (number : ℕ) (header s : List ℕ) →
-            Arrives catalogue.now kept number header self.old self.new s (body (said_by catalogue.now kept) header (body_type catalogue.now wanted) (12 + length s) []) }
+            Arrives catalogue.now kept number header self.old self.new s (body
+            (said_by catalogue.now kept) header (body_type catalogue.now wanted)
+            (12 + length s) []) }
     {
         match wanted {
             Wanted::Nothing => self.begin_rest(),
@@ -101,8 +105,10 @@ impl Message {
         ensures id { self.new.id ≡ self.old.id }
         ensures at { self.new.at ≡ self.old.at }
         ensures fits { Fits catalogue.now self.new }
-        ensures arrives { (number : ℕ) (header s : List ℕ) (r : Reading) → Minds Root.Header self.old.decoder r →
-            Arrives catalogue.now requests.now number header self.old self.new s (after_header (said_by catalogue.now requests.now) header (heard_of true r) (12 + length s) []) }
+        ensures arrives { (number : ℕ) (header s : List ℕ) (r : Reading) →
+            Minds Root.Header self.old.decoder r →
+            Arrives catalogue.now requests.now number header self.old self.new s (after_header
+            (said_by catalogue.now requests.now) header (heard_of true r) (12 + length s) []) }
     {
         if kind_of(&self.header) > 1 {
             self.begin_rest();
@@ -121,7 +127,8 @@ impl Message {
     fn wanted(&self, catalogue: &Catalogue, requests: &Requests) -> Wanted
         requires { AreOf catalogue.now requests.now }
         ensures is { (r : Reading) → Minds Root.Header self.now.decoder r →
-            body_type catalogue.now result ≡ body_of (said_by catalogue.now requests.now) self.now.header (heard_of true r) }
+            body_type catalogue.now result ≡ body_of
+            (said_by catalogue.now requests.now) self.now.header (heard_of true r) }
         ensures known { IsKnown catalogue.now result }
     {
         if kind_of(&self.header) == 0 {
@@ -146,8 +153,10 @@ impl Message {
         ensures id { self.new.id ≡ self.old.id }
         ensures at { self.new.at ≡ self.old.at }
         ensures fits { Fits catalogue.now self.new }
-        ensures arrives { (kept : Kept) (number : ℕ) (header s : List ℕ) (r : Reading) → Minds Root.Exception self.old.decoder r →
-            Arrives catalogue.now kept number header self.old self.new s (after_exception (said_by catalogue.now kept) header (heard_of false r) (12 + length s) []) }
+        ensures arrives { (kept : Kept) (number : ℕ) (header s : List ℕ) (r : Reading) →
+            Minds Root.Exception self.old.decoder r →
+            Arrives catalogue.now kept number header self.old self.new s (after_exception
+            (said_by catalogue.now kept) header (heard_of false r) (12 + length s) []) }
     {
         match self.members(catalogue) {
             Some(of) => self.begin_typed(catalogue, of),
@@ -159,7 +168,8 @@ impl Message {
     #[tactic(auto, unfolding(crate::specs::Messages::members_of, crate::specs::Signatures::said_by))]
     fn members(&self, catalogue: &Catalogue) -> Option<TypeId>
         ensures is { (kept : Kept) (r : Reading) → Minds Root.Exception self.now.decoder r →
-            option_map (λ t. tree catalogue.now t.0) result ≡ members_of (said_by catalogue.now kept) (heard_of false r).name }
+            option_map (λ t. tree catalogue.now t.0) result ≡ members_of
+            (said_by catalogue.now kept) (heard_of false r).name }
         ensures known { IfSome result (λ t. t.0 < length catalogue.now.types) }
     {
         let repository = self.decoder.name()?;

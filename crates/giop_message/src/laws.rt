@@ -19,13 +19,16 @@ ghost use Rattle.giop_message.specs.MessageReading.{message_reading, id_said, is
 pub fn message_laws()
     // One octet more is one step on where the message stands.
     ensures step { (C : Table) (kept : Kept) (header s : List ℕ) (b : ℕ) →
-        message (said_by C kept) header (s ++ b ∷ []) ≡ advance (said_by C kept) header (message (said_by C kept) header s) b }
+        message (said_by C kept) header (s ++ b ∷ [])
+        ≡ advance (said_by C kept) header (message (said_by C kept) header s) b }
     // Many octets more are as many steps: a message may be left and resumed anywhere.
     ensures many { (C : Table) (kept : Kept) (header s t : List ℕ) →
-        message (said_by C kept) header (s ++ t) ≡ goes_on (said_by C kept) header (message (said_by C kept) header s) t }
+        message (said_by C kept) header (s ++ t)
+        ≡ goes_on (said_by C kept) header (message (said_by C kept) header s) t }
     // A message is over exactly where its lines have a fault.
     ensures over { (C : Table) (kept : Kept) (header s : List ℕ) →
-        is_over (stage_of (message (said_by C kept) header s)) ≡ list_any is_wrong (told_of (message (said_by C kept) header s)) }
+        is_over (stage_of (message (said_by C kept) header s))
+        ≡ list_any is_wrong (told_of (message (said_by C kept) header s)) }
     // What the stream asks of a reading: more octets change nothing that was said of those before them,
     ensures causal { (C : Table) (kept : Kept) → IsCausal (message_reading C kept) }
     // a close ends a message,
@@ -36,13 +39,19 @@ pub fn message_laws()
     ensures ordered { (C : Table) (kept : Kept) → IsOrdered (message_reading C kept) }
     ensures closing { (C : Table) (kept : Kept) → IsClosing (message_reading C kept) }
     // The request id of a header that begins with it is the number of the first four octets.
-    ensures id { (C : Table) (kept : Kept) (header : List ℕ) (T : Ty) → header_type (minor header) (kind header) ≡ Some T → BeginsWithId T →
-        (a b c d : ℕ) (xs : List ℕ) → id_said (told_of (message (said_by C kept) header (a ∷ b ∷ c ∷ d ∷ xs))) ≡ Some (num (order header) (a ∷ b ∷ c ∷ d ∷ [])) }
+    ensures id { (C : Table) (kept : Kept) (header : List ℕ) (T : Ty) →
+        header_type (minor header) (kind header) ≡ Some T → BeginsWithId T →
+        (a b c d : ℕ) (xs : List ℕ) →
+        id_said (told_of (message (said_by C kept) header (a ∷ b ∷ c ∷ d ∷ xs)))
+        ≡ Some (num (order header) (a ∷ b ∷ c ∷ d ∷ [])) }
     // What a message writes of more octets, and at its close, is what the reading says: its lines with the number, and of a
     // fault with its place.
     ensures writes { (C : Table) (kept : Kept) (number place : ℕ) (header s more : List ℕ) →
         due_text (said_by C kept) number place header s more
-        ≡ remarks_text number place (length s) (drop (length ((message_reading C kept).reads header s)) ((message_reading C kept).reads header (s ++ more))) }
+        ≡ remarks_text number place (length s)
+        (drop (length ((message_reading C kept).reads header s))
+        ((message_reading C kept).reads header (s ++ more))) }
     ensures closes { (C : Table) (kept : Kept) (number place : ℕ) (header s : List ℕ) →
-        closing_text number place (close (stage_of (message (said_by C kept) header s))) ≡ closes_text number place ((message_reading C kept).closes header s) }
+        closing_text number place (close (stage_of (message (said_by C kept) header s)))
+        ≡ closes_text number place ((message_reading C kept).closes header s) }
 {}

@@ -84,7 +84,8 @@ impl Message {
         ensures part { result.part ≡ part }
         ensures offset { result.offset ≡ 0 }
         ensures held { result.held.items ≡ [] }
-        ensures reads { Reads catalogue.now (tree catalogue.now of.0) (order header) 12 number Root.Header result.decoder [] }
+        ensures reads { Reads catalogue.now (tree catalogue.now of.0)
+            (order header) 12 number Root.Header result.decoder [] }
         ensures fits { IsFit 24 (tree catalogue.now of.0) → FitsIt catalogue.now result.decoder }
     {
         let order = order_of(&header);
@@ -114,13 +115,18 @@ impl Message {
         requires of { AreOf catalogue.now requests.now }
         requires before { reach self.old ≤ place }
         requires limit { place + length octets.now ≤ 2 ^ 48 }
-        ensures writes { (number : ℕ) (header s : List ℕ) → Follows catalogue.now requests.now number header self.old s →
-            Writes result (O.log out.old) (O.log out.new) (due_text (said_by catalogue.now requests.now) number place header s octets.now) }
-        ensures took { IfOk result (λ found. (number : ℕ) (header s : List ℕ) → Follows catalogue.now requests.now number header self.old s →
+        ensures writes { (number : ℕ) (header s : List ℕ) →
+            Follows catalogue.now requests.now number header self.old s →
+            Writes result (O.log out.old) (O.log out.new) (due_text
+            (said_by catalogue.now requests.now) number place header s octets.now) }
+        ensures took { IfOk result (λ found. (number : ℕ) (header s : List ℕ) →
+            Follows catalogue.now requests.now number header self.old s →
             TookAll catalogue.now requests.now number header self.new s octets.now found) }
-        ensures within { IfOk result (λ found. IfSome found (λ n. (0 < n) × (n ≤ length octets.now))) }
+        ensures within { IfOk result (λ found. IfSome found (λ n. (0 < n) ×
+            (n ≤ length octets.now))) }
         ensures fits { IfOk result (λ found. found ≡ None → Fits catalogue.now self.new) }
-        ensures reach { IfOk result (λ found. found ≡ None → reach self.new ≡ reach self.old + length octets.now) }
+        ensures reach { IfOk result (λ found. found ≡ None →
+            reach self.new ≡ reach self.old + length octets.now) }
     {
         let mut taken: usize = 0;
         for octet in octets {
@@ -143,9 +149,12 @@ impl Message {
         out: &mut O,
     ) -> Result<bool, OutFault>
         requires fits { Fits catalogue.now self }
-        ensures writes { (kept : Kept) (number : ℕ) (header s : List ℕ) → Follows catalogue.now kept number header self s →
-            Writes result (O.log out.old) (O.log out.new) (closing_text number place (close (stage_of (message (said_by catalogue.now kept) header s)))) }
-        ensures short { IfOk result (λ short. (kept : Kept) (number : ℕ) (header s : List ℕ) → Follows catalogue.now kept number header self s →
+        ensures writes { (kept : Kept) (number : ℕ) (header s : List ℕ) →
+            Follows catalogue.now kept number header self s →
+            Writes result (O.log out.old) (O.log out.new) (closing_text number place (close
+            (stage_of (message (said_by catalogue.now kept) header s)))) }
+        ensures short { IfOk result (λ short. (kept : Kept) (number : ℕ) (header s : List ℕ) →
+            Follows catalogue.now kept number header self s →
             short ≡ is_short (close (stage_of (message (said_by catalogue.now kept) header s)))) }
     {
         if self.is_short(catalogue) {
@@ -160,7 +169,8 @@ impl Message {
     /// Whether it would close inside its header, a repository id or its body, or without a body that it needs.
     fn is_short(&self, catalogue: &Catalogue) -> bool
         requires { Fits catalogue.now self.now }
-        ensures { (kept : Kept) (number : ℕ) (header s : List ℕ) → Follows catalogue.now kept number header self.now s →
+        ensures { (kept : Kept) (number : ℕ) (header s : List ℕ) →
+            Follows catalogue.now kept number header self.now s →
             result ≡ is_short (close (stage_of (message (said_by catalogue.now kept) header s))) }
     {
         match self.part {
@@ -188,7 +198,8 @@ impl Message {
 
     /// The request id of its header, once that has come.
     pub fn request_id(&self) -> Option<u32>
-        ensures { (C : Table) (kept : Kept) (number : ℕ) (header s : List ℕ) → Follows C kept number header self.now s
+        ensures { (C : Table) (kept : Kept) (number : ℕ) (header s : List ℕ) →
+            Follows C kept number header self.now s
             → result ≡ id_said (told_of (message (said_by C kept) header s)) }
     {
         self.id

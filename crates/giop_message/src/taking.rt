@@ -48,8 +48,11 @@ impl Message {
         ensures writes { (T : Ty) (o : ByteOrder) (at : ℕ) (root : PathRoot) (s : List ℕ) →
             Reads catalogue.now T o at self.old.number root self.old.decoder s →
             Writes result (O.log out.old) (O.log out.new)
-            (lines_text self.old.number root (due_lines o T at s octet) ++ fault_text self.old.number (place + 1) (read o [] T at (s ++ octet ∷ []))) }
-        ensures takes { IfOk result (λ p. (T : Ty) (o : ByteOrder) (at : ℕ) (root : PathRoot) (s : List ℕ) →
+            (lines_text self.old.number root
+            (due_lines o T at s octet) ++ fault_text self.old.number (place + 1)
+            (read o [] T at (s ++ octet ∷ []))) }
+        ensures takes { IfOk result (λ p. (T : Ty) (o : ByteOrder) (at : ℕ) (root : PathRoot)
+            (s : List ℕ) →
             Reads catalogue.now T o at self.old.number root self.old.decoder s →
             Takes catalogue.now T o at self.old.number root self.new.decoder s octet p) }
         ensures fits { IfOk result (λ p. GoesOn p → FitsIt catalogue.now self.new.decoder) }
@@ -66,7 +69,8 @@ impl Message {
     #[tactic(auto, unfolding(crate::specs::Moves::request_call, crate::specs::Moves::called_text))]
     fn call<O: Out>(&self, out: &mut O) -> Result<(), OutFault>
         ensures { (r : Reading) → Minds Root.Header self.now.decoder r →
-            Writes result (O.log out.old) (O.log out.new) (request_call self.now.number self.now.header (heard_of true r)) }
+            Writes result (O.log out.old) (O.log out.new)
+            (request_call self.now.number self.now.header (heard_of true r)) }
     {
         if kind_of(&self.header) != 0 {
             return Ok(());
@@ -87,7 +91,8 @@ impl Message {
     /// Keeps the request id, once that was heard.
     #[tactic(auto, unfolding(crate::specs::MessageReading::first_id))]
     fn hear_id(&mut self)
-        ensures id { (r : Reading) → Minds Root.Header self.old.decoder r → self.new.id ≡ first_id self.old.id (heard_of true r).request_id }
+        ensures id { (r : Reading) → Minds Root.Header self.old.decoder r →
+            self.new.id ≡ first_id self.old.id (heard_of true r).request_id }
         ensures number { self.new.number ≡ self.old.number }
         ensures header { self.new.header ≡ self.old.header }
         ensures at { self.new.at ≡ self.old.at }
@@ -113,9 +118,12 @@ impl Message {
         requires of { AreOf catalogue.now requests.now }
         requires limit { self.old.at ≤ 2 ^ 48 }
         requires place { place < 2 ^ 48 }
-        ensures writes { (number : ℕ) (header s : List ℕ) → Follows catalogue.now requests.now number header self.old s →
-            Writes result (O.log out.old) (O.log out.new) (due_text (said_by catalogue.now requests.now) number place header s (octet ∷ [])) }
-        ensures took { IfOk result (λ over. (number : ℕ) (header s : List ℕ) → Follows catalogue.now requests.now number header self.old s →
+        ensures writes { (number : ℕ) (header s : List ℕ) →
+            Follows catalogue.now requests.now number header self.old s →
+            Writes result (O.log out.old) (O.log out.new) (due_text
+            (said_by catalogue.now requests.now) number place header s (octet ∷ [])) }
+        ensures took { IfOk result (λ over. (number : ℕ) (header s : List ℕ) →
+            Follows catalogue.now requests.now number header self.old s →
             Took catalogue.now requests.now number header self.new s octet over) }
         ensures fits { IfOk result (λ over. over ≡ false → Fits catalogue.now self.new) }
         ensures at { OnOk result (self.new.at ≡ self.old.at + 1) }
@@ -141,9 +149,11 @@ impl Message {
         requires part { self.old.part ≡ Part.Padding wanted }
         requires known { IsKnown catalogue.now wanted }
         requires limit { self.old.at ≤ 2 ^ 48 }
-        ensures told { (kept : Kept) (number : ℕ) (header s : List ℕ) (octet : ℕ) → Follows catalogue.now kept number header self.old s →
+        ensures told { (kept : Kept) (number : ℕ) (header s : List ℕ) (octet : ℕ) →
+            Follows catalogue.now kept number header self.old s →
             due (said_by catalogue.now kept) header s (octet ∷ []) ≡ [] }
-        ensures took { (kept : Kept) (number : ℕ) (header s : List ℕ) (octet : ℕ) → Follows catalogue.now kept number header self.old s →
+        ensures took { (kept : Kept) (number : ℕ) (header s : List ℕ) (octet : ℕ) →
+            Follows catalogue.now kept number header self.old s →
             Took catalogue.now kept number header self.new s octet false }
         ensures fits { Fits catalogue.now self.new }
         ensures at { self.new.at ≡ self.old.at + 1 }
@@ -167,9 +177,12 @@ impl Message {
         requires fits { FitsIt catalogue.now self.old.decoder }
         requires limit { self.old.at ≤ 2 ^ 48 }
         requires place { place < 2 ^ 48 }
-        ensures writes { (kept : Kept) (number : ℕ) (header s : List ℕ) → Follows catalogue.now kept number header self.old s →
-            Writes result (O.log out.old) (O.log out.new) (due_text (said_by catalogue.now kept) number place header s (octet ∷ [])) }
-        ensures took { IfOk result (λ over. (kept : Kept) (number : ℕ) (header s : List ℕ) → Follows catalogue.now kept number header self.old s →
+        ensures writes { (kept : Kept) (number : ℕ) (header s : List ℕ) →
+            Follows catalogue.now kept number header self.old s →
+            Writes result (O.log out.old) (O.log out.new) (due_text
+            (said_by catalogue.now kept) number place header s (octet ∷ [])) }
+        ensures took { IfOk result (λ over. (kept : Kept) (number : ℕ) (header s : List ℕ) →
+            Follows catalogue.now kept number header self.old s →
             Took catalogue.now kept number header self.new s octet over) }
         ensures fits { IfOk result (λ over. over ≡ false → Fits catalogue.now self.new) }
         ensures at { OnOk result (self.new.at ≡ self.old.at + 1) }
@@ -197,9 +210,12 @@ impl Message {
         requires fits { FitsIt catalogue.now self.old.decoder }
         requires limit { self.old.at ≤ 2 ^ 48 }
         requires place { place < 2 ^ 48 }
-        ensures writes { (kept : Kept) (number : ℕ) (header s : List ℕ) → Follows catalogue.now kept number header self.old s →
-            Writes result (O.log out.old) (O.log out.new) (due_text (said_by catalogue.now kept) number place header s (octet ∷ [])) }
-        ensures took { IfOk result (λ over. (kept : Kept) (number : ℕ) (header s : List ℕ) → Follows catalogue.now kept number header self.old s →
+        ensures writes { (kept : Kept) (number : ℕ) (header s : List ℕ) →
+            Follows catalogue.now kept number header self.old s →
+            Writes result (O.log out.old) (O.log out.new) (due_text
+            (said_by catalogue.now kept) number place header s (octet ∷ [])) }
+        ensures took { IfOk result (λ over. (kept : Kept) (number : ℕ) (header s : List ℕ) →
+            Follows catalogue.now kept number header self.old s →
             Took catalogue.now kept number header self.new s octet over) }
         ensures fits { IfOk result (λ over. over ≡ false → Fits catalogue.now self.new) }
         ensures at { OnOk result (self.new.at ≡ self.old.at + 1) }
@@ -219,9 +235,12 @@ impl Message {
     fn take_rest<O: Out>(&mut self, octet: u8, out: &mut O) -> Result<(), OutFault>
         requires part { self.old.part ≡ Part.Rest }
         requires limit { self.old.at ≤ 2 ^ 48 }
-        ensures writes { (C : Table) (kept : Kept) (number : ℕ) (header s : List ℕ) (place : ℕ) → Follows C kept number header self.old s →
-            Writes result (O.log out.old) (O.log out.new) (due_text (said_by C kept) number place header s (octet ∷ [])) }
-        ensures took { OnOk result ((C : Table) (kept : Kept) (number : ℕ) (header s : List ℕ) → Follows C kept number header self.old s →
+        ensures writes { (C : Table) (kept : Kept) (number : ℕ) (header s : List ℕ) (place : ℕ) →
+            Follows C kept number header self.old s →
+            Writes result (O.log out.old) (O.log out.new) (due_text
+            (said_by C kept) number place header s (octet ∷ [])) }
+        ensures took { OnOk result ((C : Table) (kept : Kept) (number : ℕ) (header s : List ℕ) →
+            Follows C kept number header self.old s →
             Took C kept number header self.new s octet false) }
         ensures part { OnOk result (self.new.part ≡ Part.Rest) }
         ensures at { OnOk result (self.new.at ≡ self.old.at + 1) }
@@ -250,9 +269,12 @@ impl Message {
         requires of { AreOf catalogue.now requests.now }
         requires limit { self.old.at ≤ 2 ^ 48 }
         requires place { place < 2 ^ 48 }
-        ensures writes { (number : ℕ) (header s : List ℕ) → Follows catalogue.now requests.now number header self.old s →
-            Writes result (O.log out.old) (O.log out.new) (due_text (said_by catalogue.now requests.now) number place header s (octet ∷ [])) }
-        ensures took { IfOk result (λ over. (number : ℕ) (header s : List ℕ) → Follows catalogue.now requests.now number header self.old s →
+        ensures writes { (number : ℕ) (header s : List ℕ) →
+            Follows catalogue.now requests.now number header self.old s →
+            Writes result (O.log out.old) (O.log out.new) (due_text
+            (said_by catalogue.now requests.now) number place header s (octet ∷ [])) }
+        ensures took { IfOk result (λ over. (number : ℕ) (header s : List ℕ) →
+            Follows catalogue.now requests.now number header self.old s →
             Took catalogue.now requests.now number header self.new s octet over) }
         ensures fits { IfOk result (λ over. over ≡ false → Fits catalogue.now self.new) }
         ensures at { OnOk result (self.new.at ≡ self.old.at + 1) }

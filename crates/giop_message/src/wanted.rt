@@ -20,7 +20,8 @@ pub enum Wanted {
 /// Of a Request, by its operation.
 #[tactic(auto, unfolding(crate::specs::Messages::request_body, crate::specs::Messages::type_if, crate::specs::Signatures::said_by))]
 pub fn request_body(catalogue: &Catalogue, name: Option<&[u8]>) -> Wanted
-    ensures is { (kept : Kept) → body_type catalogue.now result ≡ request_body (said_by catalogue.now kept) (option_map (λ x. x.now) name.entry) }
+    ensures is { (kept : Kept) → body_type catalogue.now result ≡ request_body
+        (said_by catalogue.now kept) (option_map (λ x. x.now) name.entry) }
     ensures known { IsKnown catalogue.now result }
 {
     let Some(name) = name else {
@@ -36,7 +37,8 @@ pub fn request_body(catalogue: &Catalogue, name: Option<&[u8]>) -> Wanted
 #[tactic(auto, unfolding(crate::specs::Messages::result_body, crate::specs::Messages::type_if, crate::specs::Signatures::said_by))]
 fn result_body(catalogue: &Catalogue, requests: &Requests, id: Option<u32>) -> Wanted
     requires { AreOf catalogue.now requests.now }
-    ensures is { body_type catalogue.now result ≡ result_body (said_by catalogue.now requests.now) id }
+    ensures is { body_type catalogue.now result ≡ result_body
+        (said_by catalogue.now requests.now) id }
     ensures known { IsKnown catalogue.now result }
 {
     let Some(id) = id else {
@@ -57,7 +59,8 @@ pub fn reply_body(
     status: Option<u32>,
 ) -> Wanted
     requires { AreOf catalogue.now requests.now }
-    ensures is { body_type catalogue.now result ≡ reply_body (said_by catalogue.now requests.now) id status }
+    ensures is { body_type catalogue.now result ≡ reply_body
+        (said_by catalogue.now requests.now) id status }
     ensures known { IsKnown catalogue.now result }
 {
     let Some(status) = status else {

@@ -1,0 +1,48 @@
+signatures 1;
+
+// The Naming Service (CosNaming), as a signature file of giopdump. A name is a sequence of components.
+
+struct NameComponent { string id; string kind; };
+
+enum BindingType { nobject, ncontext };
+struct Binding { sequence<NameComponent> binding_name; BindingType binding_type; };
+
+enum NotFoundReason { missing_node, not_context, not_object };
+exception NotFound "IDL:omg.org/CosNaming/NamingContext/NotFound:1.0" {
+  NotFoundReason why;
+  sequence<NameComponent> rest_of_name;
+};
+exception CannotProceed "IDL:omg.org/CosNaming/NamingContext/CannotProceed:1.0" {
+  Object cxt;
+  sequence<NameComponent> rest_of_name;
+};
+exception InvalidName "IDL:omg.org/CosNaming/NamingContext/InvalidName:1.0" { };
+exception AlreadyBound "IDL:omg.org/CosNaming/NamingContext/AlreadyBound:1.0" { };
+exception NotEmpty "IDL:omg.org/CosNaming/NamingContext/NotEmpty:1.0" { };
+
+// NamingContext
+operation void bind(in sequence<NameComponent> n, in Object obj);
+operation void rebind(in sequence<NameComponent> n, in Object obj);
+operation void bind_context(in sequence<NameComponent> n, in Object nc);
+operation void rebind_context(in sequence<NameComponent> n, in Object nc);
+operation Object resolve(in sequence<NameComponent> n);
+operation void unbind(in sequence<NameComponent> n);
+operation Object new_context();
+operation Object bind_new_context(in sequence<NameComponent> n);
+operation void destroy();
+operation void list(in ulong how_many, out sequence<Binding> bl, out Object bi);
+
+// BindingIterator
+operation boolean next_one(out Binding b);
+operation boolean next_n(in ulong how_many, out sequence<Binding> bl);
+
+// NamingContextExt
+exception InvalidAddress "IDL:omg.org/CosNaming/NamingContextExt/InvalidAddress:1.0" { };
+operation string to_string(in sequence<NameComponent> n);
+operation sequence<NameComponent> to_name(in string sn);
+operation string to_url(in string addr, in string sn);
+operation Object resolve_str(in string sn);
+
+// Every object
+operation boolean _is_a(in string logical_type_id);
+operation boolean _non_existent();
