@@ -4,6 +4,10 @@
 #[cfg(test)]
 mod content_rows;
 mod contents;
+#[cfg(test)]
+mod declared_rows;
+#[cfg(test)]
+mod declared_tests;
 mod decoder;
 mod frame;
 #[cfg(test)]

@@ -43,11 +43,11 @@ one_octet S header xs x =
     let due_is : drop (length old) (told_of (message S header (xs ++ x ∷ []))) ≡ one.0 = ap (drop (length old)) told ∙ drop-append_seam old one.0 in
     let here : Remark → Bool = λ r. r.at == suc (length xs) in
     let said_is : filter here (map remark_of (told_of (message S header (xs ++ x ∷ [])))) ≡ map remark_of one.0 =
-        ap (λ ts. filter here (map remark_of ts)) told
-        ∙ (ap (filter here) (map_both remark_of old one.0)
-        ∙ (filter-append here (map remark_of old) (map remark_of one.0)
-        ∙ (ap (λ rs. rs ++ filter here (map remark_of one.0)) (none_before (length xs) old (ordered 0 S header xs).0)
-        ∙ all_here (length xs) one.0 one.2.0))) in
+    ap (λ ts. filter here (map remark_of ts)) told
+    ∙ (ap (filter here) (map_both remark_of old one.0)
+    ∙ (filter-append here (map remark_of old) (map remark_of one.0)
+    ∙ (ap (λ rs. rs ++ filter here (map remark_of one.0)) (none_before (length xs) old (ordered 0 S header xs).0)
+    ∙ all_here (length xs) one.0 one.2.0))) in
     record {
       told = told ∙ ap (λ ts. old ++ ts) (sym due_is);
       here = rw due_is one.2.0;

@@ -26,8 +26,6 @@ pub use types::{Counts, Fixed, OpId, Selected, Shape, TypeId};
 #[cfg(test)]
 mod example_tests;
 #[cfg(test)]
-mod limit_tests;
-#[cfg(test)]
 mod list_tests;
 #[cfg(test)]
 mod parse_tests;

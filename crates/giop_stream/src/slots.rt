@@ -73,7 +73,9 @@ fn give<O: Out>(
         return Ok(false);
     };
     let before = place - 1;
-    if m.take(catalogue, requests, &[octet], before, out)?.is_none() {
+    if m.take(catalogue, requests, &[octet], before, out)?
+        .is_none()
+    {
         return Ok(false);
     }
     *message = None;

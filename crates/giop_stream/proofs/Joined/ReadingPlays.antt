@@ -208,8 +208,8 @@ module _ (C : Table) (l : Listed) where
       → P (lines_text (lines_of R_of (event at w (Takes x)) o))
   given_text P m w (Some xs) at before x e k f =
       let text : lines_text (lines_of R_of (event at w (Takes x)) (Some xs)) ≡ due_text (said_by C l) w.number before w.header xs (x ∷ []) =
-          ap lines_text (take_lines at w xs x) ∙ (said_is at w.number (due R_of w.header xs x)
-          ∙ (ap (λ (n : ℕ). said_text n w.number (due R_of w.header xs x)) (sym e) ∙ sym (octet_text (said_by C l) w.number before w.header xs x))) in
+      ap lines_text (take_lines at w xs x) ∙ (said_is at w.number (due R_of w.header xs x)
+      ∙ (ap (λ (n : ℕ). said_text n w.number (due R_of w.header xs x)) (sym e) ∙ sym (octet_text (said_by C l) w.number before w.header xs x))) in
       subst P (sym text) (f w.number w.header xs k)
   given_text P m w None at before x e k f = absurd k
 
@@ -264,7 +264,7 @@ module _ (C : Table) (l : Listed) where
       → P (lines_text (lines_of R_of (event at w Closes) o))
   shut_text P m w (Some xs) at k f =
       let text : lines_text (lines_of R_of (event at w Closes) (Some xs)) ≡ closing_text w.number at (close (stage_of (message (said_by C l) w.header xs))) =
-          ap lines_text (closing_lines at w xs) ∙ (closed_is at w.number (R_of.closes w.header xs) ∙ sym (close_is (said_by C l) w.number at w.header xs)) in
+      ap lines_text (closing_lines at w xs) ∙ (closed_is at w.number (R_of.closes w.header xs) ∙ sym (close_is (said_by C l) w.number at w.header xs)) in
       subst P (sym text) (f w.number w.header xs k)
   shut_text P m w None at k f = absurd k
 
