@@ -19,3 +19,8 @@ pub mod ReadingPlays
 pub mod Exits
 pub mod Keepers
 pub mod Naming
+pub mod Named
+pub mod Ending
+pub mod Taken
+pub mod Parts
+pub mod Headed

@@ -9,3 +9,4 @@ pub mod State
 pub mod Machine
 pub mod Plays
 pub mod Keeping
+pub mod Whose

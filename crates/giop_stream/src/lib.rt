@@ -1,10 +1,12 @@
 //! Framing of a GIOP stream: octets in, lines out.
 #![tactic(auto)]
 
+mod dispatch;
 mod engine;
 mod fault;
 mod framing;
 mod header;
+mod kinds;
 mod laws;
 mod lines;
 mod message;

@@ -135,7 +135,7 @@ impl Slots {
     ghost use Rattle.giop_stream.specs.Joined.Keeping.{IsNow};
     ghost use Rattle.std.specs.Option.{option_map};
     ghost use Rattle.std.specs.List.{position_from};
-    ghost use Rattle.std.specs.Prelude.{◌==◌};
+    ghost use Rattle.std.specs.Prelude.{◌==◌, IfSome};
 
     /// Gives an octet of the payload to the message whose it is; says whether that faults it.
     pub fn take<O: Out>(
@@ -269,7 +269,8 @@ impl Slots {
 
     /// Where the open message with this request id is.
     pub fn find(&self, id: u32) -> Option<usize>
-        ensures { result ≡ position_from (λ slot. slot.id == id) 0 self.now.slots.items }
+        ensures value { result ≡ position_from (λ slot. slot.id == id) 0 self.now.slots.items }
+        ensures within { IfSome result (λ k. k < length self.now.slots.items) }
     {
         self.slots.as_slice().iter().position(|slot| slot.id == id)
     }

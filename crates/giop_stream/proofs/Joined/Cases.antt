@@ -35,15 +35,15 @@ plays_append R c (e ∷ es) fs =
     back : (xs ys zs : List Line) → xs ++ (ys ++ zs) ≡ (xs ++ ys) ++ zs
     back xs ys zs = sym (append_assoc xs ys zs)
 
-plays_own : (R : Reading) (c : Scene) (m : Message) (what : Happening) → plays R c (own m what) ≡ one_play R c (place m) (title m) what
+pub plays_own : (R : Reading) (c : Scene) (m : Message) (what : Happening) → plays R c (own m what) ≡ one_play R c (place m) (title m) what
 unfolding own
 plays_own R c m what = plays_one R c (place m) (title m) what
 
-plays_about : (R : Reading) (c : Scene) (m : Message) (o : Open) (what : Happening) → plays R c (about m (Some o) what) ≡ one_play R c (place m) o.opener what
+pub plays_about : (R : Reading) (c : Scene) (m : Message) (o : Open) (what : Happening) → plays R c (about m (Some o) what) ≡ one_play R c (place m) o.opener what
 unfolding about
 plays_about R c m o what = plays_one R c (place m) o.opener what
 
-plays_nobody : (R : Reading) (c : Scene) (m : Message) (what : Happening) → plays R c (about m None what) ≡ no_play c
+pub plays_nobody : (R : Reading) (c : Scene) (m : Message) (what : Happening) → plays R c (about m None what) ≡ no_play c
 unfolding about
 plays_nobody R c m what = plays_none R c
 

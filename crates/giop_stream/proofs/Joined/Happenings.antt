@@ -374,7 +374,7 @@ module _ (Q : List Open → Type 0) (now : List Open) (m : Message) (k : IsKept 
       go None = kept_none now q
       go (Some o) = kept_if now (may_be_cancelled o.opener.header) (about m (Some o) (Cancelled m.number)) [] (λ e. plain_about now (Some o) (Cancelled m.number) (plain_cancelled m.number) q) (λ e. kept_none now q)
 
-  kept_id : length m.payload ≡ 4 → Q now → Q (opened now (at_id now m))
+  pub kept_id : length m.payload ≡ 4 → Q now → Q (opened now (at_id now m))
   unfolding at_id
   kept_id four q =
       kept_if now (is_fragment m.header) (continues now m) _ (λ e. subst Q (sym (quiet_continues now m)) q)
@@ -404,11 +404,11 @@ rising_by : (test : Open → Bool) (o : Open) (live : List Open) (b : Bool) → 
 rising_by test o live true h k = (each_filter (λ a. o.opener.number < a.opener.number) test live h, k)
 rising_by test o live false h k = k
 
-rising_filter : (test : Open → Bool) (live : List Open) → Rising live → Rising (filter test live)
+pub rising_filter : (test : Open → Bool) (live : List Open) → Rising live → Rising (filter test live)
 rising_filter test [] h = tt
 rising_filter test (o ∷ live) h = rising_by test o live (test o) h.0 (rising_filter test live h.1)
 
-rising_push : (live : List Open) (o : Open) → Rising live → Below o.opener.number live → Rising (live ++ o ∷ [])
+pub rising_push : (live : List Open) (o : Open) → Rising live → Below o.opener.number live → Rising (live ++ o ∷ [])
 rising_push [] o h k = (tt, tt)
 rising_push (a ∷ live) o h k = (each_append (λ b. a.opener.number < b.opener.number) live (o ∷ []) h.0 (k.0, tt), rising_push live o h.1 k.1)
 

@@ -70,7 +70,7 @@ get_last : (live : List Open) (o : Open) → slice_get (live ++ o ∷ []) (lengt
 get_last [] o = refl
 get_last (a ∷ live) o = get_last live o
 
-slots_many : (K : Kept) (live : List Open) → length (slots_of K live) ≡ length live
+pub slots_many : (K : Kept) (live : List Open) → length (slots_of K live) ≡ length live
 unfolding slots_of
 slots_many K [] = refl
 slots_many K (o ∷ live) = ap suc (slots_many K live)
@@ -219,7 +219,7 @@ module _ (C : Table) (l : Listed) where
       kept : IsKept C l (Some m) w (Some [])
       kept = rw (n, f) e
 
-  are_as_many : (ks : List Kept_slot) (ss : List Slot) → AreSlots C l ks ss → length ks ≡ length ss
+  pub are_as_many : (ks : List Kept_slot) (ss : List Slot) → AreSlots C l ks ss → length ks ≡ length ss
   are_as_many [] [] h = refl
   are_as_many [] (s ∷ ss) h = absurd h
   are_as_many (k ∷ ks) [] h = absurd h

@@ -350,7 +350,7 @@ own_named R laws K m x k some short begun =
     subst (Spans 1 1) (sym (append-nil (utters_kept R (event (place m) (title m) (Takes x)) (K m.number))))
     (named_takes R laws (place m) (title m) x (K m.number) k (λ xs e. let less = begun some short xs e in omega arith))
 
-not_past : (m : Message) → length m.payload ≤ 4 → goes_past m ≡ false
+pub not_past : (m : Message) → length m.payload ≤ 4 → goes_past m ≡ false
 unfolding goes_past
 not_past m h = and_right (is_fragment m.header) (nat_lt 4 (length m.payload)) (le-ltb 4 (length m.payload) h)
 

@@ -3,7 +3,7 @@
 use Rattle.std.specs.Prelude.{ℕ, Bool, ◌&&◌, ◌||◌, List, Option, Some, None, nat_lt, ◌==◌, if◌then◌else◌}
 use Rattle.giop_stream.specs.declared.fault.ImposedFault.{ImposedFault}
 use Rattle.giop_stream.specs.declared.fault.ImposedFault.TheVariants.{MessageType, OldFragment}
-use Rattle.giop_message.specs.Headers.{minor, kind, has_more, may_be_fragmented}
+use Rattle.giop_message.specs.Headers.{minor, kind, has_more, size, may_be_fragmented, is_opener, is_fragment}
 
 -- what a CancelRequest may close: a Request or a LocateRequest
 unfoldable pub may_be_cancelled : List ℕ → Bool
@@ -15,3 +15,11 @@ refused header =
     if nat_lt 7 (kind header) || ((kind header == 7) && (minor header == 0)) then Some MessageType
     else if (minor header == 1) && ((kind header == 7) || (has_more header && may_be_fragmented header)) then Some OldFragment
     else None
+
+-- an opener or a Fragment that is over before its request id
+unfoldable pub is_short : List ℕ → Bool
+is_short header = nat_lt (size header) 4 && (is_opener header || is_fragment header)
+
+-- a message that other octets of its joined message follow
+unfoldable pub is_followed : List ℕ → Bool
+is_followed header = is_opener header || (is_fragment header && has_more header)

@@ -1,0 +1,311 @@
+//! What an octet of a message does to the messages that are open, and to the message itself.
+
+ghost use Rattle.std.specs.Prelude.{Option, ◌≡◌, ◌+◌, ◌<◌, ◌≤◌, ◌^◌, ℕ, length, true, false, Some, None, OnOk, IfOk, if◌then◌else◌, slice_get};
+ghost use Rattle.giop_print.specs.Output.{Writes};
+ghost use Rattle.giop_sig.specs.Table.{Table};
+ghost use Rattle.giop_message.specs.Signatures.{Kept as Listed};
+ghost use Rattle.giop_message.specs.MessageReading.{message_reading};
+ghost use Rattle.giop_message.specs.Holding.{AreOf};
+ghost use Rattle.giop_message.specs.Headers.{size, is_fragment, is_opener, is_cancel};
+ghost use Rattle.giop_stream.specs.Framing.{Message};
+ghost use Rattle.giop_stream.specs.Joined.Events.{Title, Open, at_header, at_id, at_end, happens, title, opener_of};
+ghost use Rattle.giop_stream.specs.Joined.Text.{lines_text};
+ghost use Rattle.giop_stream.specs.Joined.Stream.{fault_count};
+ghost use Rattle.giop_stream.specs.Joined.Plays.{Scene, plays, with_octet};
+ghost use Rattle.giop_stream.specs.Joined.Keeping.{Keeps, AreReady};
+ghost use Rattle.giop_stream.specs.Joined.Whose.{IsNamed, IsFirst, IsNext, IsTaken, IsAt, opener_title, whose_named, whose, whose_after, id_events, end_events};
+
+use crate::fault::ImposedFault;
+use crate::header::{order_of, size_of};
+use crate::kinds::{
+    is_cancel, is_followed, is_fragment, is_opener, is_short, may_be_cancelled, refused, same_order,
+};
+use crate::lines::start_line;
+use crate::slots::Slots;
+use giop_print::{Out, OutFault, continues_line};
+use giop_sig::{Catalogue, Requests};
+
+/// The message whose payload comes, at one of its octets.
+#[derive(Clone, Copy, Debug)]
+pub struct Current {
+    pub number: u64,
+    pub header: [u8; 12],
+    /// The stream octets up to and with this one.
+    pub place: u64,
+    /// The octets of the payload up to and with this one.
+    pub come: u32,
+    /// The number that the first four octets of the payload spell, once they have come.
+    pub id: u32,
+}
+
+/// At the request id of a message that opens.
+fn opens<O: Out>(slots: &mut Slots, now: Current, id: u32, out: &mut O) -> Result<bool, OutFault>
+    ensures text { (C : Table) (l : Listed) (c : Scene) (m : Message) → IsNamed C l slots.old c m now id → is_fragment m.header ≡ false → is_opener m.header ≡ true →
+        Writes result (O.log out.old) (O.log out.new) (lines_text (plays (message_reading C l) c (at_id c.live m)).lines) }
+    ensures kept { (C : Table) (l : Listed) (c : Scene) (m : Message) → IsNamed C l slots.old c m now id → is_fragment m.header ≡ false → is_opener m.header ≡ true →
+        OnOk result (Keeps C l slots.new (plays (message_reading C l) c (at_id c.live m)).scene (Some (title m))) }
+    ensures faults { (C : Table) (l : Listed) (c : Scene) (m : Message) → IsNamed C l slots.old c m now id → is_fragment m.header ≡ false → is_opener m.header ≡ true →
+        IfOk result (λ fault. fault_count (plays (message_reading C l) c (at_id c.live m)).lines ≡ (if fault then 1 else 0)) }
+    ensures ready { (C : Table) (n : ℕ) → AreReady C n slots.old → AreReady C n slots.new }
+{
+    if slots.find(id).is_some() {
+        return slots.impose(now.number, ImposedFault::IdOpen, now.place, out);
+    }
+    if slots.slots.is_full() {
+        return slots.impose(now.number, ImposedFault::TooManyOpen, now.place, out);
+    }
+    slots.open(now.number, now.header, id);
+    Ok(false)
+}
+
+/// At a CancelRequest's request id.
+fn cancels<O: Out>(slots: &mut Slots, now: Current, id: u32, out: &mut O) -> Result<(), OutFault>
+    ensures text { (C : Table) (l : Listed) (c : Scene) (m : Message) → IsNamed C l slots.old c m now id → is_fragment m.header ≡ false → is_opener m.header ≡ false → is_cancel m.header ≡ true →
+        Writes result (O.log out.old) (O.log out.new) (lines_text (plays (message_reading C l) c (at_id c.live m)).lines) }
+    ensures kept { (C : Table) (l : Listed) (c : Scene) (m : Message) → IsNamed C l slots.old c m now id → is_fragment m.header ≡ false → is_opener m.header ≡ false → is_cancel m.header ≡ true →
+        OnOk result (Keeps C l slots.new (plays (message_reading C l) c (at_id c.live m)).scene (Some (title m))) }
+    ensures ready { (C : Table) (n : ℕ) → AreReady C n slots.old → AreReady C n slots.new }
+{
+    let Some(k) = slots.find(id) else {
+        return Ok(());
+    };
+    if may_be_cancelled(&slots.slots[k].header) {
+        return slots.cancel(k, now.number, now.place, out);
+    }
+    Ok(())
+}
+
+/// A Fragment of no open message is faulted, and nobody has what follows.
+fn fails<O: Out>(slots: &mut Slots, now: Current, out: &mut O) -> Result<bool, OutFault>
+    ensures text { (C : Table) (l : Listed) (c : Scene) (m : Message) (id : ℕ) → IsNamed C l slots.old c m now id → is_fragment m.header ≡ true → opener_of c.live m ≡ None →
+        Writes result (O.log out.old) (O.log out.new) (lines_text (plays (message_reading C l) c (at_id c.live m)).lines) }
+    ensures kept { (C : Table) (l : Listed) (c : Scene) (m : Message) (id : ℕ) → IsNamed C l slots.old c m now id → is_fragment m.header ≡ true → opener_of c.live m ≡ None →
+        OnOk result (Keeps C l slots.new (plays (message_reading C l) c (at_id c.live m)).scene None) }
+    ensures faults { (C : Table) (l : Listed) (c : Scene) (m : Message) (id : ℕ) → IsNamed C l slots.old c m now id → is_fragment m.header ≡ true → opener_of c.live m ≡ None →
+        IfOk result (λ fault. fault_count (plays (message_reading C l) c (at_id c.live m)).lines ≡ (if fault then 1 else 0)) }
+    ensures ready { (C : Table) (n : ℕ) → AreReady C n slots.old → AreReady C n slots.new }
+{
+    let faulted = slots.impose(now.number, ImposedFault::NoOpen, now.place, out);
+    slots.lose();
+    faulted
+}
+
+/// A Fragment continues the open message at this place.
+#[tactic(auto, using(giop_print::proofs::Writing::writes_then, giop_print::proofs::Writing::writes_err))]
+fn passes<O: Out>(slots: &mut Slots, k: usize, now: Current, out: &mut O) -> Result<bool, OutFault>
+    requires { k < length slots.old.slots.items }
+    ensures text { (C : Table) (l : Listed) (c : Scene) (m : Message) (id : ℕ) (o : Open) → IsNamed C l slots.old c m now id → is_fragment m.header ≡ true → opener_of c.live m ≡ Some o → slice_get c.live k ≡ Some o →
+        Writes result (O.log out.old) (O.log out.new) (lines_text (plays (message_reading C l) c (at_id c.live m)).lines) }
+    ensures kept { (C : Table) (l : Listed) (c : Scene) (m : Message) (id : ℕ) (o : Open) → IsNamed C l slots.old c m now id → is_fragment m.header ≡ true → opener_of c.live m ≡ Some o → slice_get c.live k ≡ Some o →
+        OnOk result (Keeps C l slots.new (plays (message_reading C l) c (at_id c.live m)).scene (Some o.opener)) }
+    ensures faults { (C : Table) (l : Listed) (c : Scene) (m : Message) (id : ℕ) (o : Open) → IsNamed C l slots.old c m now id → is_fragment m.header ≡ true → opener_of c.live m ≡ Some o → slice_get c.live k ≡ Some o →
+        IfOk result (λ fault. fault_count (plays (message_reading C l) c (at_id c.live m)).lines ≡ (if fault then 1 else 0)) }
+    ensures ready { (C : Table) (n : ℕ) → AreReady C n slots.old → AreReady C n slots.new }
+{
+    let number = slots.slots[k].number;
+    let order = order_of(&slots.slots[k].header);
+    slots.pass_on(k);
+    continues_line(out, now.number, number)?;
+    if same_order(order_of(&now.header), order) {
+        return Ok(false);
+    }
+    slots.impose(number, ImposedFault::FragmentOrder, now.place, out)
+}
+
+/// At a Fragment's request id: what follows is of the open message with that id.
+fn continues<O: Out>(
+    slots: &mut Slots,
+    now: Current,
+    id: u32,
+    out: &mut O,
+) -> Result<bool, OutFault>
+    ensures text { (C : Table) (l : Listed) (c : Scene) (m : Message) → IsNamed C l slots.old c m now id → is_fragment m.header ≡ true →
+        Writes result (O.log out.old) (O.log out.new) (lines_text (plays (message_reading C l) c (at_id c.live m)).lines) }
+    ensures kept { (C : Table) (l : Listed) (c : Scene) (m : Message) → IsNamed C l slots.old c m now id → is_fragment m.header ≡ true →
+        OnOk result (Keeps C l slots.new (plays (message_reading C l) c (at_id c.live m)).scene (opener_title (opener_of c.live m))) }
+    ensures faults { (C : Table) (l : Listed) (c : Scene) (m : Message) → IsNamed C l slots.old c m now id → is_fragment m.header ≡ true →
+        IfOk result (λ fault. fault_count (plays (message_reading C l) c (at_id c.live m)).lines ≡ (if fault then 1 else 0)) }
+    ensures ready { (C : Table) (n : ℕ) → AreReady C n slots.old → AreReady C n slots.new }
+{
+    match slots.find(id) {
+        Some(k) => passes(slots, k, now, out),
+        None => fails(slots, now, out),
+    }
+}
+
+/// At the request id of a message, which is complete: what it says of the open messages.
+pub fn named<O: Out>(
+    slots: &mut Slots,
+    now: Current,
+    id: u32,
+    out: &mut O,
+) -> Result<bool, OutFault>
+    ensures text { (C : Table) (l : Listed) (c : Scene) (m : Message) → IsNamed C l slots.old c m now id →
+        Writes result (O.log out.old) (O.log out.new) (lines_text (plays (message_reading C l) c (at_id c.live m)).lines) }
+    ensures kept { (C : Table) (l : Listed) (c : Scene) (m : Message) → IsNamed C l slots.old c m now id →
+        OnOk result (Keeps C l slots.new (plays (message_reading C l) c (at_id c.live m)).scene (whose_named c.live m)) }
+    ensures faults { (C : Table) (l : Listed) (c : Scene) (m : Message) → IsNamed C l slots.old c m now id →
+        IfOk result (λ fault. fault_count (plays (message_reading C l) c (at_id c.live m)).lines ≡ (if fault then 1 else 0)) }
+    ensures ready { (C : Table) (n : ℕ) → AreReady C n slots.old → AreReady C n slots.new }
+{
+    if is_fragment(&now.header) {
+        return continues(slots, now, id, out);
+    }
+    if is_opener(&now.header) {
+        return opens(slots, now, id, out);
+    }
+    if !is_cancel(&now.header) {
+        return Ok(false);
+    }
+    cancels(slots, now, id, out)?;
+    Ok(false)
+}
+
+/// At a message's last octet. A joined message is complete with its last Fragment, any other message with this octet.
+pub fn ends<O: Out>(
+    slots: &mut Slots,
+    catalogue: &Catalogue,
+    now: Current,
+    out: &mut O,
+) -> Result<bool, OutFault>
+    requires ready { AreReady catalogue.now (now.place + 1) slots.old }
+    ensures text { (l : Listed) (c : Scene) (m : Message) → IsAt catalogue.now l slots.old c m now → length m.payload ≡ size m.header →
+        Writes result (O.log out.old) (O.log out.new) (lines_text (plays (message_reading catalogue.now l) c (at_end c.live m)).lines) }
+    ensures kept { (l : Listed) (c : Scene) (m : Message) → IsAt catalogue.now l slots.old c m now → length m.payload ≡ size m.header →
+        OnOk result (Keeps catalogue.now l slots.new (plays (message_reading catalogue.now l) c (at_end c.live m)).scene None) }
+    ensures faults { (l : Listed) (c : Scene) (m : Message) → IsAt catalogue.now l slots.old c m now → length m.payload ≡ size m.header →
+        IfOk result (λ fault. fault_count (plays (message_reading catalogue.now l) c (at_end c.live m)).lines ≡ (if fault then 1 else 0)) }
+    ensures ready { AreReady catalogue.now (now.place + 1) slots.new }
+{
+    if is_short(&now.header) {
+        let faulted = slots.impose(now.number, ImposedFault::Short, now.place, out);
+        slots.lose();
+        return faulted;
+    }
+    if is_followed(&now.header) {
+        slots.lose();
+        return Ok(false);
+    }
+    slots.close(catalogue, now.place, out)
+}
+
+/// What an octet does where it is the last of a request id.
+fn names<O: Out>(slots: &mut Slots, now: Current, out: &mut O) -> Result<bool, OutFault>
+    ensures text { (C : Table) (l : Listed) (c : Scene) (m : Message) → IsTaken C l slots.old c m now →
+        Writes result (O.log out.old) (O.log out.new) (lines_text (plays (message_reading C l) c (id_events c.live m)).lines) }
+    ensures kept { (C : Table) (l : Listed) (c : Scene) (m : Message) → IsTaken C l slots.old c m now →
+        OnOk result (Keeps C l slots.new (plays (message_reading C l) c (id_events c.live m)).scene (whose c.live m)) }
+    ensures faults { (C : Table) (l : Listed) (c : Scene) (m : Message) → IsTaken C l slots.old c m now →
+        IfOk result (λ fault. fault_count (plays (message_reading C l) c (id_events c.live m)).lines ≡ (if fault then 1 else 0)) }
+    ensures ready { (C : Table) (n : ℕ) → AreReady C n slots.old → AreReady C n slots.new }
+{
+    if now.come == 4 {
+        return named(slots, now, now.id, out);
+    }
+    Ok(false)
+}
+
+/// What an octet does where it is the message's last.
+fn finishes<O: Out>(
+    slots: &mut Slots,
+    catalogue: &Catalogue,
+    now: Current,
+    out: &mut O,
+) -> Result<bool, OutFault>
+    requires ready { AreReady catalogue.now (now.place + 1) slots.old }
+    ensures text { (l : Listed) (c : Scene) (m : Message) → IsAt catalogue.now l slots.old c m now → length m.payload ≡ now.come →
+        Writes result (O.log out.old) (O.log out.new) (lines_text (plays (message_reading catalogue.now l) c (end_events c.live m)).lines) }
+    ensures kept { (l : Listed) (c : Scene) (m : Message) → IsAt catalogue.now l slots.old c m now → length m.payload ≡ now.come →
+        OnOk result (Keeps catalogue.now l slots.new (plays (message_reading catalogue.now l) c (end_events c.live m)).scene (whose_after c.live m)) }
+    ensures faults { (l : Listed) (c : Scene) (m : Message) → IsAt catalogue.now l slots.old c m now → length m.payload ≡ now.come →
+        IfOk result (λ fault. fault_count (plays (message_reading catalogue.now l) c (end_events c.live m)).lines ≡ (if fault then 1 else 0)) }
+    ensures ready { AreReady catalogue.now (now.place + 1) slots.new }
+{
+    if now.come == size_of(&now.header) {
+        return ends(slots, catalogue, now, out);
+    }
+    Ok(false)
+}
+
+/// How many of these are so.
+fn count(a: bool, b: bool, c: bool) -> u8
+    ensures { result ≡ (if a then 1 else 0) + ((if b then 1 else 0) + (if c then 1 else 0)) }
+{
+    u8::from(a) + (u8::from(b) + u8::from(c))
+}
+
+/// An octet of a message's payload; says how many messages it faults.
+pub fn octet<O: Out>(
+    slots: &mut Slots,
+    catalogue: &Catalogue,
+    requests: &Requests,
+    octet: u8,
+    now: Current,
+    out: &mut O,
+) -> Result<u8, OutFault>
+    requires ready { AreReady catalogue.now now.place slots.old }
+    requires of { AreOf catalogue.now requests.now }
+    requires limit { now.place ≤ 2 ^ 48 }
+    ensures text { (c : Scene) (m : Message) → IsNext catalogue.now requests.now slots.old c m now octet →
+        Writes result (O.log out.old) (O.log out.new) (lines_text (plays (message_reading catalogue.now requests.now) c (happens c.live (with_octet m octet))).lines) }
+    ensures kept { (c : Scene) (m : Message) → IsNext catalogue.now requests.now slots.old c m now octet →
+        (let play = plays (message_reading catalogue.now requests.now) c (happens c.live (with_octet m octet)) in
+        OnOk result (Keeps catalogue.now requests.now slots.new play.scene (whose_after play.scene.live (with_octet m octet)))) }
+    ensures faults { (c : Scene) (m : Message) → IsNext catalogue.now requests.now slots.old c m now octet →
+        IfOk result (λ faults. fault_count (plays (message_reading catalogue.now requests.now) c (happens c.live (with_octet m octet))).lines ≡ faults) }
+    ensures ready { OnOk result (AreReady catalogue.now (now.place + 1) slots.new) }
+{
+    let taken = slots.take(catalogue, requests, octet, now.place, out)?;
+    let named = names(slots, now, out)?;
+    let ended = finishes(slots, catalogue, now, out)?;
+    Ok(count(taken, named, ended))
+}
+
+/// A message begins, and is faulted where its header alone is refused.
+#[tactic(auto, using(giop_print::proofs::Writing::writes_then, giop_print::proofs::Writing::writes_err))]
+fn starts<O: Out>(
+    slots: &mut Slots,
+    catalogue: &Catalogue,
+    now: Current,
+    out: &mut O,
+) -> Result<bool, OutFault>
+    requires ready { AreReady catalogue.now now.place slots.old }
+    requires place { 12 ≤ now.place }
+    ensures text { (l : Listed) (c : Scene) (who : Option Title) (m : Message) → IsFirst catalogue.now l slots.old c who m now →
+        Writes result (O.log out.old) (O.log out.new) (lines_text (plays (message_reading catalogue.now l) c (at_header m)).lines) }
+    ensures kept { (l : Listed) (c : Scene) (who : Option Title) (m : Message) → IsFirst catalogue.now l slots.old c who m now →
+        OnOk result (Keeps catalogue.now l slots.new (plays (message_reading catalogue.now l) c (at_header m)).scene (Some (title m))) }
+    ensures faults { (l : Listed) (c : Scene) (who : Option Title) (m : Message) → IsFirst catalogue.now l slots.old c who m now →
+        IfOk result (λ fault. fault_count (plays (message_reading catalogue.now l) c (at_header m)).lines ≡ (if fault then 1 else 0)) }
+    ensures ready { OnOk result (AreReady catalogue.now (now.place + 1) slots.new) }
+{
+    start_line(out, now.number, &now.header)?;
+    slots.begin(catalogue, now.number, now.header);
+    match refused(&now.header) {
+        Some(fault) => slots.impose(now.number, fault, now.place, out),
+        None => Ok(false),
+    }
+}
+
+/// A header's last octet; says how many messages it faults.
+pub fn header<O: Out>(
+    slots: &mut Slots,
+    catalogue: &Catalogue,
+    now: Current,
+    out: &mut O,
+) -> Result<u8, OutFault>
+    requires ready { AreReady catalogue.now now.place slots.old }
+    requires place { 12 ≤ now.place }
+    ensures text { (l : Listed) (c : Scene) (who : Option Title) (m : Message) → IsFirst catalogue.now l slots.old c who m now →
+        Writes result (O.log out.old) (O.log out.new) (lines_text (plays (message_reading catalogue.now l) c (happens c.live m)).lines) }
+    ensures kept { (l : Listed) (c : Scene) (who : Option Title) (m : Message) → IsFirst catalogue.now l slots.old c who m now →
+        (let play = plays (message_reading catalogue.now l) c (happens c.live m) in
+        OnOk result (Keeps catalogue.now l slots.new play.scene (whose_after play.scene.live m))) }
+    ensures faults { (l : Listed) (c : Scene) (who : Option Title) (m : Message) → IsFirst catalogue.now l slots.old c who m now →
+        IfOk result (λ faults. fault_count (plays (message_reading catalogue.now l) c (happens c.live m)).lines ≡ faults) }
+    ensures ready { OnOk result (AreReady catalogue.now (now.place + 1) slots.new) }
+{
+    let refused = starts(slots, catalogue, now, out)?;
+    let ended = finishes(slots, catalogue, now, out)?;
+    Ok(count(refused, ended, false))
+}

@@ -1,0 +1,101 @@
+//! What kind of message a header begins, and what a header alone is faulted for (GIOP Message Formats, Fragment Message).
+
+ghost use Rattle.std.specs.Prelude.{◌≡◌, length};
+ghost use Rattle.giop_message.specs.Headers.{may_be_fragmented, is_opener, is_fragment, is_cancel};
+ghost use Rattle.giop_stream.specs.Joined.Kinds.{may_be_cancelled, refused, is_short, is_followed};
+ghost use Rattle.giop_stream.specs.Joined.Events.{same_order};
+
+use crate::fault::ImposedFault;
+use crate::header::{kind_of, minor_of, more_of, size_of};
+use giop_cdr::Order;
+
+/// Whether messages of this type may have fragments.
+#[tactic(auto, unfolding(giop_message::specs::Headers::may_be_fragmented))]
+pub fn may_be_fragmented(header: &[u8]) -> bool
+    requires { length header.now ≡ 12 }
+    ensures { result ≡ may_be_fragmented header.now }
+{
+    let kind = kind_of(header);
+    kind == 0 || kind == 1 || kind == 3 || kind == 4
+}
+
+/// Whether 1.2 Fragments follow a message.
+#[tactic(auto, unfolding(giop_message::specs::Headers::is_opener))]
+pub fn is_opener(header: &[u8]) -> bool
+    requires { length header.now ≡ 12 }
+    ensures { result ≡ is_opener header.now }
+{
+    minor_of(header) == 2 && more_of(header) && may_be_fragmented(header)
+}
+
+/// Whether a message is a 1.2 Fragment.
+#[tactic(auto, unfolding(giop_message::specs::Headers::is_fragment))]
+pub fn is_fragment(header: &[u8]) -> bool
+    requires { length header.now ≡ 12 }
+    ensures { result ≡ is_fragment header.now }
+{
+    minor_of(header) == 2 && kind_of(header) == 7
+}
+
+/// Whether a message is a CancelRequest.
+#[tactic(auto, unfolding(giop_message::specs::Headers::is_cancel))]
+pub fn is_cancel(header: &[u8]) -> bool
+    requires { length header.now ≡ 12 }
+    ensures { result ≡ is_cancel header.now }
+{
+    kind_of(header) == 2
+}
+
+/// Whether a message ends before its request id, which the joined message needs.
+#[tactic(auto, unfolding(crate::specs::Joined::Kinds::is_short))]
+pub fn is_short(header: &[u8]) -> bool
+    requires { length header.now ≡ 12 }
+    ensures { result ≡ is_short header.now }
+{
+    size_of(header) < 4 && (is_opener(header) || is_fragment(header))
+}
+
+/// Whether 1.2 Fragments of the same joined message follow.
+#[tactic(auto, unfolding(crate::specs::Joined::Kinds::is_followed))]
+pub fn is_followed(header: &[u8]) -> bool
+    requires { length header.now ≡ 12 }
+    ensures { result ≡ is_followed header.now }
+{
+    is_opener(header) || (is_fragment(header) && more_of(header))
+}
+
+/// Whether a CancelRequest may close a message.
+#[tactic(auto, unfolding(crate::specs::Joined::Kinds::may_be_cancelled))]
+pub fn may_be_cancelled(header: &[u8]) -> bool
+    requires { length header.now ≡ 12 }
+    ensures { result ≡ may_be_cancelled header.now }
+{
+    kind_of(header) == 0 || kind_of(header) == 3
+}
+
+/// What a message is faulted for by its header alone.
+#[tactic(auto, unfolding(crate::specs::Joined::Kinds::refused))]
+pub fn refused(header: &[u8]) -> Option<ImposedFault>
+    requires { length header.now ≡ 12 }
+    ensures { result ≡ refused header.now }
+{
+    let minor = minor_of(header);
+    let kind = kind_of(header);
+    if 7 < kind || (kind == 7 && minor == 0) {
+        Some(ImposedFault::MessageType)
+    } else if minor == 1 && (kind == 7 || (more_of(header) && may_be_fragmented(header))) {
+        Some(ImposedFault::OldFragment)
+    } else {
+        None
+    }
+}
+
+/// Whether two byte orders are the same.
+pub fn same_order(a: Order, b: Order) -> bool
+    ensures { result ≡ same_order a b }
+{
+    match (a, b) {
+        (Order::Big, Order::Big) | (Order::Little, Order::Little) => true,
+        _ => false,
+    }
+}
