@@ -1,6 +1,6 @@
 -- After any octets the machine's state is what the definitions say of them, and the next octet's lines are what it writes.
 use native.Mathlib.Nat.{le_of_eq}
-use Rattle.std.proofs.Common.{inl, inr, ◌≡◌, ℕ, suc, ◌+◌, ◌-◌, ◌<◌, ◌≤◌, Bool, true, false, List, [], ◌∷◌, ◌++◌, length, refl, sym, ap, subst, ◌∙◌, append_assoc, Option, Some, None, arith, length-append}
+use Rattle.std.proofs.Common.{inl, inr, ◌≡◌, ℕ, suc, ◌+◌, ◌-◌, ◌<◌, ◌≤◌, Bool, true, false, List, [], ◌∷◌, ◌++◌, length, refl, sym, ap, ◌∙◌, append_assoc, Option, Some, None, arith, length-append}
 use Rattle.std.specs.Prelude.{nat_lt, ◌==◌, if◌then◌else◌, ◌||◌, option_map, option_to_list, IfSome}
 use Rattle.std.specs.List.{filter, list_any, AllByRecursion as Each}
 use Rattle.std.proofs.lemmas.Bool.{ltb-true, eq-eqb, cases_eq, eqb-true}
@@ -11,12 +11,12 @@ use Rattle.giop_stream.specs.declared.fault.StreamFault.TheVariants.{StreamLimit
 use Rattle.giop_stream.specs.Headers.{fronts, wrong, first_wrong, offence}
 use Rattle.giop_message.specs.Headers.{size}
 use Rattle.giop_stream.specs.Framing.{Message, with_payload, Cut, limit, limited, cut_from, cut, messages, read_of}
-use Rattle.giop_stream.specs.Events.{Happening, Event, title, place, happens, events_of, events_from, events, joined}
+use Rattle.giop_stream.specs.Events.{Event, title, place, happens, events_from, events, joined}
 use Rattle.giop_message.specs.Reading.{Reading, IsCausal}
 use Rattle.giop_stream.specs.Lines.{Line, told, by_class, in_order, is_last_of, standing, said, stop_line, lines}
-use Rattle.giop_stream.specs.Stream.{is_fault, is_start, start_count, fault_count, is_over}
+use Rattle.giop_stream.specs.Stream.{is_fault, start_count, fault_count, is_over}
 use Rattle.giop_stream.specs.Holding.{octets_of}
-use Rattle.giop_stream.specs.Machine.{State, Kept, own_of, state_of, Step, fresh, taking, utters, written, kept_as, writes, now_written, deal, stops, header_by, in_header, first_message, step_on, step, run}
+use Rattle.giop_stream.specs.Machine.{State, Kept, own_of, state_of, Step, fresh, taking, utters, written, kept_as, writes, now_written, deal, stops, in_header, first_message, step_on, step, run}
 use Rattle.giop_stream.proofs.Lists.{by_growth, each_append, each_weaker, any_append}
 use Rattle.giop_stream.proofs.Cutting.{settle, header_case, header_grows, grow, stopped_at, next, of_parts, cut_grows}
 use Rattle.giop_stream.proofs.Happenings.{events_on, events_begin, happens_each}

@@ -1,16 +1,16 @@
 -- What the machine over whole messages does at an octet of a message, case by case, where the messages are read by the first
 -- reading.
-use Rattle.std.proofs.Common.{inl, inr, ◌⊎◌, ◌≡◌, ℕ, suc, ◌+◌, ◌-◌, ◌%◌, ◌<◌, ◌≤◌, Bool, true, false, List, [], ◌∷◌, ◌++◌, length, map, get_or, refl, sym, ap, ◌∙◌, arith, append-nil, add-zero, Option, Some, None}
-use Rattle.std.specs.Prelude.{nat_lt, ◌==◌, ◌&&◌, ◌||◌, if◌then◌else◌, codes, flat_map}
+use Rattle.std.proofs.Common.{inl, inr, ◌≡◌, ℕ, suc, ◌+◌, ◌-◌, ◌%◌, ◌<◌, Bool, true, false, List, [], ◌∷◌, ◌++◌, length, map, get_or, refl, ap, ◌∙◌, arith, append-nil, Option, Some, None}
+use Rattle.std.specs.Prelude.{nat_lt, ◌==◌, ◌&&◌, ◌||◌, if◌then◌else◌, codes}
 use Rattle.std.specs.List.{list_any}
-use Rattle.std.proofs.lemmas.Bool.{lt-ltb, le-ltb, eq-eqb, ne_eqb, cases_eq}
+use Rattle.std.proofs.lemmas.Bool.{lt-ltb, le-ltb, eq-eqb, ne_eqb}
 use Rattle.std.proofs.lemmas.List.{get_or_push, length_push}
 use Rattle.std.proofs.lemmas.List.Concat.{flat_map-append}
 use Rattle.giop_message.specs.Headers.{size}
-use Rattle.giop_stream.specs.Framing.{Message, with_payload}
+use Rattle.giop_stream.specs.Framing.{Message}
 use Rattle.giop_stream.specs.Events.{Happening, Begins, Takes, Closes, Event, title, place, own, at_header, at_octet, at_end, happens, octet, joined}
-use Rattle.giop_message.specs.Reading.{Saying, Value, Rest, Fault, End, Remark, Reading}
-use Rattle.giop_stream.specs.Lines.{Content, Started, Said, Line, line, tells, classes, by_class, is_last_of, standing}
+use Rattle.giop_message.specs.Reading.{Saying, Rest, Fault, End, Remark}
+use Rattle.giop_stream.specs.Lines.{Started, Said, Line, line, tells, classes, by_class, is_last_of, standing}
 use Rattle.giop_message.specs.Text.{rest_text, saying_line}
 use Rattle.giop_stream.specs.Text.{line_text, lines_text}
 use Rattle.giop_stream.specs.FirstReading.{rest_part, whole_part, last_part, is_short, first_closes, reading}

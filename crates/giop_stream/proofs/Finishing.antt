@@ -1,6 +1,6 @@
 -- Which messages are unfinished: the current one, unless it is over. A message that has closed is over.
-use Rattle.std.proofs.Common.{inl, inr, ◌⊎◌, ◌≡◌, ℕ, suc, ◌+◌, ◌-◌, ◌<◌, ◌≤◌, Bool, true, false, cond, not, List, [], ◌∷◌, ◌++◌, length, map, refl, sym, ap, subst, ◌∙◌, Option, Some, None, arith}
-use Rattle.std.specs.Prelude.{nat_lt, ◌==◌, if◌then◌else◌, ◌||◌, ◌&&◌, flat_map, option_to_list, option_map}
+use Rattle.std.proofs.Common.{inl, inr, ◌≡◌, ℕ, suc, ◌+◌, ◌-◌, ◌≤◌, Bool, true, false, cond, not, List, [], ◌∷◌, ◌++◌, length, map, refl, sym, ap, subst, ◌∙◌, Option, Some, None, arith}
+use Rattle.std.specs.Prelude.{nat_lt, ◌==◌, if◌then◌else◌, ◌||◌, flat_map, option_to_list}
 use Rattle.std.specs.List.{filter, list_any, AllByRecursion as Each}
 use Rattle.std.proofs.lemmas.Bool.{or_cases, or_right, or_left, and_parts, eq-eqb, eqb-true, ltb-false}
 use Rattle.std.proofs.lemmas.List.{append-nil, map-append, length_push}
@@ -12,7 +12,7 @@ use Rattle.giop_message.specs.Headers.{size}
 use Rattle.giop_stream.specs.Framing.{Message, with_payload, Cut, limit, cut, messages}
 use Rattle.giop_stream.specs.Events.{Happening, Begins, Takes, Closes, Event, title, place, own, at_header, at_octet, at_end, happens, events_from, events, joined}
 use Rattle.giop_message.specs.Reading.{Saying, Reading, IsCausal, IsEnding, is_last}
-use Rattle.giop_stream.specs.Lines.{Class, Start, Said_value, Said_call, Said_rest, Said_fault, Said_end, Stop, rank, Content, Started, Said, Stopped, class_of, Line, line, tells, classes, by_class, is_last_of, standing, said}
+use Rattle.giop_stream.specs.Lines.{Class, Start, Said_value, Said_call, Said_rest, Said_fault, Said_end, Stop, rank, Said, class_of, Line, line, tells, classes, by_class, is_last_of, standing, said}
 use Rattle.giop_stream.specs.Stream.{is_over, unfinished}
 use Rattle.giop_stream.specs.Holding.{octets_of}
 use Rattle.giop_stream.specs.Machine.{Kept, own_of, utters_kept, taking, utters, now_written}

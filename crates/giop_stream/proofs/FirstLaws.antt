@@ -1,8 +1,8 @@
 -- The first reading is causal, it always ends, and this is what one octet more adds to it.
-use Rattle.std.proofs.Common.{inl, inr, ◌⊎◌, ◌≡◌, ℕ, zero, suc, ◌+◌, ◌-◌, ◌*◌, ◌/◌, ◌%◌, ◌<◌, ◌≤◌, Bool, true, false, List, [], ◌∷◌, ◌++◌, length, take, drop, refl, sym, ap, ◌∙◌, append_assoc, arith, append-nil, length-drop, length-append}
-use Rattle.std.specs.Prelude.{nat_lt, nat_le, ◌==◌, ◌&&◌, ◌||◌, if◌then◌else◌, codes}
+use Rattle.std.proofs.Common.{inl, inr, ◌⊎◌, ◌≡◌, ℕ, zero, suc, ◌+◌, ◌*◌, ◌/◌, ◌%◌, ◌≤◌, Bool, true, false, List, [], ◌∷◌, ◌++◌, length, drop, refl, sym, ◌∙◌, append_assoc, arith, append-nil, length-drop, length-append}
+use Rattle.std.specs.Prelude.{nat_lt, ◌==◌, ◌&&◌, if◌then◌else◌, codes}
 use Rattle.std.specs.List.{filter, list_any, AllByRecursion as Each}
-use Rattle.std.proofs.lemmas.Bool.{lt-ltb, le-ltb, le-leb, lt-leb, eq-eqb, ne_eqb, cases_eq, cases_lt, cases_order, or_right}
+use Rattle.std.proofs.lemmas.Bool.{lt-ltb, le-ltb, le-leb, lt-leb, eq-eqb, ne_eqb, cases_eq, cases_order}
 use Rattle.std.proofs.lemmas.List.{take-append-le, drop-append-le, take_all, drop_all, length_push}
 use Rattle.std.proofs.lemmas.List.Elements.{filter-append}
 use Rattle.giop_cdr.specs.Numbers.{num}
@@ -11,7 +11,7 @@ use Rattle.giop_message.specs.Reading.{Saying, Value, Rest, Fault, End, Remark, 
 use Rattle.giop_stream.specs.Text.{id_text}
 use Rattle.giop_message.specs.Text.{rest_text}
 use Rattle.giop_stream.specs.FirstReading.{has_id, rest_part, rest_front, whole_part, last_part, rest_remarks, first_reads, is_short, last_rest, first_closes, reading}
-use Rattle.giop_stream.proofs.Lists.{by_growth, each_append, each_weaker, filter_keeps, filter_drops, any_append}
+use Rattle.giop_stream.proofs.Lists.{by_growth, each_append, each_weaker, filter_keeps, filter_drops}
 
 -- what a rest that begins after so many octets adds at one octet more
 abbrev pub rest_more : ℕ → List ℕ → ℕ → List Remark

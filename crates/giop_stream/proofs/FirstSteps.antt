@@ -1,14 +1,14 @@
 -- What the code remembers of a message, octet by octet, against its reading.
-use Rattle.std.proofs.Common.{inl, inr, ◌⊎◌, ◌≡◌, ℕ, suc, ◌+◌, ◌-◌, ◌*◌, ◌/◌, ◌%◌, ◌<◌, ◌≤◌, Bool, true, false, List, [], ◌∷◌, ◌++◌, length, take, drop, refl, sym, ap, ◌∙◌, arith, append-nil, length-drop, length-take, Option, Some, None}
-use Rattle.std.specs.Prelude.{nat_lt, ◌==◌, ◌&&◌, if◌then◌else◌, codes, flat_map}
+use Rattle.std.proofs.Common.{inl, inr, ◌≡◌, ℕ, ◌+◌, ◌%◌, Bool, true, false, List, [], ◌∷◌, ◌++◌, length, take, drop, refl, sym, arith, append-nil, length-drop, length-take}
+use Rattle.std.specs.Prelude.{if◌then◌else◌, flat_map}
 use Rattle.std.proofs.lemmas.Bool.{lt-ltb, le-ltb, eq-eqb, ne_eqb, cases_eq, cases_lt}
 use Rattle.std.proofs.lemmas.List.{take-append-le, drop-append-le, take_all, drop_all, length_push}
-use Rattle.giop_message.specs.Reading.{Saying, Value, Rest, Fault, End, Remark}
+use Rattle.giop_message.specs.Reading.{Saying, Remark}
 use Rattle.giop_message.specs.Text.{saying_line}
-use Rattle.giop_stream.specs.FirstReading.{has_id, id_part, rest_part, whole_part, last_part, is_short, last_rest, first_closes}
+use Rattle.giop_stream.specs.FirstReading.{has_id, id_part, rest_part, whole_part, last_part, is_short, first_closes}
 use Rattle.giop_stream.specs.Remembering.{MessageMemory}
 use Rattle.giop_stream.specs.Holding.{Follows}
-use Rattle.giop_stream.specs.Steps.{MessageStep, message_start, in_id, id_take, rest_take, message_take, message_close}
+use Rattle.giop_stream.specs.Steps.{message_start, in_id, id_take, rest_take, message_take, message_close}
 use Rattle.giop_stream.proofs.FirstLaws.{more}
 
 -- what is remembered of a message that has these octets

@@ -1,8 +1,8 @@
 -- The machine of the code does what the machine over whole messages does: what it remembers stays what that one's state says,
 -- and it writes the text of that one's lines.
 use Rattle.std.proofs.Common.{inl, inr, ◌≡◌, ℕ, suc, ◌+◌, ◌-◌, ◌<◌, ◌≤◌, Bool, true, false, List, [], ◌∷◌, ◌++◌, length, refl, sym, ap, ◌∙◌, arith, append-nil, add-zero, Option, Some, None}
-use Rattle.std.specs.Prelude.{nat_lt, nat_le, ◌==◌, ◌&&◌, if◌then◌else◌, IfSome}
-use Rattle.std.proofs.lemmas.Bool.{lt-ltb, le-ltb, le-leb, lt-leb, eq-eqb, ne_eqb, cases_lt, cases_eq, ltb-false, ltb-true}
+use Rattle.std.specs.Prelude.{nat_lt, nat_le, ◌==◌, if◌then◌else◌, IfSome}
+use Rattle.std.proofs.lemmas.Bool.{lt-ltb, le-ltb, le-leb, lt-leb, eq-eqb, ne_eqb, cases_lt, cases_eq}
 use Rattle.std.proofs.lemmas.List.{length_push}
 use Rattle.giop_stream.specs.declared.fault.StreamFault.{StreamFault}
 use Rattle.giop_stream.specs.declared.fault.StreamFault.TheVariants.{StreamLimit}
@@ -12,7 +12,7 @@ use Rattle.giop_stream.specs.Framing.{Message, with_payload, limit, fault_of}
 use Rattle.giop_stream.specs.Events.{place}
 use Rattle.giop_stream.specs.Lines.{Line, stop_line}
 use Rattle.giop_print.specs.Lines.{stream_fault_line}
-use Rattle.giop_stream.specs.Text.{start_line, stream_word, line_text, lines_text}
+use Rattle.giop_stream.specs.Text.{start_line, stream_word, lines_text}
 use Rattle.giop_stream.specs.FirstReading.{is_short, first_closes, reading}
 use Rattle.giop_stream.specs.Stream.{fault_count}
 use Rattle.giop_stream.specs.Remembering.{MessageMemory, Memory}
@@ -21,7 +21,7 @@ use Rattle.giop_stream.specs.Machine as whole
 use Rattle.giop_stream.specs.Machine.{State, deal, writes, stops, first_message, in_header, step_on}
 use Rattle.giop_stream.specs.Steps.{StreamStep, in_id, message_start, message_take, message_close, stop, close, close_if_done, start, head, taken, pay, step}
 use Rattle.giop_stream.proofs.FirstLaws.{more}
-use Rattle.giop_stream.proofs.FirstSteps.{message_of, start_is, remarks_text, closes_text, take_is, short_is, close_is}
+use Rattle.giop_stream.proofs.FirstSteps.{message_of, start_is, closes_text, take_is, short_is, close_is}
 use Rattle.giop_stream.proofs.Bridge.{in_header_stop, in_header_held, in_header_full}
 use Rattle.giop_stream.proofs.Dealing.{said_lines, close_lines, start_of, said_text, close_text, text_append, deal_on, deal_last, deal_begins, deal_whole, deal_over_on, deal_over_last}
 

@@ -1,5 +1,5 @@
 -- The events of a stream with one octet more.
-use Rattle.std.proofs.Common.{◌≡◌, ℕ, ◌-◌, ◌<◌, ◌≤◌, Bool, true, false, List, [], ◌∷◌, ◌++◌, length, get_or, refl, ap, ◌∙◌, append_assoc, arith}
+use Rattle.std.proofs.Common.{◌≡◌, ℕ, ◌-◌, Bool, true, false, List, [], ◌∷◌, ◌++◌, length, get_or, refl, ap, ◌∙◌, append_assoc}
 use Rattle.std.specs.List.{AllByRecursion as Each}
 use Rattle.std.specs.Prelude.{◌==◌, if◌then◌else◌, flat_map}
 use Rattle.std.proofs.lemmas.List.{append-nil}
@@ -7,7 +7,7 @@ use Rattle.std.proofs.lemmas.List.Concat.{flat_map-append}
 use Rattle.giop_stream.specs.Headers.{fronts}
 use Rattle.giop_message.specs.Headers.{size}
 use Rattle.giop_stream.specs.Framing.{Message, with_payload}
-use Rattle.giop_stream.specs.Events.{Happening, Begins, Takes, Closes, Title, Event, title, place, own, at_header, at_octet, at_end, happens, events_of, events_from}
+use Rattle.giop_stream.specs.Events.{Happening, Begins, Takes, Closes, Event, title, place, own, at_header, at_octet, at_end, happens, events_of, events_from}
 use Rattle.giop_stream.proofs.Lists.{fronts_push, each_append}
 
 pub events_from_push : (ms : List Message) (m : Message) → events_from (ms ++ m ∷ []) ≡ events_from ms ++ events_of m

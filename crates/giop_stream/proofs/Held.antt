@@ -1,30 +1,28 @@
 -- What an engine holds before and after a piece, and at the finish.
-use Rattle.std.proofs.Common.{◌≡◌, ℕ, suc, ◌+◌, ◌-◌, ◌<◌, ◌≤◌, Bool, true, false, zero, List, [], ◌∷◌, ◌++◌, length, drop, get_or, refl, sym, ap, ◌∙◌, append_assoc, append-nil, arith, Option, Some, None}
-use Rattle.std.specs.Prelude.{nat_lt, ◌==◌, ◌&&◌, if◌then◌else◌, is_some, is_none, flat_map}
+use Rattle.std.proofs.Common.{◌≡◌, ℕ, suc, ◌<◌, false, zero, List, [], ◌∷◌, ◌++◌, length, drop, get_or, refl, sym, ap, ◌∙◌, append_assoc, append-nil, arith, Option, Some, None}
+use Rattle.std.specs.Prelude.{if◌then◌else◌, flat_map}
 use Rattle.std.proofs.Math.Seq.{drop-append_seam}
 use Rattle.std.proofs.lemmas.Bool.{lt-ltb}
 use Rattle.std.proofs.lemmas.List.Elements.{All-nil, All-append}
 use Rattle.giop_stream.specs.declared.fault.StreamFault.{StreamFault}
-use Rattle.giop_stream.specs.declared.status.Totals.{Totals}
 use Rattle.giop_cdr.specs.Numbers.{AreOctets}
-use Rattle.giop_stream.specs.Framing.{Message, Cut, cut, messages, read_of, fault_of}
+use Rattle.giop_stream.specs.Framing.{Message, cut, read_of, fault_of}
 use Rattle.giop_stream.specs.Lines.{lines}
 use Rattle.giop_print.specs.Lines.{unfinished_line, total_line}
 use Rattle.giop_stream.specs.Text.{lines_text, truncated_line}
 use Rattle.giop_stream.specs.FirstReading.{reading}
 use Rattle.giop_stream.specs.Stream.{text, fault_count, tally, tally_of, is_inside, is_truncated, unfinished, final, closing}
 use Rattle.giop_stream.specs.Remembering.{MessageMemory, Memory, EngineMemory}
-use Rattle.giop_stream.specs.Holding.{Follows, FollowsIf, FollowsCurrent, octets_of, unless_stopped, header_by, header_of, left_of, Holds, status_of}
+use Rattle.giop_stream.specs.Holding.{FollowsIf, FollowsCurrent, octets_of, unless_stopped, header_by, header_of, left_of, Holds, status_of}
 use Rattle.giop_stream.specs.Machine.{State, own_of, state_of, fresh}
 use Rattle.giop_stream.specs.Machine as whole
 use Rattle.giop_stream.specs.Steps.{step, steps, first_memory, is_cut_short, final_totals, truncation, unfinished_by, finish_text}
-use Rattle.giop_stream.proofs.Cutting.{of_parts}
-use Rattle.giop_stream.proofs.Bridge.{Fits, sound, starts_are, step_holds, step_lines, holds_start, lines_nothing}
+use Rattle.giop_stream.proofs.Bridge.{Fits, sound, starts_are, step_holds, step_lines, holds_start}
 use Rattle.giop_stream.proofs.Finishing.{left_own, unfinished_is}
 use Rattle.giop_stream.proofs.FirstLaws.{first_causal, first_ending}
 use Rattle.giop_stream.proofs.FirstSteps.{message_of, follows_is, is_follows}
 use Rattle.giop_stream.proofs.Dealing.{text_append}
-use Rattle.giop_stream.proofs.Following.{message_for, memory_of, Stands, Same, follows}
+use Rattle.giop_stream.proofs.Following.{message_for, memory_of, Stands, follows}
 
 -- ---- What is remembered of p is what the definitions say of it.
 

@@ -24,3 +24,4 @@ pub mod Ending
 pub mod Taken
 pub mod Parts
 pub mod Headed
+pub mod Staged

@@ -1,5 +1,5 @@
 -- A line of the first reading is a line of its kind.
-use Rattle.std.proofs.Common.{◌≡◌, ℕ, List, [], ◌∷◌, ◌++◌, refl, ap, append-nil, append_assoc, codes, decimal}
+use Rattle.std.proofs.Common.{◌≡◌, ℕ, List, [], ◌∷◌, ◌++◌, refl, append-nil, append_assoc, codes, decimal}
 use Rattle.giop_cdr.specs.declared.prim.Primitive.TheVariants.{ULong}
 use Rattle.giop_cdr.specs.declared.number.Number.TheVariants.{Unsigned}
 use Rattle.giop_print.specs.declared.value.Value.TheVariants as values

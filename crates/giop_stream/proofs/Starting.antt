@@ -1,14 +1,14 @@
 -- How many start lines an octet has: one at a header's last octet, and none at any other.
-use Rattle.std.proofs.Common.{◌≡◌, ℕ, suc, ◌+◌, ◌-◌, ◌<◌, Bool, true, false, cond, List, [], ◌∷◌, ◌++◌, length, map, refl, sym, ap, ◌∙◌, Option, Some, None, arith, get_or, length-append}
+use Rattle.std.proofs.Common.{◌≡◌, ℕ, suc, ◌+◌, ◌-◌, ◌<◌, Bool, true, false, List, [], ◌∷◌, ◌++◌, length, refl, ap, Option, Some, None, arith, get_or, length-append}
 use Rattle.std.specs.Prelude.{◌==◌, if◌then◌else◌, flat_map, ◌||◌}
 use Rattle.std.specs.List.{filter, AllByRecursion as Each}
 use Rattle.std.proofs.lemmas.Bool.{ne_eqb, eq-eqb}
 use Rattle.std.proofs.lemmas.List.Elements.{filter-append}
 use Rattle.giop_message.specs.Headers.{size}
 use Rattle.giop_stream.specs.Framing.{Message}
-use Rattle.giop_stream.specs.Events.{Happening, Begins, Takes, Closes, Event, title, place, own, at_header, at_octet, at_end, happens, octet, joined}
+use Rattle.giop_stream.specs.Events.{Begins, Takes, Closes, Event, title, place, own, at_header, at_octet, at_end, happens, joined}
 use Rattle.giop_message.specs.Reading.{Saying, Value, Call, Rest, Fault, End, Reading}
-use Rattle.giop_stream.specs.Lines.{Class, Start, Said_value, Said_call, Said_rest, Said_fault, Said_end, Stop, Content, Started, Said, Stopped, Line, has_class, line, tells, classes, by_class, is_last_of, standing}
+use Rattle.giop_stream.specs.Lines.{Start, Content, Started, Said, Stopped, Line, has_class, line, tells, classes, by_class, is_last_of, standing}
 use Rattle.giop_stream.specs.Stream.{is_start, start_count}
 use Rattle.giop_stream.specs.Machine.{Kept, utters_kept, taking, utters, now_written}
 use Rattle.giop_stream.proofs.Lists.{each_append, each_map, filter_drops, each_weaker}

@@ -7,7 +7,7 @@ use Rattle.std.proofs.lemmas.List.{append-nil, length_push}
 use Rattle.std.proofs.lemmas.List.Elements.{filter-append}
 use Rattle.std.proofs.lemmas.List.Concat.{flat_map-append}
 use Rattle.giop_stream.specs.Events.{Happening, Begins, Takes, Closes, Event, octet, joined}
-use Rattle.giop_message.specs.Reading.{Remark, Reading, IsCausal}
+use Rattle.giop_message.specs.Reading.{Reading, IsCausal}
 use Rattle.giop_stream.specs.Lines.{Class, Content, Started, Said, Line, has_class, line, tells, told, classes, by_class, in_order, is_last_of, standing}
 use Rattle.giop_stream.specs.Machine.{Kept, utters_kept, taking, utters}
 use Rattle.giop_stream.proofs.Lists.{filter_keeps, filter_drops, filter_swap, each_append, each_weaker, each_map, each_filter}

@@ -1,6 +1,6 @@
 -- The reading of a message that knows the header of a CancelRequest alone (GIOP Message Formats, CancelRequest Message): its
 -- request id, then the rest in parts of 32 octets, then the end. All octets of every other message are rest.
-use Rattle.std.specs.Prelude.{ℕ, zero, suc, ◌+◌, ◌*◌, ◌/◌, ◌%◌, Bool, true, false, List, [], ◌∷◌, ◌++◌, length, take, drop, nat_lt, nat_le, ◌==◌, ◌&&◌, if◌then◌else◌, codes}
+use Rattle.std.specs.Prelude.{ℕ, zero, suc, ◌+◌, ◌*◌, ◌/◌, ◌%◌, Bool, List, [], ◌∷◌, ◌++◌, length, take, drop, nat_lt, nat_le, ◌==◌, ◌&&◌, if◌then◌else◌, codes}
 use Rattle.giop_cdr.specs.Numbers.{num}
 use Rattle.giop_message.specs.Headers.{kind, order}
 use Rattle.giop_message.specs.Reading.{Saying, Value, Rest, Fault, End, Remark, Reading}

@@ -1,7 +1,6 @@
 -- Which streams an engine holds: each of its fields is said from the whole stream.
-use Rattle.std.specs.Prelude.{◌≡◌, ℕ, ◌-◌, List, [], length, Bool, true, false, Option, Some, None, Result, Ok, Err, if◌then◌else◌}
+use Rattle.std.specs.Prelude.{◌≡◌, ℕ, ◌-◌, List, [], length, true, false, Option, Some, None, Result, Ok, Err, if◌then◌else◌}
 use Rattle.giop_stream.specs.declared.fault.StreamFault.{StreamFault}
-use Rattle.giop_stream.specs.declared.status.Totals.{Totals}
 use Rattle.giop_stream.specs.declared.status.Status.{Status}
 use Rattle.giop_stream.specs.declared.status.Status.TheVariants.{Running, Stopped}
 use Rattle.giop_stream.specs.declared.fault.Stop.{Stop}
@@ -14,7 +13,7 @@ use Rattle.giop_message.specs.Reading.{Reading}
 use Rattle.giop_stream.specs.FirstReading.{id_part, rest_part, whole_part, last_part, reading}
 use Rattle.giop_stream.specs.Stream.{tally, is_over}
 use Rattle.giop_print.specs.Output.{OutLog, Wrote, WroteFront}
-use Rattle.giop_stream.specs.Remembering.{MessageMemory, Memory, EngineMemory}
+use Rattle.giop_stream.specs.Remembering.{MessageMemory, EngineMemory}
 
 -- A message of this number and header follows its octets xs.
 pub record Follows (m : MessageMemory) (number : ℕ) (header xs : List ℕ) : Type 0 where

@@ -1,5 +1,5 @@
 -- The lines of a stream, each stamped with the place of its octet and its class (docs/FORMATS.md, Order).
-use Rattle.std.specs.Prelude.{◌≡◌, ℕ, zero, suc, Bool, true, false, ◌&&◌, ◌||◌, List, [], ◌∷◌, ◌++◌, length, map, filter, flat_map, Option, Some, None, ◌==◌, if◌then◌else◌}
+use Rattle.std.specs.Prelude.{ℕ, zero, suc, Bool, false, ◌&&◌, ◌||◌, List, [], ◌∷◌, ◌++◌, length, map, filter, flat_map, Option, Some, None, ◌==◌, if◌then◌else◌}
 use Rattle.giop_stream.specs.declared.fault.StreamFault.{StreamFault}
 use Rattle.giop_stream.specs.Framing.{cut}
 use Rattle.giop_stream.specs.Events.{Event, Happening, Begins, Takes, Closes, events, joined}

@@ -1,16 +1,16 @@
 -- The machine over whole messages: what is known of a stream, and what its next octet adds. No contract but that of a law
 -- cites it; `Steps` is the machine of the code.
-use Rattle.std.specs.Prelude.{ℕ, suc, ◌+◌, ◌-◌, Bool, true, false, List, [], ◌∷◌, ◌++◌, length, map, Option, Some, None, ◌==◌, nat_lt, if◌then◌else◌, option_map}
+use Rattle.std.specs.Prelude.{ℕ, suc, ◌+◌, ◌-◌, false, List, [], ◌∷◌, ◌++◌, length, Option, Some, None, ◌==◌, nat_lt, if◌then◌else◌, option_map}
 use Rattle.std.specs.List.{list_any}
 use Rattle.giop_stream.specs.declared.fault.StreamFault.{StreamFault}
 use Rattle.giop_stream.specs.declared.fault.StreamFault.TheVariants.{StreamLimit}
 use Rattle.giop_stream.specs.Headers.{wrong}
 use Rattle.giop_message.specs.Headers.{size}
 use Rattle.giop_stream.specs.Framing.{Message, with_payload, limit, cut, messages, read_of}
-use Rattle.giop_stream.specs.Events.{Event, happens, events, joined}
+use Rattle.giop_stream.specs.Events.{Event, happens, joined}
 use Rattle.giop_message.specs.Reading.{Reading}
 use Rattle.giop_stream.specs.Lines.{Line, tells, by_class, standing, is_last_of, stop_line, lines}
-use Rattle.giop_stream.specs.Stream.{start_count, fault_count}
+use Rattle.giop_stream.specs.Stream.{fault_count}
 use Rattle.giop_stream.specs.Holding.{octets_of}
 
 pub record State : Type 0 where

@@ -1,10 +1,10 @@
 -- The text of a stream, its totals, and its closing: what is written at the finish (docs/FORMATS.md, Lines).
-use Rattle.std.specs.Prelude.{◌≡◌, ℕ, ◌+◌, Bool, true, false, not, ◌&&◌, ◌||◌, List, [], ◌∷◌, ◌++◌, length, map, filter, flat_map, Option, Some, None, is_some, is_none, nat_lt, if◌then◌else◌}
+use Rattle.std.specs.Prelude.{ℕ, ◌+◌, Bool, true, false, not, ◌&&◌, ◌||◌, List, [], ◌++◌, length, map, filter, flat_map, Option, is_some, is_none, nat_lt, if◌then◌else◌}
 use Rattle.std.specs.List.{list_any}
 use Rattle.giop_stream.specs.declared.fault.StreamFault.{StreamFault}
 use Rattle.giop_stream.specs.declared.status.Totals.{Totals}
 use Rattle.giop_stream.specs.Framing.{Message, Cut, cut, messages, read_of}
-use Rattle.giop_message.specs.Reading.{Saying, Value, Call, Rest, Fault, End, Reading}
+use Rattle.giop_message.specs.Reading.{Value, Call, Rest, Fault, End, Reading}
 use Rattle.giop_stream.specs.Lines.{Content, Started, Said, Stopped, Line, is_last_of, said, lines}
 use Rattle.giop_print.specs.Lines.{unfinished_line, total_line}
 use Rattle.giop_stream.specs.Text.{lines_text, truncated_line}

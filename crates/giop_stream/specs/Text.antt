@@ -1,12 +1,11 @@
 -- The text of each stamped line, and what a reading may say of a message (docs/FORMATS.md, Lines).
 use Rattle.std.specs.Prelude.{ℕ, List, [], ◌∷◌, flat_map, codes, decimal}
-use Rattle.giop_print.specs.Text.{joined, hex}
+use Rattle.giop_print.specs.Text.{joined}
 use Rattle.giop_print.specs.Lines.{fault_line, stream_fault_line}
 use Rattle.giop_print.specs.Lines as print
 use Rattle.giop_stream.specs.declared.fault.StreamFault.{StreamFault}
 use Rattle.giop_stream.specs.declared.fault.StreamFault.TheVariants.{Magic, Version, ByteOrder, StreamLimit}
 use Rattle.giop_message.specs.Headers.{minor, order, kind, size, has_more}
-use Rattle.giop_message.specs.Reading.{Saying, Value, Call, Rest, Fault, End}
 use Rattle.giop_message.specs.Text.{saying_line}
 use Rattle.giop_stream.specs.Lines.{Line, Content, Started, Said, Stopped}
 

@@ -229,7 +229,8 @@ fn finishes<O: Out>(
 
 /// How many of these are so.
 fn count(a: bool, b: bool, c: bool) -> u8
-    ensures { result ≡ (if a then 1 else 0) + ((if b then 1 else 0) + (if c then 1 else 0)) }
+    ensures value { result ≡ (if a then 1 else 0) + ((if b then 1 else 0) + (if c then 1 else 0)) }
+    ensures few { result ≤ 3 }
 {
     u8::from(a) + (u8::from(b) + u8::from(c))
 }
@@ -253,6 +254,7 @@ pub fn octet<O: Out>(
         OnOk result (Keeps catalogue.now requests.now slots.new play.scene (whose_after play.scene.live (with_octet m octet)))) }
     ensures faults { (c : Scene) (m : Message) → IsNext catalogue.now requests.now slots.old c m now octet →
         IfOk result (λ faults. fault_count (plays (message_reading catalogue.now requests.now) c (happens c.live (with_octet m octet))).lines ≡ faults) }
+    ensures few { IfOk result (λ faults. faults ≤ 3) }
     ensures ready { OnOk result (AreReady catalogue.now (now.place + 1) slots.new) }
 {
     let taken = slots.take(catalogue, requests, octet, now.place, out)?;
@@ -303,6 +305,7 @@ pub fn header<O: Out>(
         OnOk result (Keeps catalogue.now l slots.new play.scene (whose_after play.scene.live m))) }
     ensures faults { (l : Listed) (c : Scene) (who : Option Title) (m : Message) → IsFirst catalogue.now l slots.old c who m now →
         IfOk result (λ faults. fault_count (plays (message_reading catalogue.now l) c (happens c.live m)).lines ≡ faults) }
+    ensures few { IfOk result (λ faults. faults ≤ 3) }
     ensures ready { OnOk result (AreReady catalogue.now (now.place + 1) slots.new) }
 {
     let refused = starts(slots, catalogue, now, out)?;

@@ -199,7 +199,7 @@ alive_front R causal laws p x st cur room None true e f ec st' m cur' name few =
     ∙ (alive_header R causal laws p x st cur room e (omega (arith, length_push held x)) name' s.lacks
     ∙ ap (λ (n : Message). Some n.payload) (sym s.same)))
 
-parts_by : (c : Cut) (current : Option Message) (found : Option (ℕ × StreamFault)) → c.current ≡ current → c.stop ≡ found → c ≡ of_parts c.whole current c.held found
+pub parts_by : (c : Cut) (current : Option Message) (found : Option (ℕ × StreamFault)) → c.current ≡ current → c.stop ≡ found → c ≡ of_parts c.whole current c.held found
 unfolding of_parts
 parts_by c current found e f = λ j. record { whole = c.whole; current = e j; held = c.held; stop = f j }
 

@@ -161,7 +161,7 @@ octets_grow R p p' es ls ev sd i =
     rw (ev, sd, any_append (is_last_of i) (said R p) ls, joined_append i (events p) es)
     (octets_by (list_any (is_last_of i) (said R p)) (list_any (is_last_of i) ls) (joined i (events p)) (joined i es))
 
-octets_idle : (R : Reading) (p p' : List ℕ) → events p' ≡ events p → said R p' ≡ said R p → (i : ℕ) → octets_of R p' i ≡ octets_of R p i
+pub octets_idle : (R : Reading) (p p' : List ℕ) → events p' ≡ events p → said R p' ≡ said R p → (i : ℕ) → octets_of R p' i ≡ octets_of R p i
 unfolding octets_of is_over
 octets_idle R p p' ev sd i = rw (ev, sd) refl
 

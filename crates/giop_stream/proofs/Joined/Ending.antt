@@ -1,6 +1,6 @@
 -- What the code does at a message's last octet.
 use Rattle.std.proofs.Common.{◌≡◌, ℕ, ◌<◌, ◌≤◌, Bool, true, false, List, [], length, refl, sym, ap, ◌∙◌, Option, Some, None, arith}
-use Rattle.std.specs.Prelude.{◌&&◌, ◌||◌, nat_lt, nat_le, if◌then◌else◌}
+use Rattle.std.specs.Prelude.{◌&&◌, ◌||◌, nat_lt, if◌then◌else◌}
 use Rattle.std.proofs.lemmas.Bool.{and_parts, ltb-true, ltb-false, lt-leb, le-leb}
 use Rattle.giop_sig.specs.Table.{Table}
 use Rattle.giop_message.specs.Signatures.{Kept as Listed}
@@ -12,7 +12,6 @@ use Rattle.giop_stream.specs.declared.dispatch.Current.{Current}
 use Rattle.giop_stream.specs.Framing.{Message}
 use Rattle.giop_stream.specs.Joined.Kinds.{is_short, is_followed}
 use Rattle.giop_stream.specs.Joined.Events.{Title, Open, Event, Happening, Closes, Imposed, title, opener_of, has_named, own, about, at_end}
-use Rattle.giop_stream.specs.Joined.Lines.{Line}
 use Rattle.giop_stream.specs.Joined.Plays.{Scene, Play, plays, one_play, no_play}
 use Rattle.giop_stream.specs.Joined.Keeping.{scene_to, lines_to}
 use Rattle.giop_stream.specs.Joined.Whose.{IsAt, opener_title, whose}

@@ -1,7 +1,6 @@
 -- What the code does at a header's last octet: the message begins, and ends there where it has no payload.
-use Rattle.std.proofs.Common.{◌≡◌, ℕ, ◌+◌, ◌<◌, ◌≤◌, Bool, true, false, List, [], ◌∷◌, ◌++◌, length, refl, sym, ap, subst, ◌∙◌, Option, Some, None, arith}
+use Rattle.std.proofs.Common.{◌≡◌, ℕ, ◌+◌, ◌<◌, ◌≤◌, Bool, true, false, List, [], ◌∷◌, ◌++◌, length, refl, sym, ap, ◌∙◌, Option, Some, None, arith}
 use Rattle.std.specs.Prelude.{◌==◌, if◌then◌else◌}
-use Rattle.std.specs.List.{AllByRecursion as Each}
 use Rattle.std.proofs.lemmas.Bool.{eq-eqb, ne_eqb}
 use Rattle.giop_sig.specs.Table.{Table}
 use Rattle.giop_message.specs.Signatures.{Kept as Listed}
@@ -14,7 +13,7 @@ use Rattle.giop_stream.specs.declared.dispatch.Current.{Current}
 use Rattle.giop_stream.specs.Framing.{Message}
 use Rattle.giop_stream.specs.Text.{start_line}
 use Rattle.giop_stream.specs.Joined.Kinds.{refused}
-use Rattle.giop_stream.specs.Joined.Events.{Title, Open, Event, Imposed, title, place, at_header, at_end, happens, opened, Rising}
+use Rattle.giop_stream.specs.Joined.Events.{Title, Open, Event, Imposed, title, at_header, happens, opened}
 use Rattle.giop_stream.specs.Joined.Lines.{Line}
 use Rattle.giop_stream.specs.Joined.Text.{lines_text}
 use Rattle.giop_stream.specs.Joined.Stream.{fault_count}

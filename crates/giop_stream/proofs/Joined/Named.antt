@@ -1,5 +1,5 @@
 -- What the code does at a request id, by the slots that it finds.
-use Rattle.std.proofs.Common.{inl, inr, ◌≡◌, ℕ, zero, suc, ◌<◌, ◌≤◌, Bool, true, false, List, [], ◌∷◌, ◌++◌, length, refl, sym, ap, subst, ◌∙◌, Option, Some, None, arith, append-nil}
+use Rattle.std.proofs.Common.{inl, inr, ◌≡◌, ℕ, zero, suc, ◌<◌, ◌≤◌, Bool, true, false, List, [], ◌∷◌, ◌++◌, length, refl, sym, ap, ◌∙◌, Option, Some, None, arith, append-nil}
 use Rattle.std.specs.Prelude.{◌==◌, ◌||◌, slice_get, slice_index_or, is_some}
 use Rattle.std.proofs.lemmas.Bool.{cases_eq, eq-eqb, eqb-true, false≢true}
 use Rattle.std.specs.List.{find, position_from}
@@ -27,7 +27,7 @@ use Rattle.giop_print.proofs.Writing.{wrote-nil}
 use Rattle.giop_stream.specs.Joined.Keeping.{IsSlot, event}
 use Rattle.giop_stream.specs.Joined.Whose.{IsNamed, opener_title, whose_named}
 use Rattle.giop_stream.proofs.Joined.Keepers.{are_as_many, slots_many, open_slot}
-use Rattle.giop_stream.proofs.Joined.Naming.{OpenAt, none_open, one_open}
+use Rattle.giop_stream.proofs.Joined.Naming.{none_open, one_open}
 use Rattle.giop_stream.proofs.Joined.Cases.{opener_twice, opener_no_room, opener_opens, fragment_unknown, fragment_in_order, fragment_out_of_order, cancel_misses, cancel_spares, cancel_closes, other_id}
 
 -- the open message that is found, and where

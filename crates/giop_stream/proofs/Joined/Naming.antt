@@ -9,7 +9,6 @@ use Rattle.giop_stream.specs.Joined.Plays.{Scene}
 use Rattle.giop_stream.specs.Joined.Keeping.{AreSlots}
 use Rattle.giop_sig.specs.Table.{Table}
 use Rattle.giop_message.specs.Signatures.{Kept as Listed}
-use Rattle.giop_message.specs.MessageReading.{message_reading}
 
 -- ---- The open message with a request id.
 

@@ -1,33 +1,30 @@
 -- An octet of a payload part by part, as the code does it: the message whose it is takes it, then the request id, then the end.
-use Rattle.std.proofs.Common.{inl, inr, ◌≡◌, ℕ, suc, ◌+◌, ◌-◌, ◌<◌, ◌≤◌, Bool, true, false, List, [], ◌∷◌, ◌++◌, length, get_or, take, refl, sym, ap, subst, ◌∙◌, Option, Some, None, arith}
-use Rattle.std.specs.Prelude.{◌==◌, ◌&&◌, nat_lt, nat_le, if◌then◌else◌}
-use Rattle.std.specs.List.{AllByRecursion as Each}
-use Rattle.std.proofs.lemmas.Bool.{eq-eqb, ne_eqb, eqb-true, lt-leb, le-leb, lt-ltb, le-ltb, cases_lt}
+use Rattle.std.proofs.Common.{inl, inr, ◌≡◌, ℕ, ◌+◌, ◌-◌, ◌<◌, ◌≤◌, Bool, true, false, List, [], ◌∷◌, ◌++◌, length, get_or, refl, sym, ap, ◌∙◌, Option, Some, None, arith}
+use Rattle.std.specs.Prelude.{◌==◌, if◌then◌else◌}
+use Rattle.std.proofs.lemmas.Bool.{ne_eqb, eqb-true, le-leb, lt-ltb, cases_lt}
 use Rattle.std.proofs.lemmas.List.{length_push, get_or_push, take-append-le}
 use Rattle.std.proofs.lemmas.List.Concat.{flat_map-append}
-use Rattle.giop_cdr.specs.Numbers.{num}
 use Rattle.giop_sig.specs.Table.{Table}
 use Rattle.giop_message.specs.Signatures.{Kept as Listed, said_by}
 use Rattle.giop_message.specs.MessageReading.{message_reading}
 use Rattle.giop_message.specs.Reading.{Reading, IsInTurn}
-use Rattle.giop_message.specs.Headers.{order, size, is_fragment, has_name}
+use Rattle.giop_message.specs.Headers.{size, is_fragment, has_name}
 use Rattle.giop_message.proofs.Causal.{is_ordered}
 use Rattle.giop_message.proofs.Closes.{is_closing}
 use Rattle.giop_message.proofs.Named.{is_named, has_ids}
 use Rattle.giop_stream.specs.declared.slots.Slots.{Slots}
 use Rattle.giop_stream.specs.declared.dispatch.Current.{Current}
 use Rattle.giop_stream.specs.Framing.{Message}
-use Rattle.giop_stream.specs.Joined.Events.{Happening, Takes, Title, Open, Event, title, place, opener_of, has_named, goes_past, id, at_octet, at_id, at_end, happens, changed, opened, Rising}
+use Rattle.giop_stream.specs.Joined.Events.{Takes, Title, Open, Event, title, place, opener_of, has_named, goes_past, id, at_octet, at_id, at_end, happens, opened, Rising}
 use Rattle.giop_stream.specs.Joined.Lines.{Line}
 use Rattle.giop_stream.specs.Joined.Text.{line_text, lines_text}
 use Rattle.giop_stream.specs.Joined.Stream.{fault_count}
 use Rattle.giop_stream.proofs.Joined.Bridge.{count_append}
-use Rattle.giop_stream.specs.Joined.Plays.{Scene, Play, plays, scene_at, octets_then, with_octet, one_play, no_play}
-use Rattle.giop_stream.specs.Joined.Keeping.{Keeps, event, scene_to, lines_to}
+use Rattle.giop_stream.specs.Joined.Plays.{Scene, Play, plays, scene_at, with_octet}
+use Rattle.giop_stream.specs.Joined.Keeping.{Keeps, event, scene_to}
 use Rattle.giop_stream.specs.Joined.Whose.{IsNext, IsTaken, IsAt, IsNewest, opener_title, whose, whose_octet, whose_after, id_events, end_events}
 use Rattle.giop_stream.proofs.Joined.Happenings.{quiet_octet, quiet_continues, rising_push, rising_filter, kept_id, opened_by}
 use Rattle.giop_stream.proofs.Joined.InPlace.{own_then}
-use Rattle.giop_stream.proofs.Joined.Turns.{not_past}
 use Rattle.giop_stream.proofs.Joined.Beginning.{named_then}
 use Rattle.giop_stream.proofs.Joined.Cases.{plays_append, octet_own, octet_passed, octet_lost}
 use Rattle.giop_stream.proofs.Joined.Ending.{DoesTo, whose_early, whose_plain}

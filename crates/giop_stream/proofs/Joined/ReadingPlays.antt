@@ -1,8 +1,8 @@
 -- What the reading of a message by a table makes of its events, and what a message's calls do of it.
-use Rattle.std.proofs.Common.{inl, inr, ◌⊎◌, ◌≡◌, ℕ, zero, suc, ◌+◌, ◌-◌, ◌<◌, ◌≤◌, Bool, true, false, List, [], ◌∷◌, ◌++◌, length, take, map, refl, sym, ap, subst, ◌∙◌, arith, append-nil, Option, Some, None, Result, Ok, Err}
-use Rattle.std.specs.Prelude.{◌==◌, ◌&&◌, ◌||◌, if◌then◌else◌, option_map, is_some, IfOk}
-use Rattle.std.specs.List.{filter, list_any}
-use Rattle.std.proofs.lemmas.Bool.{eq-eqb, false≢true}
+use Rattle.std.proofs.Common.{inl, inr, ◌⊎◌, ◌≡◌, ℕ, zero, suc, ◌-◌, ◌<◌, Bool, true, false, List, [], ◌∷◌, ◌++◌, length, take, map, refl, sym, ap, subst, ◌∙◌, arith, append-nil, Option, Some, None, Result, Ok, Err}
+use Rattle.std.specs.Prelude.{◌==◌, ◌&&◌, ◌||◌, if◌then◌else◌, is_some, IfOk}
+use Rattle.std.specs.List.{list_any}
+use Rattle.std.proofs.lemmas.Bool.{eq-eqb}
 use Rattle.giop_print.specs.Lines.{fault_line, cancelled_line}
 use Rattle.giop_sig.specs.Table.{Table}
 use Rattle.giop_message.specs.declared.message.Message.{Message}
@@ -18,9 +18,9 @@ use Rattle.giop_message.proofs.AtOctet.{octet_text, octet_over, close_short}
 use Rattle.giop_message.proofs.Closes.{is_closing}
 use Rattle.giop_message.proofs.Remarks.{close_is}
 use Rattle.giop_stream.specs.declared.fault.ImposedFault.{ImposedFault}
-use Rattle.giop_stream.specs.Joined.Events.{Title, Event, Happening, Takes, Imposed, Cancelled, Closes, octet, joined}
+use Rattle.giop_stream.specs.Joined.Events.{Title, Event, Takes, Imposed, Cancelled, Closes, octet, joined}
 use Rattle.giop_stream.specs.Joined.Lines.{Line, Said, Ended_by, Faulted, line, tells, is_last_of, standing}
-use Rattle.giop_stream.specs.Joined.Text.{imposed_word, line_text, lines_text}
+use Rattle.giop_stream.specs.Joined.Text.{imposed_word, lines_text}
 use Rattle.giop_stream.specs.Joined.Stream.{fault_count}
 use Rattle.giop_stream.specs.Joined.Machine.{utters_kept}
 use Rattle.giop_stream.specs.Joined.Plays.{lines_of, octets_then}

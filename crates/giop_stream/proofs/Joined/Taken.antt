@@ -1,20 +1,19 @@
 -- What the code does at an octet once the message whose it is has it: at the request id, and at the end.
-use Rattle.std.proofs.Common.{inl, inr, ◌≡◌, ℕ, suc, ◌+◌, ◌<◌, ◌≤◌, Bool, true, false, List, [], ◌∷◌, ◌++◌, length, refl, sym, ap, subst, ◌∙◌, Option, Some, None, arith}
-use Rattle.std.specs.Prelude.{◌==◌, ◌&&◌, nat_lt, nat_le, if◌then◌else◌, slice_get}
-use Rattle.std.specs.List.{AllByRecursion as Each}
-use Rattle.std.proofs.lemmas.Bool.{eq-eqb, ne_eqb, eqb-true, lt-leb, le-leb, lt-ltb, le-ltb, cases_lt, and_right, false≢true}
+use Rattle.std.proofs.Common.{inl, inr, ◌≡◌, ℕ, ◌<◌, ◌≤◌, Bool, true, false, List, length, refl, sym, ap, ◌∙◌, Option, Some, None, arith}
+use Rattle.std.specs.Prelude.{◌==◌, ◌&&◌, nat_lt, nat_le, if◌then◌else◌}
+use Rattle.std.proofs.lemmas.Bool.{eq-eqb, eqb-true, lt-leb, le-leb, lt-ltb, le-ltb, cases_lt, false≢true}
 use Rattle.giop_sig.specs.Table.{Table}
 use Rattle.giop_message.specs.Signatures.{Kept as Listed}
 use Rattle.giop_message.specs.MessageReading.{message_reading}
-use Rattle.giop_message.specs.Headers.{size, is_fragment, has_name}
+use Rattle.giop_message.specs.Headers.{size, is_fragment}
 use Rattle.giop_stream.specs.declared.slots.Slots.{Slots}
 use Rattle.giop_stream.specs.declared.slots.Payload.{Payload}
 use Rattle.giop_stream.specs.declared.slots.Payload.TheVariants as payload
 use Rattle.giop_stream.specs.declared.dispatch.Current.{Current}
 use Rattle.giop_stream.specs.Framing.{Message}
-use Rattle.giop_stream.specs.Joined.Events.{Title, Open, Event, title, opener_of, has_named, goes_past, id, at_id, at_end}
+use Rattle.giop_stream.specs.Joined.Events.{Title, Open, title, opener_of, has_named, goes_past, at_id, at_end}
 use Rattle.giop_stream.specs.Joined.Plays.{Scene, plays, no_play}
-use Rattle.giop_stream.specs.Joined.Keeping.{IsKept, IsWhose, Keeps}
+use Rattle.giop_stream.specs.Joined.Keeping.{IsWhose, Keeps}
 use Rattle.giop_stream.specs.Joined.Whose.{IsNamed, IsTaken, IsAt, IsNewest, opener_title, whose, whose_named, whose_octet, whose_after, id_events, end_events}
 use Rattle.giop_stream.proofs.Joined.InPlace.{at_index}
 use Rattle.giop_stream.proofs.Joined.Turns.{not_past}

@@ -1,15 +1,16 @@
 -- Whose the octets of a message's payload are, and what the code knows of that message at one of them.
-use Rattle.std.specs.Prelude.{◌≡◌, ◌==◌, ◌<◌, ◌+◌, ℕ, true, Bool, List, [], length, Option, Some, None, if◌then◌else◌}
+use Rattle.std.specs.Prelude.{◌≡◌, ◌==◌, ◌<◌, ◌+◌, ℕ, true, List, [], length, Option, Some, None, if◌then◌else◌}
 use Rattle.std.specs.List.{AllByRecursion as Each}
 use Rattle.giop_sig.specs.Table.{Table}
 use Rattle.giop_message.specs.Signatures.{Kept as Listed}
+use Rattle.giop_message.specs.MessageReading.{message_reading}
 use Rattle.giop_message.specs.Headers.{size, is_fragment, has_name}
 use Rattle.giop_stream.specs.declared.slots.Slots.{Slots}
 use Rattle.giop_stream.specs.declared.slots.Payload.TheVariants.{Own}
 use Rattle.giop_stream.specs.declared.dispatch.Current.{Current}
-use Rattle.giop_stream.specs.Framing.{Message}
-use Rattle.giop_stream.specs.Joined.Events.{Title, Event, Open, Rising, id, title, place, opener_of, has_named, goes_past, at_id, at_end}
-use Rattle.giop_stream.specs.Joined.Plays.{Scene, with_octet}
+use Rattle.giop_stream.specs.Framing.{Message, cut}
+use Rattle.giop_stream.specs.Joined.Events.{Title, Event, Open, Rising, id, title, place, opener_of, has_named, goes_past, at_id, at_end, open_after}
+use Rattle.giop_stream.specs.Joined.Plays.{Scene, stage, with_octet}
 use Rattle.giop_stream.specs.Joined.Keeping.{Keeps}
 
 -- the message that an open one began with
@@ -94,3 +95,13 @@ pub record IsFirst (C : Table) (l : Listed) (s : Slots) (c : Scene) (who : Optio
   pub come : now.come ≡ 0
   pub newest : IsNewest m.number c.live
   pub unknown : c.known m.number ≡ Some []
+
+-- ---- The slots, and the whole stream that has come.
+
+abbrev pub whose_in : List Open → Option Message → Option Title
+whose_in live None = None
+whose_in live (Some m) = whose live m
+
+-- The slots keep what there is to know of the messages of this stream.
+abbrev pub Knows : Table → Listed → Slots → List ℕ → Type 0
+Knows C l s p = Keeps C l s (stage (message_reading C l) p) (whose_in (open_after p) (cut p).current)

@@ -1,4 +1,3 @@
-use Rattle.std.proofs.Common.{sym}
 use Rattle.giop_stream.proofs.Joined.Keepers.{on_ok}
 use Rattle.giop_stream.proofs.Joined.Named.{nothing_text, no_faults}
 use Rattle.giop_stream.proofs.Joined.Ending.{own_short, ends_short, ends_followed, ends_closed}

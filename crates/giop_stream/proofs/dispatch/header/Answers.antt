@@ -1,5 +1,4 @@
-use Rattle.std.proofs.Common.{false, arith, sym, ap, ◌+◌, ◌∙◌}
-use Rattle.std.specs.Prelude.{if◌then◌else◌}
+use Rattle.std.proofs.Common.{sym, ◌∙◌}
 use Rattle.giop_print.proofs.Writing.{wrote-append, writes_then, writes_err}
 use Rattle.giop_message.specs.MessageReading.{message_reading}
 use Rattle.giop_stream.proofs.Joined.Exits.{writes_front}
@@ -30,4 +29,4 @@ returns-clause-kept g c =
 pub returns-clause-faults : goal.returns-clause-faults
 returns-clause-faults g c =
     λ l c' who m h.
-    let at = begun_at c.args.catalogue.now l c.args.slots.now c' who m c.args.now h c.starts.new.slots (c.in_ok-refused.ensures.kept l c' who m h) in rw (in_two (message_reading c.args.catalogue.now l) c' m (none_come c.args.catalogue.now l c.args.slots.now c' who m c.args.now h)) (two_faults _ _ _ _ (c.in_ok-refused.ensures.faults l c' who m h) (c.in_ok-ended.ensures.faults l _ m at (come_is c.args.catalogue.now l c.args.slots.now c' who m c.args.now h)) ∙ sym c.count.ensures)
+    let at = begun_at c.args.catalogue.now l c.args.slots.now c' who m c.args.now h c.starts.new.slots (c.in_ok-refused.ensures.kept l c' who m h) in rw (in_two (message_reading c.args.catalogue.now l) c' m (none_come c.args.catalogue.now l c.args.slots.now c' who m c.args.now h)) (two_faults _ _ _ _ (c.in_ok-refused.ensures.faults l c' who m h) (c.in_ok-ended.ensures.faults l _ m at (come_is c.args.catalogue.now l c.args.slots.now c' who m c.args.now h)) ∙ sym c.count.ensures.value)

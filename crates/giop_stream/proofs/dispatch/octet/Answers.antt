@@ -1,5 +1,4 @@
 use Rattle.std.proofs.Common.{sym, ap, ◌∙◌}
-use Rattle.std.specs.Prelude.{if◌then◌else◌}
 use Rattle.giop_message.specs.MessageReading.{message_reading}
 use Rattle.giop_stream.specs.Joined.Stream.{fault_count}
 use Rattle.giop_stream.specs.Joined.Plays.{with_octet}
@@ -48,4 +47,4 @@ returns-clause-faults g c =
     λ c' m h.
     let taken = taken_here c.args.catalogue.now c.args.requests.now c.args.slots.now c' m c.args.now c.args.octet h c.take.new.self (c.in_ok-taken.ensures.kept c' _ h.keeps h.rising) in
     let at = named_at c.args.catalogue.now c.args.requests.now c.args.slots.now c' m c.args.now c.args.octet h c.names.new.slots (c.in_ok-named.ensures.kept c.args.catalogue.now c.args.requests.now _ _ taken) in
-    rw (in_parts (message_reading c.args.catalogue.now c.args.requests.now) c' (with_octet m c.args.octet) (some_come c.args.catalogue.now c.args.requests.now c.args.slots.now c' m c.args.now c.args.octet h)) (parts_faults _ _ _ _ _ _ (ap fault_count ((takes_is c.args.catalogue.now c.args.requests.now c.args.slots.now c' m c.args.now c.args.octet h).lines) ∙ c.in_ok-taken.ensures.faults c' _ h.keeps) (c.in_ok-named.ensures.faults c.args.catalogue.now c.args.requests.now _ _ taken) (c.in_ok-ended.ensures.faults c.args.requests.now _ _ at (come_is c.args.catalogue.now c.args.requests.now c.args.slots.now c' m c.args.now c.args.octet h)) ∙ sym c.count.ensures)
+    rw (in_parts (message_reading c.args.catalogue.now c.args.requests.now) c' (with_octet m c.args.octet) (some_come c.args.catalogue.now c.args.requests.now c.args.slots.now c' m c.args.now c.args.octet h)) (parts_faults _ _ _ _ _ _ (ap fault_count ((takes_is c.args.catalogue.now c.args.requests.now c.args.slots.now c' m c.args.now c.args.octet h).lines) ∙ c.in_ok-taken.ensures.faults c' _ h.keeps) (c.in_ok-named.ensures.faults c.args.catalogue.now c.args.requests.now _ _ taken) (c.in_ok-ended.ensures.faults c.args.requests.now _ _ at (come_is c.args.catalogue.now c.args.requests.now c.args.slots.now c' m c.args.now c.args.octet h)) ∙ sym c.count.ensures.value)

@@ -1,9 +1,7 @@
-use Rattle.std.proofs.Common.{◌≡◌, ℕ, List, Option, Some, None, ◌-◌, arith, refl, sym, ap, ◌∙◌}
-use Rattle.std.specs.Prelude.{is_some}
+use Rattle.std.proofs.Common.{◌-◌}
 use Rattle.giop_print.specs.Output.{Writes, Wrote}
 use Rattle.giop_print.proofs.Writing.{wrote-nil}
 use Rattle.giop_stream.proofs.Joined.Exits.{writes_front}
-use Rattle.giop_stream.specs.Joined.Keeping.{IsKept}
 use Rattle.giop_stream.proofs.Joined.ReadingPlays.{given_text, given_kept, given_faultless, given_over, given_fault, ready_before, none_text, none_kept, none_faults}
 use Rattle.giop_stream.proofs.slots.give.Goals as goal
 
