@@ -7,7 +7,12 @@ use std::process::Abort;
 use std::test::Fail;
 
 /// Texts, what they declare (types, operations, exceptions), and the greatest depth.
-static ACCEPTED: [(&[u8], [u32; 3], u8); 25] = [
+static ACCEPTED: [(&[u8], [u32; 3], u8); 26] = [
+    (
+        b"signatures 1;\nstruct A { sequence<sequence<sequence<sequence<sequence<sequence<sequence<sequence<sequence<sequence<sequence<sequence<sequence<sequence<sequence<sequence<sequence<sequence<sequence<sequence<sequence<sequence<long>>>>>>>>>>>>>>>>>>>>>> m; };\n",
+        [1, 0, 0],
+        24,
+    ),
     (b"signatures 1;\nstruct A { long x[1]; };", [1, 0, 0], 7),
     (
         b"signatures 1;\nstruct A { long x[4294967295]; };",
@@ -100,7 +105,34 @@ static ACCEPTED: [(&[u8], [u32; 3], u8); 25] = [
 ];
 
 /// Texts, the line and the rule of their refusal.
-static REFUSED: [(&[u8], u32, SigFaultKind); 78] = [
+static REFUSED: [(&[u8], u32, SigFaultKind); 85] = [
+    (
+        b"signatures 1;\nstruct A { B b; };",
+        2,
+        SigFaultKind::UnknownType,
+    ),
+    (
+        b"signatures 1;\nenum A { x };\nenum A { y };",
+        3,
+        SigFaultKind::Duplicate,
+    ),
+    (b"signatures 1;\nstruct A { };", 2, SigFaultKind::Empty),
+    (
+        b"signatures 1;\nstruct A { sequence<sequence<sequence<sequence<sequence<sequence<sequence<sequence<sequence<sequence<sequence<sequence<sequence<sequence<sequence<sequence<sequence<sequence<sequence<sequence<sequence<sequence<sequence<long>>>>>>>>>>>>>>>>>>>>>>> m; };\n",
+        2,
+        SigFaultKind::Depth,
+    ),
+    (
+        b"signatures 1;\nunion U switch (short) { case 40000: long a; };",
+        2,
+        SigFaultKind::Label,
+    ),
+    (
+        b"signatures 1;\nstruct A { long #; };",
+        2,
+        SigFaultKind::Token,
+    ),
+    (b"", 1, SigFaultKind::Syntax),
     (
         b"signatures 1;\nstruct A { long x[0]; };",
         2,
