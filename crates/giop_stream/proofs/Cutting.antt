@@ -37,19 +37,19 @@ nothing : Cut
 nothing = record { whole = []; current = None; held = []; stop = None }
 
 -- The cases of the definition.
-cut_wrong : (fuel number before : ℕ) (xs : List ℕ) (found : ℕ × StreamFault) → offence (take 12 xs) ≡ Some found → cut_from (suc fuel) number before xs ≡ record { whole = []; current = None; held = []; stop = Some (before + found.0, found.1) }
+pub cut_wrong : (fuel number before : ℕ) (xs : List ℕ) (found : ℕ × StreamFault) → offence (take 12 xs) ≡ Some found → cut_from (suc fuel) number before xs ≡ record { whole = []; current = None; held = []; stop = Some (before + found.0, found.1) }
 unfolding cut_from
 cut_wrong fuel number before xs found e = rw (cut_from, e) refl
 
-cut_short : (fuel number before : ℕ) (xs : List ℕ) → offence (take 12 xs) ≡ None → length xs < 12 → cut_from (suc fuel) number before xs ≡ record { whole = []; current = None; held = xs; stop = None }
+pub cut_short : (fuel number before : ℕ) (xs : List ℕ) → offence (take 12 xs) ≡ None → length xs < 12 → cut_from (suc fuel) number before xs ≡ record { whole = []; current = None; held = xs; stop = None }
 unfolding cut_from
 cut_short fuel number before xs e h = rw (cut_from, e, lt-ltb (length xs) 12 h) refl
 
-cut_open : (fuel number before : ℕ) (xs : List ℕ) → offence (take 12 xs) ≡ None → 12 ≤ length xs → length (drop 12 xs) < size (take 12 xs) → cut_from (suc fuel) number before xs ≡ record { whole = []; current = Some (record { number = number; before = before; header = take 12 xs; payload = drop 12 xs }); held = []; stop = None }
+pub cut_open : (fuel number before : ℕ) (xs : List ℕ) → offence (take 12 xs) ≡ None → 12 ≤ length xs → length (drop 12 xs) < size (take 12 xs) → cut_from (suc fuel) number before xs ≡ record { whole = []; current = Some (record { number = number; before = before; header = take 12 xs; payload = drop 12 xs }); held = []; stop = None }
 unfolding cut_from
 cut_open fuel number before xs e h k = rw (cut_from, e, le-ltb (length xs) 12 h, lt-ltb (length (drop 12 xs)) (size (take 12 xs)) k) refl
 
-cut_more : (fuel number before : ℕ) (xs : List ℕ) → offence (take 12 xs) ≡ None → 12 ≤ length xs → size (take 12 xs) ≤ length (drop 12 xs)
+pub cut_more : (fuel number before : ℕ) (xs : List ℕ) → offence (take 12 xs) ≡ None → 12 ≤ length xs → size (take 12 xs) ≤ length (drop 12 xs)
     → cut_from (suc fuel) number before xs ≡ with_first (record { number = number; before = before; header = take 12 xs; payload = take (size (take 12 xs)) (drop 12 xs) }) (cut_from fuel (suc number) (before + 12 + size (take 12 xs)) (drop (size (take 12 xs)) (drop 12 xs)))
 unfolding cut_from
 cut_more fuel number before xs e h k = rw (cut_from, e, le-ltb (length xs) 12 h, le-ltb (length (drop 12 xs)) (size (take 12 xs)) k) refl

@@ -1,352 +1,101 @@
--- What the machine over whole messages does at an octet of a message, case by case, where the messages are read by the first
--- reading.
-use Rattle.std.proofs.Common.{inl, inr, ◌≡◌, ℕ, suc, ◌+◌, ◌-◌, ◌%◌, ◌<◌, Bool, true, false, List, [], ◌∷◌, ◌++◌, length, map, get_or, refl, ap, ◌∙◌, arith, append-nil, Option, Some, None}
-use Rattle.std.specs.Prelude.{nat_lt, ◌==◌, ◌&&◌, ◌||◌, if◌then◌else◌, codes}
-use Rattle.std.specs.List.{list_any}
-use Rattle.std.proofs.lemmas.Bool.{lt-ltb, le-ltb, eq-eqb, ne_eqb}
-use Rattle.std.proofs.lemmas.List.{get_or_push, length_push}
-use Rattle.std.proofs.lemmas.List.Concat.{flat_map-append}
-use Rattle.giop_message.specs.Headers.{size}
-use Rattle.giop_stream.specs.Framing.{Message}
-use Rattle.giop_stream.specs.Events.{Happening, Begins, Takes, Closes, Event, title, place, own, at_header, at_octet, at_end, happens, octet, joined}
-use Rattle.giop_message.specs.Reading.{Saying, Rest, Fault, End, Remark}
-use Rattle.giop_stream.specs.Lines.{Started, Said, Line, line, tells, classes, by_class, is_last_of, standing}
-use Rattle.giop_message.specs.Text.{rest_text, saying_line}
-use Rattle.giop_stream.specs.Text.{line_text, lines_text}
-use Rattle.giop_stream.specs.FirstReading.{rest_part, whole_part, last_part, is_short, first_closes, reading}
-use Rattle.giop_stream.specs.Stream.{is_fault, fault_count}
-use Rattle.giop_stream.specs.Machine.{State, Step, Kept, own_of, utters_kept, taking, utters, written, kept_as, writes, now_written, deal}
-use Rattle.giop_stream.proofs.FirstLaws.{more, IsFront, more_is, reads_now, IsBack, closes_is}
-use Rattle.giop_stream.proofs.FirstSteps.{remarks_text, closes_text}
+-- A message's octet is dealt with by playing its events one after the other.
+use Rattle.std.proofs.Common.{◌≡◌, ℕ, suc, ◌<◌, ◌≤◌, Bool, true, false, List, [], ◌∷◌, ◌++◌, length, refl, sym, ◌∙◌, Option, Some, None, arith}
+use Rattle.std.specs.Prelude.{nat_lt, nat_le, ◌==◌, if◌then◌else◌, IfSome}
+use Rattle.std.proofs.lemmas.Bool.{and_right, lt-leb, le-ltb, eq-eqb}
+use Rattle.std.proofs.lemmas.List.{length_push}
+use Rattle.giop_stream.specs.Headers.{wrong}
+use Rattle.giop_message.specs.Headers.{size, is_fragment, has_name}
+use Rattle.giop_stream.specs.Framing.{Message, limit, cut, read_of}
+use Rattle.giop_message.specs.Reading.{Reading, IsCausal, IsInTurn}
+use Rattle.giop_stream.specs.Events.{Open, has_named, happens, opened, events, open_after, joined}
+use Rattle.giop_stream.specs.Lines.{Line}
+use Rattle.giop_stream.specs.Stream.{is_over}
+use Rattle.giop_stream.specs.State.{State, Kept, octets_of, slots_of, own_of, state_of}
+use Rattle.giop_stream.specs.Machine.{Step, kept, taking, written, writes, now_written, deal, first_message, in_header, step_on, step}
+use Rattle.giop_stream.specs.Plays.{plays, scene_of, IsBegun, ends_with, with_octet, reading_on, beginning}
+use Rattle.giop_stream.proofs.Ordering.{are_plays}
+use Rattle.giop_stream.proofs.Turns.{happens_ordered}
+use Rattle.giop_stream.proofs.Bridge.{kept_own, CurrentFits, Fits, sound}
 
--- the lines of remarks at a place, and those of a close
-abbrev pub said_lines : ℕ → ℕ → List Remark → List Line
-said_lines at number rs = map (λ r. record { place = at; number = number; content = Said r.saying r.text }) rs
+settles : State → Message → List Line → List Open → Kept → Step
+settles s m ls live known =
+    let current = if nat_lt (length m.payload) (size m.header) then Some m else None in
+    writes (record s { current = current; slots = slots_of known live; own = own_of known live current }) ls
 
-abbrev pub close_lines : ℕ → ℕ → List (Saying × List ℕ) → List Line
-close_lines at number cs = map (λ c. record { place = at; number = number; content = Said c.0 c.1 }) cs
+deal_settles : (R : Reading) (s : State) (m : Message) → (let c = scene_of s m.number in let es = happens c.live m in deal R s m ≡ settles s m (now_written R c.known es) (opened c.live es) (written (taking c.known es) (now_written R c.known es)))
+unfolding deal settles scene_of
+deal_settles R s m = refl
 
-abbrev pub start_of : ℕ → ℕ → List ℕ → Line
-start_of at number header = record { place = at; number = number; content = Started header }
+pub deal_plays : (R : Reading) → IsInTurn R → (s : State) (m : Message) → length m.payload ≤ size m.header → (has_name m.header ≡ true → IsBegun (scene_of s m.number).known m)
+    → (let c = scene_of s m.number in deal R s m ≡ ends_with s m (plays R c (happens c.live m)))
+unfolding ends_with settles
+deal_plays R laws s m fits begun =
+    let c = scene_of s m.number in
+    let es = happens c.live m in
+    let p = are_plays R c es (happens_ordered R laws c.known c.live m fits begun) in
+    deal_settles R s m ∙ (λ j. settles s m (p.lines j) (p.live j) (λ i. p.known i j))
 
-pub said_text : (at number : ℕ) (rs : List Remark) → lines_text (said_lines at number rs) ≡ remarks_text at number rs
-unfolding lines_text
-said_text at number [] = refl
-said_text at number (r ∷ rs) = ap (λ (t : List ℕ). saying_line at number r.saying r.text ++ t) (said_text at number rs)
+-- ---- The octets of a stream.
 
-pub close_text : (at number : ℕ) (cs : List (Saying × List ℕ)) → lines_text (close_lines at number cs) ≡ closes_text at number cs
-unfolding lines_text
-close_text at number [] = refl
-close_text at number (c ∷ cs) = ap (λ (t : List ℕ). saying_line at number c.0 c.1 ++ t) (close_text at number cs)
+known_by : (K : Kept) (live : List Open) (m : Message) → length m.payload < 4 → kept (slots_of K live) m.number (own_of K live (Some m)) m.number ≡ K m.number
+unfolding own_of has_named
+known_by K live m short = kept_own K live m.number (own_of K live (Some m)) (λ free. rw (free, and_right (is_fragment m.header) (nat_le 4 (length m.payload)) (lt-leb 4 (length m.payload) short)) refl)
 
-pub text_append : (xs ys : List Line) → lines_text (xs ++ ys) ≡ lines_text xs ++ lines_text ys
-unfolding lines_text
-text_append xs ys = flat_map-append line_text xs ys
-
--- ---- Lines of one octet stand in their order, and all of them stand.
-
-stands : List Line → List Line
-stands ls = standing (λ i. false) (by_class ls)
-
-front_stands : (at n k : ℕ) (rs : List Remark) → IsFront k rs → stands (said_lines at n rs) ≡ said_lines at n rs
-unfolding stands standing by_class classes
-front_stands at n k rs (inl e) = rw e refl
-front_stands at n k rs (inr (inl (text, e))) = rw e refl
-front_stands at n k rs (inr (inr (text, e))) = rw e refl
-
-both_stand : (at n k : ℕ) (rs : List Remark) (cs : List (Saying × List ℕ)) → IsFront k rs → IsBack cs → stands (said_lines at n rs ++ close_lines at n cs) ≡ said_lines at n rs ++ close_lines at n cs
-unfolding stands standing by_class classes is_last_of
-both_stand at n k rs cs (inl e) (inl (u, f)) = rw (e, f) refl
-both_stand at n k rs cs (inl e) (inr (inl (u, f))) = rw (e, f) refl
-both_stand at n k rs cs (inl e) (inr (inr (r, u, f))) = rw (e, f, eq-eqb n n refl) refl
-both_stand at n k rs cs (inr (inl (t, e))) (inl (u, f)) = rw (e, f, eq-eqb n n refl) refl
-both_stand at n k rs cs (inr (inl (t, e))) (inr (inl (u, f))) = rw (e, f, eq-eqb n n refl) refl
-both_stand at n k rs cs (inr (inl (t, e))) (inr (inr (r, u, f))) = rw (e, f, eq-eqb n n refl) refl
-both_stand at n k rs cs (inr (inr (t, e))) (inl (u, f)) = rw (e, f, eq-eqb n n refl) refl
-both_stand at n k rs cs (inr (inr (t, e))) (inr (inl (u, f))) = rw (e, f, eq-eqb n n refl) refl
-both_stand at n k rs cs (inr (inr (t, e))) (inr (inr (r, u, f))) = rw (e, f, eq-eqb n n refl) refl
-
-start_stands : (at n : ℕ) (header : List ℕ) (cs : List (Saying × List ℕ)) → IsBack cs → stands (start_of at n header ∷ close_lines at n cs) ≡ start_of at n header ∷ close_lines at n cs
-unfolding stands standing by_class classes is_last_of
-start_stands at n header cs (inl (u, f)) = rw (f, eq-eqb n n refl) refl
-start_stands at n header cs (inr (inl (u, f))) = rw (f, eq-eqb n n refl) refl
-start_stands at n header cs (inr (inr (r, u, f))) = rw (f, eq-eqb n n refl) refl
-
-one_stands : (at n : ℕ) (header : List ℕ) → stands (start_of at n header ∷ []) ≡ start_of at n header ∷ []
-unfolding stands standing by_class classes
-one_stands at n header = refl
-
-none_stands : stands [] ≡ []
-unfolding stands standing by_class classes
-none_stands = refl
-
--- ---- Which of them are faults, and which are last.
-
-front_faults : (at n k : ℕ) (rs : List Remark) → IsFront k rs → fault_count (said_lines at n rs) ≡ 0
-unfolding fault_count
-front_faults at n k rs (inl e) = rw e refl
-front_faults at n k rs (inr (inl (text, e))) = rw e refl
-front_faults at n k rs (inr (inr (text, e))) = rw e refl
-
-front_last : (at n k i : ℕ) (rs : List Remark) → IsFront k rs → list_any (is_last_of i) (said_lines at n rs) ≡ false
-unfolding is_last_of
-front_last at n k i rs (inl e) = rw e refl
-front_last at n k i rs (inr (inl (text, e))) = rw e (go (n == i))
+pub octets_are : (R : Reading) (p : List ℕ) (i : ℕ) (xs : List ℕ) → octets_of R p i ≡ Some xs → joined i (events p) ≡ xs
+unfolding octets_of
+octets_are R p i xs h = go (is_over R p i) h
   where
-    go : (b : Bool) → ((b && false) || false) ≡ false
-    go true = refl
-    go false = refl
-front_last at n k i rs (inr (inr (text, e))) = rw e (go (n == i))
+    go : (b : Bool) → (if b then None else Some (joined i (events p))) ≡ Some xs → joined i (events p) ≡ xs
+    go true k = absurd cc
+    go false k = cc
+
+current_begun : (R : Reading) → IsCausal R → (p : List ℕ) (m : Message) (x : ℕ) → (cut p).stop ≡ None → (cut p).current ≡ Some m → IsBegun (scene_of (reading_on (state_of R p)) m.number).known (with_octet m x)
+unfolding scene_of state_of
+current_begun R causal p m x st cur some short xs known =
+    let less : length m.payload < 4 = omega (arith, length_push m.payload x) in
+    let begun : length m.payload ≤ 4 → joined m.number (events p) ≡ m.payload = rw cur at ((sound R causal p).begun st) in
+    let known' : kept (slots_of (octets_of R p) (open_after p)) m.number (own_of (octets_of R p) (open_after p) (Some m)) m.number ≡ Some xs = rw cur at known in
+    let mine : octets_of R p m.number ≡ Some xs = sym (known_by (octets_of R p) (open_after p) m less) ∙ known' in
+    let same : xs ≡ m.payload = sym (octets_are R p m.number xs mine) ∙ begun (omega arith) in
+    rw same (omega (arith, length_push m.payload x))
+
+step_current : (R : Reading) (s : State) (m : Message) (x : ℕ) → s.stop ≡ None → s.current ≡ Some m → nat_lt limit (suc s.read) ≡ false → step R s x ≡ deal R (reading_on s) (with_octet m x)
+unfolding step step_on
+step_current R s m x st cur e = rw (st, e, cur) refl
+
+free_read : (R : Reading) (p : List ℕ) → (cut p).stop ≡ None → (state_of R p).read ≡ length p
+unfolding state_of read_of
+free_read R p st = rw st refl
+
+pub if_some : (P : Message → Type 0) (o : Option Message) (m : Message) → o ≡ Some m → IfSome o P → P m
+if_some P o m e h = rw e at h
+
+-- an octet of a payload
+pub payload_plays : (R : Reading) → IsCausal R → IsInTurn R → (p : List ℕ) (m : Message) (x : ℕ) → (cut p).stop ≡ None → (cut p).current ≡ Some m → length p < limit
+    → (let s = reading_on (state_of R p) in let c = scene_of s m.number in step R (state_of R p) x ≡ ends_with s (with_octet m x) (plays R c (happens c.live (with_octet m x))))
+payload_plays R causal laws p m x st cur room =
+    let fit : Fits (length p) (cut p) = (sound R causal p).fits st in
+    let now = if_some (CurrentFits (length p) (cut p)) (cut p).current m cur fit.current in
+    let lacks = now.lacks in
+    let e : nat_lt limit (suc (state_of R p).read) ≡ false = rw (free_read R p st) (le-ltb limit (suc (length p)) (omega arith)) in
+    step_current R (state_of R p) m x (stop_is R p st) (current_is R p m cur) e
+    ∙ deal_plays R laws (reading_on (state_of R p)) (with_octet m x) (omega (arith, length_push m.payload x)) (λ name. current_begun R causal p m x st cur)
   where
-    go : (b : Bool) → ((b && false) || false) ≡ false
-    go true = refl
-    go false = refl
+    stop_is : (R : Reading) (p : List ℕ) → (cut p).stop ≡ None → (state_of R p).stop ≡ None
+    stop_is R p h = unfold state_of in h
 
-start_last : (at n i : ℕ) (header : List ℕ) → list_any (is_last_of i) (start_of at n header ∷ []) ≡ false
-unfolding is_last_of
-start_last at n i header = go (n == i)
-  where
-    go : (b : Bool) → ((b && false) || false) ≡ false
-    go true = refl
-    go false = refl
+    current_is : (R : Reading) (p : List ℕ) (m : Message) → (cut p).current ≡ Some m → (state_of R p).current ≡ Some m
+    current_is R p m h = unfold state_of in h
 
-both_faults : (at n k : ℕ) (rs : List Remark) (cs : List (Saying × List ℕ)) → IsFront k rs → fault_count (said_lines at n rs ++ close_lines at n cs) ≡ fault_count (close_lines at n cs)
-unfolding fault_count
-both_faults at n k rs cs (inl e) = rw e refl
-both_faults at n k rs cs (inr (inl (text, e))) = rw e refl
-both_faults at n k rs cs (inr (inr (text, e))) = rw e refl
+step_header : (R : Reading) (s : State) (x : ℕ) → s.stop ≡ None → s.current ≡ None → nat_lt limit (suc s.read) ≡ false → wrong (s.held ++ x ∷ []) ≡ None → (length (s.held ++ x ∷ []) == 12) ≡ true
+    → step R s x ≡ deal R (beginning s) (first_message (reading_on s) (s.held ++ x ∷ []))
+unfolding step step_on in_header
+step_header R s x st cur e w full = rw (st, e, cur, w, full) refl
 
-faults_by : (at n : ℕ) (text : List ℕ) (b c : Bool) → fault_count (close_lines at n (if b then (Fault, codes "short") ∷ [] else (if c then [] else (Rest, text) ∷ []) ++ (End, codes "end") ∷ [])) ≡ (if b then 1 else 0)
-unfolding fault_count
-faults_by at n text true c = refl
-faults_by at n text false true = refl
-faults_by at n text false false = refl
-
-pub close_faults : (at n : ℕ) (header xs : List ℕ) → fault_count (close_lines at n (first_closes header xs)) ≡ (if is_short header xs then 1 else 0)
-unfolding first_closes
-close_faults at n header xs =
-    let rest = rest_part header xs in
-    faults_by at n (rest_text (whole_part rest) (last_part rest)) (is_short header xs) (length rest % 32 == 0)
-
--- ---- What the events of an octet say.
-
-own_kept : (n : ℕ) (own : Option (List ℕ)) → kept_as n own n ≡ own
-own_kept n own = rw (eq-eqb n n refl) refl
-
-joined_one : (e : Event) (x : ℕ) → joined e.whom.number (record e { what = Takes x } ∷ []) ≡ x ∷ []
-unfolding joined octet
-joined_one e x = rw (eq-eqb e.whom.number e.whom.number refl) refl
-
-joined_begin : (e : Event) → joined e.whom.number (record e { what = Begins } ∷ []) ≡ []
-unfolding joined octet
-joined_begin e = rw (eq-eqb e.whom.number e.whom.number refl) refl
-
-abbrev event : Message → Happening → Event
-event m what = record { place = place m; whom = title m; what = what }
-
-takes_says : (K : Kept) (m : Message) (xs : List ℕ) (x : ℕ) → K m.number ≡ Some xs → utters_kept reading (event m (Takes x)) (K m.number) ≡ said_lines (place m) m.number (more m.header xs x)
-unfolding utters_kept tells line
-takes_says K m xs x k =
-    let one : joined m.number (record { place = place m; whom = record { number = m.number; header = m.header }; what = Takes x } ∷ []) ≡ x ∷ [] = joined_one (record { place = place m; whom = record { number = m.number; header = m.header }; what = Begins }) x in
-    rw (k, one, reads_now m.header xs x) refl
-
-closes_says : (K : Kept) (m : Message) (xs : List ℕ) → K m.number ≡ Some xs → utters_kept reading (event m Closes) (K m.number) ≡ close_lines (place m) m.number (first_closes m.header xs)
-unfolding utters_kept tells line
-closes_says K m xs k = rw k refl
-
-begins_says : (K : Kept) (m : Message) (xs : List ℕ) → K m.number ≡ Some xs → utters_kept reading (event m Begins) (K m.number) ≡ start_of (place m) m.number m.header ∷ []
-unfolding utters_kept tells line
-begins_says K m xs k = rw k refl
-
-taking_takes : (K : Kept) (m : Message) (xs : List ℕ) (x : ℕ) → K m.number ≡ Some xs → taking K (event m (Takes x) ∷ []) m.number ≡ Some (xs ++ x ∷ [])
-unfolding taking
-taking_takes K m xs x k =
-    let one : joined m.number (record { place = place m; whom = record { number = m.number; header = m.header }; what = Takes x } ∷ []) ≡ x ∷ [] = joined_one (record { place = place m; whom = record { number = m.number; header = m.header }; what = Begins }) x in
-    rw (k, one) refl
-
-taking_begins : (K : Kept) (m : Message) (xs : List ℕ) → K m.number ≡ Some xs → taking K (event m Begins ∷ []) m.number ≡ Some xs
-unfolding taking
-taking_begins K m xs k =
-    let none : joined m.number (record { place = place m; whom = record { number = m.number; header = m.header }; what = Begins } ∷ []) ≡ [] = joined_begin (record { place = place m; whom = record { number = m.number; header = m.header }; what = Begins }) in
-    rw (k, none) (ap Some (append-nil xs))
-
--- the events of an octet: of a payload, and of a header
-at_takes : (m : Message) (ys : List ℕ) (x : ℕ) → m.payload ≡ ys ++ x ∷ [] → at_octet m ≡ event m (Takes x) ∷ []
-unfolding at_octet own
-at_takes m ys x h =
-    let n : length ys ≡ length m.payload - 1 = rw h (omega (arith, length_push ys x)) in
-    let last : get_or m.payload (length m.payload - 1) 0 ≡ x = rw h (get_or_push ys x 0 (length (ys ++ x ∷ []) - 1) (omega (arith, length_push ys x))) in
-    rw last refl
-
-takes_on : (m : Message) (ys : List ℕ) (x : ℕ) → m.payload ≡ ys ++ x ∷ [] → length m.payload < size m.header → happens m ≡ event m (Takes x) ∷ []
-unfolding happens
-takes_on m ys x h lacks =
-    let some : length m.payload ≡ suc (length ys) = rw h (omega (arith, length_push ys x)) in
-    rw (ne_eqb (length m.payload) 0 (λ e. omega arith), ne_eqb (length m.payload) (size m.header) (λ e. omega arith), at_takes m ys x h) refl
-
-takes_last : (m : Message) (ys : List ℕ) (x : ℕ) → m.payload ≡ ys ++ x ∷ [] → length m.payload ≡ size m.header → happens m ≡ event m (Takes x) ∷ event m Closes ∷ []
-unfolding happens at_end own
-takes_last m ys x h full =
-    let some : length m.payload ≡ suc (length ys) = rw h (omega (arith, length_push ys x)) in
-    rw (ne_eqb (length m.payload) 0 (λ e. omega arith), eq-eqb (length m.payload) (size m.header) full, at_takes m ys x h) refl
-
-begins_on : (m : Message) → m.payload ≡ [] → 0 < size m.header → happens m ≡ event m Begins ∷ []
-unfolding happens at_header own
-begins_on m h lacks =
-    let none : length m.payload ≡ 0 = rw h refl in
-    rw (eq-eqb (length m.payload) 0 none, ne_eqb (length m.payload) (size m.header) (λ e. omega arith)) refl
-
-begins_last : (m : Message) → m.payload ≡ [] → size m.header ≡ 0 → happens m ≡ event m Begins ∷ event m Closes ∷ []
-unfolding happens at_header at_end own
-begins_last m h full =
-    let none : length m.payload ≡ 0 = rw h refl in
-    rw (eq-eqb (length m.payload) 0 none, eq-eqb (length m.payload) (size m.header) (omega arith)) refl
-
--- ---- The deals.
-
-dealt : State → Option Message → Option (List ℕ) → List Line → Step
-dealt s current own ls = record { state = record s { current = current; own = own; faults = s.faults + fault_count ls }; lines = ls }
-
-deal_by : (s : State) (m : Message) (ls : List Line) (b : Bool) → nat_lt (length m.payload) (size m.header) ≡ b → now_written reading (kept_as m.number s.own) (happens m) ≡ ls
-    → deal reading s m ≡ dealt s (if b then Some m else None) (own_of (written (taking (kept_as m.number s.own) (happens m)) ls) (if b then Some m else None)) ls
-unfolding deal writes dealt
-deal_by s m ls b e w = rw (e, w) refl
-
-said_on : (s : State) (m : Message) (es : List Event) (ls : List Line) → happens m ≡ es → utters reading (kept_as m.number s.own) es ≡ ls → stands ls ≡ ls → now_written reading (kept_as m.number s.own) (happens m) ≡ ls
-unfolding now_written stands
-said_on s m es ls h u k = rw (h, u) k
-
-own_on : (K : Kept) (ls : List Line) (m : Message) (es : List Event) (xs : List ℕ) → taking K es m.number ≡ Some xs → list_any (is_last_of m.number) ls ≡ false → own_of (written (taking K es) ls) (Some m) ≡ Some xs
-unfolding own_of written
-own_on K ls m es xs t l = rw l t
-
-own_none : (K : Kept) (ls : List Line) (es : List Event) → own_of (written (taking K es) ls) None ≡ None
-unfolding own_of
-own_none K ls es = refl
-
-two_say : (K : Kept) (d e : Event) (xs ys : List Line) → utters_kept reading d (K d.whom.number) ≡ xs → utters_kept reading e (taking K (d ∷ []) e.whom.number) ≡ ys → utters reading K (d ∷ e ∷ []) ≡ xs ++ ys
-unfolding utters
-two_say K d e xs ys u v = rw (u, v) (ap (λ (l : List Line). xs ++ l) (append-nil ys))
-
-one_says : (K : Kept) (d : Event) (xs : List Line) → utters_kept reading d (K d.whom.number) ≡ xs → utters reading K (d ∷ []) ≡ xs
-unfolding utters
-one_says K d xs u = rw u (append-nil xs)
-
--- an octet of a payload that goes on
-pub deal_on : (s : State) (m : Message) (xs ys : List ℕ) (x : ℕ) → s.own ≡ Some xs → m.payload ≡ ys ++ x ∷ [] → length m.payload < size m.header
-    → deal reading s m ≡ record { state = record s { current = Some m; own = Some (xs ++ x ∷ []); faults = s.faults + 0 }; lines = said_lines (place m) m.number (more m.header xs x) }
-unfolding dealt
-deal_on s m xs ys x o h lacks =
-    let K = kept_as m.number s.own in
-    let k : K m.number ≡ Some xs = own_kept m.number s.own ∙ o in
-    let f = more_is m.header xs x in
-    let ls = said_lines (place m) m.number (more m.header xs x) in
-    let u : utters reading K (event m (Takes x) ∷ []) ≡ ls = one_says K (event m (Takes x)) ls (takes_says K m xs x k) in
-    let w = said_on s m (event m (Takes x) ∷ []) ls (takes_on m ys x h lacks) u (front_stands (place m) m.number (suc (length xs)) (more m.header xs x) f) in
-    let own' : own_of (written (taking K (happens m)) ls) (Some m) ≡ Some (xs ++ x ∷ []) = rw (takes_on m ys x h lacks) (own_on K ls m (event m (Takes x) ∷ []) (xs ++ x ∷ []) (taking_takes K m xs x k) (front_last (place m) m.number (suc (length xs)) m.number (more m.header xs x) f)) in
-    deal_by s m ls true (lt-ltb (length m.payload) (size m.header) lacks) w
-    ∙ rw (own', front_faults (place m) m.number (suc (length xs)) (more m.header xs x) f) refl
-
--- its last octet
-pub deal_last : (s : State) (m : Message) (xs ys : List ℕ) (x : ℕ) → s.own ≡ Some xs → m.payload ≡ ys ++ x ∷ [] → length m.payload ≡ size m.header
-    → deal reading s m ≡ record {
-      state = record s { current = None; own = None; faults = s.faults + (if is_short m.header (xs ++ x ∷ []) then 1 else 0) };
-      lines = said_lines (place m) m.number (more m.header xs x) ++ close_lines (place m) m.number (first_closes m.header (xs ++ x ∷ []));
-    }
-unfolding dealt
-deal_last s m xs ys x o h full =
-    let K = kept_as m.number s.own in
-    let k : K m.number ≡ Some xs = own_kept m.number s.own ∙ o in
-    let f = more_is m.header xs x in
-    let cs = first_closes m.header (xs ++ x ∷ []) in
-    let rs = more m.header xs x in
-    let ls = said_lines (place m) m.number rs ++ close_lines (place m) m.number cs in
-    let later = closes_says (taking K (event m (Takes x) ∷ [])) m (xs ++ x ∷ []) (taking_takes K m xs x k) in
-    let u : utters reading K (event m (Takes x) ∷ event m Closes ∷ []) ≡ ls = two_say K (event m (Takes x)) (event m Closes) (said_lines (place m) m.number rs) (close_lines (place m) m.number cs) (takes_says K m xs x k) later in
-    let w = said_on s m (event m (Takes x) ∷ event m Closes ∷ []) ls (takes_last m ys x h full) u (both_stand (place m) m.number (suc (length xs)) rs cs f (closes_is m.header (xs ++ x ∷ []))) in
-    let none = own_none K ls (happens m) in
-    deal_by s m ls false (le-ltb (length m.payload) (size m.header) (omega arith)) w
-    ∙ rw (none, both_faults (place m) m.number (suc (length xs)) rs cs f, close_faults (place m) m.number m.header (xs ++ x ∷ [])) refl
-
--- a header's last octet, of a message with a payload
-pub deal_begins : (s : State) (m : Message) → s.own ≡ Some [] → m.payload ≡ [] → 0 < size m.header
-    → deal reading s m ≡ record { state = record s { current = Some m; own = Some []; faults = s.faults + 0 }; lines = start_of (place m) m.number m.header ∷ [] }
-unfolding dealt
-deal_begins s m o h lacks =
-    let K = kept_as m.number s.own in
-    let k : K m.number ≡ Some [] = own_kept m.number s.own ∙ o in
-    let ls = start_of (place m) m.number m.header ∷ [] in
-    let none : length m.payload ≡ 0 = rw h refl in
-    let u = one_says K (event m Begins) ls (begins_says K m [] k) in
-    let w = said_on s m (event m Begins ∷ []) ls (begins_on m h lacks) u (one_stands (place m) m.number m.header) in
-    let own' : own_of (written (taking K (happens m)) ls) (Some m) ≡ Some [] = rw (begins_on m h lacks) (own_on K ls m (event m Begins ∷ []) [] (taking_begins K m [] k) (start_last (place m) m.number m.number m.header)) in
-    deal_by s m ls true (lt-ltb (length m.payload) (size m.header) (omega arith)) w
-    ∙ rw own' (start_none s m)
-  where
-    start_none : (s : State) (m : Message) → dealt s (Some m) (Some []) (start_of (place m) m.number m.header ∷ []) ≡ record { state = record s { current = Some m; own = Some []; faults = s.faults + 0 }; lines = start_of (place m) m.number m.header ∷ [] }
-    start_none s m = unfold dealt fault_count in refl
-
-start_count_faults : (l : Line) (ls : List Line) → is_fault l.content ≡ false → fault_count (l ∷ ls) ≡ fault_count ls
-unfolding fault_count
-start_count_faults l ls e = rw e refl
-
-start_faults : (s : State) (l : Line) (ls : List Line) (n : ℕ) → is_fault l.content ≡ false → fault_count ls ≡ n → dealt s None None (l ∷ ls) ≡ record { state = record s { current = None; own = None; faults = s.faults + n }; lines = l ∷ ls }
-unfolding dealt
-start_faults s l ls n e c = rw (start_count_faults l ls e, c) refl
-
--- and of one without
-pub deal_whole : (s : State) (m : Message) → s.own ≡ Some [] → m.payload ≡ [] → size m.header ≡ 0
-    → deal reading s m ≡ record {
-      state = record s { current = None; own = None; faults = s.faults + (if is_short m.header [] then 1 else 0) };
-      lines = start_of (place m) m.number m.header ∷ close_lines (place m) m.number (first_closes m.header []);
-    }
-deal_whole s m o h full =
-    let K = kept_as m.number s.own in
-    let k : K m.number ≡ Some [] = own_kept m.number s.own ∙ o in
-    let cs = first_closes m.header [] in
-    let ls = start_of (place m) m.number m.header ∷ close_lines (place m) m.number cs in
-    let none : length m.payload ≡ 0 = rw h refl in
-    let u = two_say K (event m Begins) (event m Closes) (start_of (place m) m.number m.header ∷ []) (close_lines (place m) m.number cs) (begins_says K m [] k) (closes_says (taking K (event m Begins ∷ [])) m [] (taking_begins K m [] k)) in
-    let w = said_on s m (event m Begins ∷ event m Closes ∷ []) ls (begins_last m h full) u (start_stands (place m) m.number m.header cs (closes_is m.header [])) in
-    deal_by s m ls false (le-ltb (length m.payload) (size m.header) (omega arith)) w
-    ∙ rw (own_none K ls (happens m)) (start_faults s (start_of (place m) m.number m.header) (close_lines (place m) m.number cs) (if is_short m.header [] then 1 else 0) refl (close_faults (place m) m.number m.header []))
-
--- An octet of a message that is over says nothing.
-none_kept : (e : Event) → utters_kept reading e None ≡ []
-unfolding utters_kept
-none_kept e = refl
-
-none_one : (K : Kept) (m : Message) (what : Happening) → K m.number ≡ None → utters reading K (event m what ∷ []) ≡ []
-none_one K m what k = one_says K (event m what) [] (rw k (none_kept (event m what)))
-
-none_taken : (K : Kept) (es : List Event) (i : ℕ) → K i ≡ None → taking K es i ≡ None
-unfolding taking
-none_taken K es i k = rw k refl
-
-none_two : (K : Kept) (m : Message) (a b : Happening) → K m.number ≡ None → utters reading K (event m a ∷ event m b ∷ []) ≡ []
-none_two K m a b k =
-    two_say K (event m a) (event m b) [] [] (rw k (none_kept (event m a))) (rw (none_taken K (event m a ∷ []) m.number k) (none_kept (event m b)))
-
-own_over : (K : Kept) (m : Message) (es : List Event) → K m.number ≡ None → own_of (written (taking K es) []) (Some m) ≡ None
-unfolding own_of written
-own_over K m es k = none_taken K es m.number k
-
-quiet_dealt : (s : State) (current : Option Message) (own : Option (List ℕ)) → dealt s current own [] ≡ record { state = record s { current = current; own = own; faults = s.faults + 0 }; lines = [] }
-unfolding dealt fault_count
-quiet_dealt s current own = refl
-
-pub deal_over_on : (s : State) (m : Message) (ys : List ℕ) (x : ℕ) → s.own ≡ None → m.payload ≡ ys ++ x ∷ [] → length m.payload < size m.header
-    → deal reading s m ≡ record { state = record s { current = Some m; own = None; faults = s.faults + 0 }; lines = [] }
-deal_over_on s m ys x o h lacks =
-    let K = kept_as m.number s.own in
-    let k : K m.number ≡ None = own_kept m.number s.own ∙ o in
-    let w = said_on s m (event m (Takes x) ∷ []) [] (takes_on m ys x h lacks) (none_one K m (Takes x) k) none_stands in
-    deal_by s m [] true (lt-ltb (length m.payload) (size m.header) lacks) w ∙ rw (own_over K m (happens m) k) (quiet_dealt s (Some m) None)
-
-pub deal_over_last : (s : State) (m : Message) (ys : List ℕ) (x : ℕ) → s.own ≡ None → m.payload ≡ ys ++ x ∷ [] → length m.payload ≡ size m.header
-    → deal reading s m ≡ record { state = record s { current = None; own = None; faults = s.faults + 0 }; lines = [] }
-deal_over_last s m ys x o h full =
-    let K = kept_as m.number s.own in
-    let k : K m.number ≡ None = own_kept m.number s.own ∙ o in
-    let w = said_on s m (event m (Takes x) ∷ event m Closes ∷ []) [] (takes_last m ys x h full) (none_two K m (Takes x) Closes k) none_stands in
-    deal_by s m [] false (le-ltb (length m.payload) (size m.header) (omega arith)) w ∙ rw (own_none K [] (happens m)) (quiet_dealt s None None)
+-- the last octet of a header
+pub header_plays : (R : Reading) → IsInTurn R → (s : State) (x : ℕ) → s.stop ≡ None → s.current ≡ None → s.read < limit → wrong (s.held ++ x ∷ []) ≡ None → length s.held ≡ 11
+    → (let m = first_message (reading_on s) (s.held ++ x ∷ []) in let c = scene_of (beginning s) m.number in step R s x ≡ ends_with (beginning s) m (plays R c (happens c.live m)))
+header_plays R laws s x st cur room w full =
+    let m = first_message (reading_on s) (s.held ++ x ∷ []) in
+    step_header R s x st cur (le-ltb limit (suc s.read) (omega arith)) w (eq-eqb (length (s.held ++ x ∷ [])) 12 (omega (arith, length_push s.held x)))
+    ∙ deal_plays R laws (beginning s) m (omega arith) (λ name some. absurd (omega arith))

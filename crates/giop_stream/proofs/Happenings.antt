@@ -1,63 +1,488 @@
--- The events of a stream with one octet more.
-use Rattle.std.proofs.Common.{◌≡◌, ℕ, ◌-◌, Bool, true, false, List, [], ◌∷◌, ◌++◌, length, get_or, refl, ap, ◌∙◌, append_assoc}
-use Rattle.std.specs.List.{AllByRecursion as Each}
-use Rattle.std.specs.Prelude.{◌==◌, if◌then◌else◌, flat_map}
-use Rattle.std.proofs.lemmas.List.{append-nil}
+-- The events of a stream with one octet more, and the open messages after them.
+use Rattle.std.proofs.Common.{inl, inr, ◌⊎◌, ◌≡◌, ℕ, suc, ◌-◌, ◌<◌, ◌≤◌, Bool, true, false, cond, not, List, [], ◌∷◌, ◌++◌, length, get_or, refl, sym, ap, subst, ◌∙◌, append_assoc, Option, Some, None, arith}
+use Rattle.std.specs.List.{filter, find, AllByRecursion as Each}
+use Rattle.std.specs.Prelude.{nat_lt, nat_le, ◌==◌, if◌then◌else◌, flat_map, ◌&&◌, ◌||◌}
+use Rattle.std.proofs.lemmas.Bool.{and_parts, ltb-true, ltb-false, leb-false, lt-leb, le-ltb, cases_lt, ne_eqb, eqb-true, eq-eqb}
+use Rattle.std.proofs.lemmas.List.{append-nil, length_push}
 use Rattle.std.proofs.lemmas.List.Concat.{flat_map-append}
+use Rattle.giop_stream.specs.declared.fault.ImposedFault.{ImposedFault}
+use Rattle.giop_stream.specs.declared.fault.ImposedFault.TheVariants.{Short, NoOpen, IdOpen, TooManyOpen, FragmentOrder}
 use Rattle.giop_stream.specs.Headers.{fronts}
-use Rattle.giop_message.specs.Headers.{size}
+use Rattle.giop_message.specs.Headers.{order, has_more, size, is_fragment, is_opener, is_cancel}
 use Rattle.giop_stream.specs.Framing.{Message, with_payload}
-use Rattle.giop_stream.specs.Events.{Happening, Begins, Takes, Closes, Event, title, place, own, at_header, at_octet, at_end, happens, events_of, events_from}
-use Rattle.giop_stream.proofs.Lists.{fronts_push, each_append}
+use Rattle.giop_stream.specs.Kinds.{may_be_cancelled, refused}
+use Rattle.giop_stream.specs.Events.{Happening, Begins, Takes, Opens, Continues, Cancelled, Imposed, Closes, Title, Event, Open, title, place, own, about, id, opener_of, has_named, goes_past, imposed, at_header, at_octet, opens_by, opens, most_open, same_order, continues_by, continues, cancels_by, cancels, at_id, at_end, happens, events_of, changed, opened, events_from, Rising}
+use Rattle.giop_stream.proofs.Lists.{fronts_push, by_growth, each_append, each_filter}
 
-pub events_from_push : (ms : List Message) (m : Message) → events_from (ms ++ m ∷ []) ≡ events_from ms ++ events_of m
-unfolding events_from
-events_from_push ms m = flat_map-append events_of ms (m ∷ []) ∙ ap (λ (es : List Event). events_from ms ++ es) (append-nil (events_of m))
+pub opened_append : (live : List Open) (es more : List Event) → opened live (es ++ more) ≡ opened (opened live es) more
+unfolding opened
+opened_append live [] more = refl
+opened_append live (e ∷ es) more = opened_append (changed live e.whom e.what) es more
 
-pub events_of_push : (m : Message) (xs : List ℕ) (x : ℕ) → events_of (with_payload m (xs ++ x ∷ [])) ≡ events_of (with_payload m xs) ++ happens (with_payload m (xs ++ x ∷ []))
+pub events_from_push : (live : List Open) (ms : List Message) (m : Message) → events_from live (ms ++ m ∷ []) ≡ events_from live ms ++ events_of (opened live (events_from live ms)) m
+unfolding events_from opened
+events_from_push live [] m = append-nil (events_of live m)
+events_from_push live (first ∷ ms) m =
+    let es = events_of live first in
+    rw (events_from_push (opened live es) ms m, opened_append live es (events_from (opened live es) ms)) (sym (append_assoc es (events_from (opened live es) ms) (events_of (opened (opened live es) (events_from (opened live es) ms)) m)))
+
+pub events_of_push : (live : List Open) (m : Message) (xs : List ℕ) (x : ℕ) → events_of live (with_payload m (xs ++ x ∷ [])) ≡ events_of live (with_payload m xs) ++ happens live (with_payload m (xs ++ x ∷ []))
 unfolding events_of
-events_of_push m xs x =
-    rw (fronts_push xs x) (flat_map-append (λ front. happens (with_payload m front)) (fronts xs) ((xs ++ x ∷ []) ∷ [])
-    ∙ ap (λ (es : List Event). flat_map (λ front. happens (with_payload m front)) (fronts xs) ++ es) (append-nil (happens (with_payload m (xs ++ x ∷ [])))))
+events_of_push live m xs x =
+    rw (fronts_push xs x) (flat_map-append (λ front. happens live (with_payload m front)) (fronts xs) ((xs ++ x ∷ []) ∷ [])
+    ∙ ap (λ (es : List Event). flat_map (λ front. happens live (with_payload m front)) (fronts xs) ++ es) (append-nil (happens live (with_payload m (xs ++ x ∷ [])))))
 
-pub events_of_none : (m : Message) → events_of (with_payload m []) ≡ happens (with_payload m [])
+pub events_of_none : (live : List Open) (m : Message) → events_of live (with_payload m []) ≡ happens live (with_payload m [])
 unfolding events_of fronts
-events_of_none m = append-nil (happens (with_payload m []))
+events_of_none live m = append-nil (happens live (with_payload m []))
 
--- the events of a stream whose last message has one octet more
-pub events_on : (whole : List Message) (m : Message) (x : ℕ) → events_from (whole ++ with_payload m (m.payload ++ x ∷ []) ∷ []) ≡ events_from (whole ++ m ∷ []) ++ happens (with_payload m (m.payload ++ x ∷ []))
-events_on whole m x =
-    let m' = with_payload m (m.payload ++ x ∷ []) in
-    events_from_push whole m'
-    ∙ rw (events_from_push whole m, events_of_push m m.payload x) (append_assoc-back (events_from whole) (events_of m) (happens m'))
+-- Events that change no open message.
+still_begins : (live : List Open) (whom : Title) → changed live whom Begins ≡ live
+unfolding changed
+still_begins live whom = refl
+
+still_takes : (x : ℕ) (live : List Open) (whom : Title) → changed live whom (Takes x) ≡ live
+unfolding changed
+still_takes x live whom = refl
+
+still_continues : (i : ℕ) (live : List Open) (whom : Title) → changed live whom (Continues i) ≡ live
+unfolding changed
+still_continues i live whom = refl
+
+pub still_imposed : (fault : ImposedFault) (live : List Open) (whom : Title) → changed live whom (Imposed fault) ≡ live
+unfolding changed
+still_imposed fault live whom = refl
+
+quiet_about : (live : List Open) (m : Message) (o : Option Open) (what : Happening) → ((whom : Title) → changed live whom what ≡ live) → opened live (about m o what) ≡ live
+unfolding about opened
+quiet_about live m None what h = refl
+quiet_about live m (Some o) what h = h o.opener
+
+pub quiet_own : (live : List Open) (m : Message) (what : Happening) → ((whom : Title) → changed live whom what ≡ live) → opened live (own m what) ≡ live
+unfolding own opened
+quiet_own live m what h = h (title m)
+
+pub quiet_both : (live : List Open) (es more : List Event) → opened live es ≡ live → opened live more ≡ live → opened live (es ++ more) ≡ live
+quiet_both live es more h k = rw (opened_append live es more, h) k
+
+pub quiet_if : (live : List Open) (b : Bool) (es more : List Event) → (b ≡ true → opened live es ≡ live) → (b ≡ false → opened live more ≡ live) → opened live (if b then es else more) ≡ live
+quiet_if live true es more h k = h refl
+quiet_if live false es more h k = k refl
+
+pub quiet_none : (live : List Open) → opened live [] ≡ live
+unfolding opened
+quiet_none live = refl
+
+pub quiet_header : (live : List Open) (m : Message) → opened live (at_header m) ≡ live
+unfolding at_header
+quiet_header live m = quiet_both live (own m Begins) _ (quiet_own live m Begins (still_begins live)) (go (refused m.header))
   where
-    append_assoc-back : (xs ys zs : List Event) → xs ++ (ys ++ zs) ≡ (xs ++ ys) ++ zs
-    append_assoc-back xs ys zs = rw (append_assoc xs ys zs) refl
+    go : (w : Option ImposedFault) → opened live (imposed m w) ≡ live
+    go None = quiet_none live
+    go (Some fault) = quiet_own live m (Imposed fault) (still_imposed fault live)
 
--- the events of a stream whose last message begins
-pub events_begin : (whole : List Message) (m : Message) → m.payload ≡ [] → events_from (whole ++ m ∷ []) ≡ events_from whole ++ happens m
-events_begin whole m h =
-    let empty : m ≡ with_payload m [] = λ j. record m { payload = h j } in
-    let one : events_of m ≡ happens m = ap events_of empty ∙ (events_of_none m ∙ ap happens (λ j. empty_back empty j)) in
-    events_from_push whole m ∙ ap (λ (es : List Event). events_from whole ++ es) one
+pub quiet_octet : (live : List Open) (m : Message) → opened live (at_octet live m) ≡ live
+unfolding at_octet
+quiet_octet live m =
+    let x = get_or m.payload (length m.payload - 1) 0 in
+    quiet_if live (goes_past m) (about m (opener_of live m) (Takes x)) (own m (Takes x))
+    (λ e. quiet_about live m (opener_of live m) (Takes x) (still_takes x live)) (λ e. quiet_own live m (Takes x) (still_takes x live))
+
+pub quiet_continues : (live : List Open) (m : Message) → opened live (continues live m) ≡ live
+unfolding continues
+quiet_continues live m = go (opener_of live m)
   where
-    empty_back : m ≡ with_payload m [] → with_payload m [] ≡ m
-    empty_back e = rw (← e) refl
+    go : (o : Option Open) → opened live (continues_by m o) ≡ live
+    go None = quiet_own live m (Imposed NoOpen) (still_imposed NoOpen live)
+    go (Some o) = quiet_both live _ _ (quiet_own live m (Continues o.opener.number) (still_continues o.opener.number live)) (quiet_if live _ _ _ (λ e. quiet_none live) (λ e. quiet_about live m (Some o) (Imposed FragmentOrder) (still_imposed FragmentOrder live)))
 
--- What holds of whatever the message does holds of all.
+-- Before the last octet of a message, and before its id or in a Fragment, nothing changes.
+four : (live : List Open) (m : Message) → (length m.payload == 4) ≡ true → ((length m.payload < 4) ⊎ (is_fragment m.header ≡ true)) → opened live (at_id live m) ≡ live
+unfolding at_id
+four live m e (inl k) = absurd (omega (arith, eqb-true (length m.payload) 4 e))
+four live m e (inr k) = rw (at_id, k) (quiet_continues live m)
+
+pub quiet_one : (live : List Open) (m : Message) → length m.payload < size m.header → ((length m.payload < 4) ⊎ (is_fragment m.header ≡ true)) → opened live (happens live m) ≡ live
+unfolding happens
+quiet_one live m h k =
+    let third : List Event = if length m.payload == size m.header then at_end live m else [] in
+    let no_third : third ≡ [] = rw (ne_eqb (length m.payload) (size m.header) (λ e. omega arith)) refl in
+    quiet_both live (if length m.payload == 0 then at_header m else at_octet live m) ((if length m.payload == 4 then at_id live m else []) ++ third) (quiet_if live (length m.payload == 0) _ _ (λ e. quiet_header live m) (λ e. quiet_octet live m))
+    (quiet_both live (if length m.payload == 4 then at_id live m else []) third (quiet_if live (length m.payload == 4) _ _ (λ e. four live m e k) (λ e. quiet_none live)) (ap (opened live) no_third ∙ quiet_none live))
+
+quiet : (live : List Open) (m : Message) (xs : List ℕ) → length xs < size m.header → ((length xs < 4) ⊎ (is_fragment m.header ≡ true)) → opened live (events_of live (with_payload m xs)) ≡ live
+quiet live m = by_growth (λ xs. length xs < size m.header → ((length xs < 4) ⊎ (is_fragment m.header ≡ true)) → opened live (events_of live (with_payload m xs)) ≡ live)
+    (λ h k. rw (events_of_none live m) (quiet_one live (with_payload m []) h k))
+    (λ xs x ih h k.
+    let len = length_push xs x in
+    rw (events_of_push live m xs x, opened_append live (events_of live (with_payload m xs)) (happens live (with_payload m (xs ++ x ∷ []))), ih (omega arith) (elim k [ inl s ↦ inl (omega arith) | inr f ↦ inr f ]))
+    (quiet_one live (with_payload m (xs ++ x ∷ [])) h k))
+
+-- What an octet does is the same by the messages that were open before its message and by those that are open now.
+free : (live other : List Open) (m : Message) → 4 < length m.payload → is_fragment m.header ≡ false → happens live m ≡ happens other m
+unfolding happens at_octet at_end goes_past
+free live other m h k = rw (happens, at_octet, goes_past, at_end, k, ne_eqb (length m.payload) 0 (λ e. omega arith), ne_eqb (length m.payload) 4 (λ e. omega arith)) refl
+
+pub happens_same : (live : List Open) (m : Message) (xs : List ℕ) (x : ℕ) → length xs < size m.header → happens live (with_payload m (xs ++ x ∷ [])) ≡ happens (opened live (events_of live (with_payload m xs))) (with_payload m (xs ++ x ∷ []))
+happens_same live m xs x h = go (is_fragment m.header) refl
+  where
+    m' : Message
+    m' = with_payload m (xs ++ x ∷ [])
+
+    go : (b : Bool) → is_fragment m.header ≡ b → happens live (with_payload m (xs ++ x ∷ [])) ≡ happens (opened live (events_of live (with_payload m xs))) (with_payload m (xs ++ x ∷ []))
+    go true e = rw (quiet live m xs h (inr e)) refl
+    go false e = elim (cases_lt (length xs) 4) [
+      | inl s ↦ rw (quiet live m xs h (inl s)) refl
+      | inr l ↦ free live (opened live (events_of live (with_payload m xs))) (with_payload m (xs ++ x ∷ [])) (omega (arith, length_push xs x)) e
+    ]
+
+-- What holds of the events about the message itself and about each open message holds of all.
 own_each : (P : Event → Type 0) (m : Message) (what : Happening) → ((what : Happening) → P (record { place = place m; whom = title m; what = what })) → Each P (own m what)
 unfolding own
 own_each P m what h = (h what, tt)
+
+ForSome : (Open → Type 0) → Option Open → Type 0
+ForSome Q None = Unit {0}
+ForSome Q (Some o) = Q o
+
+About : (Event → Type 0) → Message → Open → Type 0
+About P m o = (what : Happening) → P (record { place = place m; whom = o.opener; what = what })
+
+about_each : (P : Event → Type 0) (m : Message) (o : Option Open) (what : Happening) → ForSome (About P m) o → Each P (about m o what)
+unfolding about ForSome About
+about_each P m None what h = tt
+about_each P m (Some o) what h = (h what, tt)
+
+found_by : (Q : Open → Type 0) (b : Bool) (o : Open) (rest : Option Open) → Q o → ForSome Q rest → ForSome Q (if b then Some o else rest)
+unfolding ForSome
+found_by Q true o rest h k = h
+found_by Q false o rest h k = k
+
+found : (Q : Open → Type 0) (test : Open → Bool) (live : List Open) → Each Q live → ForSome Q (find test live)
+unfolding ForSome
+found Q test [] h = tt
+found Q test (o ∷ live) h = found_by Q (test o) o (find test live) h.0 (found Q test live h.1)
 
 if_each : (P : Event → Type 0) (b : Bool) (es more : List Event) → Each P es → Each P more → Each P (if b then es else more)
 if_each P true es more h k = h
 if_each P false es more h k = k
 
-pub happens_each : (P : Event → Type 0) (m : Message) → ((what : Happening) → P (record { place = place m; whom = title m; what = what })) → Each P (happens m)
-unfolding happens at_header at_octet at_end
-happens_each P m h =
-    let first = if length m.payload == 0 then at_header m else at_octet m in
-    let last = if length m.payload == size m.header then at_end m else [] in
-    each_append P first last
-    (if_each P (length m.payload == 0) (at_header m) (at_octet m) (own_each P m Begins h) (own_each P m (Takes (get_or m.payload (length m.payload - 1) 0)) h))
-    (if_each P (length m.payload == size m.header) (at_end m) [] (own_each P m Closes h) tt)
+module _ (P : Event → Type 0) (live : List Open) (m : Message) (h : (what : Happening) → P (record { place = place m; whom = title m; what = what })) (k : ForSome (About P m) (opener_of live m)) where
+  mine : (what : Happening) → Each P (own m what)
+  mine what = own_each P m what h
+
+  header_each : Each P (at_header m)
+  unfolding at_header
+  header_each = each_append P (own m Begins) _ (mine Begins) (go (refused m.header))
+    where
+      go : (w : Option ImposedFault) → Each P (imposed m w)
+      go None = tt
+      go (Some fault) = mine (Imposed fault)
+
+  octet_each : Each P (at_octet live m)
+  unfolding at_octet
+  octet_each =
+      let x = get_or m.payload (length m.payload - 1) 0 in
+      if_each P (goes_past m) (about m (opener_of live m) (Takes x)) (own m (Takes x)) (about_each P m (opener_of live m) (Takes x) k) (mine (Takes x))
+
+  opens_each : Each P (opens live m)
+  unfolding opens
+  opens_each = go (opener_of live m)
+    where
+      go : (o : Option Open) → Each P (opens_by live m o)
+      go None = if_each P (nat_le most_open (length live)) _ _ (mine (Imposed TooManyOpen)) (mine (Opens (id m)))
+      go (Some other) = mine (Imposed IdOpen)
+
+  continues_each : Each P (continues live m)
+  unfolding continues
+  continues_each = go (opener_of live m) k
+    where
+      go : (o : Option Open) → ForSome (About P m) o → Each P (continues_by m o)
+      go None h = mine (Imposed NoOpen)
+      go (Some o) h = each_append P (own m (Continues o.opener.number)) _ (mine (Continues o.opener.number)) (if_each P (same_order (order m.header) (order o.opener.header)) [] (about m (Some o) (Imposed FragmentOrder)) tt (about_each P m (Some o) (Imposed FragmentOrder) h))
+
+  cancels_each : Each P (cancels live m)
+  unfolding cancels
+  cancels_each = go (opener_of live m) k
+    where
+      go : (o : Option Open) → ForSome (About P m) o → Each P (cancels_by m o)
+      go None h = tt
+      go (Some o) h = if_each P (may_be_cancelled o.opener.header) (about m (Some o) (Cancelled m.number)) [] (about_each P m (Some o) (Cancelled m.number) h) tt
+
+  id_each : Each P (at_id live m)
+  unfolding at_id
+  id_each = if_each P (is_fragment m.header) _ _ continues_each (if_each P (is_opener m.header) _ _ opens_each (if_each P (is_cancel m.header) _ _ cancels_each tt))
+
+  end_each : Each P (at_end live m)
+  unfolding at_end
+  end_each =
+      if_each P (nat_lt (size m.header) 4 && (is_opener m.header || is_fragment m.header)) _ _ (mine (Imposed Short))
+      (if_each P (is_opener m.header) _ _ tt (if_each P (is_fragment m.header) _ _ (if_each P (has_more m.header) [] (about m (opener_of live m) Closes) tt (about_each P m (opener_of live m) Closes k)) (mine Closes)))
+
+  parts_each : Each P (happens live m)
+  unfolding happens
+  parts_each =
+      each_append P (if length m.payload == 0 then at_header m else at_octet live m) _ (if_each P (length m.payload == 0) _ _ header_each octet_each)
+      (each_append P (if length m.payload == 4 then at_id live m else []) _ (if_each P (length m.payload == 4) _ _ id_each tt) (if_each P (length m.payload == size m.header) _ _ end_each tt))
+
+pub happens_each : (P : Event → Type 0) (live : List Open) (m : Message) → ((what : Happening) → P (record { place = place m; whom = title m; what = what }))
+    → Each (λ o. (what : Happening) → P (record { place = place m; whom = o.opener; what = what })) live → Each P (happens live m)
+unfolding opener_of About
+happens_each P live m h k = parts_each P live m h (found (About P m) (λ o. o.id == id m) live k)
+
+-- In a Fragment past its id no event is about the Fragment.
+past_end : (P : Event → Type 0) (live : List Open) (m : Message) → is_fragment m.header ≡ true → nat_lt (size m.header) 4 ≡ false → ForSome (About P m) (opener_of live m) → Each P (at_end live m)
+unfolding at_end
+past_end P live m f h k =
+    rw (at_end, f, h) (if_each P (is_opener m.header) [] _ tt (if_each P (has_more m.header) [] (about m (opener_of live m) Closes) tt (about_each P m (opener_of live m) Closes k)))
+
+past_octet : (P : Event → Type 0) (live : List Open) (m : Message) → goes_past m ≡ true → ForSome (About P m) (opener_of live m) → Each P (at_octet live m)
+unfolding at_octet
+past_octet P live m past k = rw (at_octet, past) (about_each P m (opener_of live m) (Takes (get_or m.payload (length m.payload - 1) 0)) k)
+
+past_each : (P : Event → Type 0) (live : List Open) (m : Message) → goes_past m ≡ true → is_fragment m.header ≡ true → 4 < length m.payload → length m.payload ≤ size m.header → ForSome (About P m) (opener_of live m) → Each P (happens live m)
+unfolding happens
+past_each P live m past f h j k =
+    let short : nat_lt (size m.header) 4 ≡ false = le-ltb (size m.header) 4 (omega arith) in
+    rw (happens, ne_eqb (length m.payload) 0 (λ e. omega arith), ne_eqb (length m.payload) 4 (λ e. omega arith))
+    (each_append P (at_octet live m) _ (past_octet P live m past k) (if_each P (length m.payload == size m.header) (at_end live m) [] (past_end P live m f short k) tt))
+
+pub happens_agree : (P : Event → Type 0) (live : List Open) (m : Message) → length m.payload ≤ size m.header → (goes_past m ≡ false → (what : Happening) → P (record { place = place m; whom = title m; what = what }))
+    → Each (λ o. (what : Happening) → P (record { place = place m; whom = o.opener; what = what })) live → Each P (happens live m)
+unfolding opener_of About goes_past
+happens_agree P live m long h k = go (goes_past m) refl
+  where
+    one : ForSome (About P m) (opener_of live m)
+    one = found (About P m) (λ o. o.id == id m) live k
+
+    go : (b : Bool) → goes_past m ≡ b → Each P (happens live m)
+    go false e = parts_each P live m (h e) one
+    go true e = let both = and_parts (is_fragment m.header) (nat_lt 4 (length m.payload)) e in past_each P live m e both.0 (ltb-true 4 (length m.payload) both.1) long one
+
+-- a message before its id is complete
+pub not_past : (m : Message) → has_named m ≡ false → goes_past m ≡ false
+unfolding has_named goes_past
+not_past m h = go (is_fragment m.header) refl
+  where
+    go : (b : Bool) → is_fragment m.header ≡ b → (is_fragment m.header && nat_lt 4 (length m.payload)) ≡ false
+    go false e = rw e refl
+    go true e = let k : length m.payload < 4 = leb-false 4 (length m.payload) (rw e at h) in rw (e, le-ltb 4 (length m.payload) (omega arith)) refl
+
+pub not_named : (m : Message) (x : ℕ) → goes_past (with_payload m (m.payload ++ x ∷ [])) ≡ false → has_named m ≡ false
+unfolding has_named goes_past
+not_named m x h = go (is_fragment m.header) refl
+  where
+    go : (b : Bool) → is_fragment m.header ≡ b → (is_fragment m.header && nat_le 4 (length m.payload)) ≡ false
+    go false e = rw e refl
+    go true e = let k : length (m.payload ++ x ∷ []) ≤ 4 = ltb-false 4 (length (m.payload ++ x ∷ [])) (rw e at h) in rw (e, lt-leb 4 (length m.payload) (omega (arith, length_push m.payload x))) refl
+
+-- What holds of the open messages and of the messages of these events holds of the open messages after them.
+changed_each : (P : Title → Type 0) (live : List Open) (whom : Title) (what : Happening) → Each (λ o. P o.opener) live → P whom → Each (λ o. P o.opener) (changed live whom what)
+unfolding changed
+changed_each P live whom (Opens i) h w = each_append (λ o. P o.opener) live _ h (w, tt)
+changed_each P live whom Closes h w = each_filter (λ o. P o.opener) (λ o. not (o.opener.number == whom.number)) live h
+changed_each P live whom (Cancelled j) h w = each_filter (λ o. P o.opener) (λ o. not (o.opener.number == whom.number)) live h
+changed_each P live whom Begins h w = h
+changed_each P live whom (Takes x) h w = h
+changed_each P live whom (Continues i) h w = h
+changed_each P live whom (Imposed fault) h w = h
+
+pub opened_each : (P : Title → Type 0) (live : List Open) (es : List Event) → Each (λ o. P o.opener) live → Each (λ e. P e.whom) es → Each (λ o. P o.opener) (opened live es)
+unfolding opened
+opened_each P live [] h k = h
+opened_each P live (e ∷ es) h k = opened_each P (changed live e.whom e.what) es (changed_each P live e.whom e.what h k.0) k.1
+
+-- ---- What is kept through the events of an octet: what holds of fewer open messages, and of those with one more where an
+-- opener becomes open.
+
+unfoldable pub opened_by : Message → Open
+opened_by m = record { id = id m; opener = title m }
+
+-- the case in which m becomes open
+pub record CanOpen (live : List Open) (m : Message) : Type 0 where
+  pub named : length m.payload ≡ 4
+  pub opener : is_opener m.header ≡ true
+  pub none : opener_of live m ≡ None
+  pub room : length live < most_open
+
+pub record IsKept (Q : List Open → Type 0) (live : List Open) (m : Message) : Type 0 where
+  pub fewer : (test : Open → Bool) (live : List Open) → Q live → Q (filter test live)
+  pub more : CanOpen live m → Q live → Q (live ++ opened_by m ∷ [])
+
+module _ (Q : List Open → Type 0) (now : List Open) (m : Message) (k : IsKept Q now m) where
+  -- what opens nothing
+  abbrev Plain : Happening → Type 0
+  Plain what = (live : List Open) (whom : Title) → Q live → Q (changed live whom what)
+
+  plain_own : (live : List Open) (what : Happening) → Plain what → Q live → Q (opened live (own m what))
+  unfolding opened own
+  plain_own live what h q = h live (title m) q
+
+  plain_about : (live : List Open) (o : Option Open) (what : Happening) → Plain what → Q live → Q (opened live (about m o what))
+  unfolding opened about
+  plain_about live None what h q = q
+  plain_about live (Some o) what h q = h live o.opener q
+
+  plain_closes : Plain Closes
+  unfolding changed
+  plain_closes live whom q = k.fewer (λ o. not (o.opener.number == whom.number)) live q
+
+  plain_cancelled : (j : ℕ) → Plain (Cancelled j)
+  unfolding changed
+  plain_cancelled j live whom q = k.fewer (λ o. not (o.opener.number == whom.number)) live q
+
+  plain_imposed : (fault : ImposedFault) → Plain (Imposed fault)
+  unfolding changed
+  plain_imposed fault live whom q = q
+
+  kept_if : (live : List Open) (b : Bool) (es more : List Event) → (b ≡ true → Q (opened live es)) → (b ≡ false → Q (opened live more)) → Q (opened live (if b then es else more))
+  kept_if live true es more h j = h refl
+  kept_if live false es more h j = j refl
+
+  kept_none : (live : List Open) → Q live → Q (opened live [])
+  unfolding opened
+  kept_none live q = q
+
+  kept_end : (before live : List Open) → Q live → Q (opened live (at_end before m))
+  unfolding at_end
+  kept_end before live q =
+      kept_if live (nat_lt (size m.header) 4 && (is_opener m.header || is_fragment m.header)) (own m (Imposed Short)) _ (λ e. plain_own live (Imposed Short) (plain_imposed Short) q)
+      (λ e. kept_if live (is_opener m.header) [] _ (λ e. kept_none live q)
+      (λ e. kept_if live (is_fragment m.header) _ (own m Closes)
+      (λ e. kept_if live (has_more m.header) [] (about m (opener_of before m) Closes) (λ e. kept_none live q) (λ e. plain_about live (opener_of before m) Closes plain_closes q))
+      (λ e. plain_own live Closes plain_closes q)))
+
+  now_open : CanOpen now m → Q now → Q (opened now (own m (Opens (id m))))
+  unfolding own opened changed opened_by
+  now_open can q = k.more can q
+
+  kept_opens : length m.payload ≡ 4 → is_opener m.header ≡ true → Q now → Q (opened now (opens now m))
+  unfolding opens
+  kept_opens four o q = go (opener_of now m) refl
+    where
+      go : (w : Option Open) → opener_of now m ≡ w → Q (opened now (opens_by now m w))
+      go (Some other) e = plain_own now (Imposed IdOpen) (plain_imposed IdOpen) q
+      go None e =
+          kept_if now (nat_le most_open (length now)) (own m (Imposed TooManyOpen)) (own m (Opens (id m))) (λ full. plain_own now (Imposed TooManyOpen) (plain_imposed TooManyOpen) q)
+          (λ room. now_open (record { named = four; opener = o; none = e; room = leb-false most_open (length now) room }) q)
+
+  kept_cancels : Q now → Q (opened now (cancels now m))
+  unfolding cancels
+  kept_cancels q = go (opener_of now m)
+    where
+      go : (o : Option Open) → Q (opened now (cancels_by m o))
+      go None = kept_none now q
+      go (Some o) = kept_if now (may_be_cancelled o.opener.header) (about m (Some o) (Cancelled m.number)) [] (λ e. plain_about now (Some o) (Cancelled m.number) (plain_cancelled m.number) q) (λ e. kept_none now q)
+
+  pub kept_id : length m.payload ≡ 4 → Q now → Q (opened now (at_id now m))
+  unfolding at_id
+  kept_id four q =
+      kept_if now (is_fragment m.header) (continues now m) _ (λ e. subst Q (sym (quiet_continues now m)) q)
+      (λ e. kept_if now (is_opener m.header) (opens now m) _ (λ o. kept_opens four o q)
+      (λ e. kept_if now (is_cancel m.header) (cancels now m) [] (λ e. kept_cancels q) (λ e. kept_none now q)))
+
+  kept_parts : Q now → Q (opened now (happens now m))
+  unfolding happens
+  kept_parts q =
+      let first = if length m.payload == 0 then at_header m else at_octet now m in
+      let second = if length m.payload == 4 then at_id now m else [] in
+      let third = if length m.payload == size m.header then at_end now m else [] in
+      let still : opened now first ≡ now = quiet_if now (length m.payload == 0) (at_header m) (at_octet now m) (λ e. quiet_header now m) (λ e. quiet_octet now m) in
+      let mid : Q (opened now second) = kept_if now (length m.payload == 4) (at_id now m) [] (λ e. kept_id (eqb-true (length m.payload) 4 e) q) (λ e. kept_none now q) in
+      rw (opened_append now first (second ++ third), still, opened_append now second third)
+      (kept_if (opened now second) (length m.payload == size m.header) (at_end now m) [] (λ e. kept_end now (opened now second) mid) (λ e. kept_none (opened now second) mid))
+
+pub kept_happens : (Q : List Open → Type 0) (live : List Open) (m : Message) → IsKept Q live m → Q live → Q (opened live (happens live m))
+kept_happens Q live m k q = kept_parts Q live m k q
+
+-- ---- The numbers of the open messages rise.
+
+abbrev pub Below : ℕ → List Open → Type 0
+Below n live = Each (λ o. o.opener.number < n) live
+
+rising_by : (test : Open → Bool) (o : Open) (live : List Open) (b : Bool) → Each (λ a. o.opener.number < a.opener.number) live → Rising (filter test live) → Rising (cond b (o ∷ filter test live) (filter test live))
+rising_by test o live true h k = (each_filter (λ a. o.opener.number < a.opener.number) test live h, k)
+rising_by test o live false h k = k
+
+pub rising_filter : (test : Open → Bool) (live : List Open) → Rising live → Rising (filter test live)
+rising_filter test [] h = tt
+rising_filter test (o ∷ live) h = rising_by test o live (test o) h.0 (rising_filter test live h.1)
+
+pub rising_push : (live : List Open) (o : Open) → Rising live → Below o.opener.number live → Rising (live ++ o ∷ [])
+rising_push [] o h k = (tt, tt)
+rising_push (a ∷ live) o h k = (each_append (λ b. a.opener.number < b.opener.number) live (o ∷ []) h.0 (k.0, tt), rising_push live o h.1 k.1)
+
+pub rising_happens : (live : List Open) (m : Message) → Rising live → (length m.payload ≡ 4 → Below m.number live) → Rising (opened live (happens live m))
+rising_happens live m r h = kept_happens Rising live m (record { fewer = rising_filter; more = λ can q. unfold opened_by in rising_push live (record { id = id m; opener = title m }) q (h can.named) }) r
+
+-- ---- They are not too many.
+
+unfoldable pub IsFew : List Open → Type 0
+IsFew live = length live ≤ most_open
+
+filter_short : (test : Open → Bool) (live : List Open) → length (filter test live) ≤ length live
+filter_short test [] = omega arith
+filter_short test (o ∷ live) = let ih = filter_short test live in go (test o) ih
+  where
+    go : (b : Bool) → length (filter test live) ≤ length live → length (cond b (o ∷ filter test live) (filter test live)) ≤ suc (length live)
+    go true h = omega arith
+    go false h = omega arith
+
+few_filter : (test : Open → Bool) (live : List Open) → IsFew live → IsFew (filter test live)
+unfolding IsFew
+few_filter test live h = let s = filter_short test live in omega arith
+
+few_push : (live : List Open) (o : Open) → length live < most_open → IsFew (live ++ o ∷ [])
+unfolding IsFew
+few_push live o h = omega (arith, length_push live o)
+
+pub few_happens : (live : List Open) (m : Message) → IsFew live → IsFew (opened live (happens live m))
+few_happens live m h = kept_happens IsFew live m (record { fewer = few_filter; more = λ can q. few_push live (opened_by m) can.room }) h
+
+-- ---- No two have one request id.
+
+abbrev pub Differ : List Open → Type 0
+Differ [] = Unit {0}
+Differ (o ∷ live) = Each (λ a. a.id ≡ o.id → ⊥) live × Differ live
+
+differ_by : (test : Open → Bool) (o : Open) (live : List Open) (b : Bool) → Each (λ a. a.id ≡ o.id → ⊥) live → Differ (filter test live) → Differ (cond b (o ∷ filter test live) (filter test live))
+differ_by test o live true h k = (each_filter (λ a. a.id ≡ o.id → ⊥) test live h, k)
+differ_by test o live false h k = k
+
+differ_filter : (test : Open → Bool) (live : List Open) → Differ live → Differ (filter test live)
+differ_filter test [] h = tt
+differ_filter test (o ∷ live) h = differ_by test o live (test o) h.0 (differ_filter test live h.1)
+
+differ_push : (live : List Open) (o : Open) → Differ live → Each (λ a. a.id ≡ o.id → ⊥) live → Differ (live ++ o ∷ [])
+differ_push [] o h k = (tt, tt)
+differ_push (a ∷ live) o h k = (each_append (λ b. b.id ≡ a.id → ⊥) live (o ∷ []) h.0 (λ same. k.0 (sym same), tt), differ_push live o h.1 k.1)
+
+none_by : (i : ℕ) (a : Open) (live : List Open) (b : Bool) → (a.id == i) ≡ b → (find (λ o. o.id == i) live ≡ None → Each (λ a. a.id ≡ i → ⊥) live) → (if b then Some a else find (λ o. o.id == i) live) ≡ None
+    → (a.id ≡ i → ⊥) × Each (λ a. a.id ≡ i → ⊥) live
+none_by i a live true e ih k = absurd cc
+none_by i a live false e ih k = (λ same. absurd (let t : (a.id == i) ≡ true = eq-eqb a.id i same in cc), ih k)
+
+none_found : (i : ℕ) (live : List Open) → find (λ o. o.id == i) live ≡ None → Each (λ a. a.id ≡ i → ⊥) live
+none_found i [] h = tt
+none_found i (a ∷ live) h = none_by i a live (a.id == i) refl (none_found i live) h
+
+pub differ_happens : (live : List Open) (m : Message) → Differ live → Differ (opened live (happens live m))
+unfolding opener_of opened_by
+differ_happens live m h = kept_happens Differ live m (record { fewer = differ_filter; more = λ can q. differ_push live (record { id = id m; opener = title m }) q (none_found (id m) live can.none) }) h
+
+-- ---- Each is an opener.
+
+unfoldable pub AreOpeners : List Open → Type 0
+AreOpeners live = Each (λ o. is_opener o.opener.header ≡ true) live
+
+openers_filter : (test : Open → Bool) (live : List Open) → AreOpeners live → AreOpeners (filter test live)
+unfolding AreOpeners
+openers_filter test live h = each_filter (λ o. is_opener o.opener.header ≡ true) test live h
+
+openers_push : (live : List Open) (o : Open) → AreOpeners live → is_opener o.opener.header ≡ true → AreOpeners (live ++ o ∷ [])
+unfolding AreOpeners
+openers_push live o h k = each_append (λ o. is_opener o.opener.header ≡ true) live (o ∷ []) h (k, tt)
+
+pub openers_happens : (live : List Open) (m : Message) → AreOpeners live → AreOpeners (opened live (happens live m))
+openers_happens live m h =
+    kept_happens AreOpeners live m (record { fewer = openers_filter; more = λ can q. unfold opened_by in openers_push live (record { id = id m; opener = title m }) q can.opener }) h

@@ -1,100 +1,221 @@
--- The definitions run: what is written of some streams, and at their end. Each row holds by computation.
-use Rattle.std.proofs.Common.{◌≡◌, ℕ, List, [], ◌∷◌, refl, codes}
-use Rattle.std.specs.Fmt.{digits}
+-- The definitions run: what is written of streams with fragments, and at their end. Each row holds by computation, over a
+-- small reading: the request id, and at the close the octets behind it.
+use Rattle.std.proofs.Common.{◌≡◌, ℕ, ◌+◌, ◌-◌, ◌*◌, List, [], ◌∷◌, ◌++◌, length, take, drop, refl, codes}
+use Rattle.std.specs.Prelude.{nat_le, nat_lt, ◌==◌, if◌then◌else◌, ◌&&◌}
+use Rattle.std.specs.Fmt.{decimal, digits}
 use Rattle.giop_cdr.specs.Numbers.{num}
-use Rattle.giop_stream.specs.Headers.{fronts, wrong, first_wrong, offence}
-use Rattle.giop_message.specs.Headers.{minor, kind, order, has_more, size}
-use Rattle.giop_stream.specs.Framing.{with_first, cut_from, limit, limited, cut, messages, read_of}
-use Rattle.giop_stream.specs.Events.{place, own, at_header, at_octet, at_end, happens, events_of, events_from, events, octet, joined}
-use Rattle.giop_stream.specs.Lines.{classes, line, tells, told, by_class, in_order, is_last_of, standing, said, stop_line, lines}
 use Rattle.giop_print.specs.Text.{hex}
-use Rattle.giop_print.specs.Lines.{type_word, fault_line, stream_fault_line, unfinished_line, total_line}
+use Rattle.giop_print.specs.Text as print_text
+use Rattle.giop_print.specs.Lines.{type_word, continues_line, cancelled_line, fault_line, stream_fault_line, unfinished_line, total_line}
 use Rattle.giop_print.specs.Lines as print
-use Rattle.giop_stream.specs.Text.{start_line, id_text, lines_text}
+use Rattle.giop_stream.specs.Headers.{fronts, wrong, first_wrong, offence}
+use Rattle.giop_message.specs.Headers.{minor, kind, order, has_more, size, may_be_fragmented, is_opener, is_fragment, is_cancel, has_name}
+use Rattle.giop_stream.specs.Framing.{with_first, cut_from, limit, limited, cut, messages, read_of}
+use Rattle.giop_message.specs.Reading.{Saying, Value, Rest, Fault, End, Remark, Reading}
+use Rattle.giop_stream.specs.Text.{start_line}
 use Rattle.giop_message.specs.Text.{said_line, rest_text}
-use Rattle.giop_stream.specs.FirstReading.{has_id, rest_remarks, first_reads, first_closes}
-use Rattle.giop_stream.specs.Stream.{text, start_count, fault_count, tally_of, tally, is_inside, is_truncated, is_over, unfinished, final, closing}
+use Rattle.giop_stream.specs.Stream.{is_inside, is_truncated}
+use Rattle.giop_stream.specs.Kinds.{may_be_cancelled, refused}
+use Rattle.giop_stream.specs.Events.{place, own, about, id, opener_of, has_named, goes_past, at_header, at_octet, opens, continues, cancels, at_id, at_end, happens, events_of, changed, opened, events_from, events, open_after, octet, joined}
+use Rattle.giop_stream.specs.Lines.{classes, line, tells, told, by_class, in_order, is_last_of, standing, said, stop_line, lines}
+use Rattle.giop_stream.specs.Text.{lines_text}
+use Rattle.giop_stream.specs.Stream.{text, start_count, fault_count, tally, is_over, heads, unfinished, final, closing}
 
-record Writes (p lines end : List ℕ) : Type 0 where
-  text : text p ≡ lines
-  closing : closing p ≡ end
+-- ---- The reading, and streams in hexadecimal digits with spaces.
 
--- an empty stream
-abbrev nothing : List ℕ
-nothing = []
+-- a request id, as it is said
+unfoldable id_text : ℕ → List ℕ
+id_text id = print_text.joined (codes "header.request_id ulong " ∷ decimal id ∷ [])
 
-nothing_row : Writes nothing ([]) (codes "total messages 0 faults 0 octets 0\n")
-unfolding digits num fronts wrong first_wrong offence minor kind order has_more size with_first cut_from limit limited cut messages read_of place own at_header at_octet at_end happens events_of events_from events octet joined classes line tells told by_class in_order is_last_of standing said stop_line lines hex type_word print.start_line start_line said_line fault_line unfinished_line id_text rest_text stream_fault_line total_line lines_text has_id rest_remarks first_reads first_closes text start_count fault_count tally_of tally is_inside is_truncated is_over unfinished final closing
-nothing_row = record { text = refl; closing = refl }
+-- A message that begins with its request id; one of fewer octets than these is short.
+named_reads : List ℕ → List ℕ → List Remark
+named_reads header xs = if has_name header && nat_le 4 (length xs) then record { at = 4; saying = Value; text = id_text (num (order header) (take 4 xs)) } ∷ [] else []
 
--- a message without a payload
-abbrev close_connection : List ℕ
-close_connection = 71 ∷ 73 ∷ 79 ∷ 80 ∷ 1 ∷ 0 ∷ 0 ∷ 5 ∷ 0 ∷ 0 ∷ 0 ∷ 0 ∷ []
+behind : List ℕ → List (Saying × List ℕ)
+behind [] = []
+behind (x ∷ xs) = (Rest, rest_text 0 (x ∷ xs)) ∷ []
 
-close_connection_row : Writes close_connection (codes "m1 start 1.0 big CloseConnection size 0\nm1 end\n") (codes "total messages 1 faults 0 octets 12\n")
-unfolding digits num fronts wrong first_wrong offence minor kind order has_more size with_first cut_from limit limited cut messages read_of place own at_header at_octet at_end happens events_of events_from events octet joined classes line tells told by_class in_order is_last_of standing said stop_line lines hex type_word print.start_line start_line said_line fault_line unfinished_line id_text rest_text stream_fault_line total_line lines_text has_id rest_remarks first_reads first_closes text start_count fault_count tally_of tally is_inside is_truncated is_over unfinished final closing
-close_connection_row = record { text = refl; closing = refl }
+named_closes : ℕ → List ℕ → List ℕ → List (Saying × List ℕ)
+named_closes least header xs = if nat_lt (length xs) least then (Fault, codes "short") ∷ [] else behind (drop 4 xs) ++ (End, codes "end") ∷ []
 
--- a message with a header of its own
-abbrev cancel_request : List ℕ
-cancel_request = 71 ∷ 73 ∷ 79 ∷ 80 ∷ 1 ∷ 0 ∷ 1 ∷ 2 ∷ 4 ∷ 0 ∷ 0 ∷ 0 ∷ 7 ∷ 0 ∷ 0 ∷ 0 ∷ []
+small : ℕ → Reading
+small least = record { reads = named_reads; closes = named_closes least }
 
-cancel_request_row : Writes cancel_request (codes "m1 start 1.0 little CancelRequest size 4\nm1 header.request_id ulong 7\nm1 end\n") (codes "total messages 1 faults 0 octets 16\n")
-unfolding digits num fronts wrong first_wrong offence minor kind order has_more size with_first cut_from limit limited cut messages read_of place own at_header at_octet at_end happens events_of events_from events octet joined classes line tells told by_class in_order is_last_of standing said stop_line lines hex type_word print.start_line start_line said_line fault_line unfinished_line id_text rest_text stream_fault_line total_line lines_text has_id rest_remarks first_reads first_closes text start_count fault_count tally_of tally is_inside is_truncated is_over unfinished final closing
-cancel_request_row = record { text = refl; closing = refl }
+digit : ℕ → ℕ
+digit c = if nat_lt c 58 then c - 48 else c - 87
 
--- a rest of 33 octets
-abbrev message_error : List ℕ
-message_error = 71 ∷ 73 ∷ 79 ∷ 80 ∷ 1 ∷ 0 ∷ 0 ∷ 6 ∷ 0 ∷ 0 ∷ 0 ∷ 33 ∷ 17 ∷ 17 ∷ 17 ∷ 17 ∷ 17 ∷ 17 ∷ 17 ∷ 17 ∷ 17 ∷ 17 ∷ 17 ∷ 17 ∷ 17 ∷ 17 ∷ 17 ∷ 17 ∷ 17 ∷ 17 ∷ 17 ∷ 17 ∷ 17 ∷ 17 ∷ 17 ∷ 17 ∷ 17 ∷ 17 ∷ 17 ∷ 17 ∷ 17 ∷ 17 ∷ 17 ∷ 17 ∷ 17 ∷ []
+octets : List ℕ → List ℕ
+octets [] = []
+octets (a ∷ []) = []
+octets (a ∷ (b ∷ more)) = if a == 32 then octets (b ∷ more) else (16 * digit a + digit b) ∷ octets more
 
-message_error_row : Writes message_error (codes "m1 start 1.0 big MessageError size 33\nm1 rest @0 1111111111111111111111111111111111111111111111111111111111111111\nm1 rest @32 11\nm1 end\n") (codes "total messages 1 faults 0 octets 45\n")
-unfolding digits num fronts wrong first_wrong offence minor kind order has_more size with_first cut_from limit limited cut messages read_of place own at_header at_octet at_end happens events_of events_from events octet joined classes line tells told by_class in_order is_last_of standing said stop_line lines hex type_word print.start_line start_line said_line fault_line unfinished_line id_text rest_text stream_fault_line total_line lines_text has_id rest_remarks first_reads first_closes text start_count fault_count tally_of tally is_inside is_truncated is_over unfinished final closing
-message_error_row = record { text = refl; closing = refl }
+record Writes (R : Reading) (p lines end : List ℕ) : Type 0 where
+  text : text R p ≡ lines
+  closing : closing R p ≡ end
 
--- a wrong octet behind a message
-abbrev magic : List ℕ
-magic = 71 ∷ 73 ∷ 79 ∷ 80 ∷ 1 ∷ 0 ∷ 0 ∷ 5 ∷ 0 ∷ 0 ∷ 0 ∷ 0 ∷ 71 ∷ 73 ∷ 88 ∷ []
+-- names what the rows compute with
+rows : ℕ
+unfolding named_reads behind named_closes small digit octets digits num hex type_word print.start_line continues_line cancelled_line fault_line stream_fault_line unfinished_line total_line fronts wrong first_wrong offence minor kind order has_more size with_first cut_from limit limited cut messages read_of start_line said_line id_text rest_text is_inside is_truncated may_be_fragmented is_opener is_fragment is_cancel may_be_cancelled refused place own about id opener_of has_named goes_past at_header at_octet opens continues cancels at_id at_end happens events_of changed opened events_from events open_after octet joined classes line tells told by_class in_order is_last_of standing said stop_line lines lines_text text start_count fault_count tally is_over heads unfinished final closing
+rows = 0
 
-magic_row : Writes magic (codes "m1 start 1.0 big CloseConnection size 0\nm1 end\nstream fault magic at 15\n") (codes "total messages 1 faults 1 octets 15\n")
-unfolding digits num fronts wrong first_wrong offence minor kind order has_more size with_first cut_from limit limited cut messages read_of place own at_header at_octet at_end happens events_of events_from events octet joined classes line tells told by_class in_order is_last_of standing said stop_line lines hex type_word print.start_line start_line said_line fault_line unfinished_line id_text rest_text stream_fault_line total_line lines_text has_id rest_remarks first_reads first_closes text start_count fault_count tally_of tally is_inside is_truncated is_over unfinished final closing
-magic_row = record { text = refl; closing = refl }
+-- ---- The rows.
 
--- a version that isn't known
-abbrev version : List ℕ
-version = 71 ∷ 73 ∷ 79 ∷ 80 ∷ 1 ∷ 3 ∷ []
+-- two messages in fragments, which come by turns
+interleaved : List ℕ
+interleaved = octets (codes "47494f50 0102 02 00 00000028 00000005 03 000000 0000 0000 00000001 41 000000 00000004 626967 00 00000000 00000000 01020304 47494f50 0102 02 00 00000024 00000006 03 000000 0000 0000 00000001 41 000000 00000004 6e6f70 00 00000000 00000000 47494f50 0102 02 07 00000006 00000005 0506 47494f50 0102 00 07 00000004 00000006 47494f50 0102 00 07 00000006 00000005 0708")
 
-version_row : Writes version (codes "stream fault version at 6\n") (codes "total messages 0 faults 1 octets 6\n")
-unfolding digits num fronts wrong first_wrong offence minor kind order has_more size with_first cut_from limit limited cut messages read_of place own at_header at_octet at_end happens events_of events_from events octet joined classes line tells told by_class in_order is_last_of standing said stop_line lines hex type_word print.start_line start_line said_line fault_line unfinished_line id_text rest_text stream_fault_line total_line lines_text has_id rest_remarks first_reads first_closes text start_count fault_count tally_of tally is_inside is_truncated is_over unfinished final closing
-version_row = record { text = refl; closing = refl }
+interleaved_row : Writes (small 0) interleaved
+    (codes "m1 start 1.2 big Request size 40 more\nm1 header.request_id ulong 5\nm2 start 1.2 big Request size 36 more\nm2 header.request_id ulong 6\nm3 start 1.2 big Fragment size 6 more\nm3 header.request_id ulong 5\nm3 continues m1\nm4 start 1.2 big Fragment size 4\nm4 header.request_id ulong 6\nm4 continues m2\nm2 rest @0 03000000000000000000000141000000000000046e6f70000000000000000000\nm2 end\nm5 start 1.2 big Fragment size 6\nm5 header.request_id ulong 5\nm5 continues m1\nm1 rest @0 03000000000000000000000141000000000000046269670000000000000000000102030405060708\nm1 end\n")
+    (codes "total messages 5 faults 0 octets 152\n")
+unfolding rows interleaved
+interleaved_row = record { text = refl; closing = refl }
 
--- a byte order that isn't one
-abbrev byte_order : List ℕ
-byte_order = 71 ∷ 73 ∷ 79 ∷ 80 ∷ 1 ∷ 0 ∷ 2 ∷ []
+-- a message of which the first part has its request id alone
+id_alone : List ℕ
+id_alone = octets (codes "47494f50 0102 02 00 00000004 00000008 47494f50 0102 00 07 00000020 00000008 03 000000 0000 0000 00000001 41 000000 00000004 6e6f70 00 00000000")
 
-byte_order_row : Writes byte_order (codes "stream fault byte-order at 7\n") (codes "total messages 0 faults 1 octets 7\n")
-unfolding digits num fronts wrong first_wrong offence minor kind order has_more size with_first cut_from limit limited cut messages read_of place own at_header at_octet at_end happens events_of events_from events octet joined classes line tells told by_class in_order is_last_of standing said stop_line lines hex type_word print.start_line start_line said_line fault_line unfinished_line id_text rest_text stream_fault_line total_line lines_text has_id rest_remarks first_reads first_closes text start_count fault_count tally_of tally is_inside is_truncated is_over unfinished final closing
-byte_order_row = record { text = refl; closing = refl }
+id_alone_row : Writes (small 0) id_alone
+    (codes "m1 start 1.2 big Request size 4 more\nm1 header.request_id ulong 8\nm2 start 1.2 big Fragment size 32\nm2 header.request_id ulong 8\nm2 continues m1\nm1 rest @0 03000000000000000000000141000000000000046e6f700000000000\nm1 end\n")
+    (codes "total messages 2 faults 0 octets 60\n")
+unfolding rows id_alone
+id_alone_row = record { text = refl; closing = refl }
 
--- the end inside a header
-abbrev truncated : List ℕ
-truncated = 71 ∷ 73 ∷ 79 ∷ 80 ∷ 1 ∷ []
+-- the end of a joined message comes too early, in a Fragment without an octet for it
+too_short : List ℕ
+too_short = octets (codes "47494f50 0102 02 00 0000002c 00000009 03 000000 0000 0000 00000001 41 000000 00000004 736179 00 00000000 00000000 00000006 61626364 47494f50 0102 00 07 00000004 00000009")
 
-truncated_row : Writes truncated ([]) (codes "stream fault truncated at 5\ntotal messages 0 faults 1 octets 5\n")
-unfolding digits num fronts wrong first_wrong offence minor kind order has_more size with_first cut_from limit limited cut messages read_of place own at_header at_octet at_end happens events_of events_from events octet joined classes line tells told by_class in_order is_last_of standing said stop_line lines hex type_word print.start_line start_line said_line fault_line unfinished_line id_text rest_text stream_fault_line total_line lines_text has_id rest_remarks first_reads first_closes text start_count fault_count tally_of tally is_inside is_truncated is_over unfinished final closing
-truncated_row = record { text = refl; closing = refl }
+too_short_row : Writes (small 46) too_short
+    (codes "m1 start 1.2 big Request size 44 more\nm1 header.request_id ulong 9\nm2 start 1.2 big Fragment size 4\nm2 header.request_id ulong 9\nm2 continues m1\nm1 fault short at 72\n")
+    (codes "total messages 2 faults 1 octets 72\n")
+unfolding rows too_short
+too_short_row = record { text = refl; closing = refl }
 
--- a CancelRequest without room for its id
-abbrev short_cancel : List ℕ
-short_cancel = 71 ∷ 73 ∷ 79 ∷ 80 ∷ 1 ∷ 0 ∷ 0 ∷ 2 ∷ 0 ∷ 0 ∷ 0 ∷ 3 ∷ 0 ∷ 0 ∷ 0 ∷ []
+-- a Fragment of no open message
+not_open : List ℕ
+not_open = octets (codes "47494f50 0102 00 07 00000006 00000003 abcd")
 
-short_cancel_row : Writes short_cancel (codes "m1 start 1.0 big CancelRequest size 3\nm1 fault short at 15\n") (codes "total messages 1 faults 1 octets 15\n")
-unfolding digits num fronts wrong first_wrong offence minor kind order has_more size with_first cut_from limit limited cut messages read_of place own at_header at_octet at_end happens events_of events_from events octet joined classes line tells told by_class in_order is_last_of standing said stop_line lines hex type_word print.start_line start_line said_line fault_line unfinished_line id_text rest_text stream_fault_line total_line lines_text has_id rest_remarks first_reads first_closes text start_count fault_count tally_of tally is_inside is_truncated is_over unfinished final closing
-short_cancel_row = record { text = refl; closing = refl }
+not_open_row : Writes (small 0) not_open
+    (codes "m1 start 1.2 big Fragment size 6\nm1 header.request_id ulong 3\nm1 fault no-open at 16\n")
+    (codes "total messages 1 faults 1 octets 18\n")
+unfolding rows not_open
+not_open_row = record { text = refl; closing = refl }
 
--- the end inside a message
-abbrev cut_message : List ℕ
-cut_message = 71 ∷ 73 ∷ 79 ∷ 80 ∷ 1 ∷ 2 ∷ 3 ∷ 7 ∷ 4 ∷ 0 ∷ 0 ∷ 0 ∷ 0 ∷ []
+-- two messages of one request id
+twice : List ℕ
+twice = octets (codes "47494f50 0102 02 00 00000004 00000001 47494f50 0102 02 00 00000004 00000001")
 
-cut_message_row : Writes cut_message (codes "m1 start 1.2 little Fragment size 4 more\n") (codes "stream fault truncated at 13\nm1 unfinished\ntotal messages 1 faults 1 octets 13\n")
-unfolding digits num fronts wrong first_wrong offence minor kind order has_more size with_first cut_from limit limited cut messages read_of place own at_header at_octet at_end happens events_of events_from events octet joined classes line tells told by_class in_order is_last_of standing said stop_line lines hex type_word print.start_line start_line said_line fault_line unfinished_line id_text rest_text stream_fault_line total_line lines_text has_id rest_remarks first_reads first_closes text start_count fault_count tally_of tally is_inside is_truncated is_over unfinished final closing
-cut_message_row = record { text = refl; closing = refl }
+twice_row : Writes (small 0) twice
+    (codes "m1 start 1.2 big Request size 4 more\nm1 header.request_id ulong 1\nm2 start 1.2 big Request size 4 more\nm2 header.request_id ulong 1\nm2 fault id-open at 32\n")
+    (codes "m1 unfinished\ntotal messages 2 faults 1 octets 32\n")
+unfolding rows twice
+twice_row = record { text = refl; closing = refl }
+
+-- one message more than may be open, and a Fragment of it
+too_many : List ℕ
+too_many = octets (codes "47494f50 0102 02 00 00000004 00000001 47494f50 0102 02 00 00000004 00000002 47494f50 0102 02 00 00000004 00000003 47494f50 0102 02 00 00000004 00000004 47494f50 0102 02 00 00000004 00000005 47494f50 0102 02 00 00000004 00000006 47494f50 0102 02 00 00000004 00000007 47494f50 0102 02 00 00000004 00000008 47494f50 0102 02 00 00000004 00000009 47494f50 0102 02 00 00000004 0000000a 47494f50 0102 02 00 00000004 0000000b 47494f50 0102 02 00 00000004 0000000c 47494f50 0102 02 00 00000004 0000000d 47494f50 0102 02 00 00000004 0000000e 47494f50 0102 02 00 00000004 0000000f 47494f50 0102 02 00 00000004 00000010 47494f50 0102 02 00 00000004 00000011 47494f50 0102 00 07 00000004 00000011")
+
+too_many_row : Writes (small 0) too_many
+    (codes "m1 start 1.2 big Request size 4 more\nm1 header.request_id ulong 1\nm2 start 1.2 big Request size 4 more\nm2 header.request_id ulong 2\nm3 start 1.2 big Request size 4 more\nm3 header.request_id ulong 3\nm4 start 1.2 big Request size 4 more\nm4 header.request_id ulong 4\nm5 start 1.2 big Request size 4 more\nm5 header.request_id ulong 5\nm6 start 1.2 big Request size 4 more\nm6 header.request_id ulong 6\nm7 start 1.2 big Request size 4 more\nm7 header.request_id ulong 7\nm8 start 1.2 big Request size 4 more\nm8 header.request_id ulong 8\nm9 start 1.2 big Request size 4 more\nm9 header.request_id ulong 9\nm10 start 1.2 big Request size 4 more\nm10 header.request_id ulong 10\nm11 start 1.2 big Request size 4 more\nm11 header.request_id ulong 11\nm12 start 1.2 big Request size 4 more\nm12 header.request_id ulong 12\nm13 start 1.2 big Request size 4 more\nm13 header.request_id ulong 13\nm14 start 1.2 big Request size 4 more\nm14 header.request_id ulong 14\nm15 start 1.2 big Request size 4 more\nm15 header.request_id ulong 15\nm16 start 1.2 big Request size 4 more\nm16 header.request_id ulong 16\nm17 start 1.2 big Request size 4 more\nm17 header.request_id ulong 17\nm17 fault too-many-open at 272\nm18 start 1.2 big Fragment size 4\nm18 header.request_id ulong 17\nm18 fault no-open at 288\n")
+    (codes "m1 unfinished\nm2 unfinished\nm3 unfinished\nm4 unfinished\nm5 unfinished\nm6 unfinished\nm7 unfinished\nm8 unfinished\nm9 unfinished\nm10 unfinished\nm11 unfinished\nm12 unfinished\nm13 unfinished\nm14 unfinished\nm15 unfinished\nm16 unfinished\ntotal messages 18 faults 2 octets 288\n")
+unfolding rows too_many
+too_many_row = record { text = refl; closing = refl }
+
+-- a CancelRequest closes an open message
+cancelled : List ℕ
+cancelled = octets (codes "47494f50 0102 02 00 00000004 00000004 47494f50 0102 00 02 00000004 00000004 47494f50 0102 00 07 00000004 00000004")
+
+cancelled_row : Writes (small 0) cancelled
+    (codes "m1 start 1.2 big Request size 4 more\nm1 header.request_id ulong 4\nm2 start 1.2 big CancelRequest size 4\nm2 header.request_id ulong 4\nm1 cancelled by m2\nm2 end\nm3 start 1.2 big Fragment size 4\nm3 header.request_id ulong 4\nm3 fault no-open at 48\n")
+    (codes "total messages 3 faults 1 octets 48\n")
+unfolding rows cancelled
+cancelled_row = record { text = refl; closing = refl }
+
+-- a message of 1.1 that has fragments
+old_fragment : List ℕ
+old_fragment = octets (codes "47494f50 0101 02 00 00000000")
+
+old_fragment_row : Writes (small 0) old_fragment
+    (codes "m1 start 1.1 big Request size 0 more\nm1 fault fragment-1.1 at 12\n")
+    (codes "total messages 1 faults 1 octets 12\n")
+unfolding rows old_fragment
+old_fragment_row = record { text = refl; closing = refl }
+
+-- a Fragment of 1.0
+early_fragment : List ℕ
+early_fragment = octets (codes "47494f50 0100 00 07 00000000")
+
+early_fragment_row : Writes (small 0) early_fragment
+    (codes "m1 start 1.0 big Fragment size 0\nm1 fault message-type at 12\n")
+    (codes "total messages 1 faults 1 octets 12\n")
+unfolding rows early_fragment
+early_fragment_row = record { text = refl; closing = refl }
+
+-- a type above those of the standard
+unknown_type : List ℕ
+unknown_type = octets (codes "47494f50 0102 00 09 00000000")
+
+unknown_type_row : Writes (small 0) unknown_type
+    (codes "m1 start 1.2 big 9 size 0\nm1 fault message-type at 12\n")
+    (codes "total messages 1 faults 1 octets 12\n")
+unfolding rows unknown_type
+unknown_type_row = record { text = refl; closing = refl }
+
+-- a message that has fragments, without room for its request id
+no_room : List ℕ
+no_room = octets (codes "47494f50 0102 02 00 00000002 0000")
+
+no_room_row : Writes (small 0) no_room
+    (codes "m1 start 1.2 big Request size 2 more\nm1 fault short at 14\n")
+    (codes "total messages 1 faults 1 octets 14\n")
+unfolding rows no_room
+no_room_row = record { text = refl; closing = refl }
+
+-- a Fragment of the other byte order, and one more
+other_order : List ℕ
+other_order = octets (codes "47494f50 0102 02 00 00000004 00000005 47494f50 0102 03 07 04000000 05000000 47494f50 0102 00 07 00000004 00000005")
+
+other_order_row : Writes (small 0) other_order
+    (codes "m1 start 1.2 big Request size 4 more\nm1 header.request_id ulong 5\nm2 start 1.2 little Fragment size 4 more\nm2 header.request_id ulong 5\nm2 continues m1\nm1 fault fragment-order at 32\nm3 start 1.2 big Fragment size 4\nm3 header.request_id ulong 5\nm3 continues m1\n")
+    (codes "total messages 3 faults 1 octets 48\n")
+unfolding rows other_order
+other_order_row = record { text = refl; closing = refl }
+
+-- where the byte order is wrong at the close, the rest and the end fall away
+order_at_close : List ℕ
+order_at_close = octets (codes "47494f50 0102 02 00 00000006 00000001 00ab 47494f50 0102 01 07 04000000 01000000")
+
+order_at_close_row : Writes (small 0) order_at_close
+    (codes "m1 start 1.2 big Request size 6 more\nm1 header.request_id ulong 1\nm2 start 1.2 little Fragment size 4\nm2 header.request_id ulong 1\nm2 continues m1\nm1 fault fragment-order at 34\n")
+    (codes "total messages 2 faults 1 octets 34\n")
+unfolding rows order_at_close
+order_at_close_row = record { text = refl; closing = refl }
+
+-- a last Fragment of the wrong byte order closes all the same
+order_then_close : List ℕ
+order_then_close = octets (codes "47494f5001020200000000040000000147494f50010201070600000001000000abcd47494f50010200070000000400000001")
+
+order_then_close_row : Writes (small 0) order_then_close
+    (codes "m1 start 1.2 big Request size 4 more\nm1 header.request_id ulong 1\nm2 start 1.2 little Fragment size 6\nm2 header.request_id ulong 1\nm2 continues m1\nm1 fault fragment-order at 32\nm3 start 1.2 big Fragment size 4\nm3 header.request_id ulong 1\nm3 fault no-open at 50\n")
+    (codes "total messages 3 faults 2 octets 50\n")
+unfolding rows order_then_close
+order_then_close_row = record { text = refl; closing = refl }
+
+-- a CancelRequest closes at its request id, not at its own end
+cancelled_early : List ℕ
+cancelled_early = octets (codes "47494f5001020200000000040000000147494f50010200020000000600000001")
+
+cancelled_early_row : Writes (small 0) cancelled_early
+    (codes "m1 start 1.2 big Request size 4 more\nm1 header.request_id ulong 1\nm2 start 1.2 big CancelRequest size 6\nm2 header.request_id ulong 1\nm1 cancelled by m2\n")
+    (codes "stream fault truncated at 32\nm2 unfinished\ntotal messages 2 faults 1 octets 32\n")
+unfolding rows cancelled_early
+cancelled_early_row = record { text = refl; closing = refl }
+
+-- a Fragment without room for its request id closes nothing
+short_fragment : List ℕ
+short_fragment = octets (codes "47494f5001020200000000040000000147494f50010200070000000300000047494f50010200070000000400000001")
+
+short_fragment_row : Writes (small 5) short_fragment
+    (codes "m1 start 1.2 big Request size 4 more\nm1 header.request_id ulong 1\nm2 start 1.2 big Fragment size 3\nm2 fault short at 31\nm3 start 1.2 big Fragment size 4\nm3 header.request_id ulong 1\nm3 continues m1\nm1 fault short at 47\n")
+    (codes "total messages 3 faults 2 octets 47\n")
+unfolding rows short_fragment
+short_fragment_row = record { text = refl; closing = refl }

@@ -1,4 +1,4 @@
--- The lines of a stream with one more octet.
+-- The lines of a stream with one octet more.
 use Rattle.std.proofs.Common.{◌≡◌, ℕ, zero, suc, ◌<◌, ◌≤◌, Bool, true, false, not, List, [], ◌∷◌, ◌++◌, length, map, refl, sym, ap, subst, ◌∙◌, append_assoc, Option, Some, None, arith}
 use Rattle.std.specs.Prelude.{◌==◌, if◌then◌else◌, flat_map, ◌||◌, option_map}
 use Rattle.std.specs.List.{filter, list_any, AllByRecursion as Each}
@@ -6,10 +6,11 @@ use Rattle.std.proofs.lemmas.Bool.{eq-eqb, ne_eqb}
 use Rattle.std.proofs.lemmas.List.{append-nil, length_push}
 use Rattle.std.proofs.lemmas.List.Elements.{filter-append}
 use Rattle.std.proofs.lemmas.List.Concat.{flat_map-append}
-use Rattle.giop_stream.specs.Events.{Happening, Begins, Takes, Closes, Event, octet, joined}
+use Rattle.giop_stream.specs.Events.{Happening, Begins, Takes, Opens, Continues, Cancelled, Imposed, Closes, Event, octet, joined}
 use Rattle.giop_message.specs.Reading.{Reading, IsCausal}
-use Rattle.giop_stream.specs.Lines.{Class, Content, Started, Said, Line, has_class, line, tells, told, classes, by_class, in_order, is_last_of, standing}
-use Rattle.giop_stream.specs.Machine.{Kept, utters_kept, taking, utters}
+use Rattle.giop_stream.specs.Lines.{Class, Content, Started, Said, Goes_on, Ended_by, Faulted, Line, has_class, line, tells, told, classes, by_class, in_order, is_last_of, standing}
+use Rattle.giop_stream.specs.State.{Kept}
+use Rattle.giop_stream.specs.Machine.{utters_kept, taking, utters}
 use Rattle.giop_stream.proofs.Lists.{filter_keeps, filter_drops, filter_swap, each_append, each_weaker, each_map, each_filter}
 
 -- The octets of a message in a longer list of events.
@@ -27,6 +28,10 @@ unfolding tells octet
 tells_early R causal e so_far more Begins = refl
 tells_early R causal e so_far more (Takes x) =
     ap (map (λ r. line e (Said r.saying r.text))) (causal.earlier e.whom.header (so_far ++ x ∷ []) more (suc (length so_far)) (omega (arith, length_push so_far x)))
+tells_early R causal e so_far more (Opens id) = refl
+tells_early R causal e so_far more (Continues i) = refl
+tells_early R causal e so_far more (Cancelled j) = refl
+tells_early R causal e so_far more (Imposed fault) = refl
 tells_early R causal e so_far more Closes = refl
 
 -- Telling by the octets so far.
@@ -67,6 +72,10 @@ tells_of : (R : Reading) (e : Event) (so_far all : List ℕ) (what : Happening) 
 unfolding tells
 tells_of R e so_far all Begins = (line_of e (Started e.whom.header), tt)
 tells_of R e so_far all (Takes x) = each_map (IsOf e) (λ r. line e (Said r.saying r.text)) (λ r. line_of e (Said r.saying r.text)) (filter (λ r. r.at == suc (length so_far)) (R.reads e.whom.header all))
+tells_of R e so_far all (Opens id) = tt
+tells_of R e so_far all (Continues i) = (line_of e (Goes_on i), tt)
+tells_of R e so_far all (Cancelled j) = (line_of e (Ended_by j), tt)
+tells_of R e so_far all (Imposed fault) = (line_of e (Faulted fault), tt)
 tells_of R e so_far all Closes = each_map (IsOf e) (λ l. line e (Said l.0 l.1)) (λ l. line_of e (Said l.0 l.1)) (R.closes e.whom.header so_far)
 
 pub heard_each : (R : Reading) (P : ℕ → Type 0) (past es : List Event) → Each (λ e. P e.place) es → Each (λ l. P l.place) (heard R past es)
@@ -229,7 +238,7 @@ standing_utters R over past es =
     ∙ rw (by_class_filter (λ l. not (over l.number)) (heard R past es), heard_utters R over past es) refl
 
 -- What holds of the messages of the events holds of the lines' messages.
-tells_number : (R : Reading) (P : ℕ → Type 0) (e : Event) (o : Option (List ℕ)) → P e.whom.number → Each (λ l. P l.number) (utters_kept R e o)
+pub tells_number : (R : Reading) (P : ℕ → Type 0) (e : Event) (o : Option (List ℕ)) → P e.whom.number → Each (λ l. P l.number) (utters_kept R e o)
 unfolding utters_kept IsOf
 tells_number R P e None h = tt
 tells_number R P e (Some xs) h = each_weaker (IsOf e) (λ l. P l.number) (λ l k. subst P (sym k.1) h) (tells R e xs (xs ++ joined e.whom.number (e ∷ [])) e.what) (tells_of R e xs (xs ++ joined e.whom.number (e ∷ [])) e.what)

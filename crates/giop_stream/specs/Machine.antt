@@ -1,46 +1,20 @@
--- The machine over whole messages: what is known of a stream, and what its next octet adds. No contract but that of a law
--- cites it; `Steps` is the machine of the code.
-use Rattle.std.specs.Prelude.{ℕ, suc, ◌+◌, ◌-◌, false, List, [], ◌∷◌, ◌++◌, length, Option, Some, None, ◌==◌, nat_lt, if◌then◌else◌, option_map}
+-- What the next octet of a stream adds to what is known of it, and what is written at its finish.
+use Rattle.std.specs.Prelude.{ℕ, suc, ◌+◌, ◌-◌, false, List, [], ◌∷◌, ◌++◌, length, map, flat_map, Option, Some, None, ◌==◌, nat_lt, if◌then◌else◌, option_map}
 use Rattle.std.specs.List.{list_any}
 use Rattle.giop_stream.specs.declared.fault.StreamFault.{StreamFault}
 use Rattle.giop_stream.specs.declared.fault.StreamFault.TheVariants.{StreamLimit}
+use Rattle.giop_stream.specs.declared.status.Totals.{Totals}
 use Rattle.giop_stream.specs.Headers.{wrong}
-use Rattle.giop_message.specs.Headers.{size}
-use Rattle.giop_stream.specs.Framing.{Message, with_payload, limit, cut, messages, read_of}
-use Rattle.giop_stream.specs.Events.{Event, happens, joined}
+use Rattle.giop_message.specs.Headers.{size, is_fragment}
+use Rattle.giop_stream.specs.Framing.{Message, with_payload, limit}
 use Rattle.giop_message.specs.Reading.{Reading}
-use Rattle.giop_stream.specs.Lines.{Line, tells, by_class, standing, is_last_of, stop_line, lines}
+use Rattle.giop_stream.specs.Stream.{is_inside, with_truncated}
+use Rattle.giop_stream.specs.Text.{truncated_line}
+use Rattle.giop_print.specs.Lines.{unfinished_line, total_line}
+use Rattle.giop_stream.specs.Events.{Event, happens, opened, joined}
+use Rattle.giop_stream.specs.Lines.{Line, tells, by_class, standing, is_last_of, stop_line}
 use Rattle.giop_stream.specs.Stream.{fault_count}
-use Rattle.giop_stream.specs.Holding.{octets_of}
-
-pub record State : Type 0 where
-  pub read : ℕ  -- octets, up to that of a stream fault
-  pub started : ℕ  -- messages
-  pub faults : ℕ
-  pub stop : Option (ℕ × StreamFault)
-  pub held : List ℕ  -- what has come of a header
-  pub current : Option Message  -- the message that is incomplete
-  pub own : Option (List ℕ)  -- its octets, unless it is over
-
--- what is kept of each message
-abbrev pub Kept : Type 0
-Kept = ℕ → Option (List ℕ)
-
-unfoldable pub own_of : Kept → Option Message → Option (List ℕ)
-own_of known None = None
-own_of known (Some m) = known m.number
-
--- what the definitions say of p
-unfoldable pub state_of : Reading → List ℕ → State
-state_of R p = record {
-  read = read_of p (cut p).stop;
-  started = length (messages (cut p));
-  faults = fault_count (lines R p);
-  stop = (cut p).stop;
-  held = (cut p).held;
-  current = (cut p).current;
-  own = own_of (octets_of R p) (cut p).current;
-}
+use Rattle.giop_stream.specs.State.{Slot, State, Kept, slots_of, own_of}
 
 pub record Step : Type 0 where
   pub state : State
@@ -48,7 +22,12 @@ pub record Step : Type 0 where
 
 -- before the first octet
 unfoldable pub fresh : State
-fresh = record { read = 0; started = 0; faults = 0; stop = None; held = []; current = None; own = None }
+fresh = record { read = 0; started = 0; faults = 0; stop = None; held = []; current = None; slots = []; own = None }
+
+-- what is kept of a message: that of its slot, or of the current message
+unfoldable pub kept : List Slot → ℕ → Option (List ℕ) → Kept
+kept [] number own i = if number == i then own else None
+kept (slot ∷ slots) number own i = if slot.open_as.opener.number == i then slot.octets else kept slots number own i
 
 -- The lines of one event, and of several.
 unfoldable pub utters_kept : Reading → Event → Option (List ℕ) → List Line
@@ -66,10 +45,6 @@ utters R known (e ∷ es) = utters_kept R e (known e.whom.number) ++ utters R (t
 unfoldable pub written : Kept → List Line → Kept
 written known ls i = if list_any (is_last_of i) ls then None else known i
 
--- the current message is kept alone
-abbrev pub kept_as : ℕ → Option (List ℕ) → Kept
-kept_as number own i = if number == i then own else None
-
 -- Lines are written, and the state is this one but for their faults.
 unfoldable pub writes : State → List Line → Step
 writes s ls = record { state = record s { faults = s.faults + fault_count ls }; lines = ls }
@@ -78,15 +53,16 @@ writes s ls = record { state = record s { faults = s.faults + fault_count ls }; 
 unfoldable pub now_written : Reading → Kept → List Event → List Line
 now_written R known es = standing (λ i. false) (by_class (utters R known es))
 
--- A message whose last octet has just come, with what is kept of it.
+-- A message whose last octet has just come.
 unfoldable pub deal : Reading → State → Message → Step
 deal R s m =
-    let known = kept_as m.number s.own in
-    let es = happens m in
+    let live = map (λ slot. slot.open_as) s.slots in
+    let known = kept s.slots m.number s.own in
+    let es = happens live m in
     let ls = now_written R known es in
     let now = written (taking known es) ls in
     let current = if nat_lt (length m.payload) (size m.header) then Some m else None in
-    writes (record s { current = current; own = own_of now current }) ls
+    writes (record s { current = current; slots = slots_of now (opened live es); own = own_of now (opened live es) current }) ls
 
 unfoldable pub stops : State → StreamFault → Step
 stops s fault = let found = Some (s.read, fault) in writes (record s { held = []; stop = found }) (stop_line found)
@@ -119,7 +95,39 @@ step_unless R s x None = step_on R (record s { read = suc s.read }) x
 unfoldable pub step : Reading → State → ℕ → Step
 step R s x = step_unless R s x s.stop
 
--- the lines of a run over these octets
+-- The lines of a run over these octets, and the state after it.
 unfoldable pub run : Reading → State → List ℕ → List Line
 run R s [] = []
 run R s (x ∷ xs) = let one = step R s x in one.lines ++ run R one.state xs
+
+unfoldable pub run_state : Reading → State → List ℕ → State
+run_state R s [] = s
+run_state R s (x ∷ xs) = run_state R (step R s x).state xs
+
+-- ---- The finish.
+
+-- a message of which octets are kept has neither ended nor been faulted
+abbrev pub left_by : ℕ → Option (List ℕ) → List ℕ
+left_by number None = []
+left_by number (Some xs) = number ∷ []
+
+unfoldable pub left_open : Slot → List ℕ
+left_open slot = left_by slot.open_as.opener.number slot.octets
+
+unfoldable pub left_own : Option Message → Option (List ℕ) → List ℕ
+left_own None own = []
+left_own (Some m) own = if is_fragment m.header then [] else left_by m.number own
+
+unfoldable pub left_over : State → List ℕ
+left_over s = flat_map left_open s.slots ++ left_own s.current s.own
+
+abbrev pub totals_of : State → Totals
+totals_of s = record { messages = s.started; faults = s.faults; octets = s.read }
+
+unfoldable pub final_totals : State → Totals
+final_totals s = with_truncated (is_inside s.current s.held s.stop) (totals_of s)
+
+unfoldable pub finish : State → List ℕ
+finish s =
+    (if is_inside s.current s.held s.stop then truncated_line s.read else [])
+    ++ (flat_map unfinished_line (left_over s) ++ total_line (final_totals s).messages (final_totals s).faults (final_totals s).octets)

@@ -1,25 +1,23 @@
 -- What an engine remembers of a stream, as contracts see its fields.
 use Rattle.std.specs.Prelude.{ℕ, List, Bool, Option}
+use Rattle.giop_sig.specs.Table.{Table}
+use Rattle.giop_message.specs.Signatures.{Kept as Listed}
 use Rattle.giop_stream.specs.declared.fault.StreamFault.{StreamFault}
 use Rattle.giop_stream.specs.declared.status.Totals.{Totals}
-
--- of the message whose payload comes
-pub record MessageMemory : Type 0 where
-  pub number : ℕ
-  pub header : List ℕ
-  pub id : List ℕ  -- the octets of the request id
-  pub offset : ℕ  -- the octets of the rest before its last part
-  pub rest : List ℕ  -- the octets of its last part
+use Rattle.giop_stream.specs.declared.slots.Slots.{Slots}
 
 -- of the stream
 pub record Memory : Type 0 where
   pub totals : Totals
   pub stopped : Option StreamFault
   pub header : List ℕ  -- the header octets held; all 12 within a payload
-  pub left : ℕ  -- payload octets to come
-  pub message : Option MessageMemory  -- the current message, unless it is over
+  pub come : ℕ  -- the payload octets that have come
+  pub first : List ℕ  -- the first four of them
+  pub slots : Slots  -- the messages that have begun and not ended
 
--- of an engine
+-- of an engine, with what it reads by: the types of its catalogue, and what it knows of requests
 pub record EngineMemory : Type 0 where
   pub failed : Bool
+  pub table : Table
+  pub listed : Listed
   pub stream : Memory

@@ -5,18 +5,21 @@ use Rattle.giop_stream.specs.declared.fault.StreamFault.{StreamFault}
 use Rattle.giop_stream.specs.declared.status.Totals.{Totals}
 use Rattle.giop_stream.specs.Framing.{Message, Cut, cut, messages, read_of}
 use Rattle.giop_message.specs.Reading.{Value, Call, Rest, Fault, End, Reading}
-use Rattle.giop_stream.specs.Lines.{Content, Started, Said, Stopped, Line, is_last_of, said, lines}
 use Rattle.giop_print.specs.Lines.{unfinished_line, total_line}
+use Rattle.giop_message.specs.Headers.{is_fragment}
+use Rattle.giop_stream.specs.Lines.{Content, Started, Said, Goes_on, Ended_by, Faulted, Stopped, Line, is_last_of, said, lines}
 use Rattle.giop_stream.specs.Text.{lines_text, truncated_line}
-use Rattle.giop_stream.specs.FirstReading.{reading}
 
 -- what is written of the stream p
-unfoldable pub text : List ℕ → List ℕ
-text p = lines_text (lines reading p)
+unfoldable pub text : Reading → List ℕ → List ℕ
+text R p = lines_text (lines R p)
 
 abbrev pub is_start : Content → Bool
 is_start (Started header) = true
 is_start (Said saying text) = false
+is_start (Goes_on i) = false
+is_start (Ended_by j) = false
+is_start (Faulted fault) = false
 is_start (Stopped fault) = false
 
 abbrev pub is_fault : Content → Bool
@@ -26,6 +29,9 @@ is_fault (Said Call text) = false
 is_fault (Said Rest text) = false
 is_fault (Said Fault text) = true
 is_fault (Said End text) = false
+is_fault (Goes_on i) = false
+is_fault (Ended_by j) = false
+is_fault (Faulted fault) = true
 is_fault (Stopped fault) = true
 
 unfoldable pub start_count : List Line → ℕ
@@ -35,12 +41,9 @@ unfoldable pub fault_count : List Line → ℕ
 fault_count ls = length (filter (λ l. is_fault l.content) ls)
 
 -- the start lines, the fault lines, and the octets that are read
-unfoldable pub tally_of : Reading → List ℕ → Totals
-tally_of R p =
+unfoldable pub tally : Reading → List ℕ → Totals
+tally R p =
     record { messages = start_count (lines R p); faults = fault_count (lines R p); octets = read_of p (cut p).stop }
-
-unfoldable pub tally : List ℕ → Totals
-tally p = tally_of reading p
 
 -- The stream ends inside a message or a header.
 unfoldable pub is_inside : Option Message → List ℕ → Option (ℕ × StreamFault) → Bool
@@ -53,18 +56,22 @@ is_truncated c = is_inside c.current c.held c.stop
 unfoldable pub is_over : Reading → List ℕ → ℕ → Bool
 is_over R p i = list_any (is_last_of i) (said R p)
 
--- the messages that have neither ended nor been faulted, by number
+-- the numbers of the messages that are no 1.2 Fragments
+unfoldable pub heads : List Message → List ℕ
+heads ms = map (λ m. m.number) (filter (λ m. not (is_fragment m.header)) ms)
+
+-- those of them that have neither ended nor been faulted or cancelled
 unfoldable pub unfinished : Reading → List ℕ → List ℕ
-unfinished R p = filter (λ i. not (is_over R p i)) (map (λ m. m.number) (messages (cut p)))
+unfinished R p = filter (λ i. not (is_over R p i)) (heads (messages (cut p)))
 
 abbrev pub with_truncated : Bool → Totals → Totals
 with_truncated truncated t = record t { faults = t.faults + (if truncated then 1 else 0) }
 
 -- the totals with the truncated line counted
-unfoldable pub final : List ℕ → Totals
-final p = with_truncated (is_truncated (cut p)) (tally p)
+unfoldable pub final : Reading → List ℕ → Totals
+final R p = with_truncated (is_truncated (cut p)) (tally R p)
 
-unfoldable pub closing : List ℕ → List ℕ
-closing p =
+unfoldable pub closing : Reading → List ℕ → List ℕ
+closing R p =
     (if is_truncated (cut p) then truncated_line (length p) else [])
-    ++ (flat_map unfinished_line (unfinished reading p) ++ total_line (final p).messages (final p).faults (final p).octets)
+    ++ (flat_map unfinished_line (unfinished R p) ++ total_line (final R p).messages (final R p).faults (final R p).octets)

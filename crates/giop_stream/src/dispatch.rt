@@ -8,12 +8,12 @@ ghost use Rattle.giop_message.specs.MessageReading.{message_reading};
 ghost use Rattle.giop_message.specs.Holding.{AreOf};
 ghost use Rattle.giop_message.specs.Headers.{size, is_fragment, is_opener, is_cancel};
 ghost use Rattle.giop_stream.specs.Framing.{Message};
-ghost use Rattle.giop_stream.specs.Joined.Events.{Title, Open, at_header, at_id, at_end, happens, title, opener_of};
-ghost use Rattle.giop_stream.specs.Joined.Text.{lines_text};
-ghost use Rattle.giop_stream.specs.Joined.Stream.{fault_count};
-ghost use Rattle.giop_stream.specs.Joined.Plays.{Scene, plays, with_octet};
-ghost use Rattle.giop_stream.specs.Joined.Keeping.{Keeps, AreReady};
-ghost use Rattle.giop_stream.specs.Joined.Whose.{IsNamed, IsFirst, IsNext, IsTaken, IsAt, opener_title, whose_named, whose, whose_after, id_events, end_events};
+ghost use Rattle.giop_stream.specs.Events.{Title, Open, at_header, at_id, at_end, happens, title, opener_of};
+ghost use Rattle.giop_stream.specs.Text.{lines_text};
+ghost use Rattle.giop_stream.specs.Stream.{fault_count};
+ghost use Rattle.giop_stream.specs.Plays.{Scene, plays, with_octet};
+ghost use Rattle.giop_stream.specs.Keeping.{Keeps, AreReady};
+ghost use Rattle.giop_stream.specs.Whose.{IsNamed, IsFirst, IsNext, IsTaken, IsAt, opener_title, whose_named, whose, whose_after, id_events, end_events};
 
 use crate::fault::ImposedFault;
 use crate::header::{order_of, size_of};

@@ -1,40 +1,57 @@
 //! The engine: one direction of a connection in, its lines out.
 
-ghost use Rattle.std.specs.Prelude.{◌≡◌, ◌++◌, Err, ℕ, List, [], true, false, length, drop, IfOk, OnOk};
+ghost use Rattle.std.specs.Prelude.{◌≡◌, ◌++◌, ◌+◌, Err, ℕ, List, [], true, false, length, drop, IfOk, OnOk};
+ghost use Rattle.giop_sig.specs.Table.{Table};
+ghost use Rattle.giop_message.specs.Signatures.{Kept as Listed};
+ghost use Rattle.giop_message.specs.MessageReading.{message_reading};
 ghost use Rattle.giop_stream.specs.Framing.{cut, fault_of};
 ghost use Rattle.giop_stream.specs.Stream.{text, closing, final};
-ghost use Rattle.giop_stream.specs.Holding.{Holds, StopWrites, Leaves, status_of};
+ghost use Rattle.giop_stream.specs.Holding.{AreOf, Holds, StopWrites, Leaves, reading_of, status_of};
 
 use crate::fault::Stop;
 use crate::framing::Framing;
 use crate::status::{Status, Totals};
 use giop_print::Out;
+use giop_sig::{Catalogue, Requests};
 use std::marker::Model;
 
-/// Reads one direction of a connection in pieces of any size, and writes its lines, each at the octet that completes it.
-/// It takes no memory.
+/// Reads one direction of a connection in pieces of any size, and writes its lines, each at the octet that completes it:
+/// by the types of a catalogue, and by what is known of the requests that its replies answer. It takes no memory.
 #[derive(Drop)]
-pub struct Engine {
+pub struct Engine<'a> {
+    catalogue: &'a Catalogue,
+    requests: &'a Requests,
     framing: Framing,
     failed: bool,
 }
 
-impl Model for Engine {
+impl<'a> Model for Engine<'a> {
     ghost use Rattle.giop_stream.specs.Remembering.{EngineMemory};
 
     ghost Value = { EngineMemory };
 
     ghost use Rattle.giop_stream.specs.Shown.{shown};
 
-    ghost view = { λ e. record { failed = e.failed; stream = shown e.framing } };
+    ghost view = { λ e. record { failed = e.failed; table = e.catalogue.now; listed = e.requests.now; stream = shown e.framing } };
+
+    ghost use Rattle.std.specs.Prelude.{◌+◌};
+    ghost use Rattle.giop_stream.specs.Keeping.{AreReady};
+    ghost use Rattle.giop_stream.specs.Holding.{AreOf};
+
+    ghost invariant = { λ e. AreOf e.catalogue.now e.requests.now × AreReady e.catalogue.now (e.framing.totals.octets + 1) e.framing.slots };
 }
 
-impl Engine {
-    /// An engine that has read nothing.
-    pub fn new() -> Engine
-        ensures { Holds result [] }
+impl<'a> Engine<'a> {
+    /// An engine that has read nothing, for these types and what is known of requests for their operations.
+    pub fn new(catalogue: &'a Catalogue, requests: &'a Requests) -> Engine<'a>
+        requires of { AreOf catalogue.now requests.now }
+        ensures holds { Holds result [] }
+        ensures table { result.table ≡ catalogue.now }
+        ensures listed { result.listed ≡ requests.now }
     {
         Engine {
+            catalogue,
+            requests,
             framing: Framing::new(),
             failed: false,
         }
@@ -46,7 +63,7 @@ impl Engine {
         ensures held { (p : List ℕ) → Holds self.old p → OnOk result (Holds self.new (p ++ piece.now)) }
         // What the piece adds to the text is written.
         ensures text { (p : List ℕ) → Holds self.old p
-            → StopWrites result (O.log out.old) (O.log out.new) (drop (length (text p)) (text (p ++ piece.now))) }
+            → StopWrites result (O.log out.old) (O.log out.new) (drop (length (text (reading_of self.old) p)) (text (reading_of self.old) (p ++ piece.now))) }
         // It says whether the stream has a fault.
         ensures status { (p : List ℕ) → Holds self.old p
             → IfOk result (λ s. s ≡ status_of (fault_of (cut (p ++ piece.now)).stop)) }
@@ -54,12 +71,17 @@ impl Engine {
         ensures leaves { Leaves result self.old self.new }
         // A failed engine writes nothing.
         ensures failed { self.old.failed ≡ true → O.log out.new ≡ O.log out.old }
+        // What it reads by stays.
+        ensures same { (self.new.table ≡ self.old.table) × (self.new.listed ≡ self.old.listed) }
     {
         if self.failed {
             return Err(Stop::Failed);
         }
         let (totals, stopped) = (self.framing.totals, self.framing.stopped);
-        match self.framing.steps(piece, out) {
+        match self
+            .framing
+            .steps(self.catalogue, self.requests, piece, out)
+        {
             Ok(()) => Ok(self.framing.status()),
             Err(fault) => {
                 self.failed = true;
@@ -72,12 +94,12 @@ impl Engine {
     /// Ends the stream: writes its closing, and says its totals, a truncated end counted.
     pub fn finish<O: Out>(self, out: &mut O) -> Result<Totals, Stop>
         // The closing of what it holds is written.
-        ensures text { (p : List ℕ) → Holds self p
-            → StopWrites result (O.log out.old) (O.log out.new) (closing p) }
-        ensures totals { (p : List ℕ) → Holds self p → IfOk result (λ t. t ≡ final p) }
+        ensures text { (p : List ℕ) → Holds self.entry p
+            → StopWrites result (O.log out.old) (O.log out.new) (closing (reading_of self.entry) p) }
+        ensures totals { (p : List ℕ) → Holds self.entry p → IfOk result (λ t. t ≡ final (reading_of self.entry) p) }
         // A failed engine writes nothing, and no other answers that it was failed.
-        ensures failed { self.failed ≡ true → (result ≡ Err Stop.Failed) × (O.log out.new ≡ O.log out.old) }
-        ensures sound { result ≡ Err Stop.Failed → self.failed ≡ true }
+        ensures failed { self.entry.failed ≡ true → (result ≡ Err Stop.Failed) × (O.log out.new ≡ O.log out.old) }
+        ensures sound { result ≡ Err Stop.Failed → self.entry.failed ≡ true }
     {
         if self.failed {
             return Err(Stop::Failed);
@@ -106,5 +128,6 @@ impl Engine {
 /// The text of a stream is a front of the text of each longer one, so that the cutting of a stream into pieces makes
 /// no difference.
 pub fn text_begins()
-    ensures { (p q : List ℕ) → (more : List ℕ) × (text (p ++ q) ≡ text p ++ more) }
+    ensures { (C : Table) (l : Listed) (p q : List ℕ) → (more : List ℕ)
+        × (text (message_reading C l) (p ++ q) ≡ text (message_reading C l) p ++ more) }
 {}

@@ -1,16 +1,20 @@
-//! The framing of a stream, octet by octet: headers, payloads, and what ends the stream.
+//! What is remembered of a stream, and what an octet of it does: headers, payloads, and what ends the stream.
 
-ghost use Rattle.std.specs.Prelude.{◌≡◌, ◌+◌, ◌++◌, ◌^◌, ◌≤◌, ◌<◌, ℕ, List, [], length, Option, Some, None, OnOk};
+ghost use Rattle.std.specs.Prelude.{◌≡◌, ◌+◌, ◌*◌, ◌++◌, ◌∷◌, ◌^◌, ◌≤◌, ◌<◌, ℕ, List, [], length, None, OnOk, flat_map, if◌then◌else◌};
 ghost use Rattle.arrayvec.specs.ArrayVec.{array_vec_len};
-ghost use Rattle.giop_stream.specs.Reach.{reach_of};
 
+use crate::dispatch;
+use crate::dispatch::Current;
 use crate::fault::StreamFault;
-use crate::header::{size_of, wrong_in};
-use crate::lines::{start_line, stream_fault_line, truncated_line};
-use crate::message::Message;
+use crate::header::{order_of, size_of, unsigned_long, wrong_in};
+use crate::kinds::is_fragment;
+use crate::lines::{stream_fault_line, truncated_line};
+use crate::slots::Slots;
 use crate::status::{Status, Totals};
 use arrayvec::ArrayVec;
+use giop_cdr::Carry;
 use giop_print::{Out, OutFault, total_line, unfinished_line};
+use giop_sig::{Catalogue, Requests};
 
 /// The number of octets that are read of a stream.
 const LIMIT: u64 = 281_474_976_710_656;
@@ -22,40 +26,49 @@ pub struct Framing {
     pub stopped: Option<StreamFault>,
     /// The header octets that have come, 12 within a payload.
     pub header: ArrayVec<u8, 12>,
-    /// Payload octets to come.
-    pub left: u32,
-    /// The current message, unless it is over.
-    pub message: Option<Message>,
+    /// The payload octets that have come.
+    pub come: u32,
+    /// The first four of them.
+    pub first: Carry,
+    pub slots: Slots,
     ghost read: { totals.octets ≤ 2 ^ 48 + 1 },
     ghost running: { stopped ≡ None → totals.octets ≤ 2 ^ 48 },
     ghost few_messages: { totals.messages ≤ totals.octets },
-    ghost few_faults: { totals.faults ≤ totals.octets },
-    ghost within: { reach_of message ≤ totals.octets },
+    ghost few_faults: { totals.faults ≤ 3 * totals.octets },
+    ghost held: { array_vec_len header ≤ totals.octets },
 }
 
 impl Framing {
+    ghost use Rattle.giop_cdr.specs.Numbers.{num};
     ghost use Rattle.giop_print.specs.Output.{Writes};
-    ghost use Rattle.giop_stream.specs.Steps.{idle, stop, close, close_if_done, start, head, taken, pay, step, steps, first_memory, is_cut_short, final_totals, truncation, unfinished_by, finish_text};
-    ghost use Rattle.giop_print.specs.Lines.{total_line};
-    ghost use Rattle.giop_stream.specs.Holding.{status_of};
-    ghost use Rattle.giop_stream.specs.Shown.{shown, message_shown};
-    ghost use Rattle.std.specs.Option.{option_map};
+    ghost use Rattle.giop_print.specs.Lines.{unfinished_line, total_line};
+    ghost use Rattle.giop_sig.specs.Table.{Table};
+    ghost use Rattle.giop_message.specs.Signatures.{Kept as Listed};
+    ghost use Rattle.giop_message.specs.MessageReading.{message_reading};
+    ghost use Rattle.giop_message.specs.Headers.{order, size};
+    ghost use Rattle.giop_stream.specs.Headers.{wrong};
+    ghost use Rattle.giop_stream.specs.Framing.{cut};
+    ghost use Rattle.giop_stream.specs.Text.{stop_text, truncated_line};
+    ghost use Rattle.giop_stream.specs.Stream.{is_truncated, final, closing};
+    ghost use Rattle.giop_stream.specs.State.{state_of};
+    ghost use Rattle.giop_stream.specs.Machine.{left_over, left_own};
+    ghost use Rattle.giop_stream.specs.Keeping.{AreReady, IsBare};
+    ghost use Rattle.giop_stream.specs.Remembering.{Memory};
+    ghost use Rattle.giop_stream.specs.Shown.{shown};
+    ghost use Rattle.giop_stream.specs.Holding.{AreOf, Remembers, added, status_of};
+    ghost use Rattle.giop_stream.specs.Steps.{held_on, stop, settle, is_cut_short, final_totals};
 
     /// Nothing read.
     pub fn new() -> Framing
-        ensures { shown result ≡ first_memory }
+        ensures remembers { (C : Table) (l : Listed) → Remembers C l (shown result) [] }
+        ensures ready { (C : Table) → AreReady C (result.totals.octets + 1) result.slots }
     {
-        Framing {
-            totals: Totals {
-                messages: 0,
-                faults: 0,
-                octets: 0,
-            },
-            stopped: None,
-            header: ArrayVec::new(),
-            left: 0,
-            message: None,
-        }
+        let totals = Totals {
+            messages: 0,
+            faults: 0,
+            octets: 0,
+        };
+        Framing::only(totals, None)
     }
 
     /// What is left where a put failed: the totals from before, and no message.
@@ -63,162 +76,281 @@ impl Framing {
         requires read { totals.octets ≤ 2 ^ 48 + 1 }
         requires running { stopped ≡ None → totals.octets ≤ 2 ^ 48 }
         requires few_messages { totals.messages ≤ totals.octets }
-        requires few_faults { totals.faults ≤ totals.octets }
-        ensures { (shown result).totals ≡ totals }
+        requires few_faults { totals.faults ≤ 3 * totals.octets }
+        ensures totals { result.totals ≡ totals }
+        ensures stopped { result.stopped ≡ stopped }
+        ensures header { result.header.items ≡ [] }
+        ensures come { result.come ≡ 0 }
+        ensures first { result.first ≡ [] }
+        ensures slots { IsBare result.slots }
+        ensures ready { (C : Table) → AreReady C (result.totals.octets + 1) result.slots }
     {
         Framing {
             totals,
             stopped,
             header: ArrayVec::new(),
-            left: 0,
-            message: None,
+            come: 0,
+            first: Carry::new(),
+            slots: Slots::new(),
         }
     }
 
-    /// The end of the reading, at the octet that comes.
+    /// The end of the reading, by the octet at this place.
     #[tactic(auto, unfolding(crate::specs::Steps::stop))]
-    fn stop<O: Out>(&mut self, fault: StreamFault, out: &mut O) -> Result<(), OutFault>
-        requires { self.old.totals.octets ≤ 2 ^ 48 }
-        ensures state { OnOk result (shown self.new ≡ (stop (shown self.old) fault).memory) }
-        ensures text { Writes result (O.log out.old) (O.log out.new) (stop (shown self.old) fault).text }
+    fn stop<O: Out>(&mut self, fault: StreamFault, place: u64, out: &mut O) -> Result<(), OutFault>
+        requires place { self.old.totals.octets ≤ place }
+        requires limit { place ≤ 2 ^ 48 + 1 }
+        requires faults { self.old.totals.faults < 3 * place }
+        ensures state { OnOk result (shown self.new ≡ stop (shown self.old) fault place) }
+        ensures text { Writes result (O.log out.old) (O.log out.new) (stop_text fault place) }
     {
-        self.totals.octets += 1;
+        self.totals.octets = place;
         self.totals.faults += 1;
         self.stopped = Some(fault);
-        self.header.clear();
-        self.left = 0;
-        stream_fault_line(out, fault, self.totals.octets)
-    }
-
-    /// After a message's last octet.
-    #[tactic(auto, unfolding(crate::specs::Steps::close))]
-    fn close<O: Out>(&mut self, out: &mut O) -> Result<(), OutFault>
-        requires room { self.old.totals.faults < self.old.totals.octets }
-        ensures state { OnOk result (shown self.new ≡ (close (shown self.old)).memory) }
-        ensures text { Writes result (O.log out.old) (O.log out.new) (close (shown self.old)).text }
-    {
-        self.header.clear();
-        self.left = 0;
-        if let Some(message) = self.message.take() {
-            if message.close(self.totals.octets, out)? {
-                self.totals.faults += 1;
-            }
+        if self.header.len() < 12 {
+            self.header.clear();
         }
-        Ok(())
+        stream_fault_line(out, fault, place)
     }
 
-    #[tactic(auto, unfolding(crate::specs::Steps::close_if_done))]
-    fn close_if_done<O: Out>(&mut self, out: &mut O) -> Result<(), OutFault>
-        requires room { self.old.totals.faults < self.old.totals.octets }
-        ensures state { OnOk result (shown self.new ≡ (close_if_done (shown self.old)).memory) }
-        ensures text { Writes result (O.log out.old) (O.log out.new) (close_if_done (shown self.old)).text }
+    /// Behind a message's last octet the next header comes.
+    #[tactic(auto, unfolding(crate::specs::Steps::settle))]
+    fn settle(&mut self, size: u32)
+        ensures { shown self.new ≡ settle (shown self.old) size }
     {
-        if self.left == 0 {
-            return self.close(out);
+        if self.come == size {
+            self.header.clear();
+            self.come = 0;
+            self.first.clear();
         }
-        Ok(())
     }
 
-    /// After a header's last octet.
-    #[tactic(auto, unfolding(crate::specs::Steps::start), using(giop_print::proofs::Writing::writes_then, giop_print::proofs::Writing::writes_err))]
-    fn start<O: Out>(&mut self, out: &mut O) -> Result<(), OutFault>
-        requires full { length self.old.header.items ≡ 12 }
-        requires messages { self.old.totals.messages < self.old.totals.octets }
-        requires faults { self.old.totals.faults < self.old.totals.octets }
-        ensures state { OnOk result (shown self.new ≡ (start (shown self.old)).memory) }
-        ensures text { Writes result (O.log out.old) (O.log out.new) (start (shown self.old)).text }
+    /// What is known of the message whose header has come, at the octet that came last.
+    fn current(&self) -> Current
+        requires { length self.now.header.items ≡ 12 }
+        ensures number { result.number ≡ self.now.totals.messages }
+        ensures header { result.header ≡ self.now.header.items }
+        ensures place { result.place ≡ self.now.totals.octets }
+        ensures come { result.come ≡ self.now.come }
+        ensures id { self.now.come ≡ 4 → length self.now.first ≡ 4 →
+            result.id ≡ num (order self.now.header.items) self.now.first }
     {
         let mut header = [0; 12];
         header.copy_from_slice(self.header.as_slice());
+        let id = if self.come == 4 && self.first.len() == 4 {
+            unsigned_long(order_of(&header), &self.first)
+        } else {
+            0
+        };
+        Current {
+            number: self.totals.messages,
+            header,
+            place: self.totals.octets,
+            come: self.come,
+            id,
+        }
+    }
+
+    /// At a header's last octet a message begins.
+    fn begin<O: Out>(&mut self, catalogue: &Catalogue, out: &mut O) -> Result<(), OutFault>
+        requires full { length self.old.header.items ≡ 12 }
+        requires right { wrong self.old.header.items ≡ None }
+        requires running { self.old.stopped ≡ None }
+        requires messages { self.old.totals.messages < self.old.totals.octets }
+        requires faults { self.old.totals.faults + 3 ≤ 3 * self.old.totals.octets }
+        requires ready { AreReady catalogue.now self.old.totals.octets self.old.slots }
+        ensures remembers { (l : Listed) (p : List ℕ) (m : Memory) (x : ℕ) → x < 256 →
+            shown self.old ≡ held_on m x → Remembers catalogue.now l m p →
+            OnOk result (Remembers catalogue.now l (shown self.new) (p ++ x ∷ [])) }
+        ensures text { (l : Listed) (p : List ℕ) (m : Memory) (x : ℕ) →
+            shown self.old ≡ held_on m x → Remembers catalogue.now l m p →
+            Writes result (O.log out.old) (O.log out.new) (added (message_reading catalogue.now l) p (x ∷ [])) }
+        ensures ready { OnOk result (AreReady catalogue.now (self.new.totals.octets + 1) self.new.slots) }
+    {
         self.totals.messages += 1;
-        self.left = size_of(&header);
-        self.message = Some(Message::start(self.totals.messages, header));
-        start_line(out, self.totals.messages, &header)?;
-        self.close_if_done(out)
+        let now = self.current();
+        let faults = dispatch::header(&mut self.slots, catalogue, now, out)?;
+        self.totals.faults += u64::from(faults);
+        self.settle(size_of(&now.header));
+        Ok(())
     }
 
     /// An octet of a header.
-    #[tactic(auto, unfolding(crate::specs::Steps::head, crate::specs::Steps::stop))]
-    fn head<O: Out>(&mut self, octet: u8, out: &mut O) -> Result<(), OutFault>
+    fn head<O: Out>(
+        &mut self,
+        catalogue: &Catalogue,
+        octet: u8,
+        out: &mut O,
+    ) -> Result<(), OutFault>
         requires held { length self.old.header.items < 12 }
+        requires running { self.old.stopped ≡ None }
         requires limit { self.old.totals.octets < 2 ^ 48 }
-        ensures state { OnOk result (shown self.new ≡ (head (shown self.old) octet).memory) }
-        ensures text { Writes result (O.log out.old) (O.log out.new) (head (shown self.old) octet).text }
+        requires ready { AreReady catalogue.now (self.old.totals.octets + 1) self.old.slots }
+        ensures remembers { (l : Listed) (p : List ℕ) → Remembers catalogue.now l (shown self.old) p →
+            OnOk result (Remembers catalogue.now l (shown self.new) (p ++ octet ∷ [])) }
+        ensures text { (l : Listed) (p : List ℕ) → Remembers catalogue.now l (shown self.old) p →
+            Writes result (O.log out.old) (O.log out.new) (added (message_reading catalogue.now l) p (octet ∷ [])) }
+        ensures ready { OnOk result (AreReady catalogue.now (self.new.totals.octets + 1) self.new.slots) }
     {
+        self.totals.octets += 1;
         self.header.push(octet);
         if let Some(fault) = wrong_in(self.header.as_slice()) {
-            return self.stop(fault, out);
+            self.header.clear();
+            return self.stop(fault, self.totals.octets, out);
         }
-        self.totals.octets += 1;
-        if self.header.len() < 12 {
-            return Ok(());
+        if self.header.len() == 12 {
+            return self.begin(catalogue, out);
         }
-        self.start(out)
-    }
-
-    /// An octet of a payload, with its line; the octets of a message that is over are passed over.
-    #[tactic(auto, unfolding(crate::specs::Steps::taken))]
-    fn taken<O: Out>(&mut self, octet: u8, out: &mut O) -> Result<(), OutFault>
-        requires before { reach_of self.old.message < self.old.totals.octets }
-        requires limit { self.old.totals.octets ≤ 2 ^ 48 }
-        ensures state { OnOk result (shown self.new ≡ (taken (shown self.old) octet).memory) }
-        ensures text { Writes result (O.log out.old) (O.log out.new) (taken (shown self.old) octet).text }
-        ensures totals { self.new.totals ≡ self.old.totals }
-    {
-        let place = self.totals.octets;
-        match &mut self.message {
-            Some(message) => message.take(octet, place, out),
-            None => Ok(()),
-        }
+        Ok(())
     }
 
     /// An octet of a payload.
-    #[tactic(auto, unfolding(crate::specs::Steps::pay), using(giop_print::proofs::Writing::writes_then, giop_print::proofs::Writing::writes_err))]
-    fn pay<O: Out>(&mut self, octet: u8, out: &mut O) -> Result<(), OutFault>
+    fn pay<O: Out>(
+        &mut self,
+        catalogue: &Catalogue,
+        requests: &Requests,
+        octet: u8,
+        out: &mut O,
+    ) -> Result<(), OutFault>
+        requires full { length self.old.header.items ≡ 12 }
+        requires running { self.old.stopped ≡ None }
         requires limit { self.old.totals.octets < 2 ^ 48 }
-        ensures state { OnOk result (shown self.new ≡ (pay (shown self.old) octet).memory) }
-        ensures text { Writes result (O.log out.old) (O.log out.new) (pay (shown self.old) octet).text }
+        requires of { AreOf catalogue.now requests.now }
+        requires ready { AreReady catalogue.now (self.old.totals.octets + 1) self.old.slots }
+        ensures remembers { (p : List ℕ) → Remembers catalogue.now requests.now (shown self.old) p →
+            OnOk result (Remembers catalogue.now requests.now (shown self.new) (p ++ octet ∷ [])) }
+        ensures text { (p : List ℕ) → Remembers catalogue.now requests.now (shown self.old) p →
+            Writes result (O.log out.old) (O.log out.new) (added (message_reading catalogue.now requests.now) p (octet ∷ [])) }
+        ensures ready { OnOk result (AreReady catalogue.now (self.new.totals.octets + 1) self.new.slots) }
     {
         self.totals.octets += 1;
-        self.left = self.left.saturating_sub(1);
-        self.taken(octet, out)?;
-        self.close_if_done(out)
+        self.come = self.come.saturating_add(1);
+        if self.first.len() < 4 {
+            self.first.push(octet);
+        }
+        let now = self.current();
+        let faults = dispatch::octet(&mut self.slots, catalogue, requests, octet, now, out)?;
+        self.totals.faults += u64::from(faults);
+        self.settle(size_of(&now.header));
+        Ok(())
     }
 
     /// An octet of the stream.
-    #[tactic(auto, unfolding(crate::specs::Steps::step, crate::specs::Framing::limit))]
-    fn step<O: Out>(&mut self, octet: u8, out: &mut O) -> Result<(), OutFault>
-        ensures state { OnOk result (shown self.new ≡ (step (shown self.old) octet).memory) }
-        ensures text { Writes result (O.log out.old) (O.log out.new) (step (shown self.old) octet).text }
+    fn step<O: Out>(
+        &mut self,
+        catalogue: &Catalogue,
+        requests: &Requests,
+        octet: u8,
+        out: &mut O,
+    ) -> Result<(), OutFault>
+        requires of { AreOf catalogue.now requests.now }
+        requires ready { AreReady catalogue.now (self.old.totals.octets + 1) self.old.slots }
+        ensures remembers { (p : List ℕ) → Remembers catalogue.now requests.now (shown self.old) p →
+            OnOk result (Remembers catalogue.now requests.now (shown self.new) (p ++ octet ∷ [])) }
+        ensures text { (p : List ℕ) → Remembers catalogue.now requests.now (shown self.old) p →
+            Writes result (O.log out.old) (O.log out.new) (added (message_reading catalogue.now requests.now) p (octet ∷ [])) }
+        ensures ready { OnOk result (AreReady catalogue.now (self.new.totals.octets + 1) self.new.slots) }
     {
         if self.stopped.is_some() {
             return Ok(());
         }
         if LIMIT <= self.totals.octets {
-            return self.stop(StreamFault::StreamLimit, out);
+            return self.stop(StreamFault::StreamLimit, self.totals.octets + 1, out);
         }
         if self.header.len() < 12 {
-            self.head(octet, out)
+            self.head(catalogue, octet, out)
         } else {
-            self.pay(octet, out)
+            self.pay(catalogue, requests, octet, out)
         }
     }
 
-    /// The octets of a piece, one after another.
-    #[tactic(auto, unfolding(crate::specs::Steps::steps))]
-    pub fn steps<O: Out>(&mut self, piece: &[u8], out: &mut O) -> Result<(), OutFault>
-        ensures state { OnOk result (shown self.new ≡ (steps (shown self.old) piece.now).memory) }
-        ensures text { Writes result (O.log out.old) (O.log out.new) (steps (shown self.old) piece.now).text }
+    /// How many of so many octets are of a message's contents alone: they come behind its request id, and none of them is
+    /// its last.
+    fn quiet(&self, room: usize) -> usize
+        ensures within { result ≤ room }
+        ensures full { 0 < result → length self.now.header.items ≡ 12 }
+        ensures running { 0 < result → self.now.stopped ≡ None }
+        ensures named { 0 < result → 4 ≤ self.now.come }
+        ensures before_last { 0 < result → self.now.come + result < size self.now.header.items }
+        ensures limit { 0 < result → self.now.totals.octets + result ≤ 2 ^ 48 }
     {
-        for octet in piece {
-            self.step(*octet, out)?;
+        if self.stopped.is_some() || self.header.len() < 12 || self.come < 4 {
+            return 0;
+        }
+        let left = size_of(self.header.as_slice()).saturating_sub(self.come);
+        let unread = LIMIT.saturating_sub(self.totals.octets);
+        room.min(left.saturating_sub(1) as usize)
+            .min(unread as usize)
+    }
+
+    /// Octets of a message's contents alone.
+    fn run<O: Out>(
+        &mut self,
+        catalogue: &Catalogue,
+        requests: &Requests,
+        octets: &[u8],
+        out: &mut O,
+    ) -> Result<(), OutFault>
+        requires full { length self.old.header.items ≡ 12 }
+        requires running { self.old.stopped ≡ None }
+        requires named { 4 ≤ self.old.come }
+        requires before_last { self.old.come + length octets.now < size self.old.header.items }
+        requires limit { self.old.totals.octets + length octets.now ≤ 2 ^ 48 }
+        requires some { 0 < length octets.now }
+        requires of { AreOf catalogue.now requests.now }
+        requires ready { AreReady catalogue.now (self.old.totals.octets + 1) self.old.slots }
+        ensures remembers { (p : List ℕ) → Remembers catalogue.now requests.now (shown self.old) p →
+            OnOk result (Remembers catalogue.now requests.now (shown self.new) (p ++ octets.now)) }
+        ensures text { (p : List ℕ) → Remembers catalogue.now requests.now (shown self.old) p →
+            Writes result (O.log out.old) (O.log out.new) (added (message_reading catalogue.now requests.now) p octets.now) }
+        ensures ready { OnOk result (AreReady catalogue.now (self.new.totals.octets + 1) self.new.slots) }
+    {
+        let before = self.totals.octets;
+        self.totals.octets += octets.len() as u64;
+        let come = u32::try_from(octets.len()).unwrap_or(u32::MAX);
+        self.come = self.come.saturating_add(come);
+        if self
+            .slots
+            .take_run(catalogue, requests, octets, before, out)?
+        {
+            self.totals.faults += 1;
+        }
+        Ok(())
+    }
+
+    /// The octets of a piece, in runs where they are of a message's contents alone.
+    pub fn steps<O: Out>(
+        &mut self,
+        catalogue: &Catalogue,
+        requests: &Requests,
+        piece: &[u8],
+        out: &mut O,
+    ) -> Result<(), OutFault>
+        requires of { AreOf catalogue.now requests.now }
+        requires ready { AreReady catalogue.now (self.old.totals.octets + 1) self.old.slots }
+        ensures remembers { (p : List ℕ) → Remembers catalogue.now requests.now (shown self.old) p →
+            OnOk result (Remembers catalogue.now requests.now (shown self.new) (p ++ piece.now)) }
+        ensures text { (p : List ℕ) → Remembers catalogue.now requests.now (shown self.old) p →
+            Writes result (O.log out.old) (O.log out.new) (added (message_reading catalogue.now requests.now) p piece.now) }
+        ensures ready { OnOk result (AreReady catalogue.now (self.new.totals.octets + 1) self.new.slots) }
+    {
+        let mut rest = piece;
+        while let Some(octet) = rest.first() {
+            let quiet = self.quiet(rest.len());
+            if quiet == 0 {
+                self.step(catalogue, requests, *octet, out)?;
+                rest = &rest[1..];
+            } else {
+                self.run(catalogue, requests, &rest[..quiet], out)?;
+                rest = &rest[quiet..];
+            }
         }
         Ok(())
     }
 
     /// Whether the stream goes on.
     pub fn status(&self) -> Status
-        ensures { result ≡ status_of (shown self.now).stopped }
+        ensures { result ≡ status_of self.now.stopped }
     {
         match self.stopped {
             Some(fault) => Status::Stopped(fault),
@@ -227,6 +359,7 @@ impl Framing {
     }
 
     /// Whether the stream ends inside a message or a header.
+    #[tactic(auto, unfolding(crate::specs::Steps::is_cut_short))]
     fn is_cut_short(&self) -> bool
         ensures { result ≡ is_cut_short (shown self.now) }
     {
@@ -234,8 +367,11 @@ impl Framing {
     }
 
     /// The totals at the finish.
+    #[tactic(auto, unfolding(crate::specs::Steps::final_totals))]
     pub fn final_totals(&self) -> Totals
-        ensures { result ≡ final_totals (shown self.now) }
+        ensures state { result ≡ final_totals (shown self.now) }
+        ensures value { (C : Table) (l : Listed) (p : List ℕ) → Remembers C l (shown self.now) p →
+            result ≡ final (message_reading C l) p }
     {
         let mut totals = self.totals;
         if self.is_cut_short() {
@@ -244,8 +380,10 @@ impl Framing {
         totals
     }
 
+    /// The line of a stream that ends inside a message or a header.
     fn truncation<O: Out>(&self, out: &mut O) -> Result<(), OutFault>
-        ensures { Writes result (O.log out.old) (O.log out.new) (truncation (shown self.now)) }
+        ensures { (C : Table) (l : Listed) (p : List ℕ) → Remembers C l (shown self.now) p →
+            Writes result (O.log out.old) (O.log out.new) (if is_truncated (cut p) then truncated_line (length p) else []) }
     {
         if self.is_cut_short() {
             return truncated_line(out, self.totals.octets);
@@ -253,19 +391,32 @@ impl Framing {
         Ok(())
     }
 
-    fn unfinished<O: Out>(&self, out: &mut O) -> Result<(), OutFault>
-        ensures { Writes result (O.log out.old) (O.log out.new) (unfinished_by (shown self.now).message) }
+    /// Whether the message whose payload comes is unfinished: its own octets come, and it is no Fragment.
+    fn own_is_unfinished(&self) -> bool
+        ensures { (C : Table) (l : Listed) (p : List ℕ) → Remembers C l (shown self.now) p →
+            left_own (cut p).current (state_of (message_reading C l) p).own ≡ (if result then self.now.totals.messages ∷ [] else []) }
     {
-        match &self.message {
-            Some(message) => unfinished_line(out, message.number),
-            None => Ok(()),
-        }
+        self.header.len() == 12 && !is_fragment(self.header.as_slice()) && self.slots.own.is_some()
     }
 
+    /// The messages that have neither ended nor been faulted, by number.
+    fn unfinished<O: Out>(&self, out: &mut O) -> Result<(), OutFault>
+        ensures { (C : Table) (l : Listed) (p : List ℕ) → Remembers C l (shown self.now) p →
+            Writes result (O.log out.old) (O.log out.new) (flat_map unfinished_line (left_over (state_of (message_reading C l) p))) }
+    {
+        self.slots.unfinished(out)?;
+        if self.own_is_unfinished() {
+            return unfinished_line(out, self.totals.messages);
+        }
+        Ok(())
+    }
+
+    /// What comes behind the line of a truncation.
     #[tactic(auto, using(giop_print::proofs::Writing::writes_then, giop_print::proofs::Writing::writes_err))]
     fn ending<O: Out>(&self, out: &mut O) -> Result<(), OutFault>
-        ensures { Writes result (O.log out.old) (O.log out.new)
-            (unfinished_by (shown self.now).message ++ total_line (final_totals (shown self.now)).messages (final_totals (shown self.now)).faults (final_totals (shown self.now)).octets) }
+        ensures { (C : Table) (l : Listed) (p : List ℕ) → Remembers C l (shown self.now) p →
+            Writes result (O.log out.old) (O.log out.new) (flat_map unfinished_line (left_over (state_of (message_reading C l) p))
+            ++ total_line (final (message_reading C l) p).messages (final (message_reading C l) p).faults (final (message_reading C l) p).octets) }
     {
         self.unfinished(out)?;
         let totals = self.final_totals();
@@ -273,9 +424,10 @@ impl Framing {
     }
 
     /// The lines of the finish.
-    #[tactic(auto, unfolding(crate::specs::Steps::finish_text), using(giop_print::proofs::Writing::writes_then, giop_print::proofs::Writing::writes_err))]
+    #[tactic(auto, using(giop_print::proofs::Writing::writes_then, giop_print::proofs::Writing::writes_err))]
     pub fn finish<O: Out>(&self, out: &mut O) -> Result<(), OutFault>
-        ensures { Writes result (O.log out.old) (O.log out.new) (finish_text (shown self.now)) }
+        ensures { (C : Table) (l : Listed) (p : List ℕ) → Remembers C l (shown self.now) p →
+            Writes result (O.log out.old) (O.log out.new) (closing (message_reading C l) p) }
     {
         self.truncation(out)?;
         self.ending(out)

@@ -1,7 +1,7 @@
 //! The fields of a message header, and the octets that it may have (GIOP Message Formats, GIOP Message Header).
 
-ghost use Rattle.std.specs.Prelude.{◌≡◌, ◌≤◌, ◌<◌, ℕ, List, length};
-ghost use Rattle.giop_cdr.specs.Numbers.{num};
+ghost use Rattle.std.specs.Prelude.{◌≡◌, ◌≤◌, ◌<◌, ℕ, List, [], ◌∷◌, length};
+ghost use Rattle.giop_cdr.specs.Numbers.{little, num};
 ghost use Rattle.giop_message.specs.Headers.{minor, order, has_more, kind, size};
 ghost use Rattle.giop_stream.specs.Headers.{wrong};
 
@@ -19,16 +19,11 @@ pub fn unsigned_long(order: Order, carry: &Carry) -> u32
     }
 }
 
-/// Four octets, as a carry takes them.
-fn carried(octets: &[u8]) -> Carry
-    requires { length octets.now ≡ 4 }
-    ensures { result ≡ octets.now }
+/// The number that four octets spell, the first the lightest.
+fn lightest_first(a: u8, b: u8, c: u8, d: u8) -> u32
+    ensures { result ≡ little (a ∷ b ∷ c ∷ d ∷ []) }
 {
-    let mut carry = Carry::new();
-    for octet in octets {
-        carry.push(*octet);
-    }
-    carry
+    u32::from(a) + 256 * (u32::from(b) + 256 * (u32::from(c) + 256 * u32::from(d)))
 }
 
 /// The order of a message's numbers.
@@ -77,7 +72,10 @@ pub fn size_of(header: &[u8]) -> u32
     requires { length header.now ≡ 12 }
     ensures { result ≡ size header.now }
 {
-    unsigned_long(order_of(header), &carried(&header[8..]))
+    match order_of(header) {
+        Order::Big => lightest_first(header[11], header[10], header[9], header[8]),
+        Order::Little => lightest_first(header[8], header[9], header[10], header[11]),
+    }
 }
 
 /// What is wrong with the last octet of a header's front.

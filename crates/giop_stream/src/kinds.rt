@@ -2,8 +2,8 @@
 
 ghost use Rattle.std.specs.Prelude.{◌≡◌, length};
 ghost use Rattle.giop_message.specs.Headers.{may_be_fragmented, is_opener, is_fragment, is_cancel};
-ghost use Rattle.giop_stream.specs.Joined.Kinds.{may_be_cancelled, refused, is_short, is_followed};
-ghost use Rattle.giop_stream.specs.Joined.Events.{same_order};
+ghost use Rattle.giop_stream.specs.Kinds.{may_be_cancelled, refused, is_short, is_followed};
+ghost use Rattle.giop_stream.specs.Events.{same_order};
 
 use crate::fault::ImposedFault;
 use crate::header::{kind_of, minor_of, more_of, size_of};
@@ -47,7 +47,7 @@ pub fn is_cancel(header: &[u8]) -> bool
 }
 
 /// Whether a message ends before its request id, which the joined message needs.
-#[tactic(auto, unfolding(crate::specs::Joined::Kinds::is_short))]
+#[tactic(auto, unfolding(crate::specs::Kinds::is_short))]
 pub fn is_short(header: &[u8]) -> bool
     requires { length header.now ≡ 12 }
     ensures { result ≡ is_short header.now }
@@ -56,7 +56,7 @@ pub fn is_short(header: &[u8]) -> bool
 }
 
 /// Whether 1.2 Fragments of the same joined message follow.
-#[tactic(auto, unfolding(crate::specs::Joined::Kinds::is_followed))]
+#[tactic(auto, unfolding(crate::specs::Kinds::is_followed))]
 pub fn is_followed(header: &[u8]) -> bool
     requires { length header.now ≡ 12 }
     ensures { result ≡ is_followed header.now }
@@ -65,7 +65,7 @@ pub fn is_followed(header: &[u8]) -> bool
 }
 
 /// Whether a CancelRequest may close a message.
-#[tactic(auto, unfolding(crate::specs::Joined::Kinds::may_be_cancelled))]
+#[tactic(auto, unfolding(crate::specs::Kinds::may_be_cancelled))]
 pub fn may_be_cancelled(header: &[u8]) -> bool
     requires { length header.now ≡ 12 }
     ensures { result ≡ may_be_cancelled header.now }
@@ -74,7 +74,7 @@ pub fn may_be_cancelled(header: &[u8]) -> bool
 }
 
 /// What a message is faulted for by its header alone.
-#[tactic(auto, unfolding(crate::specs::Joined::Kinds::refused))]
+#[tactic(auto, unfolding(crate::specs::Kinds::refused))]
 pub fn refused(header: &[u8]) -> Option<ImposedFault>
     requires { length header.now ≡ 12 }
     ensures { result ≡ refused header.now }

@@ -4,17 +4,16 @@ ghost use Rattle.std.specs.Prelude.{◌≡◌, ◌≤◌, ◌<◌, ℕ, suc, Lis
 ghost use Rattle.std.specs.List.{remove};
 ghost use Rattle.giop_stream.specs.Headers.{wrong};
 ghost use Rattle.giop_message.specs.Reading.{Reading, IsCausal, IsEnding, IsInTurn};
-ghost use Rattle.giop_stream.specs.FirstReading.{reading};
 ghost use Rattle.giop_stream.specs.Framing.{Message, limit, cut, messages};
 ghost use Rattle.giop_message.specs.Headers.{has_name};
-ghost use Rattle.giop_stream.specs.Joined.Events.{Event, Open, Opens, Continues, most_open, happens, events, open_after, joined, Rising};
-ghost use Rattle.giop_stream.specs.Joined.Shares.{shares};
-ghost use Rattle.giop_stream.specs.Joined.Lines.{lines};
-ghost use Rattle.giop_stream.specs.Joined.Text.{lines_text};
-ghost use Rattle.giop_stream.specs.Joined.Stream.{text, tally, final, closing};
-ghost use Rattle.giop_stream.specs.Joined.State.{State, octets_of, state_of};
-ghost use Rattle.giop_stream.specs.Joined.Machine.{fresh, first_message, step, run, run_state, totals_of, final_totals, finish};
-ghost use Rattle.giop_stream.specs.Joined.Plays.{Scene, plays, scene_at, octets_then, stays, goes, IsNotOpen, slots_at, scene_of, ends_with, with_octet, reading_on, beginning, stage};
+ghost use Rattle.giop_stream.specs.Events.{Event, Open, Opens, Continues, most_open, happens, events, open_after, joined, Rising};
+ghost use Rattle.giop_stream.specs.Shares.{shares};
+ghost use Rattle.giop_stream.specs.Lines.{lines};
+ghost use Rattle.giop_stream.specs.Text.{lines_text};
+ghost use Rattle.giop_stream.specs.Stream.{text, tally, final, closing};
+ghost use Rattle.giop_stream.specs.State.{State, octets_of, state_of};
+ghost use Rattle.giop_stream.specs.Machine.{fresh, first_message, step, run, run_state, totals_of, final_totals, finish};
+ghost use Rattle.giop_stream.specs.Plays.{Scene, plays, scene_at, octets_then, stays, goes, IsNotOpen, slots_at, scene_of, ends_with, with_octet, reading_on, beginning, stage};
 
 // The functions here have no body, and are called for their contracts.
 
@@ -114,11 +113,4 @@ pub fn each_joined()
 /// There is room for the open messages.
 pub fn open_messages()
     ensures { (p : List ℕ) → length (open_after p) ≤ most_open }
-{}
-
-/// The reading that the engine has now is one of those that these laws speak of.
-pub fn reading_laws()
-    ensures causal { IsCausal reading }
-    ensures ending { IsEnding reading }
-    ensures in_turn { IsInTurn reading }
 {}

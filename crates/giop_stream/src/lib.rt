@@ -9,7 +9,6 @@ mod header;
 mod kinds;
 mod laws;
 mod lines;
-mod message;
 mod slots;
 mod status;
 
@@ -17,6 +16,5 @@ pub use engine::{Engine, text_begins};
 pub use fault::{ImposedFault, Stop, StreamFault};
 pub use laws::{
     each_event, each_finish, each_joined, each_octet, each_slot, each_stream, open_messages,
-    reading_laws,
 };
 pub use status::{Status, Totals};

@@ -1,16 +1,13 @@
 //! The lines that frame, from what framing knows (docs/FORMATS.md, Lines).
 
-ghost use Rattle.std.specs.Prelude.{◌≡◌, ◌≤◌, length, codes};
+ghost use Rattle.std.specs.Prelude.{◌≡◌, length};
 ghost use Rattle.giop_print.specs.Output.{Writes};
 ghost use Rattle.giop_print.specs.Lines.{fault_line};
-ghost use Rattle.giop_stream.specs.Joined.Text.{imposed_word};
-ghost use Rattle.giop_stream.specs.Text.{stream_word, id_text, start_line, stop_text, truncated_line};
-ghost use Rattle.giop_message.specs.Text.{rest_text, said_line};
+ghost use Rattle.giop_stream.specs.Text.{stream_word, start_line, stop_text, truncated_line, imposed_word};
 
 use crate::fault::{ImposedFault, StreamFault};
 use crate::header::{kind_of, minor_of, more_of, order_of, size_of};
-use giop_cdr::{Number, Prim};
-use giop_print::{Out, OutFault, Path, Root, Value};
+use giop_print::{Out, OutFault};
 
 /// The word of a stream's fault.
 fn stream_word(fault: StreamFault) -> &'static str
@@ -41,36 +38,6 @@ pub fn start_line<O: Out>(out: &mut O, number: u64, header: &[u8]) -> Result<(),
     )
 }
 
-/// The request id of a header.
-pub fn id_line<O: Out>(out: &mut O, number: u64, id: u32) -> Result<(), OutFault>
-    ensures { Writes result (O.log out.old) (O.log out.new) (said_line number (id_text id)) }
-{
-    let mut path = Path::new(Root::Header);
-    path.push_name(b"request_id");
-    let id = Value::Primitive(Prim::ULong, Number::Unsigned(u64::from(id)));
-    giop_print::value_line(out, number, &path, id)
-}
-
-/// A part of the rest, of 1 to 32 octets, that begins at an offset in it.
-pub fn rest_line<O: Out>(
-    out: &mut O,
-    number: u64,
-    offset: u64,
-    octets: &[u8],
-) -> Result<(), OutFault>
-    requires { length octets.now ≤ 32 }
-    ensures { Writes result (O.log out.old) (O.log out.new) (said_line number (rest_text offset octets.now)) }
-{
-    giop_print::rest_line(out, number, offset, octets)
-}
-
-/// The fault of a message that closes too early, at a place.
-pub fn short_line<O: Out>(out: &mut O, number: u64, place: u64) -> Result<(), OutFault>
-    ensures { Writes result (O.log out.old) (O.log out.new) (fault_line number (codes "short") place) }
-{
-    giop_print::fault_line(out, number, "short", place)
-}
-
 /// The word of a fault that the stream imposes.
 fn imposed_word(fault: ImposedFault) -> &'static str
     ensures { result.now ≡ imposed_word fault }
@@ -96,13 +63,6 @@ pub fn imposed_line<O: Out>(
     ensures { Writes result (O.log out.old) (O.log out.new) (fault_line number (imposed_word fault) place) }
 {
     giop_print::fault_line(out, number, imposed_word(fault), place)
-}
-
-/// The end of a message.
-pub fn end_line<O: Out>(out: &mut O, number: u64) -> Result<(), OutFault>
-    ensures { Writes result (O.log out.old) (O.log out.new) (said_line number (codes "end")) }
-{
-    giop_print::end_line(out, number)
 }
 
 /// What ends the stream, at a place.

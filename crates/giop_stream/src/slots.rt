@@ -5,11 +5,11 @@ ghost use Rattle.giop_print.specs.Output.{Writes};
 ghost use Rattle.giop_sig.specs.Table.{Table};
 ghost use Rattle.giop_message.specs.Signatures.{Kept as Listed};
 ghost use Rattle.giop_message.specs.MessageReading.{message_reading};
-ghost use Rattle.giop_stream.specs.Joined.Events.{Title, Takes, Imposed, Closes};
-ghost use Rattle.giop_stream.specs.Joined.Text.{lines_text, imposed_word};
-ghost use Rattle.giop_stream.specs.Joined.Stream.{fault_count};
-ghost use Rattle.giop_stream.specs.Joined.Plays.{Scene, plays, lines_of, octets_then};
-ghost use Rattle.giop_stream.specs.Joined.Keeping.{IsKept, IsReady, event};
+ghost use Rattle.giop_stream.specs.Events.{Title, Takes, Imposed, Closes};
+ghost use Rattle.giop_stream.specs.Text.{lines_text, imposed_word};
+ghost use Rattle.giop_stream.specs.Stream.{fault_count};
+ghost use Rattle.giop_stream.specs.Plays.{Scene, plays, lines_of, octets_then};
+ghost use Rattle.giop_stream.specs.Keeping.{IsKept, IsReady, event, run_of, run_octets};
 ghost use Rattle.std.specs.Prelude.{◌≤◌, ◌^◌};
 ghost use Rattle.giop_message.specs.Holding.{AreOf};
 
@@ -17,7 +17,7 @@ use crate::fault::ImposedFault;
 use crate::lines::imposed_line;
 use arrayvec::ArrayVec;
 use giop_message::Message;
-use giop_print::{Out, OutFault, cancelled_line};
+use giop_print::{Out, OutFault, cancelled_line, unfinished_line};
 use giop_sig::{Catalogue, Requests};
 
 /// An open message.
@@ -49,6 +49,13 @@ pub struct Slots {
     pub payload: Payload,
 }
 
+/// Lets go of a message that is over. It stands apart from what is done at every octet, which needs no room for it.
+fn forget(message: &mut Option<Message>)
+    ensures { message.new ≡ None }
+{
+    *message = None;
+}
+
 /// Gives a message an octet; says whether that faults it.
 fn give<O: Out>(
     message: &mut Option<Message>,
@@ -78,7 +85,37 @@ fn give<O: Out>(
     {
         return Ok(false);
     }
-    *message = None;
+    forget(message);
+    Ok(true)
+}
+
+/// Gives a message octets, behind so many of the stream; says whether one of them faults it.
+fn give_run<O: Out>(
+    message: &mut Option<Message>,
+    catalogue: &Catalogue,
+    requests: &Requests,
+    octets: &[u8],
+    before: u64,
+    out: &mut O,
+) -> Result<bool, OutFault>
+    requires ready { IsReady catalogue.now (before + 1) message.old }
+    requires of { AreOf catalogue.now requests.now }
+    requires limit { before + length octets.now ≤ 2 ^ 48 }
+    ensures text { (w : Title) (o : Option (List ℕ)) → IsKept catalogue.now requests.now message.old w o →
+        Writes result (O.log out.old) (O.log out.new) (lines_text (run_of catalogue.now requests.now before w o octets.now)) }
+    ensures kept { (w : Title) (o : Option (List ℕ)) → IsKept catalogue.now requests.now message.old w o →
+        OnOk result (IsKept catalogue.now requests.now message.new w (run_octets catalogue.now requests.now before w o octets.now)) }
+    ensures faults { (w : Title) (o : Option (List ℕ)) → IsKept catalogue.now requests.now message.old w o →
+        IfOk result (λ fault. fault_count (run_of catalogue.now requests.now before w o octets.now) ≡ (if fault then 1 else 0)) }
+    ensures ready { OnOk result (IsReady catalogue.now (before + length octets.now + 1) message.new) }
+{
+    let Some(m) = message else {
+        return Ok(false);
+    };
+    if m.take(catalogue, requests, octets, before, out)?.is_none() {
+        return Ok(false);
+    }
+    forget(message);
     Ok(true)
 }
 
@@ -125,17 +162,46 @@ fn shut<O: Out>(
 }
 
 impl Slots {
-    ghost use Rattle.giop_stream.specs.Joined.Keeping.{Keeps, AreReady, scene_to, lines_to};
+    ghost use Rattle.giop_stream.specs.Keeping.{Keeps, AreReady, IsBare, scene_to, lines_to, run_scene, run_lines};
+    ghost use Rattle.std.specs.Prelude.{flat_map};
+    ghost use Rattle.giop_print.specs.Lines.{unfinished_line};
+    ghost use Rattle.giop_stream.specs.Machine.{left_open};
+    ghost use Rattle.giop_stream.specs.Plays.{slots_at};
     ghost use Rattle.std.specs.Prelude.{◌<◌, slice_get};
     ghost use Rattle.std.specs.List.{AllByRecursion as Each};
     ghost use Rattle.giop_stream.specs.declared.slots.Payload.TheVariants as Payload;
-    ghost use Rattle.giop_stream.specs.Joined.Events.{Open, Opens, Cancelled, Rising};
+    ghost use Rattle.giop_stream.specs.Events.{Open, Opens, Cancelled, Rising};
     ghost use Rattle.giop_stream.specs.Framing.{Message as Part};
-    ghost use Rattle.giop_stream.specs.Joined.Events.{title, place as place_of, opener_of, continues_by};
-    ghost use Rattle.giop_stream.specs.Joined.Keeping.{IsNow};
+    ghost use Rattle.giop_stream.specs.Events.{title, place as place_of, opener_of, continues_by};
+    ghost use Rattle.giop_stream.specs.Keeping.{IsNow};
     ghost use Rattle.std.specs.Option.{option_map};
     ghost use Rattle.std.specs.List.{position_from};
     ghost use Rattle.std.specs.Prelude.{◌==◌, IfSome};
+
+    /// No message.
+    pub fn new() -> Slots
+        ensures bare { IsBare result }
+        ensures ready { (C : Table) (n : ℕ) → AreReady C n result }
+    {
+        Slots {
+            slots: ArrayVec::new(),
+            own: None,
+            payload: Payload::Nobody,
+        }
+    }
+
+    /// The open messages that have neither ended nor been faulted, by number.
+    pub fn unfinished<O: Out>(&self, out: &mut O) -> Result<(), OutFault>
+        ensures { (C : Table) (l : Listed) (c : Scene) (whose : Option Title) → Keeps C l self.now c whose →
+            Writes result (O.log out.old) (O.log out.new) (flat_map unfinished_line (flat_map left_open (slots_at c))) }
+    {
+        for slot in self.slots.as_slice() {
+            if slot.message.is_some() {
+                unfinished_line(out, slot.number)?;
+            }
+        }
+        Ok(())
+    }
 
     /// Gives an octet of the payload to the message whose it is; says whether that faults it.
     pub fn take<O: Out>(
@@ -161,6 +227,39 @@ impl Slots {
             Payload::Own => give(&mut self.own, catalogue, requests, octet, place, out),
             Payload::Open(k) => match self.slots.get_mut(k) {
                 Some(slot) => give(&mut slot.message, catalogue, requests, octet, place, out),
+                None => Ok(false),
+            },
+            Payload::Nobody => Ok(false),
+        }
+    }
+
+    /// Gives octets of the payload, behind so many of the stream, to the message whose they are; says whether one of them
+    /// faults it.
+    pub fn take_run<O: Out>(
+        &mut self,
+        catalogue: &Catalogue,
+        requests: &Requests,
+        octets: &[u8],
+        before: u64,
+        out: &mut O,
+    ) -> Result<bool, OutFault>
+        requires ready { AreReady catalogue.now (before + 1) self.old }
+        requires of { AreOf catalogue.now requests.now }
+        requires limit { before + length octets.now ≤ 2 ^ 48 }
+        ensures text { (c : Scene) (whose : Option Title) → Keeps catalogue.now requests.now self.old c whose →
+            Writes result (O.log out.old) (O.log out.new) (lines_text (run_lines catalogue.now requests.now before c whose octets.now)) }
+        ensures kept { (c : Scene) (whose : Option Title) → Keeps catalogue.now requests.now self.old c whose → Rising c.live →
+            OnOk result (Keeps catalogue.now requests.now self.new (run_scene catalogue.now requests.now before c whose octets.now) whose) }
+        ensures faults { (c : Scene) (whose : Option Title) → Keeps catalogue.now requests.now self.old c whose →
+            IfOk result (λ fault. fault_count (run_lines catalogue.now requests.now before c whose octets.now) ≡ (if fault then 1 else 0)) }
+        ensures ready { OnOk result (AreReady catalogue.now (before + length octets.now + 1) self.new) }
+    {
+        match self.payload {
+            Payload::Own => give_run(&mut self.own, catalogue, requests, octets, before, out),
+            Payload::Open(k) => match self.slots.get_mut(k) {
+                Some(slot) => {
+                    give_run(&mut slot.message, catalogue, requests, octets, before, out)
+                }
                 None => Ok(false),
             },
             Payload::Nobody => Ok(false),

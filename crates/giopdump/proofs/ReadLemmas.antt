@@ -1,5 +1,5 @@
 -- What a read's contract says of the octets that were read.
-use Rattle.std.proofs.Common.{◌≡◌, ℕ, ◌+◌, ◌<◌, ◌≤◌, List, [], ◌++◌, length, take, length-take, refl, sym, ap, ◌∙◌, append_assoc, Option, Some, None, arith}
+use Rattle.std.proofs.Common.{◌≡◌, ℕ, ◌+◌, ◌<◌, ◌≤◌, List, [], ◌++◌, length, take, length-take, suc, zero, ◌∷◌, get_or, refl, sym, ap, ◌∙◌, append_assoc, Option, Some, None, arith}
 use Rattle.std.specs.Io.KnownBytes.{Consumes, Keeps}
 use Rattle.std.proofs.lemmas.Bool.{eq-eqb, ne_eqb, lt-ltb}
 use Rattle.std.proofs.lemmas.List.Elements.{All-nil, All-take}
@@ -60,3 +60,12 @@ not_end a b into n g some = let t = ne_eqb n 0 some in g.ends ∙ rw t refl
 pub one_more_read : (before so_far turns after most : ℕ) → so_far ≤ before + turns → after ≡ counted so_far → turns < most → after ≤ before + most
 unfolding counted
 one_more_read before so_far turns after most below one room = omega arith
+
+-- octets are a list of which each element is one
+pub octets-from : (xs : List ℕ) → ((i : ℕ) → get_or xs i 0 < 256) → AreOctets xs
+octets-from xs h = λ k d l. rw (same_read xs k d l) (h k)
+  where
+    same_read : (xs : List ℕ) (k d : ℕ) → k < length xs → get_or xs k d ≡ get_or xs k 0
+    same_read [] k d l = absurd (omega arith)
+    same_read (x ∷ xs) zero d l = refl
+    same_read (x ∷ xs) (suc k) d l = same_read xs k d (omega arith)

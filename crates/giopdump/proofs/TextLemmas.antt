@@ -2,34 +2,45 @@
 use Rattle.std.proofs.Common.{◌≡◌, List, ℕ, [], ◌++◌, length, drop, Option, Some, None, refl, sym, ap, ◌∙◌, append-nil, append_assoc, IsSome}
 use Rattle.std.proofs.Math.Seq.{drop-length, drop-append_seam}
 use Rattle.giop_print.specs.Output.{OutLog, Wrote}
+use Rattle.giop_message.specs.Reading.{Reading}
 use Rattle.giop_stream.specs.Framing.{cut, fault_of}
 use Rattle.giop_stream.specs.Stream.{text}
-use Rattle.giop_stream.specs.Holding.{status_of}
+use Rattle.giop_stream.specs.Holding.{status_of, reading_of}
 use Rattle.giop_stream.specs.declared.fault.StreamFault.{StreamFault}
 use Rattle.giop_stream.specs.declared.status.Status.TheVariants.{Running, Stopped}
-use Rattle.giop_stream.proofs.Held.{text_begins}
+use Rattle.giop_stream.specs.Remembering.{EngineMemory}
+use Rattle.giop_message.specs.Signatures.{said_by}
+use Rattle.giop_message.proofs.Causal.{is_causal}
+use Rattle.giop_stream.proofs.Bridge.{run_text}
 use Rattle.giop_print.proofs.Writing.{wrote-nil}
 use Rattle.giopdump.specs.Running.{adds, IsStopped}
 use Rattle.giopdump.specs.Turns.{IsRunning}
 
-pub adds-nil : (p : List ℕ) → adds p [] ≡ []
+pub adds-nil : (R : Reading) (p : List ℕ) → adds R p [] ≡ []
 unfolding adds
-adds-nil p = rw append-nil (drop-length (text p))
+adds-nil R p = rw append-nil (drop-length (text R p))
 
-pub adds-append : (p s t : List ℕ) → adds p (s ++ t) ≡ adds p s ++ adds (p ++ s) t
+-- the text of a stream is a front of that of each longer one
+abbrev pub Begins : Reading → Type 0
+Begins R = (p q : List ℕ) → (more : List ℕ) × (text R (p ++ q) ≡ text R p ++ more)
+
+pub begins : (e : EngineMemory) → Begins (reading_of e)
+begins e p q = (_, run_text (reading_of e) (is_causal (said_by e.table e.listed)) p q)
+
+pub adds-append : (R : Reading) → Begins R → (p s t : List ℕ) → adds R p (s ++ t) ≡ adds R p s ++ adds R (p ++ s) t
 unfolding adds
-adds-append p s t =
-    let a = text_begins p s in
-    let b = text_begins (p ++ s) t in
-    let whole : text (p ++ (s ++ t)) ≡ text p ++ (a.0 ++ b.0) =
-    ap text (sym (append_assoc p s t)) ∙ (b.1 ∙ (ap (λ z. z ++ b.0) a.1 ∙ append_assoc (text p) a.0 b.0)) in
-    let first : drop (length (text p)) (text (p ++ s)) ≡ a.0 = ap (drop (length (text p))) a.1 ∙ drop-append_seam (text p) a.0 in
-    let second : drop (length (text (p ++ s))) (text ((p ++ s) ++ t)) ≡ b.0 = ap (drop (length (text (p ++ s)))) b.1 ∙ drop-append_seam (text (p ++ s)) b.0 in
-    ap (drop (length (text p))) whole ∙ (drop-append_seam (text p) (a.0 ++ b.0) ∙ rw (first, second) refl)
+adds-append R begins p s t =
+    let a = begins p s in
+    let b = begins (p ++ s) t in
+    let whole : text R (p ++ (s ++ t)) ≡ text R p ++ (a.0 ++ b.0) =
+    ap (text R) (sym (append_assoc p s t)) ∙ (b.1 ∙ (ap (λ z. z ++ b.0) a.1 ∙ append_assoc (text R p) a.0 b.0)) in
+    let first : drop (length (text R p)) (text R (p ++ s)) ≡ a.0 = ap (drop (length (text R p))) a.1 ∙ drop-append_seam (text R p) a.0 in
+    let second : drop (length (text R (p ++ s))) (text R ((p ++ s) ++ t)) ≡ b.0 = ap (drop (length (text R (p ++ s)))) b.1 ∙ drop-append_seam (text R (p ++ s)) b.0 in
+    ap (drop (length (text R p))) whole ∙ (drop-append_seam (text R p) (a.0 ++ b.0) ∙ rw (first, second) refl)
 
 -- nothing is due where nothing was read
-pub wrote-none : (a : OutLog) (p : List ℕ) → Wrote a a (adds p [])
-wrote-none a p = rw adds-nil (wrote-nil a)
+pub wrote-none : (R : Reading) (a : OutLog) (p : List ℕ) → Wrote a a (adds R p [])
+wrote-none R a p = rw adds-nil (wrote-nil a)
 
 running_fault : (o : Option (ℕ × StreamFault)) → Running ≡ status_of (fault_of o) → o ≡ None
 running_fault None e = refl

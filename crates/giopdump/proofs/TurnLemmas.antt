@@ -1,34 +1,44 @@
 -- Turn after turn, to the end of a run.
-use Rattle.std.proofs.Common.{◌≡◌, ℕ, ◌+◌, ◌^◌, ◌<◌, List, [], ◌++◌, refl, sym, ap, ◌∙◌, append-nil, append_assoc, arith, Bool, Result, Ok, Err, true, false, inl, inr}
+use Rattle.std.proofs.Common.{◌≡◌, ℕ, ◌+◌, ◌^◌, ◌<◌, List, [], ◌++◌, refl, sym, subst, ap, ◌∙◌, append-nil, append_assoc, arith, Bool, Result, Ok, Err, true, false, inl, inr, Option}
+use Rattle.std.specs.Prelude.{IfOk}
 use Rattle.std.proofs.lemmas.List.Elements.{All-nil, All-append}
 use Rattle.giop_print.specs.Output.{OutLog, counted}
+use Rattle.giop_message.specs.Reading.{Reading}
 use Rattle.giop_stream.specs.Stream.{closing}
-use Rattle.giop_stream.specs.Holding.{Holds}
+use Rattle.giop_stream.specs.Holding.{Holds, reading_of}
 use Rattle.giop_stream.specs.Remembering.{EngineMemory}
 use Rattle.giop_print.proofs.Writing.{wrote-append, wrote-front, front-append}
 use Rattle.giopdump.specs.SourceLog.{SourceLog}
 use Rattle.giopdump.specs.Running.{adds, Given, IsOver, Ran}
+use Rattle.giopdump.specs.Console.{Dumped}
 use Rattle.giopdump.specs.Turns.{Took, Fed, OneRead, Turned, Closed, Going}
 use Rattle.giopdump.specs.declared.running.Report.{Report}
 use Rattle.giopdump.specs.declared.fault.RunFault.{RunFault}
 use Rattle.giopdump.specs.declared.fault.RunFault.TheVariants as fault
-use Rattle.giopdump.proofs.TextLemmas.{adds-append, wrote-none, runs_or_stops}
+use Rattle.giopdump.proofs.TextLemmas.{Begins, adds-append, wrote-none, runs_or_stops}
 use Rattle.giopdump.proofs.ReadLemmas.{consumes-same, consumes-append}
 
 -- one turn
 
 -- a read of some octets, and their feed
-pub turned_on : (r : Result Bool RunFault) (p s : List ℕ) (e : EngineMemory) (a b : SourceLog) (x y : OutLog) → OneRead s a b → b.failures ≡ a.failures → b.ends ≡ a.ends → Fed r p s e x y → Turned r p s e a b x y
-turned_on (Ok true) p s e a b x y n k l f = (n, k, l, f.0, f.1)
-turned_on (Ok false) p s e a b x y n k l f = (n, k, inr f.1, f.0)
-turned_on (Err fault.Out) p s e a b x y n k l f = (n, k, f)
-turned_on (Err fault.Read) p s e a b x y n k l f = absurd f
-turned_on (Err fault.Turns) p s e a b x y n k l f = absurd f
-turned_on (Err fault.Failed) p s e a b x y n k l f = absurd f
+pub turned_on : (R : Reading) (r : Result Bool RunFault) (p s : List ℕ) (e : EngineMemory) (a b : SourceLog) (x y : OutLog) → OneRead s a b → b.failures ≡ a.failures → b.ends ≡ a.ends → Fed R r p s e x y → Turned R r p s e a b x y
+turned_on R (Ok true) p s e a b x y n k l f = (n, k, l, f.0, f.1)
+turned_on R (Ok false) p s e a b x y n k l f = (n, k, inr f.1, f.0)
+turned_on R (Err fault.Out) p s e a b x y n k l f = (n, k, f)
+turned_on R (Err fault.Read) p s e a b x y n k l f = absurd f
+turned_on R (Err fault.Turns) p s e a b x y n k l f = absurd f
+turned_on R (Err fault.Failed) p s e a b x y n k l f = absurd f
+
+-- an engine that reads messages by R did this by R
+turned_by : (Q R : Reading) (r : Result Bool RunFault) (p s : List ℕ) (e : EngineMemory) (a b : SourceLog) (x y : OutLog) → Q ≡ R → Turned Q r p s e a b x y → Turned R r p s e a b x y
+turned_by Q R r p s e a b x y q t = subst (λ z. Turned z r p s e a b x y) q t
+
+closed_by : (Q R : Reading) (r : Result Report RunFault) (p : List ℕ) (x y : OutLog) → Q ≡ R → Closed Q r p x y → Closed R r p x y
+closed_by Q R r p x y q t = subst (λ z. Closed z r p x y) q t
 
 -- nothing was read
-pub took-none : (p : List ℕ) (e : EngineMemory) (x : OutLog) → Holds e p → Took p [] e x x
-took-none p e x h = record { holds = rw append-nil h; written = wrote-none x p }
+pub took-none : (R : Reading) (p : List ℕ) (e : EngineMemory) (x : OutLog) → reading_of e ≡ R → Holds e p → Took R p [] e x x
+took-none R p e x r h = record { reads = r; holds = rw append-nil h; written = wrote-none R x p }
 
 -- all turns
 
@@ -48,9 +58,9 @@ given_none p a =
       };
     }
 
-given_more : (p s t : List ℕ) (e : EngineMemory) (k : ℕ) (a b c : SourceLog) (x y : OutLog) → Going p s e k a b x y → OneRead t b c → k < 2 ^ 40 → Given p (s ++ t) a c
+given_more : (R : Reading) (p s t : List ℕ) (e : EngineMemory) (k : ℕ) (a b c : SourceLog) (x y : OutLog) → Going R p s e k a b x y → OneRead t b c → k < 2 ^ 40 → Given p (s ++ t) a c
 unfolding counted
-given_more p s t e k a b c x y g u h =
+given_more R p s t e k a b c x y g u h =
     record {
       left = consumes-append a.left b.left c.left s t g.left u.left;
       octets = All-append (λ v. v < 256) s t g.octets u.octets;
@@ -65,8 +75,8 @@ given_more p s t e k a b c x y g u h =
       };
     }
 
-pub going_start : (p : List ℕ) (e : EngineMemory) (a : SourceLog) (x y : OutLog) → Fed (Ok true) p [] e x y → Going p [] e 0 a a x y
-going_start p e a x y f =
+pub going_start : (R : Reading) (p : List ℕ) (e : EngineMemory) (a : SourceLog) (x y : OutLog) → Fed R (Ok true) p [] e x y → Going R p [] e 0 a a x y
+going_start R p e a x y f =
     record {
       began = rw append-nil at f.1;
       running = f.1;
@@ -79,15 +89,16 @@ going_start p e a x y f =
       ends = refl;
     }
 
-pub going_more : (p s t : List ℕ) (e d : EngineMemory) (k : ℕ) (a b c : SourceLog) (x y z : OutLog) → Going p s e k a b x y → Turned (Ok true) (p ++ s) t d b c y z → Going p (s ++ t) d (k + 1) a c x z
+going_on : (R : Reading) → Begins R → (p s t : List ℕ) (e d : EngineMemory) (k : ℕ) (a b c : SourceLog) (x y z : OutLog) → Going R p s e k a b x y → Turned R (Ok true) (p ++ s) t d b c y z → Going R p (s ++ t) d (k + 1) a c x z
 unfolding counted
-going_more p s t e d k a b c x y z g (u, failures, ends, took, running) =
+going_on R begins p s t e d k a b c x y z g (u, failures, ends, took, running) =
     record {
       began = g.began;
       running = rw append_assoc at running;
       took = record {
+        reads = took.reads;
         holds = rw append_assoc at took.holds;
-        written = rw (adds-append p s t) (wrote-append x y z (adds p s) (adds (p ++ s) t) g.took.written took.written);
+        written = rw (adds-append R begins p s t) (wrote-append x y z (adds R p s) (adds R (p ++ s) t) g.took.written took.written);
       };
       left = consumes-append a.left b.left c.left s t g.left u.left;
       octets = All-append (λ v. v < 256) s t g.octets u.octets;
@@ -97,28 +108,36 @@ going_more p s t e d k a b c x y z g (u, failures, ends, took, running) =
       ends = ends ∙ g.ends;
     }
 
+pub going_more : (R : Reading) → Begins R → (p s t : List ℕ) (e d : EngineMemory) (k : ℕ) (a b c : SourceLog) (x y z : OutLog) → Going R p s e k a b x y → Turned (reading_of e) (Ok true) (p ++ s) t d b c y z → Going R p (s ++ t) d (k + 1) a c x z
+going_more R begins p s t e d k a b c x y z g u =
+    going_on R begins p s t e d k a b c x y z g (turned_by (reading_of e) R (Ok true) (p ++ s) t d b c y z g.took.reads u)
+
 -- the last turn
 
 -- a turn failed
-pub ran_err : (r : RunFault) (p s t : List ℕ) (e d : EngineMemory) (k : ℕ) (a b c : SourceLog) (x y z : OutLog) → Going p s e k a b x y → Turned (Err r) (p ++ s) t d b c y z → k < 2 ^ 40 → Ran (Err r) p (s ++ t) a c x z
-ran_err fault.Read p s t e d k a b c x y z g (u, failures, written) h =
+failed_on : (R : Reading) → Begins R → (r : RunFault) (p s t : List ℕ) (e d : EngineMemory) (k : ℕ) (a b c : SourceLog) (x y z : OutLog) → Going R p s e k a b x y → Turned R (Err r) (p ++ s) t d b c y z → k < 2 ^ 40 → Ran R (Err r) p (s ++ t) a c x z
+failed_on R begins fault.Read p s t e d k a b c x y z g (u, failures, written) h =
     record {
-      given = given_more p s t e k a b c x y g u h;
+      given = given_more R p s t e k a b c x y g u h;
       failures = failures ∙ ap counted g.failures;
-      written = rw (adds-append p s t) (wrote-append x y z (adds p s) (adds (p ++ s) t) g.took.written written);
+      written = rw (adds-append R begins p s t) (wrote-append x y z (adds R p s) (adds R (p ++ s) t) g.took.written written);
     }
-ran_err fault.Out p s t e d k a b c x y z g (u, failures, front) h =
+failed_on R begins fault.Out p s t e d k a b c x y z g (u, failures, front) h =
     record {
-      given = given_more p s t e k a b c x y g u h;
+      given = given_more R p s t e k a b c x y g u h;
       failures = failures ∙ g.failures;
-      written = rw (adds-append p s t) (front-append x z (adds p s ++ adds (p ++ s) t) (closing (p ++ (s ++ t))) (wrote-front x y z (adds p s) (adds (p ++ s) t) g.took.written front));
+      written = rw (adds-append R begins p s t) (front-append x z (adds R p s ++ adds R (p ++ s) t) (closing R (p ++ (s ++ t))) (wrote-front x y z (adds R p s) (adds R (p ++ s) t) g.took.written front));
     }
-ran_err fault.Turns p s t e d k a b c x y z g u h = absurd u
-ran_err fault.Failed p s t e d k a b c x y z g u h = absurd u
+failed_on R begins fault.Turns p s t e d k a b c x y z g u h = absurd u
+failed_on R begins fault.Failed p s t e d k a b c x y z g u h = absurd u
+
+pub ran_err : (R : Reading) → Begins R → (r : RunFault) (p s t : List ℕ) (e d : EngineMemory) (k : ℕ) (a b c : SourceLog) (x y z : OutLog) → Going R p s e k a b x y → Turned (reading_of e) (Err r) (p ++ s) t d b c y z → k < 2 ^ 40 → Ran R (Err r) p (s ++ t) a c x z
+ran_err R begins r p s t e d k a b c x y z g u h =
+    failed_on R begins r p s t e d k a b c x y z g (turned_by (reading_of e) R (Err r) (p ++ s) t d b c y z g.took.reads u) h
 
 -- no turn is left
-pub ran_turns : (p s : List ℕ) (e : EngineMemory) (k : ℕ) (a b : SourceLog) (x y : OutLog) → Going p s e k a b x y → k ≡ 2 ^ 40 → Ran (Err fault.Turns) p s a b x y
-ran_turns p s e k a b x y g h =
+pub ran_turns : (R : Reading) (p s : List ℕ) (e : EngineMemory) (k : ℕ) (a b : SourceLog) (x y : OutLog) → Going R p s e k a b x y → k ≡ 2 ^ 40 → Ran R (Err fault.Turns) p s a b x y
+ran_turns R p s e k a b x y g h =
     record {
       given = record {
         left = g.left;
@@ -145,52 +164,70 @@ over_more p s t a b c e (inl q) = inl (q ∙ ap counted e)
 over_more p s t a b c e (inr q) = inr (rw append_assoc at q)
 
 -- the stream is over after a turn
-pub ran_over : (r : Result Report RunFault) (p s t : List ℕ) (e d : EngineMemory) (k : ℕ) (a b c : SourceLog) (x y z w : OutLog) → Going p s e k a b x y → Turned (Ok false) (p ++ s) t d b c y z → k < 2 ^ 40
-    → Closed r ((p ++ s) ++ t) z w → Ran r p (s ++ t) a c x w
-ran_over (Ok v) p s t e d k a b c x y z w g (u, failures, over, took) h q =
-    let all = wrote-append x y z (adds p s) (adds (p ++ s) t) g.took.written took.written in
+over_on : (R : Reading) → Begins R → (r : Result Report RunFault) (p s t : List ℕ) (e d : EngineMemory) (k : ℕ) (a b c : SourceLog) (x y z w : OutLog) → Going R p s e k a b x y → Turned R (Ok false) (p ++ s) t d b c y z → k < 2 ^ 40
+    → Closed R r ((p ++ s) ++ t) z w → Ran R r p (s ++ t) a c x w
+over_on R begins (Ok v) p s t e d k a b c x y z w g (u, failures, over, took) h q =
+    let all = wrote-append x y z (adds R p s) (adds R (p ++ s) t) g.took.written took.written in
     let assoc = append_assoc p s t in
     record {
-      given = given_more p s t e k a b c x y g u h;
+      given = given_more R p s t e k a b c x y g u h;
       over = over_more p s t a b c g.ends over;
       failures = failures ∙ g.failures;
-      written = rw (adds-append p s t, ← assoc) (wrote-append x z w (adds p s ++ adds (p ++ s) t) (closing ((p ++ s) ++ t)) all q.written);
+      written = rw (adds-append R begins p s t, ← assoc) (wrote-append x z w (adds R p s ++ adds R (p ++ s) t) (closing R ((p ++ s) ++ t)) all q.written);
       totals = rw (← assoc) q.totals;
       saved = q.saved;
     }
-ran_over (Err fault.Out) p s t e d k a b c x y z w g (u, failures, over, took) h q =
-    let all = wrote-append x y z (adds p s) (adds (p ++ s) t) g.took.written took.written in
+over_on R begins (Err fault.Out) p s t e d k a b c x y z w g (u, failures, over, took) h q =
+    let all = wrote-append x y z (adds R p s) (adds R (p ++ s) t) g.took.written took.written in
     let assoc = append_assoc p s t in
     record {
-      given = given_more p s t e k a b c x y g u h;
+      given = given_more R p s t e k a b c x y g u h;
       failures = failures ∙ g.failures;
-      written = rw (adds-append p s t, ← assoc) (wrote-front x z w (adds p s ++ adds (p ++ s) t) (closing ((p ++ s) ++ t)) all q);
+      written = rw (adds-append R begins p s t, ← assoc) (wrote-front x z w (adds R p s ++ adds R (p ++ s) t) (closing R ((p ++ s) ++ t)) all q);
     }
-ran_over (Err fault.Read) p s t e d k a b c x y z w g u h q = absurd q
-ran_over (Err fault.Turns) p s t e d k a b c x y z w g u h q = absurd q
-ran_over (Err fault.Failed) p s t e d k a b c x y z w g u h q = absurd q
+over_on R begins (Err fault.Read) p s t e d k a b c x y z w g u h q = absurd q
+over_on R begins (Err fault.Turns) p s t e d k a b c x y z w g u h q = absurd q
+over_on R begins (Err fault.Failed) p s t e d k a b c x y z w g u h q = absurd q
+
+pub ran_over : (R : Reading) → Begins R → (r : Result Report RunFault) (p s t : List ℕ) (e d : EngineMemory) (k : ℕ) (a b c : SourceLog) (x y z w : OutLog) → Going R p s e k a b x y → Turned (reading_of e) (Ok false) (p ++ s) t d b c y z → k < 2 ^ 40
+    → Closed (reading_of d) r ((p ++ s) ++ t) z w → Ran R r p (s ++ t) a c x w
+ran_over R begins r p s t e d k a b c x y z w g u h q =
+    let v = turned_by (reading_of e) R (Ok false) (p ++ s) t d b c y z g.took.reads u in
+    over_on R begins r p s t e d k a b c x y z w g v h (closed_by (reading_of d) R r ((p ++ s) ++ t) z w v.3.reads q)
 
 -- the stream was over before the first read
-pub ran_stopped : (r : Result Report RunFault) (p : List ℕ) (e : EngineMemory) (a : SourceLog) (x y z : OutLog) → Fed (Ok false) p [] e x y → Closed r (p ++ []) y z → Ran r p [] a a x z
-ran_stopped (Ok v) p e a x y z f q =
+stopped_on : (R : Reading) (r : Result Report RunFault) (p : List ℕ) (e : EngineMemory) (a : SourceLog) (x y z : OutLog) → Fed R (Ok false) p [] e x y → Closed R r (p ++ []) y z → Ran R r p [] a a x z
+stopped_on R (Ok v) p e a x y z f q =
     record {
       given = given_none p a;
       over = inr f.1;
       failures = refl;
-      written = wrote-append x y z (adds p []) (closing (p ++ [])) f.0.written q.written;
+      written = wrote-append x y z (adds R p []) (closing R (p ++ [])) f.0.written q.written;
       totals = q.totals;
       saved = q.saved;
     }
-ran_stopped (Err fault.Out) p e a x y z f q =
-    record { given = given_none p a; failures = refl; written = wrote-front x y z (adds p []) (closing (p ++ [])) f.0.written q }
-ran_stopped (Err fault.Read) p e a x y z f q = absurd q
-ran_stopped (Err fault.Turns) p e a x y z f q = absurd q
-ran_stopped (Err fault.Failed) p e a x y z f q = absurd q
+stopped_on R (Err fault.Out) p e a x y z f q =
+    record { given = given_none p a; failures = refl; written = wrote-front x y z (adds R p []) (closing R (p ++ [])) f.0.written q }
+stopped_on R (Err fault.Read) p e a x y z f q = absurd q
+stopped_on R (Err fault.Turns) p e a x y z f q = absurd q
+stopped_on R (Err fault.Failed) p e a x y z f q = absurd q
+
+pub ran_stopped : (R : Reading) (r : Result Report RunFault) (p : List ℕ) (e : EngineMemory) (a : SourceLog) (x y z : OutLog) → Fed R (Ok false) p [] e x y → Closed (reading_of e) r (p ++ []) y z → Ran R r p [] a a x z
+ran_stopped R r p e a x y z f q = stopped_on R r p e a x y z f (closed_by (reading_of e) R r (p ++ []) y z f.0.reads q)
 
 -- the empty piece failed
-pub ran_first : (r : RunFault) (p : List ℕ) (e : EngineMemory) (a : SourceLog) (x y : OutLog) → Fed (Err r) p [] e x y → Ran (Err r) p [] a a x y
-ran_first fault.Out p e a x y f =
-    record { given = given_none p a; failures = refl; written = front-append x y (adds p []) (closing (p ++ [])) f }
-ran_first fault.Read p e a x y f = absurd f
-ran_first fault.Turns p e a x y f = absurd f
-ran_first fault.Failed p e a x y f = absurd f
+pub ran_first : (R : Reading) (r : RunFault) (p : List ℕ) (e : EngineMemory) (a : SourceLog) (x y : OutLog) → Fed R (Err r) p [] e x y → Ran R (Err r) p [] a a x y
+ran_first R fault.Out p e a x y f =
+    record { given = given_none p a; failures = refl; written = front-append x y (adds R p []) (closing R (p ++ [])) f }
+ran_first R fault.Read p e a x y f = absurd f
+ran_first R fault.Turns p e a x y f = absurd f
+ran_first R fault.Failed p e a x y f = absurd f
+
+pub ran_by : (Q R : Reading) (r : Result Report RunFault) (p s : List ℕ) (a b : SourceLog) (x y : OutLog) → Q ≡ R → Ran Q r p s a b x y → Ran R r p s a b x y
+ran_by Q R r p s a b x y q t = subst (λ z. Ran z r p s a b x y) q t
+
+-- a run from an empty stream, by what the source tells that it has left
+pub dumped_by : (R : Reading) (r : Result Report RunFault) (s : List ℕ) (a b : SourceLog) (x y : OutLog) (told : Option (List ℕ)) → a.left ≡ told → Ran R r [] s a b x y → IfOk r (λ report. Dumped R report told)
+dumped_by R (Ok report) s a b x y told l ran =
+    record { octets = s; rest = b.left; given = rw l at ran.given.left; totals = ran.totals }
+dumped_by R (Err f) s a b x y told l ran = tt

@@ -1,8 +1,9 @@
--- What a run did (meaning): p is the stream that its engine held, s are the octets that its source gave.
+-- What a run did (meaning): p is the stream that its engine held, s are the octets that its source gave; R reads a message.
 use Rattle.std.specs.Prelude.{◌≡◌, ℕ, ◌+◌, ◌^◌, ◌≤◌, ◌<◌, List, [], ◌++◌, length, drop, IsSome, Result, Ok, Err, ◌⊎◌}
 use Rattle.std.specs.Io.KnownBytes.{Consumes}
 use Rattle.giop_cdr.specs.Numbers.{AreOctets}
 use Rattle.giop_print.specs.Output.{OutLog, counted, Wrote, WroteFront}
+use Rattle.giop_message.specs.Reading.{Reading}
 use Rattle.giop_stream.specs.Framing.{cut}
 use Rattle.giop_stream.specs.Stream.{text, closing, final}
 use Rattle.giopdump.specs.SourceLog.{SourceLog}
@@ -11,8 +12,8 @@ use Rattle.giopdump.specs.declared.fault.RunFault.{RunFault}
 use Rattle.giopdump.specs.declared.fault.RunFault.TheVariants as fault
 
 -- what the octets s add to the text of p
-unfoldable pub adds : List ℕ → List ℕ → List ℕ
-adds p s = drop (length (text p)) (text (p ++ s))
+unfoldable pub adds : Reading → List ℕ → List ℕ → List ℕ
+adds R p s = drop (length (text R p)) (text R (p ++ s))
 
 -- the stream p has a fault, so that no octet after it is read
 abbrev pub IsStopped : List ℕ → Type 0
@@ -39,42 +40,42 @@ abbrev pub IsOver : List ℕ → SourceLog → SourceLog → Type 0
 IsOver p before after = (after.ends ≡ counted before.ends) ⊎ IsStopped p
 
 -- the stream came to its end: its lines and its closing are written, and the report has its totals
-pub record Finished (report : Report) (p s : List ℕ) (before after : SourceLog) (x y : OutLog) : Type 0 where
+pub record Finished (R : Reading) (report : Report) (p s : List ℕ) (before after : SourceLog) (x y : OutLog) : Type 0 where
   pub given : Given p s before after
   pub over : IsOver (p ++ s) before after
   pub failures : after.failures ≡ before.failures
-  pub written : Wrote x y (adds p s ++ closing (p ++ s))
-  pub totals : report.totals ≡ final (p ++ s)
+  pub written : Wrote x y (adds R p s ++ closing R (p ++ s))
+  pub totals : report.totals ≡ final R (p ++ s)
   pub saved : report.saved ≡ 0
 
 -- a read failed: the lines of what was read are written, and no closing
-pub record ReadStopped (p s : List ℕ) (before after : SourceLog) (x y : OutLog) : Type 0 where
+pub record ReadStopped (R : Reading) (p s : List ℕ) (before after : SourceLog) (x y : OutLog) : Type 0 where
   pub given : Given p s before after
   pub failures : after.failures ≡ counted before.failures
-  pub written : Wrote x y (adds p s)
+  pub written : Wrote x y (adds R p s)
 
 -- the reads were used up: the lines of what was read are written, and no closing
-pub record ReadsSpent (p s : List ℕ) (before after : SourceLog) (x y : OutLog) : Type 0 where
+pub record ReadsSpent (R : Reading) (p s : List ℕ) (before after : SourceLog) (x y : OutLog) : Type 0 where
   pub given : Given p s before after
   pub reads : before.reads + 2 ^ 40 < 2 ^ 64 → after.reads ≡ before.reads + 2 ^ 40
   pub failures : after.failures ≡ before.failures
   pub ends : after.ends ≡ before.ends
   pub running : ¬ IsStopped (p ++ s)
-  pub written : Wrote x y (adds p s)
+  pub written : Wrote x y (adds R p s)
 
 -- a put failed: a front of what was due is written
-pub record WriteStopped (p s : List ℕ) (before after : SourceLog) (x y : OutLog) : Type 0 where
+pub record WriteStopped (R : Reading) (p s : List ℕ) (before after : SourceLog) (x y : OutLog) : Type 0 where
   pub given : Given p s before after
   pub failures : after.failures ≡ before.failures
-  pub written : WroteFront x y (adds p s ++ closing (p ++ s))
+  pub written : WroteFront x y (adds R p s ++ closing R (p ++ s))
 
 -- what a run did, by its answer; on an engine that holds a stream it is never Failed
-abbrev pub Ran : Result Report RunFault → List ℕ → List ℕ → SourceLog → SourceLog → OutLog → OutLog → Type 0
-Ran (Ok report) p s before after x y = Finished report p s before after x y
-Ran (Err fault.Read) p s before after x y = ReadStopped p s before after x y
-Ran (Err fault.Turns) p s before after x y = ReadsSpent p s before after x y
-Ran (Err fault.Out) p s before after x y = WriteStopped p s before after x y
-Ran (Err fault.Failed) p s before after x y = ⊥
+abbrev pub Ran : Reading → Result Report RunFault → List ℕ → List ℕ → SourceLog → SourceLog → OutLog → OutLog → Type 0
+Ran R (Ok report) p s before after x y = Finished R report p s before after x y
+Ran R (Err fault.Read) p s before after x y = ReadStopped R p s before after x y
+Ran R (Err fault.Turns) p s before after x y = ReadsSpent R p s before after x y
+Ran R (Err fault.Out) p s before after x y = WriteStopped R p s before after x y
+Ran R (Err fault.Failed) p s before after x y = ⊥
 
 -- what a run did with a failed engine: it read nothing and wrote nothing
 pub record Refused (result : Result Report RunFault) (before after : SourceLog) (x y : OutLog) : Type 0 where

@@ -3,9 +3,10 @@ use Rattle.std.specs.Prelude.{◌≡◌, ℕ, ◌+◌, ◌^◌, ◌≤◌, ◌<�
 use Rattle.std.specs.Io.KnownBytes.{Consumes}
 use Rattle.giop_cdr.specs.Numbers.{AreOctets}
 use Rattle.giop_print.specs.Output.{OutLog, counted, Wrote, WroteFront}
+use Rattle.giop_message.specs.Reading.{Reading}
 use Rattle.giop_stream.specs.Framing.{cut}
 use Rattle.giop_stream.specs.Stream.{closing, final}
-use Rattle.giop_stream.specs.Holding.{Holds}
+use Rattle.giop_stream.specs.Holding.{Holds, reading_of}
 use Rattle.giop_stream.specs.Remembering.{EngineMemory}
 use Rattle.giopdump.specs.SourceLog.{SourceLog}
 use Rattle.giopdump.specs.Running.{adds, IsStopped, IsOver}
@@ -17,19 +18,20 @@ use Rattle.giopdump.specs.declared.fault.RunFault.TheVariants as fault
 abbrev pub IsRunning : List ℕ → Type 0
 IsRunning p = (cut p).stop ≡ None
 
--- the octets s went into an engine that held p, and their lines were written
-pub record Took (p s : List ℕ) (e : EngineMemory) (x y : OutLog) : Type 0 where
+-- the octets s went into an engine that held p and read messages by R, and their lines were written
+pub record Took (R : Reading) (p s : List ℕ) (e : EngineMemory) (x y : OutLog) : Type 0 where
+  pub reads : reading_of e ≡ R
   pub holds : Holds e (p ++ s)
-  pub written : Wrote x y (adds p s)
+  pub written : Wrote x y (adds R p s)
 
 -- what feeding the octets s to an engine that held p did: true where the stream goes on
-abbrev pub Fed : Result Bool RunFault → List ℕ → List ℕ → EngineMemory → OutLog → OutLog → Type 0
-Fed (Ok true) p s e x y = Took p s e x y × IsRunning (p ++ s)
-Fed (Ok false) p s e x y = Took p s e x y × IsStopped (p ++ s)
-Fed (Err fault.Out) p s e x y = WroteFront x y (adds p s)
-Fed (Err fault.Read) p s e x y = ⊥
-Fed (Err fault.Turns) p s e x y = ⊥
-Fed (Err fault.Failed) p s e x y = ⊥
+abbrev pub Fed : Reading → Result Bool RunFault → List ℕ → List ℕ → EngineMemory → OutLog → OutLog → Type 0
+Fed R (Ok true) p s e x y = Took R p s e x y × IsRunning (p ++ s)
+Fed R (Ok false) p s e x y = Took R p s e x y × IsStopped (p ++ s)
+Fed R (Err fault.Out) p s e x y = WroteFront x y (adds R p s)
+Fed R (Err fault.Read) p s e x y = ⊥
+Fed R (Err fault.Turns) p s e x y = ⊥
+Fed R (Err fault.Failed) p s e x y = ⊥
 
 -- one read, of at most 4096 octets, gave the octets s
 pub record OneRead (s : List ℕ) (before after : SourceLog) : Type 0 where
@@ -39,37 +41,37 @@ pub record OneRead (s : List ℕ) (before after : SourceLog) : Type 0 where
   pub reads : after.reads ≡ counted before.reads
 
 -- what one read and its feed did on an engine that held p: true where the stream goes on
-abbrev pub Turned : Result Bool RunFault → List ℕ → List ℕ → EngineMemory → SourceLog → SourceLog → OutLog → OutLog → Type 0
-Turned (Ok true) p s e before after x y =
-    OneRead s before after × (after.failures ≡ before.failures) × (after.ends ≡ before.ends) × Took p s e x y × IsRunning (p ++ s)
-Turned (Ok false) p s e before after x y =
-    OneRead s before after × (after.failures ≡ before.failures) × IsOver (p ++ s) before after × Took p s e x y
-Turned (Err fault.Read) p s e before after x y =
-    OneRead s before after × (after.failures ≡ counted before.failures) × Wrote x y (adds p s)
-Turned (Err fault.Out) p s e before after x y =
-    OneRead s before after × (after.failures ≡ before.failures) × WroteFront x y (adds p s)
-Turned (Err fault.Turns) p s e before after x y = ⊥
-Turned (Err fault.Failed) p s e before after x y = ⊥
+abbrev pub Turned : Reading → Result Bool RunFault → List ℕ → List ℕ → EngineMemory → SourceLog → SourceLog → OutLog → OutLog → Type 0
+Turned R (Ok true) p s e before after x y =
+    OneRead s before after × (after.failures ≡ before.failures) × (after.ends ≡ before.ends) × Took R p s e x y × IsRunning (p ++ s)
+Turned R (Ok false) p s e before after x y =
+    OneRead s before after × (after.failures ≡ before.failures) × IsOver (p ++ s) before after × Took R p s e x y
+Turned R (Err fault.Read) p s e before after x y =
+    OneRead s before after × (after.failures ≡ counted before.failures) × Wrote x y (adds R p s)
+Turned R (Err fault.Out) p s e before after x y =
+    OneRead s before after × (after.failures ≡ before.failures) × WroteFront x y (adds R p s)
+Turned R (Err fault.Turns) p s e before after x y = ⊥
+Turned R (Err fault.Failed) p s e before after x y = ⊥
 
 -- the closing of p was written, and the report has its totals
-pub record Ended (report : Report) (p : List ℕ) (x y : OutLog) : Type 0 where
-  pub written : Wrote x y (closing p)
-  pub totals : report.totals ≡ final p
+pub record Ended (R : Reading) (report : Report) (p : List ℕ) (x y : OutLog) : Type 0 where
+  pub written : Wrote x y (closing R p)
+  pub totals : report.totals ≡ final R p
   pub saved : report.saved ≡ 0
 
 -- what the close of an engine that held p did
-abbrev pub Closed : Result Report RunFault → List ℕ → OutLog → OutLog → Type 0
-Closed (Ok report) p x y = Ended report p x y
-Closed (Err fault.Out) p x y = WroteFront x y (closing p)
-Closed (Err fault.Read) p x y = ⊥
-Closed (Err fault.Turns) p x y = ⊥
-Closed (Err fault.Failed) p x y = ⊥
+abbrev pub Closed : Reading → Result Report RunFault → List ℕ → OutLog → OutLog → Type 0
+Closed R (Ok report) p x y = Ended R report p x y
+Closed R (Err fault.Out) p x y = WroteFront x y (closing R p)
+Closed R (Err fault.Read) p x y = ⊥
+Closed R (Err fault.Turns) p x y = ⊥
+Closed R (Err fault.Failed) p x y = ⊥
 
 -- k turns, after all of which the stream goes on, did this to a stream p that the engine held
-pub record Going (p s : List ℕ) (e : EngineMemory) (k : ℕ) (before after : SourceLog) (x y : OutLog) : Type 0 where
+pub record Going (R : Reading) (p s : List ℕ) (e : EngineMemory) (k : ℕ) (before after : SourceLog) (x y : OutLog) : Type 0 where
   pub began : IsRunning p
   pub running : IsRunning (p ++ s)
-  pub took : Took p s e x y
+  pub took : Took R p s e x y
   pub left : Consumes before.left after.left s
   pub octets : AreOctets s
   pub reads : after.reads ≤ before.reads + k

@@ -1,28 +1,59 @@
-//! The program's words: which stream it dumps (docs/FORMATS.md, The program).
-
-ghost use Rattle.std.specs.Prelude.{IfErr};
+//! The program's words: which files it reads (docs/FORMATS.md, The program).
 
 use clap::{Arg, Command, Error};
 use std::alloc::{AllocError, Global};
 
 const ABOUT: &str = "Dumps one direction of a GIOP connection, one text line per value";
 
+const SIGNATURES_HELP: &str =
+    "The types of the operations; the built-in types alone where it is missing";
+
+const REQUESTS_HELP: &str =
+    "The requests that the replies of STREAM answer; none where it is missing";
+
 const STREAM_HELP: &str = "The octets of one direction; standard input where it is missing";
 
-/// What the words ask for.
+const EXAMPLES: &str = "\
+A signature file declares operations and the types that they are made of:
+
+    signatures 1;
+    enum Colour { red, green };
+    struct Point { Colour hue; long x; long y; };
+    operation double distance(in Point from, in Point to);
+
+A request list has a line for each request of the other direction, its id and its operation:
+
+    1 distance
+    2 distance";
+
+/// What the words ask for: each file by its name, of which none has a special meaning.
 #[derive(Clone, Copy, Debug, Drop, PartialEq, Eq)]
 pub struct Arguments<'a> {
-    /// The file with the stream's octets; None for standard input. No name has a special meaning.
+    /// The signature file; None for the built-in types alone.
+    pub signatures: Option<&'a str>,
+    /// The request list; None for the empty list.
+    pub requests: Option<&'a str>,
+    /// The file with the stream's octets; None for standard input.
     pub stream: Option<&'a str>,
+}
+
+/// An option that takes the name of a file.
+fn file_option<'a>(alloc: Global, name: &'a str, help: &'a str) -> Arg<'a> {
+    Arg::new(alloc, name)
+        .long(name)
+        .value_name("FILE")
+        .help(help)
 }
 
 /// The command as `clap` reads it, with its help.
 fn command<'a>(alloc: Global) -> Result<Command<'a>, AllocError> {
-    let stream = Arg::new(alloc, "STREAM").help(STREAM_HELP);
     Command::new(alloc, "giopdump")
         .version("0.1.0")
         .about(ABOUT)
-        .arg(stream)
+        .after_help(EXAMPLES)
+        .arg(file_option(alloc, "signatures", SIGNATURES_HELP))?
+        .arg(file_option(alloc, "requests", REQUESTS_HELP))?
+        .arg(Arg::new(alloc, "STREAM").help(STREAM_HELP))
 }
 
 impl<'a> Arguments<'a> {
@@ -31,6 +62,8 @@ impl<'a> Arguments<'a> {
     pub fn read(alloc: Global, words: &'a [String]) -> Result<Arguments<'a>, Error> {
         let matches = command(alloc)?.try_get_matches_from(words)?;
         Ok(Arguments {
+            signatures: matches.get_str("signatures"),
+            requests: matches.get_str("requests"),
             stream: matches.get_str("STREAM"),
         })
     }

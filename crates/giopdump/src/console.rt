@@ -1,12 +1,15 @@
 //! The program's two ends: a reader that is tied to the lines, which a buffer keeps until the next read or the end.
 
 ghost use Rattle.std.specs.Prelude.{◌≡◌, ◌≢◌, Err, IfOk};
+ghost use Rattle.giop_message.specs.MessageReading.{message_reading};
+ghost use Rattle.giop_stream.specs.Holding.{AreOf};
 ghost use Rattle.giopdump.specs.Console.{Dumped, exit_status};
 
-use super::fault::RunFault;
+use super::fault::{ProgramFault, RunFault};
 use super::reading::Reading;
 use super::running::{Ending, Report, run};
 use giop_print::Written;
+use giop_sig::{Catalogue, Requests};
 use giop_stream::Engine;
 use std::alloc::{AllocError, Global};
 use std::cell::{Cell, RefCell};
@@ -82,13 +85,18 @@ impl<'a, R: Read + Drop, W: Write + Drop> Read for Tied<'a, R, W> {
 pub fn dump<R: Read + Drop, W: Write + Drop>(
     reader: R,
     lines: &Lines<W>,
+    catalogue: &Catalogue,
+    requests: &Requests,
 ) -> Result<Report, RunFault>
-    ensures dumped { IfOk result (λ report. Dumped report (R.remaining reader)) }
+    requires of { AreOf catalogue.now requests.now }
+    ensures dumped { IfOk result (λ report.
+        Dumped (message_reading catalogue.now requests.now) report (R.remaining reader)) }
     ensures sound { result ≢ Err RunFault.Failed }
 {
     let mut source = Reading::new(Tied { reader, lines });
     let mut out = Written::new(lines);
-    let ran = run(&mut source, &mut out, Engine::new(), Ending::Finish);
+    let engine = Engine::new(catalogue, requests);
+    let ran = run(&mut source, &mut out, engine, Ending::Finish);
     let mut writer = lines;
     if writer.flush().is_err() || lines.is_failed() {
         return Err(RunFault::Out);
@@ -96,13 +104,13 @@ pub fn dump<R: Read + Drop, W: Write + Drop>(
     ran
 }
 
-/// The status that the program ends with: 0, or 1 where a fault was counted, or 4 where the run failed.
-pub fn status(dumped: &Result<Report, RunFault>) -> u8
-    ensures { result ≡ exit_status dumped.now }
+/// The status that the program ends with: 0, or 1 where a fault was counted, or that of what failed.
+pub fn status(ended: &Result<Report, ProgramFault>) -> u8
+    ensures { result ≡ exit_status ended.now }
 {
-    match dumped {
+    match ended {
         Ok(report) if report.totals.faults == 0 => 0,
         Ok(_) => 1,
-        Err(_) => 4,
+        Err(fault) => fault.status(),
     }
 }

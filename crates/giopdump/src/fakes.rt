@@ -1,4 +1,4 @@
-//! A reader and a writer that fail at a call of the test's choice.
+//! A reader and a writer that fail at a call of the test's choice, and a reader that never ends.
 
 use std::cell::{Cell, RefCell};
 use std::io;
@@ -37,6 +37,17 @@ impl Read for FailingReader<'_> {
             }
             _ => Ok(0),
         }
+    }
+}
+
+/// A reader that fills what it is handed, and never ends.
+#[derive(Clone, Copy, Drop)]
+pub struct EndlessReader;
+
+impl Read for EndlessReader {
+    fn read(&mut self, into: &mut [u8]) -> io::Result<usize> {
+        into.fill(b'a');
+        Ok(into.len())
     }
 }
 

@@ -6,11 +6,14 @@ mod console;
 #[cfg(test)]
 mod fakes;
 mod fault;
+mod files;
 mod piecewise;
 mod program;
 #[cfg(test)]
 mod program_tests;
 mod reading;
+#[cfg(test)]
+mod rows;
 mod running;
 mod source;
 #[cfg(test)]

@@ -3,7 +3,7 @@
 ghost use Rattle.std.specs.Prelude.{◌≡◌, ◌+◌, ◌^◌, ◌≤◌, Err, true, false, List, ℕ, MatchResult, OnOk};
 ghost use Rattle.giop_print.specs.Output.{counted};
 ghost use Rattle.giop_cdr.specs.Numbers.{AreOctets};
-ghost use Rattle.giop_stream.specs.Holding.{Holds};
+ghost use Rattle.giop_stream.specs.Holding.{Holds, reading_of};
 ghost use Rattle.giopdump.specs.SourceLog.{Gave, ReadFailed};
 ghost use Rattle.giopdump.specs.Running.{Ran, Refused};
 ghost use Rattle.giopdump.specs.Turns.{Fed, Turned, Closed};
@@ -45,12 +45,12 @@ pub fn run<S: Source, O: Out>(
     engine: Engine,
     ending: Ending,
 ) -> Result<Report, RunFault>
-    ensures ran { (p : List ℕ) → Holds engine p → (s : List ℕ)
-        × Ran result p s (S.log source.old) (S.log source.new) (O.log out.old) (O.log out.new) }
-    ensures failed { engine.failed ≡ true
+    ensures ran { (p : List ℕ) → Holds engine.entry p → (s : List ℕ)
+        × Ran (reading_of engine.entry) result p s (S.log source.old) (S.log source.new) (O.log out.old) (O.log out.new) }
+    ensures failed { engine.entry.failed ≡ true
         → Refused result (S.log source.old) (S.log source.new) (O.log out.old) (O.log out.new) }
     // Of every engine, also of one that holds no stream.
-    ensures sound { result ≡ Err RunFault.Failed → engine.failed ≡ true }
+    ensures sound { result ≡ Err RunFault.Failed → engine.entry.failed ≡ true }
     ensures reads { (S.log source.new).reads ≤ (S.log source.old).reads + 2 ^ 40 }
 {
     let Ending::Finish = ending;
@@ -75,7 +75,7 @@ fn turn<S: Source, O: Out>(
     buffer: &mut [u8; ROOM],
 ) -> Result<bool, RunFault>
     ensures turned { (p : List ℕ) → Holds engine.old p → (s : List ℕ)
-        × Turned result p s engine.new (S.log source.old) (S.log source.new) (O.log out.old) (O.log out.new) }
+        × Turned (reading_of engine.old) result p s engine.new (S.log source.old) (S.log source.new) (O.log out.old) (O.log out.new) }
     ensures leaves { engine.old.failed ≡ false → OnOk result (engine.new.failed ≡ false) }
     ensures sound { result ≡ Err RunFault.Failed → engine.old.failed ≡ true }
     ensures reads { (S.log source.new).reads ≡ counted (S.log source.old).reads }
@@ -103,7 +103,7 @@ fn read<S: Source>(source: &mut S, buffer: &mut [u8]) -> Result<usize, SourceFau
 /// Feeds a piece: whether the stream goes on.
 fn feed<O: Out>(engine: &mut Engine, piece: &[u8], out: &mut O) -> Result<bool, RunFault>
     ensures fed { (p : List ℕ) → Holds engine.old p
-        → Fed result p piece.now engine.new (O.log out.old) (O.log out.new) }
+        → Fed (reading_of engine.old) result p piece.now engine.new (O.log out.old) (O.log out.new) }
     ensures failed { engine.old.failed ≡ true
         → (result ≡ Err RunFault.Failed) × (O.log out.new ≡ O.log out.old) }
     ensures leaves { OnOk result (engine.new.failed ≡ false) }
@@ -119,11 +119,11 @@ fn feed<O: Out>(engine: &mut Engine, piece: &[u8], out: &mut O) -> Result<bool, 
 
 /// Ends the stream, and reports its totals.
 fn close<O: Out>(engine: Engine, out: &mut O) -> Result<Report, RunFault>
-    ensures closed { (p : List ℕ) → Holds engine p
-        → Closed result p (O.log out.old) (O.log out.new) }
-    ensures failed { engine.failed ≡ true
+    ensures closed { (p : List ℕ) → Holds engine.entry p
+        → Closed (reading_of engine.entry) result p (O.log out.old) (O.log out.new) }
+    ensures failed { engine.entry.failed ≡ true
         → (result ≡ Err RunFault.Failed) × (O.log out.new ≡ O.log out.old) }
-    ensures sound { result ≡ Err RunFault.Failed → engine.failed ≡ true }
+    ensures sound { result ≡ Err RunFault.Failed → engine.entry.failed ≡ true }
 {
     match engine.finish(out) {
         Ok(totals) => Ok(Report { totals, saved: 0 }),

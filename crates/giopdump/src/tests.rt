@@ -1,12 +1,16 @@
 //! Tables of streams and their lines, run whole, in pieces, and over sources and outs that fail at each call in turn.
 
+ghost use Rattle.std.specs.Prelude.{IfOk};
+ghost use Rattle.giop_stream.specs.Holding.{AreOf};
+
 use super::console::{Lines, dump, status};
 use super::fakes::{FailingReader, FailingWriter};
-use super::fault::RunFault;
+use super::fault::{ProgramFault, RunFault};
 use super::piecewise::Piecewise;
 use super::reading::Reading;
-use super::running::{Ending, run};
+use super::running::{Ending, Report, run};
 use giop_print::{Sheet, Written};
+use giop_sig::{Catalogue, Requests};
 use giop_stream::{Engine, Status, Stop, Totals};
 use std::alloc::{AllocError, Global};
 use std::cell::{Cell, RefCell};
@@ -35,7 +39,7 @@ const CLOSE_CONNECTION: Row = Row {
     status: 0,
 };
 
-const ROWS: [Row; 9] = [
+static ROWS: [Row; 9] = [
     Row {
         name: "empty input",
         stream: "",
@@ -122,7 +126,7 @@ const ROWS: [Row; 9] = [
 const COMPLETED: usize = 47;
 
 /// The octets of hexadecimal text, in which spaces stand anywhere.
-fn octets(rt: &impl Abort, alloc: Global, text: &str) -> Result<Vec<u8>, AllocError> {
+pub fn octets(rt: &impl Abort, alloc: Global, text: &str) -> Result<Vec<u8>, AllocError> {
     let mut octets = Vec::new(alloc);
     let mut high = None;
     for digit in text.chars().filter(|c| *c != ' ') {
@@ -138,7 +142,7 @@ fn octets(rt: &impl Abort, alloc: Global, text: &str) -> Result<Vec<u8>, AllocEr
 }
 
 /// The octets of lines.
-fn text(alloc: Global, lines: &[&str]) -> Result<Vec<u8>, AllocError> {
+pub fn text(alloc: Global, lines: &[&str]) -> Result<Vec<u8>, AllocError> {
     let mut text = Vec::new(alloc);
     for line in lines {
         text.extend_from_slice(line.as_bytes())?;
@@ -147,13 +151,36 @@ fn text(alloc: Global, lines: &[&str]) -> Result<Vec<u8>, AllocError> {
     Ok(text)
 }
 
-/// Feeds the front, runs the rest by pieces of `step` octets, and compares what was written and whether faults were
-/// counted.
-fn dumps(rt: &impl Abort, row: &Row, want: &[u8], front: &[u8], rest: &[u8], step: usize) {
+/// The catalogue and the list by which these streams are read: the built-in types, and no request.
+fn built_in(alloc: Global) -> Result<(Catalogue, Requests), Fail>
+    ensures { IfOk result (λ known. AreOf known.0 known.1) }
+{
+    let catalogue = Catalogue::builtin(alloc)?;
+    let requests = Requests::parse(alloc, b"", &catalogue)?;
+    Ok((catalogue, requests))
+}
+
+/// The status of the program after such a run.
+fn status_of(dumped: Result<Report, RunFault>) -> u8 {
+    match dumped {
+        Ok(report) => status(&Ok(report)),
+        Err(fault) => status(&Err(ProgramFault::Run(fault))),
+    }
+}
+
+/// Feeds the front to a new engine, runs the rest by pieces of `step` octets, and compares what was written and whether
+/// faults were counted.
+fn dumps(
+    rt: &impl Abort,
+    mut engine: Engine,
+    row: &Row,
+    want: &[u8],
+    (front, rest): (&[u8], &[u8]),
+    step: usize,
+) {
     let name = row.name;
     let mut room = [0; 512];
     let mut sheet = Sheet::new(&mut room);
-    let mut engine = Engine::new();
     let fed = engine.feed(front, &mut sheet);
     assert!(rt; fed.is_ok(), "{name}");
     let mut source = Piecewise::new(rest, step.max(1));
@@ -174,15 +201,17 @@ fn dumps(rt: &impl Abort, row: &Row, want: &[u8], front: &[u8], rest: &[u8], ste
 
 #[test]
 fn lines_do_not_depend_on_the_pieces(rt: HostRuntime) -> Result<(), Fail> {
+    let (catalogue, requests) = built_in(rt.alloc())?;
     for row in &ROWS {
         let stream = octets(&rt, rt.alloc(), row.stream)?;
         let want = text(rt.alloc(), row.lines)?;
         for step in 1..stream.len().max(1) + 1 {
-            dumps(&rt, row, &want, &[], &stream, step);
+            let engine = Engine::new(&catalogue, &requests);
+            dumps(&rt, engine, row, &want, (&[], &stream), step);
         }
         for cut in 0..stream.len() + 1 {
-            let (front, rest) = stream.split_at(cut);
-            dumps(&rt, row, &want, front, rest, 4096);
+            let engine = Engine::new(&catalogue, &requests);
+            dumps(&rt, engine, row, &want, stream.split_at(cut), 4096);
         }
     }
     Ok(())
@@ -190,13 +219,19 @@ fn lines_do_not_depend_on_the_pieces(rt: HostRuntime) -> Result<(), Fail> {
 
 #[test]
 fn lines_come_from_a_reader(rt: HostRuntime) -> Result<(), Fail> {
+    let (catalogue, requests) = built_in(rt.alloc())?;
     for row in &ROWS {
         let stream = octets(&rt, rt.alloc(), row.stream)?;
         let want = text(rt.alloc(), row.lines)?;
         let mut room = [0; 512];
         let mut sheet = Sheet::new(&mut room);
         let mut source = Reading::new(stream.as_slice());
-        let report = run(&mut source, &mut sheet, Engine::new(), Ending::Finish);
+        let report = run(
+            &mut source,
+            &mut sheet,
+            Engine::new(&catalogue, &requests),
+            Ending::Finish,
+        );
         assert!(rt; report.is_ok(), "{}", row.name);
         assert_eq!(rt; sheet.held(), want.as_slice(), "{}", row.name);
     }
@@ -205,6 +240,7 @@ fn lines_come_from_a_reader(rt: HostRuntime) -> Result<(), Fail> {
 
 #[test]
 fn a_failing_read_ends_the_run_and_keeps_the_lines(rt: HostRuntime) -> Result<(), Fail> {
+    let (catalogue, requests) = built_in(rt.alloc())?;
     let stream = octets(&rt, rt.alloc(), CLOSE_CONNECTION.stream)?;
     let want = text(rt.alloc(), CLOSE_CONNECTION.lines)?;
     for fails_at in 0..14 {
@@ -212,7 +248,12 @@ fn a_failing_read_ends_the_run_and_keeps_the_lines(rt: HostRuntime) -> Result<()
         let mut sheet = Sheet::new(&mut room);
         let reads = Cell::new(0);
         let mut source = Reading::new(FailingReader::new(&stream, &reads, fails_at));
-        let ran = run(&mut source, &mut sheet, Engine::new(), Ending::Finish);
+        let ran = run(
+            &mut source,
+            &mut sheet,
+            Engine::new(&catalogue, &requests),
+            Ending::Finish,
+        );
         if fails_at < 13 {
             assert_eq!(rt; ran, Err(RunFault::Read), "read {fails_at}");
             assert_eq!(rt; reads.get(), fails_at + 1, "read {fails_at}");
@@ -229,6 +270,7 @@ fn a_failing_read_ends_the_run_and_keeps_the_lines(rt: HostRuntime) -> Result<()
 
 #[test]
 fn a_failing_put_ends_the_run_and_keeps_a_front(rt: HostRuntime) -> Result<(), Fail> {
+    let (catalogue, requests) = built_in(rt.alloc())?;
     let stream = octets(&rt, rt.alloc(), CLOSE_CONNECTION.stream)?;
     let want = text(rt.alloc(), CLOSE_CONNECTION.lines)?;
     let mut succeeded = false;
@@ -236,7 +278,12 @@ fn a_failing_put_ends_the_run_and_keeps_a_front(rt: HostRuntime) -> Result<(), F
         let held = RefCell::new(Vec::new(rt.alloc()));
         let mut out = Written::new(FailingWriter::new(&held, fails_at));
         let mut source = Piecewise::new(&stream, 12);
-        match run(&mut source, &mut out, Engine::new(), Ending::Finish) {
+        match run(
+            &mut source,
+            &mut out,
+            Engine::new(&catalogue, &requests),
+            Ending::Finish,
+        ) {
             Ok(_) => {
                 succeeded = true;
                 assert_eq!(rt; held.into_inner(), want, "put {fails_at}");
@@ -256,6 +303,7 @@ fn a_failing_put_ends_the_run_and_keeps_a_front(rt: HostRuntime) -> Result<(), F
 
 #[test]
 fn a_failed_engine_reads_and_writes_nothing(rt: HostRuntime) -> Result<(), Fail> {
+    let (catalogue, requests) = built_in(rt.alloc())?;
     let stream = octets(&rt, rt.alloc(), CLOSE_CONNECTION.stream)?;
     let none = Totals {
         messages: 0,
@@ -265,7 +313,7 @@ fn a_failed_engine_reads_and_writes_nothing(rt: HostRuntime) -> Result<(), Fail>
     for room in 0..COMPLETED {
         let mut octets = [0; COMPLETED];
         let mut sheet = Sheet::new(&mut octets[..room]);
-        let mut engine = Engine::new();
+        let mut engine = Engine::new(&catalogue, &requests);
         let fed = engine.feed(&stream, &mut sheet);
         assert!(rt; matches!(fed, Err(Stop::Out(_))), "room {room}");
         assert!(rt; engine.is_failed(), "room {room}");
@@ -286,13 +334,14 @@ fn a_failed_engine_reads_and_writes_nothing(rt: HostRuntime) -> Result<(), Fail>
 
 #[test]
 fn a_full_sheet_keeps_what_fits(rt: HostRuntime) -> Result<(), Fail> {
+    let (catalogue, requests) = built_in(rt.alloc())?;
     let stream = octets(&rt, rt.alloc(), CLOSE_CONNECTION.stream)?;
     let want = text(rt.alloc(), CLOSE_CONNECTION.lines)?;
     assert_eq!(rt; want.len(), 83);
     for room in 0..84 {
         let mut octets = [0; 84];
         let mut sheet = Sheet::new(&mut octets[..room]);
-        let mut engine = Engine::new();
+        let mut engine = Engine::new(&catalogue, &requests);
         let fed = engine.feed(&stream, &mut sheet);
         let finished = engine.finish(&mut sheet);
         if room < COMPLETED {
@@ -334,6 +383,7 @@ impl Read for WatchingReader<'_> {
 
 #[test]
 fn the_lines_are_written_before_the_next_read(rt: HostRuntime) -> Result<(), Fail> {
+    let (catalogue, requests) = built_in(rt.alloc())?;
     let stream = octets(&rt, rt.alloc(), CLOSE_CONNECTION.stream)?;
     let want = text(rt.alloc(), CLOSE_CONNECTION.lines)?;
     let held = RefCell::new(Vec::new(rt.alloc()));
@@ -344,7 +394,7 @@ fn the_lines_are_written_before_the_next_read(rt: HostRuntime) -> Result<(), Fai
             reads: 0,
             held: &held,
         };
-        let dumped = dump(reader, &lines);
+        let dumped = dump(reader, &lines, &catalogue, &requests);
         assert!(rt; dumped.is_ok());
         assert!(rt; !lines.is_failed());
     }
@@ -354,13 +404,14 @@ fn the_lines_are_written_before_the_next_read(rt: HostRuntime) -> Result<(), Fai
 
 #[test]
 fn the_status_says_whether_a_fault_was_counted(rt: HostRuntime) -> Result<(), Fail> {
+    let (catalogue, requests) = built_in(rt.alloc())?;
     for row in &ROWS {
         let stream = octets(&rt, rt.alloc(), row.stream)?;
         let want = text(rt.alloc(), row.lines)?;
         let held = RefCell::new(Vec::new(rt.alloc()));
         let lines = Lines::new(rt.alloc(), FailingWriter::new(&held, 100))?;
-        let dumped = dump(stream.as_slice(), &lines);
-        assert_eq!(rt; status(&dumped), row.status, "{}", row.name);
+        let dumped = dump(stream.as_slice(), &lines, &catalogue, &requests);
+        assert_eq!(rt; status_of(dumped), row.status, "{}", row.name);
         assert_eq!(rt;
             held.try_borrow()?.as_slice(),
             want.as_slice(),
@@ -373,6 +424,7 @@ fn the_status_says_whether_a_fault_was_counted(rt: HostRuntime) -> Result<(), Fa
 
 #[test]
 fn a_failing_flush_is_a_failed_write(rt: HostRuntime) -> Result<(), Fail> {
+    let (catalogue, requests) = built_in(rt.alloc())?;
     let stream = octets(&rt, rt.alloc(), CLOSE_CONNECTION.stream)?;
     let want = text(rt.alloc(), CLOSE_CONNECTION.lines)?;
     // Three writes of at most 16 octets flush the first two lines, and three more the closing.
@@ -381,10 +433,10 @@ fn a_failing_flush_is_a_failed_write(rt: HostRuntime) -> Result<(), Fail> {
         let lines = Lines::new(rt.alloc(), FailingWriter::new(&held, fails_at))?;
         let reads = Cell::new(0);
         let reader = FailingReader::new(&stream, &reads, 100);
-        let dumped = dump(reader, &lines);
+        let dumped = dump(reader, &lines, &catalogue, &requests);
         if fails_at < 6 {
             assert_eq!(rt; dumped, Err(RunFault::Out), "write {fails_at}");
-            assert_eq!(rt; status(&dumped), 4, "write {fails_at}");
+            assert_eq!(rt; status_of(dumped), 4, "write {fails_at}");
             assert!(rt; lines.is_failed(), "write {fails_at}");
             assert_eq!(rt;
                 reads.get(),
@@ -404,6 +456,7 @@ fn a_failing_flush_is_a_failed_write(rt: HostRuntime) -> Result<(), Fail> {
 
 #[test]
 fn a_failing_read_flushes_the_lines(rt: HostRuntime) -> Result<(), Fail> {
+    let (catalogue, requests) = built_in(rt.alloc())?;
     let stream = octets(&rt, rt.alloc(), CLOSE_CONNECTION.stream)?;
     let want = text(rt.alloc(), CLOSE_CONNECTION.lines)?;
     for fails_at in 0..13 {
@@ -411,9 +464,9 @@ fn a_failing_read_flushes_the_lines(rt: HostRuntime) -> Result<(), Fail> {
         let lines = Lines::new(rt.alloc(), FailingWriter::new(&held, 100))?;
         let reads = Cell::new(0);
         let reader = FailingReader::new(&stream, &reads, fails_at);
-        let dumped = dump(reader, &lines);
+        let dumped = dump(reader, &lines, &catalogue, &requests);
         assert_eq!(rt; dumped, Err(RunFault::Read), "read {fails_at}");
-        assert_eq!(rt; status(&dumped), 4, "read {fails_at}");
+        assert_eq!(rt; status_of(dumped), 4, "read {fails_at}");
         let completed = if fails_at < 12 { 0 } else { COMPLETED };
         let (front, _) = want.split_at(completed.min(want.len()));
         assert_eq!(rt; held.try_borrow()?.as_slice(), front, "read {fails_at}");

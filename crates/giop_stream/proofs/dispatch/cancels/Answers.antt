@@ -1,5 +1,5 @@
 use Rattle.std.proofs.Common.{None, refl, sym, ◌∙◌}
-use Rattle.giop_stream.proofs.Joined.Named.{misses_all, spares, cancels_one, finds, header_may, cancel_named, nothing_text, read_slot}
+use Rattle.giop_stream.proofs.Named.{misses_all, spares, cancels_one, finds, header_may, cancel_named, nothing_text, read_slot}
 use Rattle.giop_stream.proofs.dispatch.cancels.Goals as goal
 
 pub returns-in_default-clause-text : goal.returns-in_default-clause-text

@@ -1,5 +1,5 @@
 use Rattle.std.proofs.Common.{None, refl, sym, ◌∙◌}
-use Rattle.giop_stream.proofs.Joined.Named.{finds, misses}
+use Rattle.giop_stream.proofs.Named.{finds, misses}
 use Rattle.giop_stream.proofs.dispatch.continues.Goals as goal
 
 pub returns-in-Some-clause-text : goal.returns-in-Some-clause-text

@@ -1,6 +1,6 @@
-use Rattle.giop_stream.proofs.Joined.Keepers.{on_ok}
-use Rattle.giop_stream.proofs.Joined.Named.{nothing_text, no_faults}
-use Rattle.giop_stream.proofs.Joined.Ending.{own_short, ends_short, ends_followed, ends_closed}
+use Rattle.giop_stream.proofs.Keepers.{on_ok}
+use Rattle.giop_stream.proofs.Named.{nothing_text, no_faults}
+use Rattle.giop_stream.proofs.Ending.{own_short, ends_short, ends_followed, ends_closed}
 use Rattle.giop_stream.proofs.dispatch.ends.Goals as goal
 
 pub returns-then-is_short-clause-text : goal.returns-then-is_short-clause-text

@@ -1,5 +1,5 @@
-use Rattle.giop_stream.proofs.Joined.Keepers.{on_ok}
-use Rattle.giop_stream.proofs.Joined.Named.{unknown}
+use Rattle.giop_stream.proofs.Keepers.{on_ok}
+use Rattle.giop_stream.proofs.Named.{unknown}
 use Rattle.giop_stream.proofs.dispatch.fails.Goals as goal
 
 pub returns-clause-text : goal.returns-clause-text

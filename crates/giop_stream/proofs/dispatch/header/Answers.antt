@@ -1,9 +1,9 @@
 use Rattle.std.proofs.Common.{sym, ◌∙◌}
 use Rattle.giop_print.proofs.Writing.{wrote-append, writes_then, writes_err}
 use Rattle.giop_message.specs.MessageReading.{message_reading}
-use Rattle.giop_stream.proofs.Joined.Exits.{writes_front}
-use Rattle.giop_stream.proofs.Joined.Parts.{text_append}
-use Rattle.giop_stream.proofs.Joined.Headed.{in_two, ended_whose, none_come, come_is, begun_at, two_faults}
+use Rattle.giop_stream.proofs.Exits.{writes_front}
+use Rattle.giop_stream.proofs.Parts.{text_append}
+use Rattle.giop_stream.proofs.Headed.{in_two, ended_whose, none_come, come_is, begun_at, two_faults}
 use Rattle.giop_stream.proofs.dispatch.header.Goals as goal
 
 pub returns-in_err-refused-clause-text : goal.returns-in_err-refused-clause-text

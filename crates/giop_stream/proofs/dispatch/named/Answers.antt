@@ -1,6 +1,6 @@
 use Rattle.std.proofs.Common.{false, true, sym}
 use Rattle.giop_message.specs.Headers.{is_fragment, is_opener, is_cancel}
-use Rattle.giop_stream.proofs.Joined.Named.{whose_fragment, whose_other, header_is, no_name, cancel_faults, nothing_text, no_faults}
+use Rattle.giop_stream.proofs.Named.{whose_fragment, whose_other, header_is, no_name, cancel_faults, nothing_text, no_faults}
 use Rattle.giop_stream.proofs.dispatch.named.Goals as goal
 
 pub returns-then-is_fragment-clause-kept : goal.returns-then-is_fragment-clause-kept

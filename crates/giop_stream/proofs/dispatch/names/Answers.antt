@@ -1,6 +1,6 @@
 use Rattle.std.proofs.lemmas.Bool.{eq-eqb, ne_eqb}
-use Rattle.giop_stream.proofs.Joined.Named.{nothing_text, no_faults}
-use Rattle.giop_stream.proofs.Joined.Taken.{id_here, no_id, named_here, whose_then, whose_still}
+use Rattle.giop_stream.proofs.Named.{nothing_text, no_faults}
+use Rattle.giop_stream.proofs.Taken.{id_here, no_id, named_here, whose_then, whose_still}
 use Rattle.giop_stream.proofs.dispatch.names.Goals as goal
 
 pub returns-then-now-eq4-clause-text : goal.returns-then-now-eq4-clause-text

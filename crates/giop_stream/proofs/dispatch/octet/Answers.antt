@@ -1,10 +1,10 @@
 use Rattle.std.proofs.Common.{sym, ap, ◌∙◌}
 use Rattle.giop_message.specs.MessageReading.{message_reading}
-use Rattle.giop_stream.specs.Joined.Stream.{fault_count}
-use Rattle.giop_stream.specs.Joined.Plays.{with_octet}
-use Rattle.giop_stream.proofs.Joined.Parts.{in_parts, some_come, come_is, takes_is, taken_here, named_at, third_whose, text_append, parts_text, parts_faults}
+use Rattle.giop_stream.specs.Stream.{fault_count}
+use Rattle.giop_stream.specs.Plays.{with_octet}
+use Rattle.giop_stream.proofs.Parts.{in_parts, some_come, come_is, takes_is, taken_here, named_at, third_whose, text_append, parts_text, parts_faults}
 use Rattle.giop_print.proofs.Writing.{wrote-append, writes_then, writes_err}
-use Rattle.giop_stream.proofs.Joined.Exits.{writes_front}
+use Rattle.giop_stream.proofs.Exits.{writes_front}
 use Rattle.giop_stream.proofs.dispatch.octet.Goals as goal
 
 pub finishes-requires : goal.finishes-requires

@@ -1,5 +1,5 @@
 use Rattle.std.proofs.Common.{sym}
-use Rattle.giop_stream.proofs.Joined.Named.{twice, no_room, opens_one, full_is, room_is, opens_text, opens_faults, opener_named}
+use Rattle.giop_stream.proofs.Named.{twice, no_room, opens_one, full_is, room_is, opens_text, opens_faults, opener_named}
 use Rattle.giop_stream.proofs.dispatch.opens.Goals as goal
 
 pub returns-then-is_some-clause-text : goal.returns-then-is_some-clause-text

@@ -1,6 +1,6 @@
 use Rattle.std.proofs.Common.{[], sym, ◌∙◌}
 use Rattle.giop_print.proofs.Writing.{writes_then, writes_err}
-use Rattle.giop_stream.proofs.Joined.Named.{in_order, out_of_order, goes_text, goes_faults, opener_slot, orders, fragment_text, wrote_alone, read_slot, no_faults}
+use Rattle.giop_stream.proofs.Named.{in_order, out_of_order, goes_text, goes_faults, opener_slot, orders, fragment_text, wrote_alone, read_slot, no_faults}
 use Rattle.giop_stream.proofs.dispatch.passes.Goals as goal
 
 pub returns-in_err-continues_line-clause-text : goal.returns-in_err-continues_line-clause-text

@@ -1,8 +1,8 @@
 use Rattle.std.proofs.Common.{[], arith, sym, ◌∙◌}
 use Rattle.giop_print.proofs.Writing.{writes_then, writes_err}
-use Rattle.giop_stream.proofs.Joined.Keepers.{all_ok}
-use Rattle.giop_stream.proofs.Joined.Named.{wrote_alone, no_faults}
-use Rattle.giop_stream.proofs.Joined.Headed.{ready_later, starts_faults, apart, begins, refuses, starts_text, header_text}
+use Rattle.giop_stream.proofs.Keepers.{all_ok}
+use Rattle.giop_stream.proofs.Named.{wrote_alone, no_faults}
+use Rattle.giop_stream.proofs.Headed.{ready_later, starts_faults, apart, begins, refuses, starts_text, header_text}
 use Rattle.giop_stream.proofs.dispatch.starts.Goals as goal
 
 pub returns-in_err-start_line-clause-text : goal.returns-in_err-start_line-clause-text

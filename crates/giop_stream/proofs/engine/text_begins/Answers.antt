@@ -1,5 +1,9 @@
-use Rattle.giop_stream.proofs.Held as law
+use Rattle.giop_message.specs.Signatures.{said_by}
+use Rattle.giop_message.specs.MessageReading.{message_reading}
+use Rattle.giop_message.proofs.Causal.{is_causal}
+use Rattle.giop_stream.specs.Holding.{added}
+use Rattle.giop_stream.proofs.Further.{text_adds}
 use Rattle.giop_stream.proofs.engine.text_begins.Goals as goal
 
 pub returns : goal.returns
-returns c = law.text_begins
+returns c = λ C l p q. (added (message_reading C l) p q, text_adds (message_reading C l) (is_causal (said_by C l)) p q)

@@ -1,6 +1,6 @@
-use Rattle.giop_stream.proofs.Joined.Dealing.{payload_plays, header_plays}
-use Rattle.giop_stream.proofs.Joined.Growing.{payload_grows}
-use Rattle.giop_stream.proofs.Joined.Beginning.{alive}
+use Rattle.giop_stream.proofs.Dealing.{payload_plays, header_plays}
+use Rattle.giop_stream.proofs.Growing.{payload_grows}
+use Rattle.giop_stream.proofs.Beginning.{alive}
 use Rattle.giop_stream.proofs.laws.each_event.Goals as goal
 
 pub returns : goal.returns

@@ -1,4 +1,4 @@
-use Rattle.giop_stream.proofs.Joined.Finishing.{finish_is, final_is}
+use Rattle.giop_stream.proofs.Finishing.{finish_is, final_is}
 use Rattle.giop_stream.proofs.laws.each_finish.Goals as goal
 
 pub returns : goal.returns

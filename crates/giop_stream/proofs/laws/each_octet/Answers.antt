@@ -1,4 +1,4 @@
-use Rattle.giop_stream.proofs.Joined.Bridge.{step_holds, step_lines, holds_start}
+use Rattle.giop_stream.proofs.Bridge.{step_holds, step_lines, holds_start}
 use Rattle.giop_stream.proofs.laws.each_octet.Goals as goal
 
 pub returns : goal.returns

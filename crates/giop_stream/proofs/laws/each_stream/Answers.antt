@@ -1,4 +1,4 @@
-use Rattle.giop_stream.proofs.Joined.Bridge.{whole_run, run_text, run_holds, tally_is}
+use Rattle.giop_stream.proofs.Bridge.{whole_run, run_text, run_holds, tally_is}
 use Rattle.giop_stream.proofs.laws.each_stream.Goals as goal
 
 pub returns : goal.returns

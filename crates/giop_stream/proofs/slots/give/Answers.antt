@@ -1,8 +1,8 @@
 use Rattle.std.proofs.Common.{◌-◌}
 use Rattle.giop_print.specs.Output.{Writes, Wrote}
 use Rattle.giop_print.proofs.Writing.{wrote-nil}
-use Rattle.giop_stream.proofs.Joined.Exits.{writes_front}
-use Rattle.giop_stream.proofs.Joined.ReadingPlays.{given_text, given_kept, given_faultless, given_over, given_fault, ready_before, none_text, none_kept, none_faults}
+use Rattle.giop_stream.proofs.Exits.{writes_front}
+use Rattle.giop_stream.proofs.ReadingPlays.{given_text, given_kept, given_faultless, given_over, given_fault, ready_before, none_text, none_kept, none_faults}
 use Rattle.giop_stream.proofs.slots.give.Goals as goal
 
 pub returns-in_default-clause-text : goal.returns-in_default-clause-text
@@ -46,7 +46,7 @@ returns-clause-text g c =
 
 pub returns-clause-kept : goal.returns-clause-kept
 returns-clause-kept g c =
-    λ w o k. let kept = rw c.in-Some.is at k in given_over c.args.catalogue.now c.args.requests.now c.in-Some.m c.take.new.self w o c.args.place c.args.octet c.in_ok-take.field-0 c.if-is_none.ensures kept c.in_ok-take.ensures.took
+    λ w o k. let kept = rw c.in-Some.is at k in rw c.forget.ensures (given_over c.args.catalogue.now c.args.requests.now c.in-Some.m c.take.new.self w o c.args.place c.args.octet c.in_ok-take.field-0 c.if-is_none.ensures kept c.in_ok-take.ensures.took)
 
 pub returns-clause-faults : goal.returns-clause-faults
 returns-clause-faults g c =

@@ -1,8 +1,8 @@
 use Rattle.std.proofs.Common.{sym, ap, ◌∙◌}
 use Rattle.std.specs.Prelude.{is_some}
 use Rattle.giop_print.proofs.Writing.{wrote-nil}
-use Rattle.giop_stream.proofs.Joined.Exits.{writes_front}
-use Rattle.giop_stream.proofs.Joined.ReadingPlays.{some_imposed_text, some_imposed_faults, imposed_kept, none_text, none_faults, no_message}
+use Rattle.giop_stream.proofs.Exits.{writes_front}
+use Rattle.giop_stream.proofs.ReadingPlays.{some_imposed_text, some_imposed_faults, imposed_kept, none_text, none_faults, no_message}
 use Rattle.giop_stream.proofs.slots.impose.Goals as goal
 
 pub returns-then-is_none-clause-text : goal.returns-then-is_none-clause-text

@@ -1,6 +1,6 @@
 use Rattle.giop_print.specs.Output.{Writes}
 use Rattle.giop_print.proofs.Writing.{wrote-nil}
-use Rattle.giop_stream.proofs.Joined.ReadingPlays.{shut_text, shut_result, none_text, none_faults}
+use Rattle.giop_stream.proofs.ReadingPlays.{shut_text, shut_result, none_text, none_faults}
 use Rattle.giop_stream.proofs.slots.shut.Goals as goal
 
 pub returns-in-Some-clause-text : goal.returns-in-Some-clause-text

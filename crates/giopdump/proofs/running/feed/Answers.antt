@@ -1,5 +1,5 @@
 -- What the engine's clauses say of a piece, answer by answer.
-use Rattle.std.proofs.Common.{◌++◌, sym, ◌∙◌}
+use Rattle.std.proofs.Common.{refl, ◌++◌, sym, ◌∙◌}
 use Rattle.giopdump.specs.Running.{adds}
 use Rattle.giopdump.proofs.TextLemmas.{is_running, is_stopped}
 use Rattle.giopdump.proofs.running.feed.Goals as goal
@@ -9,7 +9,7 @@ unfolding adds
 returns-in-Ok-Running-clause-fed g c =
     λ p h.
     let e = c.in-Ok-Running.ensures in (
-      record { holds = e.held p h; written = e.text p h },
+      record { reads = rw (e.same.0, e.same.1) refl; holds = e.held p h; written = e.text p h },
       is_running (p ++ c.args.piece.now) (sym c.in-Ok-Running.field-0-is ∙ e.status p h),
     )
 
@@ -18,7 +18,7 @@ unfolding adds
 returns-in-Ok-Stopped-clause-fed g c =
     λ p h.
     let e = c.in-Ok-Stopped.ensures in (
-      record { holds = e.held p h; written = e.text p h },
+      record { reads = rw (e.same.0, e.same.1) refl; holds = e.held p h; written = e.text p h },
       is_stopped (p ++ c.args.piece.now) c.in-Ok-Stopped.field-0-0 (sym c.in-Ok-Stopped.field-0-is ∙ e.status p h),
     )
 

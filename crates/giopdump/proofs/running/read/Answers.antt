@@ -1,6 +1,6 @@
 -- The type of the buffer says that its elements are octets.
 use Rattle.std.proofs.Common.{arith}
-use Rattle.giop_stream.proofs.Held.{octets-from}
+use Rattle.giopdump.proofs.ReadLemmas.{octets-from}
 use Rattle.giopdump.proofs.running.read.Goals as goal
 
 pub returns-clause-octets : goal.returns-clause-octets

@@ -1,5 +1,8 @@
-use Rattle.giop_stream.proofs.Held.{holds-new}
+use Rattle.std.proofs.Common.{refl}
 use Rattle.giop_stream.proofs.engine.Engine.new.Goals as goal
 
-pub returns : goal.returns
-returns c = rw c.new.ensures holds-new
+pub invariant_of-result : goal.invariant_of-result
+invariant_of-result c = (c.requires.of, c.new.ensures.ready c.args.catalogue.now)
+
+pub returns-clause-holds : goal.returns-clause-holds
+returns-clause-holds c = record { sound = refl; remembers = c.new.ensures.remembers c.args.catalogue.now c.args.requests.now }

@@ -1,8 +1,8 @@
 use Rattle.std.proofs.Common.{Some, sym}
 use Rattle.std.proofs.lemmas.Bool.{false≢true}
 use Rattle.giop_print.proofs.Writing.{wrote-nil}
-use Rattle.giop_stream.proofs.Joined.ReadingPlays.{cancelled_text, none_text, no_message}
-use Rattle.giop_stream.proofs.Joined.Keepers.{all_ok, open_slot, open_there, cancel_keeps}
+use Rattle.giop_stream.proofs.ReadingPlays.{cancelled_text, none_text, no_message}
+use Rattle.giop_stream.proofs.Keepers.{all_ok, open_slot, open_there, cancel_keeps}
 use Rattle.giop_stream.proofs.slots.Slots.cancel.Goals as goal
 
 pub returns-then-is_none-clause-text : goal.returns-then-is_none-clause-text

@@ -2,10 +2,10 @@ use Rattle.std.proofs.Common.{◌≡◌, Some, refl}
 use Rattle.std.specs.Prelude.{if◌then◌else◌, IfOk}
 use Rattle.std.proofs.lemmas.Bool.{false≢true}
 use Rattle.giop_print.specs.Output.{Writes}
-use Rattle.giop_stream.specs.Joined.Events.{Imposed}
-use Rattle.giop_stream.specs.Joined.Text.{lines_text}
-use Rattle.giop_stream.specs.Joined.Stream.{fault_count}
-use Rattle.giop_stream.proofs.Joined.Keepers.{get_some, set_ready, still_imposed, own_keeps, slot_keeps, slot_says, no_slot_says}
+use Rattle.giop_stream.specs.Events.{Imposed}
+use Rattle.giop_stream.specs.Text.{lines_text}
+use Rattle.giop_stream.specs.Stream.{fault_count}
+use Rattle.giop_stream.proofs.Keepers.{get_some, set_ready, still_imposed, own_keeps, slot_keeps, slot_says, no_slot_says}
 use Rattle.giop_stream.proofs.slots.Slots.impose.Goals as goal
 
 pub returns-in-Own-clause-kept : goal.returns-in-Own-clause-kept

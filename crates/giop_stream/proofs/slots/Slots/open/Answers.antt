@@ -1,4 +1,4 @@
-use Rattle.giop_stream.proofs.Joined.Keepers.{open_with, push_ready}
+use Rattle.giop_stream.proofs.Keepers.{open_with, push_ready}
 use Rattle.giop_stream.proofs.slots.Slots.open.Goals as goal
 
 pub returns : goal.returns

@@ -3,10 +3,10 @@ use Rattle.std.specs.Prelude.{if◌then◌else◌, IfOk}
 use Rattle.std.proofs.lemmas.Bool.{false≢true}
 use Rattle.giop_print.proofs.Writing.{wrote-nil}
 use Rattle.giop_print.specs.Output.{Writes, Wrote}
-use Rattle.giop_stream.specs.Joined.Events.{Takes}
-use Rattle.giop_stream.specs.Joined.Text.{lines_text}
-use Rattle.giop_stream.specs.Joined.Stream.{fault_count}
-use Rattle.giop_stream.proofs.Joined.Keepers.{get_some, still_takes, own_keeps, slot_keeps, slot_says, nobody_says, no_slot_says}
+use Rattle.giop_stream.specs.Events.{Takes}
+use Rattle.giop_stream.specs.Text.{lines_text}
+use Rattle.giop_stream.specs.Stream.{fault_count}
+use Rattle.giop_stream.proofs.Keepers.{get_some, still_takes, own_keeps, slot_keeps, slot_says, nobody_says, no_slot_says}
 use Rattle.giop_stream.proofs.slots.Slots.take.Goals as goal
 
 pub returns-in-Own-clause-kept : goal.returns-in-Own-clause-kept

@@ -1,0 +1,388 @@
+-- What the code keeps of the messages, event by event.
+use Rattle.std.proofs.Common.{◌≡◌, ℕ, zero, suc, ◌<◌, ◌≤◌, Bool, true, not, List, [], ◌∷◌, ◌++◌, length, refl, sym, ap, subst, ◌∙◌, Option, Some, None, Result, Ok, Err, arith, append-nil}
+use Rattle.std.specs.Prelude.{◌==◌, slice_get, slice_set, slice_index_or, OnOk}
+use Rattle.std.specs.List.{filter, remove, AllByRecursion as Each}
+use Rattle.std.proofs.lemmas.Bool.{ne_eqb}
+use Rattle.arrayvec.specs.ArrayVec.{ArrayVec}
+use Rattle.giop_stream.specs.declared.fault.ImposedFault.{ImposedFault}
+use Rattle.giop_message.specs.declared.message.Message.{Message}
+use Rattle.giop_stream.specs.declared.slots.Slot.{Slot as Kept_slot}
+use Rattle.giop_stream.specs.declared.slots.Slots.{Slots}
+use Rattle.giop_stream.specs.declared.slots.Payload.TheVariants as payload
+use Rattle.giop_sig.specs.Table.{Table}
+use Rattle.giop_message.specs.Signatures.{Kept as Listed}
+use Rattle.giop_message.specs.MessageReading.{message_reading}
+use Rattle.giop_message.specs.Holding.{Follows}
+use Rattle.giop_stream.specs.Events.{Title, Open, Happening, Takes, Opens, Imposed, Cancelled, Closes, octet, changed, Rising}
+use Rattle.giop_stream.specs.Lines.{Line, tells, standing}
+use Rattle.giop_stream.specs.State.{Slot, Kept, slots_of}
+use Rattle.giop_stream.specs.Machine.{utters_kept}
+use Rattle.giop_stream.specs.Plays.{Scene, scene_at, lines_of, octets_then}
+use Rattle.giop_stream.specs.Keeping.{IsKept, IsReady, IsSlot, AreSlots, Keeps, event, scene_to, lines_to}
+use Rattle.giop_stream.proofs.Lists.{each_weaker, each_filter, filter_keeps}
+use Rattle.giop_stream.proofs.InPlace.{at_index, own_then, others_then, slot_at, no_slot, slot_gone, slot_comes}
+
+-- ---- The slots of the code beside those that are known.
+
+pub get_some : {A : Type 0} (xs : List A) (k : ℕ) (x : A) → k < length xs → x ≡ slice_index_or xs k x → slice_get xs k ≡ Some x
+get_some [] k x h e = absurd (omega arith)
+get_some {A} (a ∷ xs) zero x h e = ap (λ (y : A). Some y) (sym e)
+get_some (a ∷ xs) (suc k) x h e = get_some xs k x (omega arith) e
+
+pub slots_get : (c : Scene) (k : ℕ) (o : Open) → slice_get c.live k ≡ Some o → slice_get (slots_of c.known c.live) k ≡ Some (record { open_as = o; octets = c.known o.opener.number })
+unfolding slots_of
+slots_get c k o e = go c.live k e
+  where
+    go : (live : List Open) (k : ℕ) → slice_get live k ≡ Some o → slice_get (slots_of c.known live) k ≡ Some (record { open_as = o; octets = c.known o.opener.number })
+    go [] k e = absurd cc
+    go (a ∷ live) zero e = let same : a ≡ o = cc in ap (λ (b : Open). Some (record { open_as = b; octets = c.known b.opener.number })) same
+    go (a ∷ live) (suc k) e = go live k e
+
+-- ---- An event that opens and closes nothing.
+
+abbrev pub IsStill : Happening → Type 0
+IsStill what = (live : List Open) (whom : Title) → changed live whom what ≡ live
+
+pub still_takes : (x : ℕ) → IsStill (Takes x)
+unfolding changed
+still_takes x live whom = refl
+
+pub still_imposed : (fault : ImposedFault) → IsStill (Imposed fault)
+unfolding changed
+still_imposed fault live whom = refl
+
+pub on_ok : {A E : Type 0} (P Q : Type 0) (r : Result A E) → (P → Q) → OnOk r P → OnOk r Q
+on_ok P Q (Ok x) f h = f h
+on_ok P Q (Err e) f h = tt
+
+-- of an open message, in its slot
+record Place (s : Slots) (c : Scene) (w : Title) (k : ℕ) : Type 0 where
+  own : s.own ≡ None
+  slot : Open
+  here : slice_get c.live k ≡ Some slot
+  is : slot.opener ≡ w
+
+-- A scene that is another one but for what is known of one message.
+pub record Alters (c c' : Scene) (w : Title) (o : Option (List ℕ)) : Type 0 where
+  pub live : c'.live ≡ c.live
+  pub own : c'.known w.number ≡ o
+  pub others : (i : ℕ) → (i ≡ w.number → ⊥) → c'.known i ≡ c.known i
+
+-- ---- What is said, of whichever message it is.
+
+-- ---- A message begins, becomes open, and closes.
+
+get_last : (live : List Open) (o : Open) → slice_get (live ++ o ∷ []) (length live) ≡ Some o
+get_last [] o = refl
+get_last (a ∷ live) o = get_last live o
+
+pub slots_many : (K : Kept) (live : List Open) → length (slots_of K live) ≡ length live
+unfolding slots_of
+slots_many K [] = refl
+slots_many K (o ∷ live) = ap suc (slots_many K live)
+
+-- ---- An open message goes.
+
+abbrev pub IsGone : Happening → Type 0
+IsGone what = (live : List Open) (whom : Title) → changed live whom what ≡ filter (λ o. not (o.opener.number == whom.number)) live
+
+pub gone_closes : IsGone Closes
+unfolding changed
+gone_closes live whom = refl
+
+pub gone_cancelled : (j : ℕ) → IsGone (Cancelled j)
+unfolding changed
+gone_cancelled j live whom = refl
+
+none_there : (live : List Open) (n : ℕ) → Each (λ o. o.opener.number ≡ n → ⊥) live → filter (λ o. not (o.opener.number == n)) live ≡ live
+none_there live n h = filter_keeps (λ o. not (o.opener.number == n)) live (each_weaker {A = Open} (λ o. o.opener.number ≡ n → ⊥) (λ o. not (o.opener.number == n) ≡ true) (λ o j. rw (ne_eqb o.opener.number n j) refl) live h)
+
+pub all_ok : {A E : Type 0} (P : Type 0) (r : Result A E) → P → OnOk r P
+all_ok P (Ok x) p = p
+all_ok P (Err e) p = tt
+
+-- ---- A cancel, of an open message by one whose payload comes.
+
+module _ (C : Table) (l : Listed) where
+  pub slot_of : (ks : List Kept_slot) (ss : List Slot) (k : ℕ) (x : Kept_slot) (s : Slot) → AreSlots C l ks ss → slice_get ks k ≡ Some x → slice_get ss k ≡ Some s → IsSlot C l x s
+  slot_of [] ss k x s h e f = absurd cc
+  slot_of (y ∷ ks) [] k x s h e f = absurd cc
+  slot_of (y ∷ ks) (t ∷ ss) zero x s h e f = let a : y ≡ x = cc in let b : t ≡ s = cc in rw (← a, ← b) h.0
+  slot_of (y ∷ ks) (t ∷ ss) (suc k) x s h e f = slot_of ks ss k x s h.1 e f
+
+  pub set_slot : (ks : List Kept_slot) (ss : List Slot) (k : ℕ) (x : Kept_slot) (s : Slot) → AreSlots C l ks ss → IsSlot C l x s → AreSlots C l (slice_set ks k x) (slice_set ss k s)
+  set_slot [] [] k x s h i = tt
+  set_slot [] (t ∷ ss) k x s h i = absurd h
+  set_slot (y ∷ ks) [] k x s h i = absurd h
+  set_slot (y ∷ ks) (t ∷ ss) zero x s h i = (i, h.1)
+  set_slot (y ∷ ks) (t ∷ ss) (suc k) x s h i = (h.0, set_slot ks ss k x s h.1 i)
+
+  pub no_more_slots : (ks : List Kept_slot) (ss : List Slot) (k : ℕ) (s : Slot) → AreSlots C l ks ss → slice_get ss k ≡ Some s → k < length ks
+  no_more_slots [] [] k s h e = absurd cc
+  no_more_slots [] (t ∷ ss) k s h e = absurd h
+  no_more_slots (y ∷ ks) [] k s h e = absurd h
+  no_more_slots (y ∷ ks) (t ∷ ss) zero s h e = omega arith
+  no_more_slots (y ∷ ks) (t ∷ ss) (suc k) s h e = let less = no_more_slots ks ss k s h.1 e in omega arith
+
+  pub still_live : (at : ℕ) (c : Scene) (w : Title) (what : Happening) → IsStill what → (scene_at (message_reading C l) c (event at w what)).live ≡ c.live
+  unfolding scene_at
+  still_live at c w what h = h c.live w
+
+  pub still_alters : (at : ℕ) (c : Scene) (w : Title) (what : Happening) → IsStill what → Alters c (scene_at (message_reading C l) c (event at w what)) w (octets_then (message_reading C l) (event at w what) (c.known w.number))
+  still_alters at c w what still =
+      let e = event at w what in
+      record { live = still_live at c w what still; own = own_then (message_reading C l) c e; others = λ i h. others_then (message_reading C l) c e i h }
+
+  own_now : (s : Slots) (own' : Option Message) (c c' : Scene) (w : Title) (o : Option (List ℕ)) → Alters c c' w o → AreSlots C l s.slots.items (slots_of c.known c.live) → Each (λ o. o.opener.number ≡ w.number → ⊥) c.live
+      → IsKept C l own' w o → Keeps C l (record { slots = s.slots; own = own'; payload = payload.Own }) c' (Some w)
+  own_now s own' c c' w o alters slots apart kept = record {
+    slots = rw (alters.live, no_slot c'.known c.known c.live w.number apart alters.others) slots;
+    payload = (rw alters.live apart, rw alters.own kept);
+  }
+
+  -- of the message whose payload comes, which isn't open
+  pub own_alters : {E : Type 0} (s : Slots) (own' : Option Message) (c c' : Scene) (w : Title) (o : Option (List ℕ)) (r : Result Bool E) → s.payload ≡ payload.Own → Keeps C l s c (Some w) → Alters c c' w o
+      → (IsKept C l s.own w (c.known w.number) → OnOk r (IsKept C l own' w o))
+      → OnOk r (Keeps C l (record { slots = s.slots; own = own'; payload = s.payload }) c' (Some w))
+  own_alters s own' c c' w o r e k alters f =
+      let now = parts in
+      rw e (on_ok _ _ r (own_now s own' c c' w o alters k.slots now.0) (f now.1))
+    where
+      parts : Each (λ o. o.opener.number ≡ w.number → ⊥) c.live × IsKept C l s.own w (c.known w.number)
+      parts = rw e at k.payload
+
+  pub own_keeps : {E : Type 0} (s : Slots) (own' : Option Message) (c : Scene) (whose : Option Title) (at : ℕ) (what : Happening) (r : Result Bool E) → s.payload ≡ payload.Own → IsStill what → Keeps C l s c whose
+      → ((w : Title) → IsKept C l s.own w (c.known w.number) → OnOk r (IsKept C l own' w (octets_then (message_reading C l) (event at w what) (c.known w.number))))
+      → OnOk r (Keeps C l (record { slots = s.slots; own = own'; payload = s.payload }) (scene_to C l at c whose what) whose)
+  own_keeps s own' c None at what r e still k f = absurd (rw e at k.payload)
+  own_keeps s own' c (Some w) at what r e still k f = own_alters s own' c _ w _ r e k (still_alters at c w what still) (f w)
+
+  place_of : (s : Slots) (c : Scene) (w : Title) (k : ℕ) → s.payload ≡ payload.Open k → Keeps C l s c (Some w) → Place s c w k
+  place_of s c w k e h = let p = parts in record { own = p.0; slot = p.1.0; here = p.1.1; is = p.1.2 }
+    where
+      parts : (s.own ≡ None) × ((o : Open) × (slice_get c.live k ≡ Some o) × (o.opener ≡ w))
+      parts = rw e at h.payload
+
+  slot_here : (s : Slots) (c : Scene) (w : Title) (k : ℕ) (x : Kept_slot) → Keeps C l s c (Some w) → (p : Place s c w k) → slice_get s.slots.items k ≡ Some x → IsSlot C l x (record { open_as = p.slot; octets = c.known w.number })
+  slot_here s c w k x h p e =
+      let number : p.slot.opener.number ≡ w.number = ap (λ (t : Title). t.number) p.is in
+      let one = slot_of s.slots.items (slots_of c.known c.live) k x (record { open_as = p.slot; octets = c.known p.slot.opener.number }) h.slots e (slots_get c k p.slot p.here) in
+      subst (λ (n : ℕ). IsSlot C l x (record { open_as = p.slot; octets = c.known n })) number one
+
+  slot_now : (s : Slots) (x : Kept_slot) (message : Option Message) (c c' : Scene) (w : Title) (o : Option (List ℕ)) (k : ℕ) → Alters c c' w o → Rising c.live → Keeps C l s c (Some w) → s.payload ≡ payload.Open k → slice_get s.slots.items k ≡ Some x
+      → IsKept C l message w o
+      → Keeps C l (record { slots = record { items = slice_set s.slots.items k (record x { message = message }) }; own = s.own; payload = payload.Open k }) c' (Some w)
+  slot_now s x message c c' w o k alters rising h e get kept =
+      let p = place_of s c w k e h in
+      let number : p.slot.opener.number ≡ w.number = ap (λ (t : Title). t.number) p.is in
+      let was = slot_here s c w k x h p get in
+      let new : IsSlot C l (record x { message = message }) (record { open_as = p.slot; octets = o }) = record { number = was.number; header = was.header; id = was.id; message = rw p.is kept } in
+      let slots' = slot_at c'.known c.known c.live k p.slot rising p.here (λ i other. alters.others i (λ same. other (same ∙ sym number))) in
+      let later : c'.known p.slot.opener.number ≡ o = ap c'.known number ∙ alters.own in
+      record {
+        slots = rw (alters.live, slots', later) (set_slot s.slots.items (slots_of c.known c.live) k (record x { message = message }) (record { open_as = p.slot; octets = o }) h.slots new);
+        payload = (p.own, (p.slot, rw alters.live p.here, p.is));
+      }
+
+  -- of an open message
+  pub slot_alters : {E : Type 0} (s : Slots) (x : Kept_slot) (message : Option Message) (c c' : Scene) (w : Title) (o : Option (List ℕ)) (k : ℕ) (r : Result Bool E) → s.payload ≡ payload.Open k → slice_get s.slots.items k ≡ Some x → Rising c.live → Keeps C l s c (Some w) → Alters c c' w o
+      → (IsKept C l x.message w (c.known w.number) → OnOk r (IsKept C l message w o))
+      → OnOk r (Keeps C l (record { slots = record { items = slice_set s.slots.items k (record x { message = message }) }; own = s.own; payload = s.payload }) c' (Some w))
+  slot_alters s x message c c' w o k r e get rising h alters f =
+      let p = place_of s c w k e h in
+      let was = slot_here s c w k x h p get in
+      let kept : IsKept C l x.message w (c.known w.number) = rw p.is at was.message in
+      rw e (on_ok _ _ r (slot_now s x message c c' w o k alters rising h e get) (f kept))
+
+  pub slot_keeps : {E : Type 0} (s : Slots) (x : Kept_slot) (message : Option Message) (c : Scene) (whose : Option Title) (k : ℕ) (at : ℕ) (what : Happening) (r : Result Bool E) → s.payload ≡ payload.Open k → slice_get s.slots.items k ≡ Some x → IsStill what → Rising c.live → Keeps C l s c whose
+      → ((w : Title) → IsKept C l x.message w (c.known w.number) → OnOk r (IsKept C l message w (octets_then (message_reading C l) (event at w what) (c.known w.number))))
+      → OnOk r (Keeps C l (record { slots = record { items = slice_set s.slots.items k (record x { message = message }) }; own = s.own; payload = s.payload }) (scene_to C l at c whose what) whose)
+  slot_keeps s x message c None k at what r e get still rising h f = absurd (rw e at h.payload)
+  slot_keeps s x message c (Some w) k at what r e get still rising h f = slot_alters s x message c _ w _ k r e get rising h (still_alters at c w what still) (f w)
+
+  -- what holds of the message whose the octets are
+  pub of_own : (Q : Option Title → Type 0) (s : Slots) (c : Scene) (whose : Option Title) → s.payload ≡ payload.Own → Keeps C l s c whose → ((w : Title) → IsKept C l s.own w (c.known w.number) → Q (Some w)) → Q whose
+  of_own Q s c None e k f = absurd (rw e at k.payload)
+  of_own Q s c (Some w) e k f = let now = parts in f w now.1
+    where
+      parts : Each (λ o. o.opener.number ≡ w.number → ⊥) c.live × IsKept C l s.own w (c.known w.number)
+      parts = rw e at k.payload
+
+  pub of_slot : (Q : Option Title → Type 0) (s : Slots) (x : Kept_slot) (c : Scene) (whose : Option Title) (k : ℕ) → s.payload ≡ payload.Open k → slice_get s.slots.items k ≡ Some x → Keeps C l s c whose
+      → ((w : Title) → w.number ≡ x.number → IsKept C l x.message w (c.known w.number) → Q (Some w)) → Q whose
+  of_slot Q s x c None k e get h f = absurd (rw e at h.payload)
+  of_slot Q s x c (Some w) k e get h f =
+      let p = place_of s c w k e h in
+      let was = slot_here s c w k x h p get in
+      let number : p.slot.opener.number ≡ w.number = ap (λ (t : Title). t.number) p.is in
+      let kept : IsKept C l x.message w (c.known w.number) = rw p.is at was.message in
+      f w (sym number ∙ sym was.number) kept
+
+  pub own_says : (P : List Line → Type 0) (s : Slots) (c : Scene) (whose : Option Title) (at : ℕ) (what : Happening) → s.payload ≡ payload.Own → Keeps C l s c whose
+      → ((w : Title) → IsKept C l s.own w (c.known w.number) → P (lines_of (message_reading C l) (event at w what) (c.known w.number))) → P (lines_to C l at c whose what)
+  own_says P s c whose at what e k f = of_own (λ whose. P (lines_to C l at c whose what)) s c whose e k f
+
+  pub slot_says : (P : List Line → Type 0) (s : Slots) (x : Kept_slot) (c : Scene) (whose : Option Title) (k : ℕ) (at : ℕ) (what : Happening) → s.payload ≡ payload.Open k → slice_get s.slots.items k ≡ Some x → Keeps C l s c whose
+      → ((w : Title) → w.number ≡ x.number → IsKept C l x.message w (c.known w.number) → P (lines_of (message_reading C l) (event at w what) (c.known w.number))) → P (lines_to C l at c whose what)
+  slot_says P s x c whose k at what e get h f = of_slot (λ whose. P (lines_to C l at c whose what)) s x c whose k e get h f
+
+  pub nobody_says : (P : List Line → Type 0) (s : Slots) (c : Scene) (whose : Option Title) (at : ℕ) (what : Happening) → s.payload ≡ payload.Nobody → Keeps C l s c whose → P [] → P (lines_to C l at c whose what)
+  nobody_says P s c None at what e h p = p
+  nobody_says P s c (Some w) at what e h p = absurd (rw e at h.payload)
+
+  -- there is a slot where an open message is
+  pub no_slot_says : {A : Type 0} (s : Slots) (c : Scene) (whose : Option Title) (k : ℕ) → s.payload ≡ payload.Open k → (k < length s.slots.items → ⊥) → Keeps C l s c whose → A
+  no_slot_says s c None k e n h = absurd (rw e at h.payload)
+  no_slot_says s c (Some w) k e n h =
+      let p = place_of s c w k e h in
+      absurd (n (no_more_slots s.slots.items (slots_of c.known c.live) k (record { open_as = p.slot; octets = c.known p.slot.opener.number }) h.slots (slots_get c k p.slot p.here)))
+
+  pub begin_keeps : (s : Slots) (m : Message) (c : Scene) (whose : Option Title) (w : Title) (number : ℕ) (header : List ℕ) → Keeps C l s c whose → Follows C l number header m [] → w.number ≡ number → w.header ≡ header → c.known w.number ≡ Some [] → Each (λ o. o.opener.number ≡ w.number → ⊥) c.live
+      → Keeps C l (record { slots = s.slots; own = Some m; payload = payload.Own }) c (Some w)
+  begin_keeps s m c whose w number header h e n f known apart = record { slots = h.slots; payload = (apart, rw known kept) }
+    where
+      kept : IsKept C l (Some m) w (Some [])
+      kept = rw (n, f) e
+
+  pub are_as_many : (ks : List Kept_slot) (ss : List Slot) → AreSlots C l ks ss → length ks ≡ length ss
+  are_as_many [] [] h = refl
+  are_as_many [] (s ∷ ss) h = absurd h
+  are_as_many (k ∷ ks) [] h = absurd h
+  are_as_many (k ∷ ks) (s ∷ ss) h = ap suc (are_as_many ks ss h.1)
+
+  push_slot : (ks : List Kept_slot) (ss : List Slot) (x : Kept_slot) (s : Slot) → AreSlots C l ks ss → IsSlot C l x s → AreSlots C l (ks ++ x ∷ []) (ss ++ s ∷ [])
+  push_slot [] [] x s h i = (i, tt)
+  push_slot [] (t ∷ ss) x s h i = absurd h
+  push_slot (k ∷ ks) [] x s h i = absurd h
+  push_slot (k ∷ ks) (t ∷ ss) x s h i = (h.0, push_slot ks ss x s h.1 i)
+
+  -- an event that says nothing and takes nothing
+  opens_then : (at : ℕ) (w : Title) (i : ℕ) (o : Option (List ℕ)) → octets_then (message_reading C l) (event at w (Opens i)) o ≡ o
+  unfolding octets_then lines_of utters_kept tells standing octet
+  opens_then at w i None = refl
+  opens_then at w i (Some xs) = ap Some (append-nil xs)
+
+  opened_live : (at : ℕ) (c : Scene) (w : Title) (i : ℕ) → (scene_at (message_reading C l) c (event at w (Opens i))).live ≡ c.live ++ record { id = i; opener = w } ∷ []
+  unfolding scene_at changed
+  opened_live at c w i = refl
+
+  open_now : (s : Slots) (c : Scene) (w : Title) (at number : ℕ) (header : List ℕ) (i : ℕ) → w.number ≡ number → w.header ≡ header → Each (λ o. o.opener.number ≡ w.number → ⊥) c.live → IsKept C l s.own w (c.known w.number) → AreSlots C l s.slots.items (slots_of c.known c.live)
+      → Keeps C l (record { slots = record { items = s.slots.items ++ record { number = number; header = header; id = i; message = s.own } ∷ [] }; own = None; payload = payload.Open (length s.slots.items) }) (scene_at (message_reading C l) c (event at w (Opens i))) (Some w)
+  open_now s c w at number header i n f apart kept slots =
+      let e = event at w (Opens i) in
+      let o : Open = record { id = i; opener = w } in
+      let known : (scene_at (message_reading C l) c e).known w.number ≡ c.known w.number = own_then (message_reading C l) c e ∙ opens_then at w i (c.known w.number) in
+      let same : Each (λ a. (scene_at (message_reading C l) c e).known a.opener.number ≡ c.known a.opener.number) c.live = each_weaker (λ a. a.opener.number ≡ w.number → ⊥) (λ a. (scene_at (message_reading C l) c e).known a.opener.number ≡ c.known a.opener.number) (λ a j. others_then (message_reading C l) c e a.opener.number j) c.live apart in
+      let many : length s.slots.items ≡ length c.live = are_as_many s.slots.items (slots_of c.known c.live) slots ∙ slots_many c.known c.live in
+      record {
+        slots = rw (opened_live at c w i, slot_comes (scene_at (message_reading C l) c e).known c.known c.live o same, known)
+            (push_slot s.slots.items (slots_of c.known c.live) (record { number = number; header = header; id = i; message = s.own }) (record { open_as = o; octets = c.known w.number }) slots (record { number = sym n; header = sym f; id = refl; message = kept }));
+        payload = (refl, (o, rw (opened_live at c w i, many) (get_last c.live o), refl));
+      }
+
+  pub open_keeps : (s : Slots) (c : Scene) (w : Title) (at number : ℕ) (header : List ℕ) (i : ℕ) → s.payload ≡ payload.Own → Keeps C l s c (Some w) → w.number ≡ number → w.header ≡ header
+      → Keeps C l (record { slots = record { items = s.slots.items ++ record { number = number; header = header; id = i; message = s.own } ∷ [] }; own = None; payload = payload.Open (length s.slots.items) }) (scene_at (message_reading C l) c (event at w (Opens i))) (Some w)
+  open_keeps s c w at number header i e h n f = let p = parts in open_now s c w at number header i n f p.0 p.1 h.slots
+    where
+      parts : Each (λ o. o.opener.number ≡ w.number → ⊥) c.live × IsKept C l s.own w (c.known w.number)
+      parts = rw e at h.payload
+
+  gone_live : (at : ℕ) (c : Scene) (w : Title) (what : Happening) → IsGone what → (scene_at (message_reading C l) c (event at w what)).live ≡ filter (λ o. not (o.opener.number == w.number)) c.live
+  unfolding scene_at
+  gone_live at c w what h = h c.live w
+
+  remove_slot : (ks : List Kept_slot) (ss : List Slot) (k : ℕ) → AreSlots C l ks ss → AreSlots C l (remove ks k) (remove ss k)
+  remove_slot [] [] zero h = tt
+  remove_slot [] [] (suc k) h = tt
+  remove_slot [] (s ∷ ss) k h = absurd h
+  remove_slot (x ∷ ks) [] k h = absurd h
+  remove_slot (x ∷ ks) (s ∷ ss) zero h = h.1
+  remove_slot (x ∷ ks) (s ∷ ss) (suc k) h = (h.0, remove_slot ks ss k h.1)
+
+  -- the slots, where a message that isn't open closes
+  own_gone : (c : Scene) (w : Title) (at : ℕ) (what : Happening) (ks : List Kept_slot) → IsGone what → Each (λ o. o.opener.number ≡ w.number → ⊥) c.live → AreSlots C l ks (slots_of c.known c.live)
+      → AreSlots C l ks (slots_of (scene_at (message_reading C l) c (event at w what)).known (scene_at (message_reading C l) c (event at w what)).live)
+  own_gone c w at what ks gone apart h =
+      let e = event at w what in
+      rw (gone_live at c w what gone, none_there c.live w.number apart, no_slot (scene_at (message_reading C l) c e).known c.known c.live w.number apart (λ i j. others_then (message_reading C l) c e i j)) h
+
+  -- and where the one in this slot does
+  pub slot_goes : (c : Scene) (k : ℕ) (o : Open) (at : ℕ) (what : Happening) (ks : List Kept_slot) → IsGone what → Rising c.live → slice_get c.live k ≡ Some o → AreSlots C l ks (slots_of c.known c.live)
+      → AreSlots C l (remove ks k) (slots_of (scene_at (message_reading C l) c (event at o.opener what)).known (scene_at (message_reading C l) c (event at o.opener what)).live)
+  slot_goes c k o at what ks gone rising here h =
+      let e = event at o.opener what in
+      rw (gone_live at c o.opener what gone, slot_gone (scene_at (message_reading C l) c e).known c.known c.live k o rising here (λ i j. others_then (message_reading C l) c e i j)) (remove_slot ks (slots_of c.known c.live) k h)
+
+  pub own_closes : (s : Slots) (own' : Option Message) (c : Scene) (whose : Option Title) (at : ℕ) → s.payload ≡ payload.Own → own' ≡ None → Keeps C l s c whose
+      → Keeps C l (record { slots = s.slots; own = own'; payload = payload.Nobody }) (scene_to C l at c whose Closes) None
+  own_closes s own' c None at e n h = absurd (rw e at h.payload)
+  own_closes s own' c (Some w) at e n h = let p = parts in record { slots = own_gone c w at Closes s.slots.items gone_closes p.0 h.slots; payload = n }
+    where
+      parts : Each (λ o. o.opener.number ≡ w.number → ⊥) c.live × IsKept C l s.own w (c.known w.number)
+      parts = rw e at h.payload
+
+  pub slot_closes : (s : Slots) (slots' : ArrayVec Kept_slot) (c : Scene) (whose : Option Title) (k : ℕ) (at : ℕ) → s.payload ≡ payload.Open k → slots'.items ≡ remove s.slots.items k → Rising c.live → Keeps C l s c whose
+      → Keeps C l (record { slots = slots'; own = s.own; payload = payload.Nobody }) (scene_to C l at c whose Closes) None
+  slot_closes s slots' c None k at e n rising h = absurd (rw e at h.payload)
+  slot_closes s slots' c (Some w) k at e n rising h =
+      let p = place_of s c w k e h in
+      record { slots = rw (n, ← p.is) (slot_goes c k p.slot at Closes s.slots.items gone_closes rising p.here h.slots); payload = p.own }
+
+  -- as the code does it
+  pub open_with : (s : Slots) (slots' : ArrayVec Kept_slot) (c : Scene) (w : Title) (at number : ℕ) (header : List ℕ) (i : ℕ) (message own' : Option Message) (k : ℕ)
+      → slots'.items ≡ s.slots.items ++ record { number = number; header = header; id = i; message = message } ∷ [] → message ≡ s.own → own' ≡ None → k ≡ length s.slots.items
+      → s.payload ≡ payload.Own → Keeps C l s c (Some w) → w.number ≡ number → w.header ≡ header
+      → Keeps C l (record { slots = slots'; own = own'; payload = payload.Open k }) (scene_at (message_reading C l) c (event at w (Opens i))) (Some w)
+  open_with s slots' c w at number header i message own' k items m o l e h n f =
+      let all = open_keeps s c w at number header i e h n f in
+      record { slots = rw (items, m) all.slots; payload = rw (o, l) all.payload }
+
+  pub open_slot : (s : Slots) (x : Kept_slot) (c : Scene) (whose : Option Title) (k : ℕ) (o : Open) → Keeps C l s c whose → slice_get c.live k ≡ Some o → slice_get s.slots.items k ≡ Some x → IsSlot C l x (record { open_as = o; octets = c.known o.opener.number })
+  open_slot s x c whose k o h here e = slot_of s.slots.items (slots_of c.known c.live) k x (record { open_as = o; octets = c.known o.opener.number }) h.slots e (slots_get c k o here)
+
+  pub open_there : {A : Type 0} (s : Slots) (c : Scene) (whose : Option Title) (k : ℕ) (o : Open) → (k < length s.slots.items → ⊥) → Keeps C l s c whose → slice_get c.live k ≡ Some o → A
+  open_there s c whose k o n h here = absurd (n (no_more_slots s.slots.items (slots_of c.known c.live) k (record { open_as = o; octets = c.known o.opener.number }) h.slots (slots_get c k o here)))
+
+  pub cancel_keeps : (s : Slots) (slots' : ArrayVec Kept_slot) (c : Scene) (w : Title) (k : ℕ) (o : Open) (at j : ℕ) → Keeps C l s c (Some w) → s.payload ≡ payload.Own → slice_get c.live k ≡ Some o → Rising c.live → slots'.items ≡ remove s.slots.items k
+      → Keeps C l (record { slots = slots'; own = s.own; payload = s.payload }) (scene_at (message_reading C l) c (event at o.opener (Cancelled j))) (Some w)
+  cancel_keeps s slots' c w k o at j h e here rising items =
+      let p = parts in
+      let ev = event at o.opener (Cancelled j) in
+      let apart : o.opener.number ≡ w.number → ⊥ = at_index (λ a. a.opener.number ≡ w.number → ⊥) c.live k o here p.0 in
+      rw e (record {
+        slots = rw items (slot_goes c k o at (Cancelled j) s.slots.items (gone_cancelled j) rising here h.slots);
+        payload = (rw (gone_live at c o.opener (Cancelled j) (gone_cancelled j)) (each_filter (λ a. a.opener.number ≡ w.number → ⊥) (λ a. not (a.opener.number == o.opener.number)) c.live p.0), rw (others_then (message_reading C l) c ev w.number (λ same. apart (sym same))) p.1);
+      })
+    where
+      parts : Each (λ o. o.opener.number ≡ w.number → ⊥) c.live × IsKept C l s.own w (c.known w.number)
+      parts = rw e at h.payload
+
+-- ---- What can take an octet.
+
+pub later_ready : (C : Table) (n n' : ℕ) (message : Option Message) → n ≤ n' → IsReady C n message → IsReady C n' message
+later_ready C n n' None less h = tt
+later_ready C n n' (Some m) less h = (h.0, omega (arith, h.1))
+
+pub all_later : (C : Table) (n n' : ℕ) (ks : List Kept_slot) → n ≤ n' → Each (λ slot. IsReady C n slot.message) ks → Each (λ slot. IsReady C n' slot.message) ks
+all_later C n n' [] less h = tt
+all_later C n n' (k ∷ ks) less h = (later_ready C n n' k.message less h.0, all_later C n n' ks less h.1)
+
+pub set_ready : (C : Table) (n : ℕ) (ks : List Kept_slot) (k : ℕ) (x : Kept_slot) → IsReady C n x.message → Each (λ slot. IsReady C n slot.message) ks → Each (λ slot. IsReady C n slot.message) (slice_set ks k x)
+set_ready C n [] k x h hs = tt
+set_ready C n (y ∷ ks) zero x h hs = (h, hs.1)
+set_ready C n (y ∷ ks) (suc k) x h hs = (hs.0, set_ready C n ks k x h hs.1)
+
+pub get_ready : (C : Table) (n : ℕ) (ks : List Kept_slot) (k : ℕ) (x : Kept_slot) → slice_get ks k ≡ Some x → Each (λ slot. IsReady C n slot.message) ks → IsReady C n x.message
+get_ready C n [] k x e hs = absurd cc
+get_ready C n (y ∷ ks) zero x e hs = let same : y ≡ x = cc in rw (← same) hs.0
+get_ready C n (y ∷ ks) (suc k) x e hs = get_ready C n ks k x e hs.1
+
+pub push_ready : (C : Table) (n : ℕ) (ks : List Kept_slot) (x : Kept_slot) → IsReady C n x.message → Each (λ slot. IsReady C n slot.message) ks → Each (λ slot. IsReady C n slot.message) (ks ++ x ∷ [])
+push_ready C n [] x h hs = (h, tt)
+push_ready C n (y ∷ ks) x h hs = (hs.0, push_ready C n ks x h hs.1)
+
+pub remove_ready : (C : Table) (n : ℕ) (ks : List Kept_slot) (k : ℕ) → Each (λ slot. IsReady C n slot.message) ks → Each (λ slot. IsReady C n slot.message) (remove ks k)
+remove_ready C n [] zero hs = tt
+remove_ready C n [] (suc k) hs = tt
+remove_ready C n (y ∷ ks) zero hs = hs.1
+remove_ready C n (y ∷ ks) (suc k) hs = (hs.0, remove_ready C n ks k hs.1)

@@ -1,0 +1,57 @@
+-- Where the code finds the open message with a request id.
+use Rattle.std.proofs.Common.{◌≡◌, ℕ, suc, ◌+◌, Bool, true, false, cond, List, [], ◌∷◌, refl, sym, ap, subst, ◌∙◌, Option, Some, None, arith}
+use Rattle.std.specs.Prelude.{◌==◌, slice_get}
+use Rattle.std.specs.List.{find, position_from}
+use Rattle.giop_stream.specs.declared.slots.Slot.{Slot as Kept_slot}
+use Rattle.giop_stream.specs.Events.{Open}
+use Rattle.giop_stream.specs.State.{Kept, slots_of}
+use Rattle.giop_stream.specs.Plays.{Scene}
+use Rattle.giop_stream.specs.Keeping.{AreSlots}
+use Rattle.giop_sig.specs.Table.{Table}
+use Rattle.giop_message.specs.Signatures.{Kept as Listed}
+
+-- ---- The open message with a request id.
+
+-- where a search ends
+pub Found : List Open → ℕ → ℕ → Option ℕ → Type 0
+Found live i n None = find (λ o. o.id == i) live ≡ None
+Found live i n (Some k) = (o : Open) × (at : ℕ) × (k ≡ n + at) × (slice_get live at ≡ Some o) × (find (λ o. o.id == i) live ≡ Some o)
+
+found_next : (a : Open) (live : List Open) (i n : ℕ) (r : Option ℕ) → (a.id == i) ≡ false → Found live i (n + 1) r → Found (a ∷ live) i n r
+unfolding Found
+found_next a live i n None e h = rw e h
+found_next a live i n (Some k) e h = (h.0, suc h.1, omega (arith, h.2), h.3, rw e h.4)
+
+found_by : (a : Open) (live : List Open) (i n : ℕ) (b : Bool) → (a.id == i) ≡ b → Found live i (n + 1) (position_from (λ o. o.id == i) (n + 1) live) → Found (a ∷ live) i n (cond b (Some n) (position_from (λ o. o.id == i) (n + 1) live))
+unfolding Found
+found_by a live i n true e h = (a, 0, omega arith, refl, rw e refl)
+found_by a live i n false e h = unfold Found in found_next a live i n (position_from (λ o. o.id == i) (n + 1) live) e h
+
+found : (live : List Open) (i n : ℕ) → Found live i n (position_from (λ o. o.id == i) n live)
+unfolding Found
+found [] i n = refl
+found (a ∷ live) i n = found_by a live i n (a.id == i) refl (found live i (n + 1))
+
+pub record OpenAt (c : Scene) (i k : ℕ) : Type 0 where
+  pub o : Open
+  pub here : slice_get c.live k ≡ Some o
+  pub is : find (λ o. o.id == i) c.live ≡ Some o
+
+module _ (C : Table) (l : Listed) where
+  ids_found : (ks : List Kept_slot) (K : Kept) (live : List Open) (i n : ℕ) → AreSlots C l ks (slots_of K live) → position_from (λ slot. slot.id == i) n ks ≡ position_from (λ o. o.id == i) n live
+  unfolding slots_of
+  ids_found [] K [] i n h = refl
+  ids_found [] K (o ∷ live) i n h = absurd h
+  ids_found (k ∷ ks) K [] i n h = absurd h
+  ids_found (k ∷ ks) K (o ∷ live) i n h = let same = h.0.id in rw same (ap (λ (r : Option ℕ). cond (o.id == i) (Some n) r) (ids_found ks K live i (n + 1) h.1))
+
+  pub none_open : (ks : List Kept_slot) (c : Scene) (i : ℕ) → AreSlots C l ks (slots_of c.known c.live) → position_from (λ slot. slot.id == i) 0 ks ≡ None → find (λ o. o.id == i) c.live ≡ None
+  unfolding Found
+  none_open ks c i h e = subst (Found c.live i 0) (sym (ids_found ks c.known c.live i 0 h) ∙ e) (found c.live i 0)
+
+  pub one_open : (ks : List Kept_slot) (c : Scene) (i k : ℕ) → AreSlots C l ks (slots_of c.known c.live) → position_from (λ slot. slot.id == i) 0 ks ≡ Some k → OpenAt c i k
+  unfolding Found
+  one_open ks c i k h e =
+      let f = subst (Found c.live i 0) (sym (ids_found ks c.known c.live i 0 h) ∙ e) (found c.live i 0) in
+      let same : f.1 ≡ k = omega (arith, f.2) in
+      record { o = f.0; here = subst (λ (n : ℕ). slice_get c.live n ≡ Some f.0) same f.3; is = f.4 }

@@ -1,0 +1,326 @@
+-- What the reading of a message by a table makes of its events, and what a message's calls do of it.
+use Rattle.std.proofs.Common.{inl, inr, ◌⊎◌, ◌≡◌, ℕ, zero, suc, ◌-◌, ◌<◌, Bool, true, false, List, [], ◌∷◌, ◌++◌, length, take, map, refl, sym, ap, subst, ◌∙◌, arith, append-nil, Option, Some, None, Result, Ok, Err}
+use Rattle.std.specs.Prelude.{◌==◌, ◌&&◌, ◌||◌, if◌then◌else◌, is_some, IfOk}
+use Rattle.std.specs.List.{list_any}
+use Rattle.std.proofs.lemmas.Bool.{eq-eqb}
+use Rattle.giop_print.specs.Lines.{fault_line, cancelled_line}
+use Rattle.giop_sig.specs.Table.{Table}
+use Rattle.giop_message.specs.declared.message.Message.{Message}
+use Rattle.giop_message.specs.Reading.{Saying, Value, Call, Rest, Fault, End, Remark, Reading, InTurn, AtClose, due, is_fault, is_last}
+use Rattle.giop_message.specs.Text.{saying_line, said_text}
+use Rattle.giop_message.specs.Signatures.{Kept as Listed, said_by}
+use Rattle.giop_message.specs.Messages.{message, stage_of, close}
+use Rattle.giop_message.specs.MessageReading.{message_reading, is_over}
+use Rattle.giop_message.specs.Holding.{due_text, closing_text, closes_text, is_short, Follows, TookAll, FaultedAt}
+use Rattle.giop_message.proofs.Causal.{is_ordered}
+use Rattle.giop_message.proofs.Followings.{follows_goes}
+use Rattle.giop_message.proofs.AtOctet.{octet_text, octet_over, close_short}
+use Rattle.giop_message.proofs.Closes.{is_closing}
+use Rattle.giop_message.proofs.Remarks.{close_is}
+use Rattle.giop_stream.specs.declared.fault.ImposedFault.{ImposedFault}
+use Rattle.giop_stream.specs.Events.{Title, Event, Takes, Imposed, Cancelled, Closes, octet, joined}
+use Rattle.giop_stream.specs.Lines.{Line, Said, Ended_by, Faulted, line, tells, is_last_of, standing}
+use Rattle.giop_stream.specs.Text.{imposed_word, lines_text}
+use Rattle.giop_stream.specs.Stream.{fault_count}
+use Rattle.giop_stream.specs.Machine.{utters_kept}
+use Rattle.giop_stream.specs.Plays.{lines_of, octets_then}
+use Rattle.giop_stream.specs.Keeping.{IsKept, IsReady, event}
+
+-- ---- Lines that a reading says.
+
+abbrev said_lines : ℕ → ℕ → List Remark → List Line
+said_lines at number rs = map (λ r. record { place = at; number = number; content = Said r.saying r.text }) rs
+
+abbrev close_lines : ℕ → ℕ → List (Saying × List ℕ) → List Line
+close_lines at number cs = map (λ c. record { place = at; number = number; content = Said c.0 c.1 }) cs
+
+said_is : (at number : ℕ) (rs : List Remark) → lines_text (said_lines at number rs) ≡ said_text at number rs
+unfolding lines_text said_text
+said_is at number [] = refl
+said_is at number (r ∷ rs) = ap (λ (t : List ℕ). saying_line at number r.saying r.text ++ t) (said_is at number rs)
+
+closed_is : (at number : ℕ) (cs : List (Saying × List ℕ)) → lines_text (close_lines at number cs) ≡ closes_text number at cs
+unfolding lines_text closes_text
+closed_is at number [] = refl
+closed_is at number (c ∷ cs) = ap (λ (t : List ℕ). saying_line at number c.0 c.1 ++ t) (closed_is at number cs)
+
+-- two lines of one octet are a value and its call
+two_values : (s t : Saying) → InTurn (s ∷ t ∷ []) → (s ≡ Value) × (t ≡ Call)
+two_values s t (inl e) = absurd cc
+two_values s t (inr (inl e)) = absurd cc
+two_values s t (inr (inr (inl e))) = (cc, cc)
+two_values s t (inr (inr (inr (inl e)))) = absurd cc
+two_values s t (inr (inr (inr (inr e)))) = absurd cc
+
+few_in_turn : (a b c : Saying) (more : List Saying) → InTurn (a ∷ b ∷ c ∷ more) → ⊥
+few_in_turn a b c more (inl e) = absurd cc
+few_in_turn a b c more (inr (inl e)) = absurd cc
+few_in_turn a b c more (inr (inr (inl e))) = absurd cc
+few_in_turn a b c more (inr (inr (inr (inl e)))) = absurd cc
+few_in_turn a b c more (inr (inr (inr (inr e)))) = absurd cc
+
+no_end : InTurn (End ∷ []) → ⊥
+no_end (inl e) = absurd cc
+no_end (inr (inl e)) = absurd cc
+no_end (inr (inr (inl e))) = absurd cc
+no_end (inr (inr (inr (inl e)))) = absurd cc
+no_end (inr (inr (inr (inr e)))) = absurd cc
+
+-- two lines of a close are a part of the rest and the end
+two_closes : (s t : Saying) → AtClose (s ∷ t ∷ []) → (s ≡ Rest) × (t ≡ End)
+two_closes s t (inl e) = absurd cc
+two_closes s t (inr (inl e)) = absurd cc
+two_closes s t (inr (inr e)) = (cc, cc)
+
+few_at_close : (a b c : Saying) (more : List Saying) → AtClose (a ∷ b ∷ c ∷ more) → ⊥
+few_at_close a b c more (inl e) = absurd cc
+few_at_close a b c more (inr (inl e)) = absurd cc
+few_at_close a b c more (inr (inr e)) = absurd cc
+
+one_at_close : (s : Saying) → AtClose (s ∷ []) → (s ≡ Fault) ⊎ (s ≡ End)
+one_at_close s (inl e) = inl cc
+one_at_close s (inr (inl e)) = inr cc
+one_at_close s (inr (inr e)) = absurd cc
+
+none_at_close : AtClose [] → ⊥
+none_at_close (inl e) = absurd cc
+none_at_close (inr (inl e)) = absurd cc
+none_at_close (inr (inr e)) = absurd cc
+
+turn_stands : (at n : ℕ) (rs : List Remark) → InTurn (map (λ r. r.saying) rs) → standing (λ i. false) (said_lines at n rs) ≡ said_lines at n rs
+unfolding standing is_last_of
+turn_stands at n [] h = refl
+turn_stands at n (r ∷ []) h = refl
+turn_stands at n (r ∷ s ∷ []) h = let e = two_values r.saying s.saying h in rw (e.0, eq-eqb n n refl) refl
+turn_stands at n (r ∷ s ∷ t ∷ rs) h = absurd (few_in_turn r.saying s.saying t.saying (map (λ r. r.saying) rs) h)
+
+one_fault : (at n : ℕ) (s : Saying) (text : List ℕ) → fault_count (record { place = at; number = n; content = Said s text } ∷ []) ≡ (if is_fault s || false then 1 else 0)
+unfolding fault_count
+one_fault at n Value text = refl
+one_fault at n Call text = refl
+one_fault at n Rest text = refl
+one_fault at n Fault text = refl
+one_fault at n End text = refl
+
+turn_faults : (at n : ℕ) (rs : List Remark) → InTurn (map (λ r. r.saying) rs) → fault_count (said_lines at n rs) ≡ (if list_any (λ r. is_fault r.saying) rs then 1 else 0)
+unfolding fault_count
+turn_faults at n [] h = refl
+turn_faults at n (r ∷ []) h = unfold fault_count in one_fault at n r.saying r.text
+turn_faults at n (r ∷ s ∷ []) h = let e = two_values r.saying s.saying h in rw (e.0, e.1) refl
+turn_faults at n (r ∷ s ∷ t ∷ rs) h = absurd (few_in_turn r.saying s.saying t.saying (map (λ r. r.saying) rs) h)
+
+one_last : (s : Saying) → InTurn (s ∷ []) → is_last s ≡ is_fault s
+one_last Value h = refl
+one_last Call h = refl
+one_last Rest h = refl
+one_last Fault h = refl
+one_last End h = absurd (no_end h)
+
+turn_last : (at n : ℕ) (rs : List Remark) → InTurn (map (λ r. r.saying) rs) → list_any (is_last_of n) (said_lines at n rs) ≡ list_any (λ r. is_fault r.saying) rs
+unfolding is_last_of
+turn_last at n [] h = refl
+turn_last at n (r ∷ []) h = rw (eq-eqb n n refl) (ap (λ (b : Bool). b || false) (one_last r.saying h))
+turn_last at n (r ∷ s ∷ []) h = let e = two_values r.saying s.saying h in rw (e.0, e.1, eq-eqb n n refl) refl
+turn_last at n (r ∷ s ∷ t ∷ rs) h = absurd (few_in_turn r.saying s.saying t.saying (map (λ r. r.saying) rs) h)
+
+close_stands : (at n : ℕ) (cs : List (Saying × List ℕ)) → AtClose (map (λ c. c.0) cs) → standing (λ i. false) (close_lines at n cs) ≡ close_lines at n cs
+unfolding standing is_last_of
+close_stands at n [] h = refl
+close_stands at n (c ∷ []) h = refl
+close_stands at n (c ∷ d ∷ []) h = let e = two_closes c.0 d.0 h in rw (e.0, eq-eqb n n refl) refl
+close_stands at n (c ∷ d ∷ e ∷ cs) h = absurd (few_at_close c.0 d.0 e.0 (map (λ c. c.0) cs) h)
+
+close_faults : (at n : ℕ) (cs : List (Saying × List ℕ)) → AtClose (map (λ c. c.0) cs) → fault_count (close_lines at n cs) ≡ (if list_any (λ c. is_fault c.0) cs then 1 else 0)
+unfolding fault_count
+close_faults at n [] h = refl
+close_faults at n (c ∷ []) h = unfold fault_count in one_fault at n c.0 c.1
+close_faults at n (c ∷ d ∷ []) h = let e = two_closes c.0 d.0 h in rw (e.0, e.1) refl
+close_faults at n (c ∷ d ∷ e ∷ cs) h = absurd (few_at_close c.0 d.0 e.0 (map (λ c. c.0) cs) h)
+
+close_last : (at n : ℕ) (cs : List (Saying × List ℕ)) → AtClose (map (λ c. c.0) cs) → list_any (is_last_of n) (close_lines at n cs) ≡ true
+unfolding is_last_of
+close_last at n [] h = absurd (none_at_close h)
+close_last at n (c ∷ []) h = go (one_at_close c.0 h)
+  where
+    go : (c.0 ≡ Fault) ⊎ (c.0 ≡ End) → (((n == n) && is_last c.0) || false) ≡ true
+    go (inl e) = rw (e, eq-eqb n n refl) refl
+    go (inr e) = rw (e, eq-eqb n n refl) refl
+close_last at n (c ∷ d ∷ []) h = let e = two_closes c.0 d.0 h in rw (e.0, e.1, eq-eqb n n refl) refl
+close_last at n (c ∷ d ∷ e ∷ cs) h = absurd (few_at_close c.0 d.0 e.0 (map (λ c. c.0) cs) h)
+
+one_octet : (at : ℕ) (w : Title) (x : ℕ) → joined w.number (event at w (Takes x) ∷ []) ≡ x ∷ []
+unfolding joined octet
+one_octet at w x = rw (eq-eqb w.number w.number refl) refl
+
+pub no_message : (message : Option Message) → is_some message ≡ false → message ≡ None
+no_message None h = refl
+no_message (Some m) h = absurd cc
+
+-- ---- The lines of an event, and what is kept then.
+
+module _ (R : Reading) where
+  pub over_lines : (e : Event) → lines_of R e None ≡ []
+  unfolding lines_of utters_kept standing
+  over_lines e = refl
+
+  pub over_then : (e : Event) → octets_then R e None ≡ None
+  unfolding octets_then
+  over_then e = rw (over_lines e) refl
+
+  imposed_lines : (at : ℕ) (w : Title) (fault : ImposedFault) (xs : List ℕ) → lines_of R (event at w (Imposed fault)) (Some xs) ≡ record { place = at; number = w.number; content = Faulted fault } ∷ []
+  unfolding lines_of utters_kept tells line standing
+  imposed_lines at w fault xs = refl
+
+  imposed_then : (w : Title) (o : Option (List ℕ)) (at : ℕ) (fault : ImposedFault) → octets_then R (event at w (Imposed fault)) o ≡ None
+  unfolding octets_then is_last_of
+  imposed_then w (Some xs) at fault = rw (imposed_lines at w fault xs, eq-eqb w.number w.number refl) refl
+  imposed_then w None at fault = over_then (event at w (Imposed fault))
+
+  cancelled_lines : (at : ℕ) (w : Title) (j : ℕ) (xs : List ℕ) → lines_of R (event at w (Cancelled j)) (Some xs) ≡ record { place = at; number = w.number; content = Ended_by j } ∷ []
+  unfolding lines_of utters_kept tells line standing
+  cancelled_lines at w j xs = refl
+
+module _ (C : Table) (l : Listed) where
+  abbrev pub R_of : Reading
+  R_of = message_reading C l
+
+  in_turn : (header xs : List ℕ) (x : ℕ) → InTurn (map (λ r. r.saying) (due R_of header xs x))
+  in_turn header xs x = (is_ordered (said_by C l)).ordered header (xs ++ x ∷ []) (suc (length xs))
+
+  at_close : (header xs : List ℕ) → AtClose (map (λ c. c.0) (R_of.closes header xs))
+  at_close header xs = (is_closing (said_by C l)).closed header xs
+
+  take_lines : (at : ℕ) (w : Title) (xs : List ℕ) (x : ℕ) → lines_of R_of (event at w (Takes x)) (Some xs) ≡ said_lines at w.number (due R_of w.header xs x)
+  unfolding lines_of utters_kept tells line
+  take_lines at w xs x = rw (one_octet at w x) (turn_stands at w.number (due R_of w.header xs x) (in_turn w.header xs x))
+
+  closing_lines : (at : ℕ) (w : Title) (xs : List ℕ) → lines_of R_of (event at w Closes) (Some xs) ≡ close_lines at w.number (R_of.closes w.header xs)
+  unfolding lines_of utters_kept tells line
+  closing_lines at w xs = close_stands at w.number (R_of.closes w.header xs) (at_close w.header xs)
+
+  -- ---- An octet.
+
+  abbrev pub Faulty : Title → List ℕ → ℕ → Bool
+  Faulty w xs x = list_any (λ r. is_fault r.saying) (due R_of w.header xs x)
+
+  pub take_text : (before : ℕ) (w : Title) (xs : List ℕ) (x : ℕ) → lines_text (lines_of R_of (event (suc before) w (Takes x)) (Some xs)) ≡ due_text (said_by C l) w.number before w.header xs (x ∷ [])
+  take_text before w xs x =
+      ap lines_text (take_lines (suc before) w xs x) ∙ (said_is (suc before) w.number (due R_of w.header xs x) ∙ sym (octet_text (said_by C l) w.number before w.header xs x))
+
+  pub given_text : (P : List ℕ → Type 0) (m : Message) (w : Title) (o : Option (List ℕ)) (at before x : ℕ) → suc before ≡ at → IsKept C l (Some m) w o
+      → ((number : ℕ) (header s : List ℕ) → Follows C l number header m s → P (due_text (said_by C l) number before header s (x ∷ [])))
+      → P (lines_text (lines_of R_of (event at w (Takes x)) o))
+  given_text P m w (Some xs) at before x e k f = rw (← e) (subst P (sym (take_text before w xs x)) (f w.number w.header xs k))
+  given_text P m w None at before x e k f = absurd k
+
+  pub then_by : (at : ℕ) (w : Title) (xs : List ℕ) (x : ℕ) → octets_then R_of (event at w (Takes x)) (Some xs) ≡ (if Faulty w xs x then None else Some (xs ++ x ∷ []))
+  unfolding octets_then octet
+  then_by at w xs x = rw (take_lines at w xs x, turn_last at w.number (due R_of w.header xs x) (in_turn w.header xs x)) refl
+
+  pub faults_by : (at : ℕ) (w : Title) (xs : List ℕ) (x : ℕ) → fault_count (lines_of R_of (event at w (Takes x)) (Some xs)) ≡ (if Faulty w xs x then 1 else 0)
+  faults_by at w xs x = rw (take_lines at w xs x) (turn_faults at w.number (due R_of w.header xs x) (in_turn w.header xs x))
+
+  -- what a message took of this one octet
+  abbrev pub Tells : Message → Message → ℕ → Option ℕ → Type 0
+  Tells m m' x found = (number : ℕ) (header s : List ℕ) → Follows C l number header m s → TookAll C l number header m' s (x ∷ []) found
+
+  goes_on : (m m' : Message) (w : Title) (xs : List ℕ) (x : ℕ) → Follows C l w.number w.header m xs → Follows C l w.number w.header m' (xs ++ x ∷ []) → Faulty w xs x ≡ false
+  goes_on m m' w xs x k k' = sym (octet_over (said_by C l) w.header xs x (follows_goes C l w.number w.header m xs k)) ∙ follows_goes C l w.number w.header m' (xs ++ x ∷ []) k'
+
+  take_one : (n x : ℕ) → 0 < n → take n (x ∷ []) ≡ x ∷ []
+  take_one zero x h = absurd (omega arith)
+  take_one (suc zero) x h = refl
+  take_one (suc (suc n)) x h = refl
+
+  is_faulted : (m : Message) (w : Title) (xs : List ℕ) (x n : ℕ) → Follows C l w.number w.header m xs → FaultedAt (said_by C l) w.header xs (x ∷ []) n → Faulty w xs x ≡ true
+  is_faulted m w xs x n k f =
+      sym (octet_over (said_by C l) w.header xs x (follows_goes C l w.number w.header m xs k))
+      ∙ (ap (λ (s : List ℕ). is_over (stage_of (message (said_by C l) w.header (xs ++ s)))) (sym (take_one n x f.some)) ∙ f.here)
+
+  pub given_kept : (m m' : Message) (w : Title) (o : Option (List ℕ)) (at x : ℕ) (found : Option ℕ) → is_some found ≡ false → IsKept C l (Some m) w o → Tells m m' x found → IsKept C l (Some m') w (octets_then R_of (event at w (Takes x)) o)
+  given_kept m m' w (Some xs) at x None e k f = let k' = f w.number w.header xs k in rw (then_by at w xs x, goes_on m m' w xs x k k') k'
+  given_kept m m' w (Some xs) at x (Some n) e k f = absurd cc
+  given_kept m m' w None at x found e k f = absurd k
+
+  pub given_faultless : (m m' : Message) (w : Title) (o : Option (List ℕ)) (at x : ℕ) (found : Option ℕ) → is_some found ≡ false → IsKept C l (Some m) w o → Tells m m' x found → fault_count (lines_of R_of (event at w (Takes x)) o) ≡ 0
+  given_faultless m m' w (Some xs) at x None e k f = let k' = f w.number w.header xs k in rw (faults_by at w xs x, goes_on m m' w xs x k k') refl
+  given_faultless m m' w (Some xs) at x (Some n) e k f = absurd cc
+  given_faultless m m' w None at x found e k f = absurd k
+
+  pub given_over : (m m' : Message) (w : Title) (o : Option (List ℕ)) (at x : ℕ) (found : Option ℕ) → is_some found ≡ true → IsKept C l (Some m) w o → Tells m m' x found → IsKept C l None w (octets_then R_of (event at w (Takes x)) o)
+  given_over m m' w (Some xs) at x (Some n) e k f = rw (then_by at w xs x, is_faulted m w xs x n k (f w.number w.header xs k)) tt
+  given_over m m' w (Some xs) at x None e k f = absurd cc
+  given_over m m' w None at x found e k f = absurd k
+
+  pub given_fault : (m m' : Message) (w : Title) (o : Option (List ℕ)) (at x : ℕ) (found : Option ℕ) → is_some found ≡ true → IsKept C l (Some m) w o → Tells m m' x found → fault_count (lines_of R_of (event at w (Takes x)) o) ≡ 1
+  given_fault m m' w (Some xs) at x (Some n) e k f = rw (faults_by at w xs x, is_faulted m w xs x n k (f w.number w.header xs k)) refl
+  given_fault m m' w (Some xs) at x None e k f = absurd cc
+  given_fault m m' w None at x found e k f = absurd k
+
+  -- ---- A close.
+
+  pub shut_text : (P : List ℕ → Type 0) (m : Message) (w : Title) (o : Option (List ℕ)) (at : ℕ) → IsKept C l (Some m) w o
+      → ((number : ℕ) (header s : List ℕ) → Follows C l number header m s → P (closing_text number at (close (stage_of (message (said_by C l) header s)))))
+      → P (lines_text (lines_of R_of (event at w Closes) o))
+  shut_text P m w (Some xs) at k f =
+      let text : lines_text (lines_of R_of (event at w Closes) (Some xs)) ≡ closing_text w.number at (close (stage_of (message (said_by C l) w.header xs))) =
+      ap lines_text (closing_lines at w xs) ∙ (closed_is at w.number (R_of.closes w.header xs) ∙ sym (close_is (said_by C l) w.number at w.header xs)) in
+      subst P (sym text) (f w.number w.header xs k)
+  shut_text P m w None at k f = absurd k
+
+  pub shut_then : (w : Title) (o : Option (List ℕ)) (at : ℕ) → octets_then R_of (event at w Closes) o ≡ None
+  unfolding octets_then
+  shut_then w (Some xs) at = rw (closing_lines at w xs, close_last at w.number (R_of.closes w.header xs) (at_close w.header xs)) refl
+  shut_then w None at = over_then R_of (event at w Closes)
+
+  shut_by : (at : ℕ) (w : Title) (xs : List ℕ) → fault_count (lines_of R_of (event at w Closes) (Some xs)) ≡ (if is_short (close (stage_of (message (said_by C l) w.header xs))) then 1 else 0)
+  shut_by at w xs = rw (closing_lines at w xs, close_short (said_by C l) w.header xs) (close_faults at w.number (R_of.closes w.header xs) (at_close w.header xs))
+
+  pub shut_result : {E : Type 0} (m : Message) (w : Title) (o : Option (List ℕ)) (at : ℕ) (r : Result Bool E) → IsKept C l (Some m) w o
+      → IfOk r (λ short. (kept : Listed) (number : ℕ) (header s : List ℕ) → Follows C kept number header m s → short ≡ is_short (close (stage_of (message (said_by C kept) header s))))
+      → IfOk r (λ short. fault_count (lines_of R_of (event at w Closes) o) ≡ (if short then 1 else 0))
+  shut_result m w (Some xs) at (Ok short) k f = shut_by at w xs ∙ ap (λ (b : Bool). if b then 1 else 0) (sym (f l w.number w.header xs k))
+  shut_result m w (Some xs) at (Err e) k f = tt
+  shut_result m w None at r k f = absurd k
+
+  -- ---- An imposed fault, a cancel, and what happens to a message that is over.
+
+  pub none_text : (w : Title) (o : Option (List ℕ)) (e : Event) → IsKept C l None w o → lines_text (lines_of R_of e o) ≡ []
+  unfolding lines_text
+  none_text w None e k = rw (over_lines R_of e) refl
+  none_text w (Some xs) e k = absurd k
+
+  pub none_faults : (w : Title) (o : Option (List ℕ)) (e : Event) → IsKept C l None w o → fault_count (lines_of R_of e o) ≡ 0
+  unfolding fault_count
+  none_faults w None e k = rw (over_lines R_of e) refl
+  none_faults w (Some xs) e k = absurd k
+
+  pub none_kept : (w : Title) (o : Option (List ℕ)) (e : Event) → IsKept C l None w o → IsKept C l None w (octets_then R_of e o)
+  none_kept w None e k = rw (over_then R_of e) tt
+  none_kept w (Some xs) e k = absurd k
+
+  pub imposed_kept : (w : Title) (o : Option (List ℕ)) (at : ℕ) (fault : ImposedFault) → IsKept C l None w (octets_then R_of (event at w (Imposed fault)) o)
+  imposed_kept w o at fault = rw (imposed_then R_of w o at fault) tt
+
+  pub some_imposed_text : (message : Option Message) (w : Title) (o : Option (List ℕ)) (at : ℕ) (fault : ImposedFault) → is_some message ≡ true → IsKept C l message w o → lines_text (lines_of R_of (event at w (Imposed fault)) o) ≡ fault_line w.number (imposed_word fault) at
+  unfolding lines_text
+  some_imposed_text (Some m) w (Some xs) at fault h k = rw (imposed_lines R_of at w fault xs) (append-nil (fault_line w.number (imposed_word fault) at))
+  some_imposed_text (Some m) w None at fault h k = absurd k
+  some_imposed_text None w o at fault h k = absurd cc
+
+  pub some_imposed_faults : (message : Option Message) (w : Title) (o : Option (List ℕ)) (at : ℕ) (fault : ImposedFault) → is_some message ≡ true → IsKept C l message w o → fault_count (lines_of R_of (event at w (Imposed fault)) o) ≡ 1
+  unfolding fault_count
+  some_imposed_faults (Some m) w (Some xs) at fault h k = rw (imposed_lines R_of at w fault xs) refl
+  some_imposed_faults (Some m) w None at fault h k = absurd k
+  some_imposed_faults None w o at fault h k = absurd cc
+
+  pub cancelled_text : (message : Option Message) (w : Title) (o : Option (List ℕ)) (at j : ℕ) → is_some message ≡ true → IsKept C l message w o → lines_text (lines_of R_of (event at w (Cancelled j)) o) ≡ cancelled_line w.number j
+  unfolding lines_text
+  cancelled_text (Some m) w (Some xs) at j h k = rw (cancelled_lines R_of at w j xs) (append-nil (cancelled_line w.number j))
+  cancelled_text (Some m) w None at j h k = absurd k
+  cancelled_text None w o at j h k = absurd cc
+
+-- a message that is ready for an octet has octets before it
+pub ready_before : (C : Table) (at : ℕ) (message : Option Message) (m : Message) → message ≡ Some m → IsReady C at message → suc (at - 1) ≡ at
+ready_before C at None m e h = absurd cc
+ready_before C at (Some n) m e h = omega (arith, h.1)

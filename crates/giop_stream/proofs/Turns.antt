@@ -1,0 +1,425 @@
+-- The lines of an octet come in the order of their classes: those of its reading, then what the request id does, then
+-- those of the close.
+use Rattle.std.proofs.Common.{inl, inr, ◌⊎◌, ◌≡◌, ℕ, suc, ◌-◌, ◌<◌, ◌≤◌, Bool, true, false, List, [], ◌∷◌, ◌++◌, length, get_or, map, refl, sym, ap, subst, append_assoc, Option, Some, None, arith}
+use Rattle.std.specs.Prelude.{nat_lt, nat_le, ◌==◌, if◌then◌else◌, ◌&&◌, ◌||◌, option_map}
+use Rattle.std.specs.List.{filter, AllByRecursion as Each}
+use Rattle.std.proofs.lemmas.Bool.{cases_lt, cases_eq, le-ltb, lt-ltb, eq-eqb, ne_eqb, and_right}
+use Rattle.std.proofs.lemmas.List.{append-nil, length_push}
+use Rattle.giop_stream.specs.declared.fault.ImposedFault.{ImposedFault}
+use Rattle.giop_stream.specs.declared.fault.ImposedFault.TheVariants.{Short, NoOpen, IdOpen, TooManyOpen, FragmentOrder}
+use Rattle.giop_message.specs.Headers.{order, has_more, size, is_fragment, is_opener, is_cancel, has_name}
+use Rattle.giop_stream.specs.Framing.{Message}
+use Rattle.giop_message.specs.Reading.{Saying, Value, Call, Rest, Fault, End, Reading, InTurn, IsOrdered, due, AtClose, IsClosing, IsInTurn}
+use Rattle.giop_stream.specs.Kinds.{may_be_cancelled, refused}
+use Rattle.giop_stream.specs.Plays.{IsBegun}
+use Rattle.giop_stream.specs.Events.{Happening, Begins, Takes, Opens, Continues, Cancelled, Imposed, Closes, Title, Event, Open, title, place, own, about, id, opener_of, goes_past, imposed, at_header, at_octet, opens_by, opens, most_open, same_order, continues_by, continues, cancels_by, cancels, at_id, at_end, happens, octet, joined}
+use Rattle.giop_stream.specs.Lines.{Said, Line, line, tells}
+use Rattle.giop_stream.specs.State.{Kept}
+use Rattle.giop_stream.specs.Machine.{utters_kept, taking, utters}
+use Rattle.giop_stream.proofs.Lists.{each_append, each_weaker, each_filter}
+use Rattle.giop_stream.proofs.Ordering.{rank_of, Ordered}
+
+-- ---- Lines in order, of classes from one rank to another.
+
+abbrev Between : ℕ → ℕ → Line → Type 0
+Between lo hi l = (lo ≤ rank_of l) × (rank_of l ≤ hi)
+
+record Spans (lo hi : ℕ) (ls : List Line) : Type 0 where
+  within : Each (Between lo hi) ls
+  ordered : Ordered ls
+
+spans_none : (lo hi : ℕ) → Spans lo hi []
+spans_none lo hi = record { within = tt; ordered = tt }
+
+spans_wider : (a b lo hi : ℕ) (ls : List Line) → a ≤ lo → hi ≤ b → Spans lo hi ls → Spans a b ls
+spans_wider a b lo hi ls h k s = record { within = each_weaker (Between lo hi) (Between a b) (λ l i. let low = i.0 in let high = i.1 in (omega arith, omega arith)) ls s.within; ordered = s.ordered }
+
+ordered_join : (n : ℕ) (xs ys : List Line) → Each (λ l. rank_of l ≤ n) xs → Each (λ l. n ≤ rank_of l) ys → Ordered xs → Ordered ys → Ordered (xs ++ ys)
+ordered_join n [] ys h k o p = p
+ordered_join n (x ∷ xs) ys h k o p =
+    let top = h.0 in
+    (each_append (λ l. rank_of x ≤ rank_of l) xs ys o.0 (each_weaker (λ l. n ≤ rank_of l) (λ l. rank_of x ≤ rank_of l) (λ l i. omega arith) ys k), ordered_join n xs ys h.1 k o.1 p)
+
+spans_join : (a b c d : ℕ) (xs ys : List Line) → b ≤ c → a ≤ c → b ≤ d → Spans a b xs → Spans c d ys → Spans a d (xs ++ ys)
+spans_join a b c d xs ys h k i s t = record {
+  within = each_append (Between a d) xs ys (each_weaker (Between a b) (Between a d) (λ l j. let low = j.0 in let high = j.1 in (omega arith, omega arith)) xs s.within) (each_weaker (Between c d) (Between a d) (λ l j. let low = j.0 in let high = j.1 in (omega arith, omega arith)) ys t.within);
+  ordered = ordered_join b xs ys (each_weaker (Between a b) (λ l. rank_of l ≤ b) (λ l j. j.1) xs s.within) (each_weaker (Between c d) (λ l. b ≤ rank_of l) (λ l j. let low = j.0 in omega arith) ys t.within) s.ordered t.ordered;
+}
+
+spans_one : (n : ℕ) (l : Line) → rank_of l ≡ n → Spans n n (l ∷ [])
+spans_one n l h = record { within = ((omega arith, omega arith), tt); ordered = (tt, tt) }
+
+-- ---- The same of what is said.
+
+abbrev said_rank : Saying → ℕ
+said_rank Value = 1
+said_rank Call = 2
+said_rank Rest = 6
+said_rank Fault = 7
+said_rank End = 8
+
+abbrev SayingsOrdered : List Saying → Type 0
+SayingsOrdered [] = Unit {0}
+SayingsOrdered (s ∷ ss) = Each (λ t. said_rank s ≤ said_rank t) ss × SayingsOrdered ss
+
+record SaySpans (lo hi : ℕ) (ss : List Saying) : Type 0 where
+  within : Each (λ s. (lo ≤ said_rank s) × (said_rank s ≤ hi)) ss
+  ordered : SayingsOrdered ss
+
+rank_said : (e : Event) (s : Saying) (text : List ℕ) → rank_of (line e (Said s text)) ≡ said_rank s
+unfolding line
+rank_said e Value text = refl
+rank_said e Call text = refl
+rank_said e Rest text = refl
+rank_said e Fault text = refl
+rank_said e End text = refl
+
+said_each : {A : Type 0} (P : ℕ → Type 0) (e : Event) (f : A → Saying) (g : A → List ℕ) (xs : List A) → Each (λ s. P (said_rank s)) (map f xs) → Each (λ l. P (rank_of l)) (map (λ a. line e (Said (f a) (g a))) xs)
+said_each P e f g [] h = tt
+said_each P e f g (x ∷ xs) h = (subst P (sym (rank_said e (f x) (g x))) h.0, said_each P e f g xs h.1)
+
+said_ordered : {A : Type 0} (e : Event) (f : A → Saying) (g : A → List ℕ) (xs : List A) → SayingsOrdered (map f xs) → Ordered (map (λ a. line e (Said (f a) (g a))) xs)
+said_ordered e f g [] h = tt
+said_ordered {A} e f g (x ∷ xs) h = (rw (rank_said e (f x) (g x)) (said_each (λ n. said_rank (f x) ≤ n) e f g xs h.0), said_ordered e f g xs h.1)
+
+said_spans : {A : Type 0} (lo hi : ℕ) (e : Event) (f : A → Saying) (g : A → List ℕ) (xs : List A) → SaySpans lo hi (map f xs) → Spans lo hi (map (λ a. line e (Said (f a) (g a))) xs)
+said_spans lo hi e f g xs h = record { within = said_each (λ n. (lo ≤ n) × (n ≤ hi)) e f g xs h.within; ordered = said_ordered e f g xs h.ordered }
+
+turn_spans : (ss : List Saying) → InTurn ss → SaySpans 1 7 ss
+turn_spans ss (inl e) = rw e (record { within = tt; ordered = tt })
+turn_spans ss (inr (inl e)) = rw e (record { within = omega arith; ordered = omega arith })
+turn_spans ss (inr (inr (inl e))) = rw e (record { within = omega arith; ordered = omega arith })
+turn_spans ss (inr (inr (inr (inl e)))) = rw e (record { within = omega arith; ordered = omega arith })
+turn_spans ss (inr (inr (inr (inr e)))) = rw e (record { within = omega arith; ordered = omega arith })
+
+close_spans : (ss : List Saying) → AtClose ss → SaySpans 6 8 ss
+close_spans ss (inl e) = rw e (record { within = omega arith; ordered = omega arith })
+close_spans ss (inr (inl e)) = rw e (record { within = omega arith; ordered = omega arith })
+close_spans ss (inr (inr e)) = rw e (record { within = omega arith; ordered = omega arith })
+
+both_span : (ds cs : List Saying) → InTurn ds → AtClose cs → (ds ≡ Fault ∷ [] → cs ≡ Rest ∷ End ∷ [] → ⊥) → SayingsOrdered (ds ++ cs)
+both_span ds cs (inl e) c h = rw e (close_spans cs c).ordered
+both_span ds cs (inr (inl e)) (inl f) h = rw (e, f) (omega arith)
+both_span ds cs (inr (inl e)) (inr (inl f)) h = rw (e, f) (omega arith)
+both_span ds cs (inr (inl e)) (inr (inr f)) h = rw (e, f) (omega arith)
+both_span ds cs (inr (inr (inl e))) (inl f) h = rw (e, f) (omega arith)
+both_span ds cs (inr (inr (inl e))) (inr (inl f)) h = rw (e, f) (omega arith)
+both_span ds cs (inr (inr (inl e))) (inr (inr f)) h = rw (e, f) (omega arith)
+both_span ds cs (inr (inr (inr (inl e)))) (inl f) h = rw (e, f) (omega arith)
+both_span ds cs (inr (inr (inr (inl e)))) (inr (inl f)) h = rw (e, f) (omega arith)
+both_span ds cs (inr (inr (inr (inl e)))) (inr (inr f)) h = rw (e, f) (omega arith)
+both_span ds cs (inr (inr (inr (inr e)))) (inl f) h = rw (e, f) (omega arith)
+both_span ds cs (inr (inr (inr (inr e)))) (inr (inl f)) h = rw (e, f) (omega arith)
+both_span ds cs (inr (inr (inr (inr e)))) (inr (inr f)) h = absurd (h e f)
+
+values_each : {A : Type 0} (f : A → Saying) (xs : List A) → Each (λ a. f a ≡ Value) xs → Each (λ s. (1 ≤ said_rank s) × (said_rank s ≤ 1)) (map f xs)
+values_each f [] h = tt
+values_each f (x ∷ xs) h = let one : said_rank (f x) ≡ 1 = ap said_rank h.0 in ((omega arith, omega arith), values_each f xs h.1)
+
+values_ordered : (ss : List Saying) → Each (λ s. (1 ≤ said_rank s) × (said_rank s ≤ 1)) ss → SayingsOrdered ss
+values_ordered [] h = tt
+values_ordered (s ∷ ss) h =
+    let top = h.0.1 in
+    (each_weaker (λ t. (1 ≤ said_rank t) × (said_rank t ≤ 1)) (λ t. said_rank s ≤ said_rank t) (λ t i. let low = i.0 in omega arith) ss h.1, values_ordered ss h.1)
+
+value_spans : {A : Type 0} (f : A → Saying) (xs : List A) → Each (λ a. f a ≡ Value) xs → SaySpans 1 1 (map f xs)
+value_spans f xs h = let each = values_each f xs h in record { within = each; ordered = values_ordered (map f xs) each }
+
+-- ---- The lines of one happening.
+
+Tells : Reading → ℕ → ℕ → Happening → Type 0
+Tells R lo hi what = (e : Event) (so_far all : List ℕ) → Spans lo hi (tells R e so_far all what)
+
+tells_begins : (R : Reading) → Tells R 0 0 Begins
+unfolding Tells tells line
+tells_begins R e so_far all = spans_one 0 _ refl
+
+tells_opens : (R : Reading) (id lo hi : ℕ) → Tells R lo hi (Opens id)
+unfolding Tells tells
+tells_opens R id lo hi e so_far all = spans_none lo hi
+
+tells_continues : (R : Reading) (i : ℕ) → Tells R 3 3 (Continues i)
+unfolding Tells tells line
+tells_continues R i e so_far all = spans_one 3 _ refl
+
+tells_cancelled : (R : Reading) (j : ℕ) → Tells R 4 4 (Cancelled j)
+unfolding Tells tells line
+tells_cancelled R j e so_far all = spans_one 4 _ refl
+
+tells_imposed : (R : Reading) (fault : ImposedFault) → Tells R 5 5 (Imposed fault)
+unfolding Tells tells line
+tells_imposed R fault e so_far all = spans_one 5 _ refl
+
+tells_takes : (R : Reading) → IsOrdered R → (x : ℕ) → Tells R 1 7 (Takes x)
+unfolding Tells tells
+tells_takes R ordered x e so_far all =
+    said_spans 1 7 e (λ r. r.saying) (λ r. r.text) (filter (λ r. r.at == suc (length so_far)) (R.reads e.whom.header all)) (turn_spans _ (ordered.ordered e.whom.header all (suc (length so_far))))
+
+tells_closes : (R : Reading) → IsClosing R → Tells R 6 8 Closes
+unfolding Tells tells
+tells_closes R closing e so_far all = said_spans 6 8 e (λ l. l.0) (λ l. l.1) (R.closes e.whom.header so_far) (close_spans _ (closing.closed e.whom.header so_far))
+
+-- ---- The lines of events, whatever is kept.
+
+Always : Reading → ℕ → ℕ → List Event → Type 0
+Always R lo hi es = (K : Kept) → Spans lo hi (utters R K es)
+
+utters_join : (R : Reading) (K : Kept) (es fs : List Event) → (L : Kept) × (utters R K (es ++ fs) ≡ utters R K es ++ utters R L fs)
+unfolding utters
+utters_join R K [] fs = (K, refl)
+utters_join R K (e ∷ es) fs =
+    let more = utters_join R (taking K (e ∷ [])) es fs in
+    (more.0, rw more.1 (sym (append_assoc (utters_kept R e (K e.whom.number)) (utters R (taking K (e ∷ [])) es) (utters R more.0 fs))))
+
+-- events of lines in order, before others of such
+join_spans : (R : Reading) (K : Kept) (a b c d : ℕ) (es fs : List Event) → b ≤ c → a ≤ c → b ≤ d → Spans a b (utters R K es) → Always R c d fs → Spans a d (utters R K (es ++ fs))
+unfolding Always
+join_spans R K a b c d es fs h k i s t = let both = utters_join R K es fs in rw both.1 (spans_join a b c d (utters R K es) (utters R both.0 fs) h k i s (t both.0))
+
+always_join : (R : Reading) (a b c d : ℕ) (es fs : List Event) → b ≤ c → a ≤ c → b ≤ d → Always R a b es → Always R c d fs → Always R a d (es ++ fs)
+unfolding Always
+always_join R a b c d es fs h k i s t K = join_spans R K a b c d es fs h k i (s K) t
+
+always_none : (R : Reading) (lo hi : ℕ) → Always R lo hi []
+unfolding Always utters
+always_none R lo hi K = spans_none lo hi
+
+always_if : (R : Reading) (lo hi : ℕ) (b : Bool) (es fs : List Event) → Always R lo hi es → Always R lo hi fs → Always R lo hi (if b then es else fs)
+always_if R lo hi true es fs h k = h
+always_if R lo hi false es fs h k = k
+
+always_wider : (R : Reading) (a b lo hi : ℕ) (es : List Event) → a ≤ lo → hi ≤ b → Always R lo hi es → Always R a b es
+unfolding Always
+always_wider R a b lo hi es h k s K = spans_wider a b lo hi (utters R K es) h k (s K)
+
+kept_spans : (R : Reading) (lo hi : ℕ) (e : Event) (o : Option (List ℕ)) → Tells R lo hi e.what → Spans lo hi (utters_kept R e o)
+unfolding Tells utters_kept
+kept_spans R lo hi e None h = spans_none lo hi
+kept_spans R lo hi e (Some xs) h = h e xs (xs ++ joined e.whom.number (e ∷ []))
+
+always_one : (R : Reading) (lo hi : ℕ) (e : Event) → Tells R lo hi e.what → Always R lo hi (e ∷ [])
+unfolding Always utters
+always_one R lo hi e h K = subst (Spans lo hi) (sym (append-nil (utters_kept R e (K e.whom.number)))) (kept_spans R lo hi e (K e.whom.number) h)
+
+always_own : (R : Reading) (lo hi : ℕ) (m : Message) (what : Happening) → Tells R lo hi what → Always R lo hi (own m what)
+unfolding own
+always_own R lo hi m what h = always_one R lo hi (record { place = place m; whom = title m; what = what }) h
+
+always_about : (R : Reading) (lo hi : ℕ) (m : Message) (o : Option Open) (what : Happening) → Tells R lo hi what → Always R lo hi (about m o what)
+unfolding about
+always_about R lo hi m None what h = always_none R lo hi
+always_about R lo hi m (Some o) what h = always_one R lo hi (record { place = place m; whom = o.opener; what = what }) h
+
+-- ---- The parts of an octet.
+
+always_imposed : (R : Reading) (m : Message) (fault : ImposedFault) → Always R 5 5 (own m (Imposed fault))
+always_imposed R m fault = always_own R 5 5 m (Imposed fault) (tells_imposed R fault)
+
+always_header : (R : Reading) (m : Message) → Always R 0 5 (at_header m)
+unfolding at_header
+always_header R m = always_join R 0 0 5 5 (own m Begins) (imposed m (refused m.header)) (omega arith) (omega arith) (omega arith) (always_own R 0 0 m Begins (tells_begins R)) (go (refused m.header))
+  where
+    go : (w : Option ImposedFault) → Always R 5 5 (imposed m w)
+    go None = always_none R 5 5
+    go (Some fault) = always_imposed R m fault
+
+always_opens : (R : Reading) (live : List Open) (m : Message) (o : Option Open) → Always R 3 5 (opens_by live m o)
+always_opens R live m (Some other) = always_wider R 3 5 5 5 (own m (Imposed IdOpen)) (omega arith) (omega arith) (always_imposed R m IdOpen)
+always_opens R live m None =
+    always_if R 3 5 (nat_le most_open (length live)) (own m (Imposed TooManyOpen)) (own m (Opens (id m))) (always_wider R 3 5 5 5 (own m (Imposed TooManyOpen)) (omega arith) (omega arith) (always_imposed R m TooManyOpen))
+    (always_own R 3 5 m (Opens (id m)) (tells_opens R (id m) 3 5))
+
+always_continues : (R : Reading) (m : Message) (o : Option Open) → Always R 3 5 (continues_by m o)
+always_continues R m None = always_wider R 3 5 5 5 (own m (Imposed NoOpen)) (omega arith) (omega arith) (always_imposed R m NoOpen)
+always_continues R m (Some o) =
+    always_join R 3 3 5 5 (own m (Continues o.opener.number)) _ (omega arith) (omega arith) (omega arith) (always_own R 3 3 m (Continues o.opener.number) (tells_continues R o.opener.number))
+    (always_if R 5 5 (same_order (order m.header) (order o.opener.header)) [] (about m (Some o) (Imposed FragmentOrder)) (always_none R 5 5) (always_about R 5 5 m (Some o) (Imposed FragmentOrder) (tells_imposed R FragmentOrder)))
+
+always_cancels : (R : Reading) (m : Message) (o : Option Open) → Always R 3 5 (cancels_by m o)
+always_cancels R m None = always_none R 3 5
+always_cancels R m (Some o) =
+    always_if R 3 5 (may_be_cancelled o.opener.header) (about m (Some o) (Cancelled m.number)) [] (always_wider R 3 5 4 4 (about m (Some o) (Cancelled m.number)) (omega arith) (omega arith) (always_about R 4 4 m (Some o) (Cancelled m.number) (tells_cancelled R m.number)))
+    (always_none R 3 5)
+
+always_id : (R : Reading) (live : List Open) (m : Message) → Always R 3 5 (at_id live m)
+unfolding at_id opens continues cancels
+always_id R live m =
+    always_if R 3 5 (is_fragment m.header) (continues_by m (opener_of live m)) _ (always_continues R m (opener_of live m))
+    (always_if R 3 5 (is_opener m.header) (opens_by live m (opener_of live m)) _ (always_opens R live m (opener_of live m))
+    (always_if R 3 5 (is_cancel m.header) (cancels_by m (opener_of live m)) [] (always_cancels R m (opener_of live m)) (always_none R 3 5)))
+
+always_end : (R : Reading) → IsClosing R → (live : List Open) (m : Message) → Always R 5 8 (at_end live m)
+unfolding at_end
+always_end R closing live m =
+    always_if R 5 8 (nat_lt (size m.header) 4 && (is_opener m.header || is_fragment m.header)) (own m (Imposed Short)) _ (always_wider R 5 8 5 5 (own m (Imposed Short)) (omega arith) (omega arith) (always_imposed R m Short))
+    (always_if R 5 8 (is_opener m.header) [] _ (always_none R 5 8)
+    (always_if R 5 8 (is_fragment m.header) _ (own m Closes)
+    (always_if R 5 8 (has_more m.header) [] (about m (opener_of live m) Closes) (always_none R 5 8) (always_wider R 5 8 6 8 _ (omega arith) (omega arith) (always_about R 6 8 m (opener_of live m) Closes (tells_closes R closing))))
+    (always_wider R 5 8 6 8 (own m Closes) (omega arith) (omega arith) (always_own R 6 8 m Closes (tells_closes R closing)))))
+
+-- behind the first part
+always_later : (R : Reading) → IsClosing R → (live : List Open) (m : Message) → Always R 3 8 ((if length m.payload == 4 then at_id live m else []) ++ (if length m.payload == size m.header then at_end live m else []))
+always_later R closing live m =
+    always_join R 3 5 5 8 (if length m.payload == 4 then at_id live m else []) (if length m.payload == size m.header then at_end live m else []) (omega arith) (omega arith) (omega arith)
+    (always_if R 3 5 (length m.payload == 4) (at_id live m) [] (always_id R live m) (always_none R 3 5)) (always_if R 5 8 (length m.payload == size m.header) (at_end live m) [] (always_end R closing live m) (always_none R 5 8))
+
+-- ---- An octet, and the close behind it.
+
+one_octet : (e : Event) (x : ℕ) → e.what ≡ Takes x → joined e.whom.number (e ∷ []) ≡ x ∷ []
+unfolding joined octet
+one_octet e x h = rw (eq-eqb e.whom.number e.whom.number refl, h) refl
+
+pair_each : {A B : Type 0} (P : ℕ → Type 0) (d e : Event) (f : A → Saying) (g : A → List ℕ) (f' : B → Saying) (g' : B → List ℕ) (xs : List A) (ys : List B) → Each (λ s. P (said_rank s)) (map f xs ++ map f' ys)
+    → Each (λ l. P (rank_of l)) (map (λ a. line d (Said (f a) (g a))) xs ++ map (λ b. line e (Said (f' b) (g' b))) ys)
+pair_each P d e f g f' g' [] ys h = said_each P e f' g' ys h
+pair_each P d e f g f' g' (x ∷ xs) ys h = (subst P (sym (rank_said d (f x) (g x))) h.0, pair_each P d e f g f' g' xs ys h.1)
+
+pair_ordered : {A B : Type 0} (d e : Event) (f : A → Saying) (g : A → List ℕ) (f' : B → Saying) (g' : B → List ℕ) (xs : List A) (ys : List B) → SayingsOrdered (map f xs ++ map f' ys)
+    → Ordered (map (λ a. line d (Said (f a) (g a))) xs ++ map (λ b. line e (Said (f' b) (g' b))) ys)
+pair_ordered d e f g f' g' [] ys h = said_ordered e f' g' ys h
+pair_ordered {A} {B} d e f g f' g' (x ∷ xs) ys h = (rw (rank_said d (f x) (g x)) (pair_each (λ n. said_rank (f x) ≤ n) d e f g f' g' xs ys h.0), pair_ordered d e f g f' g' xs ys h.1)
+
+abbrev event : ℕ → Title → Happening → Event
+event at whom what = record { place = at; whom = whom; what = what }
+
+pair_by : (R : Reading) → IsInTurn R → (at : ℕ) (whom : Title) (x : ℕ) (o : Option (List ℕ))
+    → Ordered (utters_kept R (event at whom (Takes x)) o ++ utters_kept R (event at whom Closes) (option_map (λ xs. xs ++ joined whom.number (event at whom (Takes x) ∷ [])) o))
+unfolding utters_kept tells
+pair_by R laws at whom x None = tt
+pair_by R laws at whom x (Some xs) =
+    rw (one_octet (event at whom (Takes x)) x refl)
+    (pair_ordered (event at whom (Takes x)) (event at whom Closes) (λ r. r.saying) (λ r. r.text) (λ l. l.0) (λ l. l.1) (due R whom.header xs x) (R.closes whom.header (xs ++ x ∷ []))
+    (both_span _ _ (laws.ordered.ordered whom.header (xs ++ x ∷ []) (suc (length xs))) (laws.closing.closed whom.header (xs ++ x ∷ [])) (laws.closing.no_rest whom.header xs x)))
+
+pair_ordered_at : (R : Reading) → IsInTurn R → (K : Kept) (at : ℕ) (whom : Title) (x : ℕ) → Ordered (utters R K (event at whom (Takes x) ∷ event at whom Closes ∷ []))
+unfolding utters taking
+pair_ordered_at R laws K at whom x = rw (append-nil) (pair_by R laws at whom x (K whom.number))
+
+takes_alone : (R : Reading) → IsInTurn R → (K : Kept) (at : ℕ) (whom : Title) (x : ℕ) → Ordered (utters R K (event at whom (Takes x) ∷ []))
+unfolding Always
+takes_alone R laws K at whom x = (always_one R 1 7 (event at whom (Takes x)) (tells_takes R laws.ordered x) K).ordered
+
+-- the octet of a message, and perhaps its close
+takes_then : (R : Reading) → IsInTurn R → (K : Kept) (m : Message) (x : ℕ) (b : Bool) (es : List Event) → (es ≡ []) ⊎ (es ≡ own m Closes) → Ordered (utters R K (own m (Takes x) ++ (if b then es else [])))
+unfolding own
+takes_then R laws K m x false es h = takes_alone R laws K (place m) (title m) x
+takes_then R laws K m x true es (inl h) = rw h (takes_alone R laws K (place m) (title m) x)
+takes_then R laws K m x true es (inr h) = rw h (pair_ordered_at R laws K (place m) (title m) x)
+
+passes_then : (R : Reading) → IsInTurn R → (K : Kept) (m : Message) (o : Option Open) (x : ℕ) (b : Bool) (es : List Event) → (es ≡ []) ⊎ (es ≡ about m o Closes) → Ordered (utters R K (about m o (Takes x) ++ (if b then es else [])))
+unfolding about utters
+passes_then R laws K m None x false es h = tt
+passes_then R laws K m None x true es (inl h) = rw h tt
+passes_then R laws K m None x true es (inr h) = rw h tt
+passes_then R laws K m (Some o) x false es h = takes_alone R laws K (place m) o.opener x
+passes_then R laws K m (Some o) x true es (inl h) = rw h (takes_alone R laws K (place m) o.opener x)
+passes_then R laws K m (Some o) x true es (inr h) = rw h (pair_ordered_at R laws K (place m) o.opener x)
+
+-- the first octets of a message that begins with its request id
+named_takes : (R : Reading) → IsInTurn R → (at : ℕ) (whom : Title) (x : ℕ) (o : Option (List ℕ)) → has_name whom.header ≡ true → ((xs : List ℕ) → o ≡ Some xs → length xs < 4) → Spans 1 1 (utters_kept R (event at whom (Takes x)) o)
+unfolding utters_kept tells
+named_takes R laws at whom x None k few = spans_none 1 1
+named_takes R laws at whom x (Some xs) k few =
+    let short = few xs refl in
+    rw (one_octet (event at whom (Takes x)) x refl)
+    (said_spans 1 1 (event at whom (Takes x)) (λ r. r.saying) (λ r. r.text) (due R whom.header xs x)
+    (value_spans (λ r. r.saying) (due R whom.header xs x) (each_filter (λ r. r.saying ≡ Value) (λ r. r.at == suc (length xs)) (R.reads whom.header (xs ++ x ∷ [])) (laws.named.named whom.header (xs ++ x ∷ []) k (omega (arith, length_push xs x))))))
+
+-- ---- All of an octet.
+
+at_end_whose : (live : List Open) (m : Message) → (nat_lt (size m.header) 4 && (is_opener m.header || is_fragment m.header)) ≡ false → is_fragment m.header ≡ false → (at_end live m ≡ []) ⊎ (at_end live m ≡ own m Closes)
+unfolding at_end
+at_end_whose live m short f = go (is_opener m.header) refl
+  where
+    go : (b : Bool) → is_opener m.header ≡ b → (at_end live m ≡ []) ⊎ (at_end live m ≡ own m Closes)
+    go true e = inl (rw (at_end, short, e) refl)
+    go false e = inr (rw (at_end, short, e, f) refl)
+
+at_end_past : (live : List Open) (m : Message) → (nat_lt (size m.header) 4 && (is_opener m.header || is_fragment m.header)) ≡ false → is_fragment m.header ≡ true → (at_end live m ≡ []) ⊎ (at_end live m ≡ about m (opener_of live m) Closes)
+unfolding at_end
+at_end_past live m short f = go (is_opener m.header) (has_more m.header) refl refl
+  where
+    go : (b c : Bool) → is_opener m.header ≡ b → has_more m.header ≡ c → (at_end live m ≡ []) ⊎ (at_end live m ≡ about m (opener_of live m) Closes)
+    go true c e k = inl (rw (at_end, short, e) refl)
+    go false true e k = inl (rw (at_end, short, e, f, k) refl)
+    go false false e k = inr (rw (at_end, short, e, f, k) refl)
+
+own_named : (R : Reading) → IsInTurn R → (K : Kept) (m : Message) (x : ℕ) → has_name m.header ≡ true → 0 < length m.payload → length m.payload ≤ 4 → IsBegun K m → Spans 1 1 (utters R K (own m (Takes x)))
+unfolding own utters
+own_named R laws K m x k some short begun =
+    subst (Spans 1 1) (sym (append-nil (utters_kept R (event (place m) (title m) (Takes x)) (K m.number))))
+    (named_takes R laws (place m) (title m) x (K m.number) k (λ xs e. let less = begun some short xs e in omega arith))
+
+pub not_past : (m : Message) → length m.payload ≤ 4 → goes_past m ≡ false
+unfolding goes_past
+not_past m h = and_right (is_fragment m.header) (nat_lt 4 (length m.payload)) (le-ltb 4 (length m.payload) h)
+
+unnamed : (header : List ℕ) → has_name header ≡ false → (is_opener header ≡ false) × (is_fragment header ≡ false) × (is_cancel header ≡ false)
+unnamed header h = go (is_opener header) (is_fragment header) (is_cancel header) h
+  where
+    go : (a b c : Bool) → (a || b || c) ≡ false → (a ≡ false) × (b ≡ false) × (c ≡ false)
+    go true b c h = absurd cc
+    go false true c h = absurd cc
+    go false false true h = absurd cc
+    go false false false h = (refl, refl, refl)
+
+unnamed_id : (live : List Open) (m : Message) → has_name m.header ≡ false → at_id live m ≡ []
+unfolding at_id
+unnamed_id live m h = let parts = unnamed m.header h in rw (at_id, parts.0, parts.1, parts.2) refl
+
+-- no message with an octet behind its request id is too short for one
+not_short : (m : Message) → (has_name m.header ≡ false) ⊎ (4 ≤ size m.header) → (nat_lt (size m.header) 4 && (is_opener m.header || is_fragment m.header)) ≡ false
+not_short m (inl h) = let parts = unnamed m.header h in rw (parts.0, parts.1) (and_right (nat_lt (size m.header) 4) false refl)
+not_short m (inr h) = rw (le-ltb (size m.header) 4 h) refl
+
+-- an octet of a message that does not begin with its request id, or one behind it
+plain_octet : (R : Reading) → IsInTurn R → (K : Kept) (live : List Open) (m : Message) → 0 < length m.payload → (has_name m.header ≡ false) ⊎ (4 < length m.payload) → length m.payload ≤ size m.header
+    → Ordered (utters R K (happens live m))
+unfolding happens
+plain_octet R laws K live m some h fits =
+    rw (happens, ne_eqb (length m.payload) 0 (λ e. omega arith), second) (go (is_fragment m.header) refl)
+  where
+    second : (if length m.payload == 4 then at_id live m else []) ≡ []
+    second = elim h [ inl k ↦ rw (unnamed_id live m k) (both (length m.payload == 4)) | inr k ↦ rw (ne_eqb (length m.payload) 4 (λ e. omega arith)) refl ]
+      where
+        both : (b : Bool) → (let none : List Event = [] in (if b then none else none) ≡ none)
+        both true = refl
+        both false = refl
+
+    long : (nat_lt (size m.header) 4 && (is_opener m.header || is_fragment m.header)) ≡ false
+    long = not_short m (elim h [ inl k ↦ inl k | inr k ↦ inr (omega arith) ])
+
+    go : (b : Bool) → is_fragment m.header ≡ b → Ordered (utters R K (at_octet live m ++ (if length m.payload == size m.header then at_end live m else [])))
+    go false f = unfold at_octet goes_past in
+        rw (f) (takes_then R laws K m (get_or m.payload (length m.payload - 1) 0) (length m.payload == size m.header) (at_end live m) (at_end_whose live m long f))
+    go true f = unfold at_octet goes_past in
+        let past : 4 < length m.payload = elim h [ inl k ↦ absurd (let no = (unnamed m.header k).1 in cc) | inr k ↦ k ] in
+        rw (f, lt-ltb 4 (length m.payload) past) (passes_then R laws K m (opener_of live m) (get_or m.payload (length m.payload - 1) 0) (length m.payload == size m.header) (at_end live m) (at_end_past live m long f))
+
+-- an octet of a request id
+named_octet : (R : Reading) → IsInTurn R → (K : Kept) (live : List Open) (m : Message) → 0 < length m.payload → has_name m.header ≡ true → length m.payload ≤ 4 → IsBegun K m → Ordered (utters R K (happens live m))
+unfolding happens at_octet
+named_octet R laws K live m some h short begun =
+    rw (happens, at_octet, ne_eqb (length m.payload) 0 (λ e. omega arith), not_past m short)
+    (join_spans R K 1 1 3 8 (own m (Takes (get_or m.payload (length m.payload - 1) 0))) _ (omega arith) (omega arith) (omega arith) (own_named R laws K m (get_or m.payload (length m.payload - 1) 0) h some short begun) (always_later R laws.closing live m)).ordered
+
+-- the header's last octet
+first_octet : (R : Reading) → IsInTurn R → (K : Kept) (live : List Open) (m : Message) → length m.payload ≡ 0 → Ordered (utters R K (happens live m))
+unfolding happens Always
+first_octet R laws K live m none =
+    let header : Always R 0 5 (at_header m) = always_header R m in
+    let end : Always R 5 8 (if length m.payload == size m.header then at_end live m else []) = always_if R 5 8 (length m.payload == size m.header) (at_end live m) [] (always_end R laws.closing live m) (always_none R 5 8) in
+    rw (happens, eq-eqb (length m.payload) 0 none, ne_eqb (length m.payload) 4 (λ e. omega arith)) (always_join R 0 5 5 8 (at_header m) _ (omega arith) (omega arith) (omega arith) header end K).ordered
+
+pub happens_ordered : (R : Reading) → IsInTurn R → (K : Kept) (live : List Open) (m : Message) → length m.payload ≤ size m.header → (has_name m.header ≡ true → IsBegun K m) → Ordered (utters R K (happens live m))
+happens_ordered R laws K live m fits begun = elim (cases_eq (length m.payload) 0) [
+  | inl none ↦ first_octet R laws K live m none
+  | inr some ↦ elim (cases_lt 4 (length m.payload)) [
+    | inl past ↦ plain_octet R laws K live m (omega arith) (inr past) fits
+    | inr short ↦ go (has_name m.header) refl (omega arith) short
+  ]
+]
+  where
+    go : (b : Bool) → has_name m.header ≡ b → 0 < length m.payload → length m.payload ≤ 4 → Ordered (utters R K (happens live m))
+    go true h some short = named_octet R laws K live m some h short (begun h)
+    go false h some short = plain_octet R laws K live m some (inl h) fits

@@ -1,0 +1,7 @@
+use Rattle.std.proofs.Common.{flat_map, take}
+use Rattle.giop_print.specs.Output.{Wrote}
+use Rattle.giop_stream.proofs.Closing.{slot_text}
+use Rattle.giop_stream.proofs.slots.Slots.unfinished.Given as goal
+
+abbrev pub invariant-loop-slot : goal.invariant-loop-slot
+invariant-loop-slot g l = Wrote (g.O.Out.log l.initial.out) (g.O.Out.log l.out) (flat_map slot_text (take l.slot-index l.self.slots.items))

@@ -1,0 +1,108 @@
+-- What the code keeps of the messages, against what there is to know of them.
+use Rattle.std.specs.Prelude.{◌≡◌, ◌<◌, ℕ, suc, List, [], ◌∷◌, ◌++◌, Option, Some, None, slice_get}
+use Rattle.std.specs.List.{AllByRecursion as Each}
+use Rattle.giop_sig.specs.Table.{Table}
+use Rattle.giop_message.specs.declared.message.Message.{Message as Kept_message}
+use Rattle.giop_message.specs.Signatures.{Kept as Listed}
+use Rattle.giop_message.specs.MessageReading.{message_reading}
+use Rattle.giop_message.specs.Holding.{Follows, Fits, reach}
+use Rattle.giop_stream.specs.declared.slots.Slot.{Slot as Kept_slot}
+use Rattle.giop_stream.specs.declared.slots.Slots.{Slots}
+use Rattle.giop_stream.specs.declared.slots.Payload.{Payload}
+use Rattle.giop_stream.specs.declared.slots.Payload.TheVariants.{Own, Open, Nobody}
+use Rattle.giop_stream.specs.Framing.{Message}
+use Rattle.giop_stream.specs.Events.{Title, Event, Happening, Takes, id, place}
+use Rattle.giop_stream.specs.Events as events
+use Rattle.giop_stream.specs.State.{Slot, slots_of}
+use Rattle.giop_stream.specs.Lines.{Line}
+use Rattle.giop_stream.specs.Plays.{Scene, scene_at, lines_of, octets_then}
+
+-- A message is kept of which these octets have come, or none where it is over.
+abbrev pub IsKept : Table → Listed → Option Kept_message → Title → Option (List ℕ) → Type 0
+IsKept C l (Some m) w (Some xs) = Follows C l w.number w.header m xs
+IsKept C l None w None = Unit {0}
+IsKept C l (Some m) w None = ⊥
+IsKept C l None w (Some xs) = ⊥
+
+-- A message can take the octet at this place: it fits the table, and has fewer octets than the stream has up to there.
+abbrev pub IsReady : Table → ℕ → Option Kept_message → Type 0
+IsReady C at None = Unit {0}
+IsReady C at (Some m) = Fits C m × (reach m < at)
+
+-- and each that is kept can
+pub record AreReady (C : Table) (at : ℕ) (s : Slots) : Type 0 where
+  pub own_ready : IsReady C at s.own
+  pub each_ready : Each (λ slot. IsReady C at slot.message) s.slots.items
+
+pub record IsSlot (C : Table) (l : Listed) (kept : Kept_slot) (slot : Slot) : Type 0 where
+  pub number : kept.number ≡ slot.open_as.opener.number
+  pub header : kept.header ≡ slot.open_as.opener.header
+  pub id : kept.id ≡ slot.open_as.id
+  pub message : IsKept C l kept.message slot.open_as.opener slot.octets
+
+abbrev pub AreSlots : Table → Listed → List Kept_slot → List Slot → Type 0
+AreSlots C l [] [] = Unit {0}
+AreSlots C l (kept ∷ more) (slot ∷ slots) = IsSlot C l kept slot × AreSlots C l more slots
+AreSlots C l [] (slot ∷ slots) = ⊥
+AreSlots C l (kept ∷ more) [] = ⊥
+
+-- whose the octets of the payload are
+abbrev pub IsWhose : Table → Listed → Payload → Option Kept_message → Scene → Option Title → Type 0
+IsWhose C l Own own c (Some w) = Each (λ o. o.opener.number ≡ w.number → ⊥) c.live × IsKept C l own w (c.known w.number)
+IsWhose C l (Open k) own c (Some w) = (own ≡ None) × ((o : events.Open) × (slice_get c.live k ≡ Some o) × (o.opener ≡ w))
+IsWhose C l Nobody own c None = own ≡ None
+IsWhose C l Own own c None = ⊥
+IsWhose C l (Open k) own c None = ⊥
+IsWhose C l Nobody own c (Some w) = ⊥
+
+pub record Keeps (C : Table) (l : Listed) (s : Slots) (c : Scene) (whose : Option Title) : Type 0 where
+  pub slots : AreSlots C l s.slots.items (slots_of c.known c.live)
+  pub payload : IsWhose C l s.payload s.own c whose
+
+-- no message is kept
+pub record IsBare (s : Slots) : Type 0 where
+  pub no_slots : s.slots.items ≡ []
+  pub no_own : s.own ≡ None
+  pub nobody : s.payload ≡ Nobody
+
+-- what happens at a place to the message whose the octets are
+abbrev pub event : ℕ → Title → Happening → Event
+event at whom what = record { place = at; whom = whom; what = what }
+
+-- what it makes of the scene, and its lines
+abbrev pub scene_to : Table → Listed → ℕ → Scene → Option Title → Happening → Scene
+scene_to C l at c None what = c
+scene_to C l at c (Some w) what = scene_at (message_reading C l) c (event at w what)
+
+abbrev pub lines_to : Table → Listed → ℕ → Scene → Option Title → Happening → List Line
+lines_to C l at c None what = []
+lines_to C l at c (Some w) what = lines_of (message_reading C l) (event at w what) (c.known w.number)
+
+-- What octets make of the scene that are of this message's contents alone, behind so many octets of the stream, and
+-- their lines.
+unfoldable pub run_scene : Table → Listed → ℕ → Scene → Option Title → List ℕ → Scene
+run_scene C l before c whose [] = c
+run_scene C l before c whose (x ∷ xs) = run_scene C l (suc before) (scene_to C l (suc before) c whose (Takes x)) whose xs
+
+unfoldable pub run_lines : Table → Listed → ℕ → Scene → Option Title → List ℕ → List Line
+run_lines C l before c whose [] = []
+run_lines C l before c whose (x ∷ xs) = lines_to C l (suc before) c whose (Takes x) ++ run_lines C l (suc before) (scene_to C l (suc before) c whose (Takes x)) whose xs
+
+-- the same of one message: its octets then, unless it is over, and its lines
+unfoldable pub run_octets : Table → Listed → ℕ → Title → Option (List ℕ) → List ℕ → Option (List ℕ)
+run_octets C l before w o [] = o
+run_octets C l before w o (x ∷ xs) = run_octets C l (suc before) w (octets_then (message_reading C l) (event (suc before) w (Takes x)) o) xs
+
+unfoldable pub run_of : Table → Listed → ℕ → Title → Option (List ℕ) → List ℕ → List Line
+run_of C l before w o [] = []
+run_of C l before w o (x ∷ xs) =
+    let e = event (suc before) w (Takes x) in
+    lines_of (message_reading C l) e o ++ run_of C l (suc before) w (octets_then (message_reading C l) e o) xs
+
+-- A message whose request id is complete: its own octets come, and these are its number, header, request id and place.
+pub record IsNow (s : Slots) (m : Message) (number : ℕ) (header : List ℕ) (i at : ℕ) : Type 0 where
+  pub own_comes : s.payload ≡ Own
+  pub number_is : m.number ≡ number
+  pub header_is : m.header ≡ header
+  pub id_is : id m ≡ i
+  pub place_is : place m ≡ at

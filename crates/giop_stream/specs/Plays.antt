@@ -1,0 +1,120 @@
+-- What an octet does, an event after the other: the machine of the code does no more at once.
+use Rattle.std.specs.Prelude.{Bool, true, ◌≡◌, ℕ, suc, ◌<◌, ◌≤◌, false, List, [], ◌∷◌, ◌++◌, length, map, Option, Some, None, nat_lt, if◌then◌else◌, option_map}
+use Rattle.std.specs.List.{list_any, AllByRecursion as Each}
+use Rattle.giop_message.specs.Reading.{Reading}
+use Rattle.giop_stream.specs.Events.{Happening, Begins, Takes, Opens, Continues, Cancelled, Imposed, Closes, Title, Event, Open, place, octet, changed, open_after}
+use Rattle.giop_stream.specs.Lines.{Line, Started, Goes_on, is_last_of, standing}
+use Rattle.giop_message.specs.Headers.{size}
+use Rattle.giop_stream.specs.Framing.{Message, with_payload}
+use Rattle.giop_stream.specs.State.{Slot, State, Kept, octets_of, slots_of, own_of}
+use Rattle.giop_stream.specs.Machine.{Step, kept, utters_kept, taking, written, writes}
+
+-- the open messages, and what is kept of each message
+pub record Scene : Type 0 where
+  pub live : List Open
+  pub known : Kept
+
+pub record Play : Type 0 where
+  pub scene : Scene
+  pub lines : List Line
+
+-- one event: its lines up to the message's last one, and what is kept then
+unfoldable pub lines_at : Reading → Kept → Event → List Line
+lines_at R known e = standing (λ i. false) (utters_kept R e (known e.whom.number))
+
+unfoldable pub scene_at : Reading → Scene → Event → Scene
+scene_at R c e = record { live = changed c.live e.whom e.what; known = written (taking c.known (e ∷ [])) (lines_at R c.known e) }
+
+unfoldable pub plays : Reading → Scene → List Event → Play
+plays R c [] = record { scene = c; lines = [] }
+plays R c (e ∷ es) =
+    let more = plays R (scene_at R c e) es in
+    record { scene = more.scene; lines = lines_at R c.known e ++ more.lines }
+
+-- What a state shows of the messages, where the current one has this number.
+unfoldable pub scene_of : State → ℕ → Scene
+scene_of s number = record { live = map (λ slot. slot.open_as) s.slots; known = kept s.slots number s.own }
+
+-- While a request id comes, no more is kept of its message than what came before this octet.
+abbrev pub IsBegun : Kept → Message → Type 0
+IsBegun known m = 0 < length m.payload → length m.payload ≤ 4 → (xs : List ℕ) → known m.number ≡ Some xs → length xs < length m.payload
+
+-- the state after a play, once the octet of m is done with
+unfoldable pub ends_with : State → Message → Play → Step
+ends_with s m p =
+    let current = if nat_lt (length m.payload) (size m.header) then Some m else None in
+    writes (record s { current = current; slots = slots_of p.scene.known p.scene.live; own = own_of p.scene.known p.scene.live current }) p.lines
+
+-- ---- An octet of a stream.
+
+-- the current message, with its next octet
+abbrev pub with_octet : Message → ℕ → Message
+with_octet m x = with_payload m (m.payload ++ x ∷ [])
+
+-- the state with an octet more that is read
+abbrev pub reading_on : State → State
+reading_on s = record s { read = suc s.read }
+
+-- the state in which a message begins
+abbrev pub beginning : State → State
+beginning s = record s { read = suc s.read; started = suc s.started; held = []; own = Some [] }
+
+-- ---- One message's part of an event: its lines, and its octets then, unless it is over.
+
+unfoldable pub lines_of : Reading → Event → Option (List ℕ) → List Line
+lines_of R e o = standing (λ i. false) (utters_kept R e o)
+
+unfoldable pub octets_then : Reading → Event → Option (List ℕ) → Option (List ℕ)
+octets_then R e o = if list_any (is_last_of e.whom.number) (lines_of R e o) then None else option_map (λ xs. xs ++ octet e.what) o
+
+-- what there is to know of the messages of a stream
+unfoldable pub stage : Reading → List ℕ → Scene
+stage R p = record { live = open_after p; known = octets_of R p }
+
+-- ---- What an event does to the slots.
+
+-- it opens nothing and closes nothing
+abbrev pub stays : Happening → Bool
+stays Begins = true
+stays (Takes x) = true
+stays (Opens i) = false
+stays (Continues i) = true
+stays (Cancelled j) = false
+stays (Imposed fault) = true
+stays Closes = false
+
+-- it closes a message
+abbrev pub goes : Happening → Bool
+goes Begins = false
+goes (Takes x) = false
+goes (Opens i) = false
+goes (Continues i) = false
+goes (Cancelled j) = true
+goes (Imposed fault) = false
+goes Closes = true
+
+-- no open message has this number
+abbrev pub IsNotOpen : ℕ → List Open → Type 0
+IsNotOpen n live = Each (λ o. o.opener.number ≡ n → ⊥) live
+
+-- the slots of a scene
+abbrev pub slots_at : Scene → List Slot
+slots_at c = slots_of c.known c.live
+
+-- ---- Plays of one event, and of none.
+
+abbrev pub one_play : Reading → Scene → ℕ → Title → Happening → Play
+one_play R c at whom what =
+    let e : Event = record { place = at; whom = whom; what = what } in
+    record { scene = scene_at R c e; lines = lines_of R e (c.known whom.number) }
+
+abbrev pub no_play : Scene → Play
+no_play c = record { scene = c; lines = [] }
+
+-- the line of a Fragment that continues an open message
+abbrev pub goes_on : Message → Open → Line
+goes_on m o = record { place = place m; number = m.number; content = Goes_on o.opener.number }
+
+-- the start line of a message
+abbrev pub starts : Message → Line
+starts m = record { place = place m; number = m.number; content = Started m.header }
