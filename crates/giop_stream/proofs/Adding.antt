@@ -1,5 +1,5 @@
 -- What octets add to the text of a stream.
-use Rattle.std.proofs.Common.{◌≡◌, ℕ, List, [], ◌∷◌, ◌++◌, length, drop, refl, sym, ap, ◌∙◌, append_assoc, append-nil}
+use Rattle.std.proofs.Common.{◌≡◌, ℕ, List, [], ◌∷◌, ◌++◌, length, drop, refl, ap, ◌∙◌, append-nil}
 use Rattle.std.proofs.Math.Seq.{drop-append_seam}
 use Rattle.giop_message.specs.Reading.{Reading, IsCausal}
 use Rattle.giop_stream.specs.Lines.{Line, lines}

@@ -1,6 +1,6 @@
 -- The last octet of a header: a message begins, and what is remembered is what the code makes of it.
 use Rattle.std.proofs.Common.{◌≡◌, ℕ, zero, suc, ◌+◌, ◌^◌, ◌<◌, ◌≤◌, Bool, true, false, List, [], ◌∷◌, ◌++◌, length, take, refl, sym, ap, subst, ◌∙◌, append-nil, Option, Some, None, arith}
-use Rattle.std.specs.Prelude.{nat_lt, ◌==◌, if◌then◌else◌}
+use Rattle.std.specs.Prelude.{◌==◌, if◌then◌else◌}
 use Rattle.std.proofs.lemmas.Bool.{lt-ltb, eq-eqb, ne_eqb}
 use Rattle.std.proofs.lemmas.List.{length_push}
 use Rattle.std.proofs.lemmas.List.Elements.{All-push}
@@ -15,14 +15,14 @@ use Rattle.giop_stream.specs.declared.slots.Slots.{Slots}
 use Rattle.giop_stream.specs.declared.dispatch.Current.{Current}
 use Rattle.giop_stream.specs.declared.status.Totals.{Totals}
 use Rattle.giop_stream.specs.Headers.{wrong}
-use Rattle.giop_stream.specs.Framing.{Message, Cut, limit, cut, messages, read_of}
-use Rattle.giop_stream.specs.Events.{Title, place, happens, open_after}
-use Rattle.giop_stream.specs.Lines.{Line, lines}
+use Rattle.giop_stream.specs.Framing.{Message, Cut, cut, messages, read_of}
+use Rattle.giop_stream.specs.Events.{happens, open_after}
+use Rattle.giop_stream.specs.Lines.{lines}
 use Rattle.giop_stream.specs.Text.{lines_text}
 use Rattle.giop_stream.specs.Stream.{start_count, fault_count, tally}
 use Rattle.giop_stream.specs.Plays.{Play, plays, stage}
 use Rattle.giop_stream.specs.Keeping.{Keeps, AreReady}
-use Rattle.giop_stream.specs.Whose.{IsCurrent, IsFirst, Knows, whose_in, whose_after}
+use Rattle.giop_stream.specs.Whose.{IsFirst, Knows, whose_in, whose_after}
 use Rattle.giop_stream.specs.Remembering.{Memory}
 use Rattle.giop_stream.specs.Holding.{Remembers, added, payload_by}
 use Rattle.giop_stream.specs.Steps.{read_on, held_on, begun, dealt}

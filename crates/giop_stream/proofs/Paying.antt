@@ -9,7 +9,6 @@ use Rattle.giop_sig.specs.Table.{Table}
 use Rattle.giop_message.specs.Headers.{order, size}
 use Rattle.giop_message.specs.Signatures.{Kept as Listed, said_by}
 use Rattle.giop_message.specs.MessageReading.{message_reading}
-use Rattle.giop_message.specs.Reading.{Reading, IsCausal}
 use Rattle.giop_message.proofs.Causal.{is_causal}
 use Rattle.giop_stream.specs.declared.fault.StreamFault.{StreamFault}
 use Rattle.giop_stream.specs.declared.status.Totals.{Totals}
@@ -22,7 +21,7 @@ use Rattle.giop_stream.specs.Text.{lines_text}
 use Rattle.giop_stream.specs.Stream.{start_count, fault_count, tally}
 use Rattle.giop_stream.specs.Plays.{Play, plays, stage, with_octet}
 use Rattle.giop_stream.specs.Keeping.{Keeps, AreReady}
-use Rattle.giop_stream.specs.Whose.{IsCurrent, IsNext, Knows, whose, whose_in, whose_after}
+use Rattle.giop_stream.specs.Whose.{IsNext, Knows, whose_in, whose_after}
 use Rattle.giop_stream.specs.Remembering.{Memory}
 use Rattle.giop_stream.specs.Holding.{Remembers, added, header_by, payload_by}
 use Rattle.giop_stream.specs.Steps.{read_on, come_on, stop, dealt, settle as settled}

@@ -20,11 +20,12 @@ use Rattle.giop_stream.specs.Lines.{Line, lines}
 use Rattle.giop_stream.specs.Text.{lines_text}
 use Rattle.giop_stream.specs.Stream.{start_count, fault_count, tally}
 use Rattle.giop_stream.specs.Plays.{Scene, plays, scene_at, stage, with_octet}
-use Rattle.giop_stream.specs.Keeping.{Keeps, scene_to, lines_to, run_scene, run_lines}
-use Rattle.giop_stream.specs.Whose.{Knows, whose, whose_octet, whose_in}
+use Rattle.giop_stream.specs.Keeping.{Keeps, scene_to, lines_to}
+use Rattle.giop_stream.specs.Runs.{run_scene, run_lines}
+use Rattle.giop_stream.specs.Whose.{Knows, whose, whose_in}
 use Rattle.giop_stream.specs.Remembering.{Memory}
 use Rattle.giop_stream.specs.Holding.{Remembers, added, header_by, payload_by}
-use Rattle.giop_stream.proofs.Cutting.{settle, next, of_parts, cut_grows}
+use Rattle.giop_stream.proofs.Cutting.{next, of_parts, cut_grows}
 use Rattle.giop_stream.proofs.Bridge.{CurrentFits, next_payload, starts_are, count_append, place_more, rising_open, sound}
 use Rattle.giop_stream.proofs.Dealing.{if_some}
 use Rattle.giop_stream.proofs.Growing.{Grows, payload_grows}

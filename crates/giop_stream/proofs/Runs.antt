@@ -21,7 +21,8 @@ use Rattle.giop_stream.specs.Lines.{Line}
 use Rattle.giop_stream.specs.Text.{lines_text}
 use Rattle.giop_stream.specs.Stream.{fault_count}
 use Rattle.giop_stream.specs.Plays.{Scene, scene_at, lines_of, octets_then}
-use Rattle.giop_stream.specs.Keeping.{IsKept, Keeps, event, run_scene, run_lines, run_octets, run_of}
+use Rattle.giop_stream.specs.Keeping.{IsKept, Keeps, event}
+use Rattle.giop_stream.specs.Runs.{run_scene, run_lines, run_octets, run_of}
 use Rattle.giop_stream.proofs.Lists.{any_append}
 use Rattle.giop_stream.proofs.Parts.{text_append}
 use Rattle.giop_stream.proofs.Bridge.{count_append}

@@ -1,6 +1,6 @@
 -- The last four octets of a header, which spell its size.
 use Rattle.std.proofs.Common.{◌≡◌, ℕ, List, [], ◌∷◌, length, drop, refl, ap, ◌∙◌, arith}
-use Rattle.std.specs.Prelude.{get_or, reverse}
+use Rattle.std.specs.Prelude.{get_or}
 use Rattle.std.proofs.Math.Seq.{drop-cons}
 use Rattle.std.proofs.lemmas.List.{drop_all}
 use Rattle.giop_cdr.specs.declared.order.Order.TheVariants.{Big, Little}

@@ -12,7 +12,7 @@ use Rattle.giop_stream.specs.declared.status.Status.{Status}
 use Rattle.giop_stream.specs.declared.status.Status.TheVariants.{Running, Stopped}
 use Rattle.giop_stream.specs.declared.fault.Stop.{Stop}
 use Rattle.giop_stream.specs.declared.fault.Stop.TheVariants as stop
-use Rattle.giop_stream.specs.Framing.{Message, Cut, cut, fault_of}
+use Rattle.giop_stream.specs.Framing.{Message, cut, fault_of}
 use Rattle.giop_stream.specs.Stream.{text, tally}
 use Rattle.giop_stream.specs.Whose.{Knows}
 use Rattle.giop_stream.specs.Remembering.{Memory, EngineMemory}

@@ -1,5 +1,5 @@
 -- What the code keeps of the messages, against what there is to know of them.
-use Rattle.std.specs.Prelude.{◌≡◌, ◌<◌, ℕ, suc, List, [], ◌∷◌, ◌++◌, Option, Some, None, slice_get}
+use Rattle.std.specs.Prelude.{◌≡◌, ◌<◌, ℕ, List, [], ◌∷◌, Option, Some, None, slice_get}
 use Rattle.std.specs.List.{AllByRecursion as Each}
 use Rattle.giop_sig.specs.Table.{Table}
 use Rattle.giop_message.specs.declared.message.Message.{Message as Kept_message}
@@ -11,11 +11,11 @@ use Rattle.giop_stream.specs.declared.slots.Slots.{Slots}
 use Rattle.giop_stream.specs.declared.slots.Payload.{Payload}
 use Rattle.giop_stream.specs.declared.slots.Payload.TheVariants.{Own, Open, Nobody}
 use Rattle.giop_stream.specs.Framing.{Message}
-use Rattle.giop_stream.specs.Events.{Title, Event, Happening, Takes, id, place}
+use Rattle.giop_stream.specs.Events.{Title, Event, Happening, id, place}
 use Rattle.giop_stream.specs.Events as events
 use Rattle.giop_stream.specs.State.{Slot, slots_of}
 use Rattle.giop_stream.specs.Lines.{Line}
-use Rattle.giop_stream.specs.Plays.{Scene, scene_at, lines_of, octets_then}
+use Rattle.giop_stream.specs.Plays.{Scene, scene_at, lines_of}
 
 -- A message is kept of which these octets have come, or none where it is over.
 abbrev pub IsKept : Table → Listed → Option Kept_message → Title → Option (List ℕ) → Type 0
@@ -77,27 +77,6 @@ scene_to C l at c (Some w) what = scene_at (message_reading C l) c (event at w w
 abbrev pub lines_to : Table → Listed → ℕ → Scene → Option Title → Happening → List Line
 lines_to C l at c None what = []
 lines_to C l at c (Some w) what = lines_of (message_reading C l) (event at w what) (c.known w.number)
-
--- What octets make of the scene that are of this message's contents alone, behind so many octets of the stream, and
--- their lines.
-unfoldable pub run_scene : Table → Listed → ℕ → Scene → Option Title → List ℕ → Scene
-run_scene C l before c whose [] = c
-run_scene C l before c whose (x ∷ xs) = run_scene C l (suc before) (scene_to C l (suc before) c whose (Takes x)) whose xs
-
-unfoldable pub run_lines : Table → Listed → ℕ → Scene → Option Title → List ℕ → List Line
-run_lines C l before c whose [] = []
-run_lines C l before c whose (x ∷ xs) = lines_to C l (suc before) c whose (Takes x) ++ run_lines C l (suc before) (scene_to C l (suc before) c whose (Takes x)) whose xs
-
--- the same of one message: its octets then, unless it is over, and its lines
-unfoldable pub run_octets : Table → Listed → ℕ → Title → Option (List ℕ) → List ℕ → Option (List ℕ)
-run_octets C l before w o [] = o
-run_octets C l before w o (x ∷ xs) = run_octets C l (suc before) w (octets_then (message_reading C l) (event (suc before) w (Takes x)) o) xs
-
-unfoldable pub run_of : Table → Listed → ℕ → Title → Option (List ℕ) → List ℕ → List Line
-run_of C l before w o [] = []
-run_of C l before w o (x ∷ xs) =
-    let e = event (suc before) w (Takes x) in
-    lines_of (message_reading C l) e o ++ run_of C l (suc before) w (octets_then (message_reading C l) e o) xs
 
 -- A message whose request id is complete: its own octets come, and these are its number, header, request id and place.
 pub record IsNow (s : Slots) (m : Message) (number : ℕ) (header : List ℕ) (i at : ℕ) : Type 0 where

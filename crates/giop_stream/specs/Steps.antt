@@ -1,5 +1,5 @@
 -- What the calls of the framing do to the fields that are remembered (steps): private clauses alone cite these.
-use Rattle.std.specs.Prelude.{ℕ, suc, ◌+◌, Bool, List, [], ◌∷◌, ◌++◌, length, Some, is_none, ◌&&◌, ◌==◌, nat_lt, if◌then◌else◌}
+use Rattle.std.specs.Prelude.{ℕ, suc, ◌+◌, Bool, [], ◌∷◌, ◌++◌, length, Some, is_none, ◌&&◌, ◌==◌, nat_lt, if◌then◌else◌}
 use Rattle.giop_stream.specs.declared.fault.StreamFault.{StreamFault}
 use Rattle.giop_stream.specs.declared.status.Totals.{Totals}
 use Rattle.giop_stream.specs.declared.slots.Slots.{Slots}

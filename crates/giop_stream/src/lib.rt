@@ -1,4 +1,4 @@
-//! Framing of a GIOP stream: octets in, lines out.
+//! Streams of GIOP messages, joined from their fragments: octets in, lines out.
 #![tactic(auto)]
 
 mod dispatch;

@@ -9,7 +9,8 @@ ghost use Rattle.giop_stream.specs.Events.{Title, Takes, Imposed, Closes};
 ghost use Rattle.giop_stream.specs.Text.{lines_text, imposed_word};
 ghost use Rattle.giop_stream.specs.Stream.{fault_count};
 ghost use Rattle.giop_stream.specs.Plays.{Scene, plays, lines_of, octets_then};
-ghost use Rattle.giop_stream.specs.Keeping.{IsKept, IsReady, event, run_of, run_octets};
+ghost use Rattle.giop_stream.specs.Keeping.{IsKept, IsReady, event};
+ghost use Rattle.giop_stream.specs.Runs.{run_of, run_octets};
 ghost use Rattle.std.specs.Prelude.{◌≤◌, ◌^◌};
 ghost use Rattle.giop_message.specs.Holding.{AreOf};
 
@@ -162,7 +163,8 @@ fn shut<O: Out>(
 }
 
 impl Slots {
-    ghost use Rattle.giop_stream.specs.Keeping.{Keeps, AreReady, IsBare, scene_to, lines_to, run_scene, run_lines};
+    ghost use Rattle.giop_stream.specs.Keeping.{Keeps, AreReady, IsBare, scene_to, lines_to};
+    ghost use Rattle.giop_stream.specs.Runs.{run_scene, run_lines};
     ghost use Rattle.std.specs.Prelude.{flat_map};
     ghost use Rattle.giop_print.specs.Lines.{unfinished_line};
     ghost use Rattle.giop_stream.specs.Machine.{left_open};

@@ -1,4 +1,3 @@
-use Rattle.std.proofs.Common.{◌≡◌}
 use Rattle.giop_stream.specs.Holding.{added}
 use Rattle.giop_stream.proofs.engine.Engine.feed.Goals as goal
 

@@ -1,4 +1,4 @@
-use Rattle.std.proofs.Common.{◌≡◌, ◌+◌, ◌++◌, ◌∷◌, [], suc, arith, sym, ap, subst, ◌∙◌}
+use Rattle.std.proofs.Common.{◌≡◌, ◌++◌, ◌∷◌, [], suc, arith, sym, ap, subst, ◌∙◌}
 use Rattle.giop_message.specs.Headers.{size}
 use Rattle.giop_message.specs.MessageReading.{message_reading}
 use Rattle.giop_stream.specs.Plays.{stage}

@@ -1,13 +1,10 @@
-use Rattle.std.proofs.Common.{◌≡◌, ◌+◌, ◌*◌, ◌^◌, ◌<◌, length, arith, ◌∙◌}
+use Rattle.std.proofs.Common.{◌≡◌, ◌+◌, ◌<◌, length, arith, ◌∙◌}
 use Rattle.std.proofs.lemmas.List.Elements.{All-from_get_or}
-use Rattle.giop_cdr.specs.Numbers.{AreOctets}
-use Rattle.giop_message.specs.Headers.{size}
 use Rattle.giop_message.specs.MessageReading.{message_reading}
 use Rattle.giop_stream.specs.Events.{open_after}
 use Rattle.giop_stream.specs.Plays.{stage}
 use Rattle.giop_stream.specs.Whose.{whose}
 use Rattle.giop_stream.specs.Shown.{shown}
-use Rattle.giop_stream.specs.Holding.{Remembers}
 use Rattle.giop_stream.proofs.Exits.{writes_front}
 use Rattle.giop_stream.proofs.Paying.{has_current}
 use Rattle.giop_stream.proofs.Running.{run_keeps, run_adds, run_remembers, run_fits, run_rises, number_fits}
