@@ -5,7 +5,7 @@ use Rattle.giop_print.specs.Output.{OutLog, Wrote}
 use Rattle.giop_message.specs.Reading.{Reading}
 use Rattle.giop_stream.specs.Framing.{cut, fault_of}
 use Rattle.giop_stream.specs.Stream.{text}
-use Rattle.giop_stream.specs.Holding.{status_of, reading_of}
+use Rattle.giop_stream.specs.Holding.{added, status_of, reading_of}
 use Rattle.giop_stream.specs.declared.fault.StreamFault.{StreamFault}
 use Rattle.giop_stream.specs.declared.status.Status.TheVariants.{Running, Stopped}
 use Rattle.giop_stream.specs.Remembering.{EngineMemory}
@@ -13,12 +13,12 @@ use Rattle.giop_message.specs.Signatures.{said_by}
 use Rattle.giop_message.proofs.Causal.{is_causal}
 use Rattle.giop_stream.proofs.Bridge.{run_text}
 use Rattle.giop_print.proofs.Writing.{wrote-nil}
-use Rattle.giopdump.specs.Running.{adds, IsStopped}
+use Rattle.giopdump.specs.Running.{IsStopped}
 use Rattle.giopdump.specs.Turns.{IsRunning}
 
-pub adds-nil : (R : Reading) (p : List ℕ) → adds R p [] ≡ []
-unfolding adds
-adds-nil R p = rw append-nil (drop-length (text R p))
+pub added-nil : (R : Reading) (p : List ℕ) → added R p [] ≡ []
+unfolding added
+added-nil R p = rw append-nil (drop-length (text R p))
 
 -- the text of a stream is a front of that of each longer one
 abbrev pub Begins : Reading → Type 0
@@ -27,9 +27,9 @@ Begins R = (p q : List ℕ) → (more : List ℕ) × (text R (p ++ q) ≡ text R
 pub begins : (e : EngineMemory) → Begins (reading_of e)
 begins e p q = (_, run_text (reading_of e) (is_causal (said_by e.table e.listed)) p q)
 
-pub adds-append : (R : Reading) → Begins R → (p s t : List ℕ) → adds R p (s ++ t) ≡ adds R p s ++ adds R (p ++ s) t
-unfolding adds
-adds-append R begins p s t =
+pub added-append : (R : Reading) → Begins R → (p s t : List ℕ) → added R p (s ++ t) ≡ added R p s ++ added R (p ++ s) t
+unfolding added
+added-append R begins p s t =
     let a = begins p s in
     let b = begins (p ++ s) t in
     let whole : text R (p ++ (s ++ t)) ≡ text R p ++ (a.0 ++ b.0) =
@@ -39,8 +39,8 @@ adds-append R begins p s t =
     ap (drop (length (text R p))) whole ∙ (drop-append_seam (text R p) (a.0 ++ b.0) ∙ rw (first, second) refl)
 
 -- nothing is due where nothing was read
-pub wrote-none : (R : Reading) (a : OutLog) (p : List ℕ) → Wrote a a (adds R p [])
-wrote-none R a p = rw adds-nil (wrote-nil a)
+pub wrote-none : (R : Reading) (a : OutLog) (p : List ℕ) → Wrote a a (added R p [])
+wrote-none R a p = rw added-nil (wrote-nil a)
 
 running_fault : (o : Option (ℕ × StreamFault)) → Running ≡ status_of (fault_of o) → o ≡ None
 running_fault None e = refl

@@ -5,17 +5,17 @@ use Rattle.std.proofs.lemmas.List.Elements.{All-nil, All-append}
 use Rattle.giop_print.specs.Output.{OutLog, counted}
 use Rattle.giop_message.specs.Reading.{Reading}
 use Rattle.giop_stream.specs.Stream.{closing}
-use Rattle.giop_stream.specs.Holding.{Holds, reading_of}
+use Rattle.giop_stream.specs.Holding.{added, Holds, reading_of}
 use Rattle.giop_stream.specs.Remembering.{EngineMemory}
 use Rattle.giop_print.proofs.Writing.{wrote-append, wrote-front, front-append}
 use Rattle.giopdump.specs.SourceLog.{SourceLog}
-use Rattle.giopdump.specs.Running.{adds, Given, IsOver, Ran}
+use Rattle.giopdump.specs.Running.{Given, IsOver, Ran}
 use Rattle.giopdump.specs.Console.{Dumped}
 use Rattle.giopdump.specs.Turns.{Took, Fed, OneRead, Turned, Closed, Going}
 use Rattle.giopdump.specs.declared.running.Report.{Report}
 use Rattle.giopdump.specs.declared.fault.RunFault.{RunFault}
 use Rattle.giopdump.specs.declared.fault.RunFault.TheVariants as fault
-use Rattle.giopdump.proofs.TextLemmas.{Begins, adds-append, wrote-none, runs_or_stops}
+use Rattle.giopdump.proofs.TextLemmas.{Begins, added-append, wrote-none, runs_or_stops}
 use Rattle.giopdump.proofs.ReadLemmas.{consumes-same, consumes-append}
 
 -- one turn
@@ -98,7 +98,7 @@ going_on R begins p s t e d k a b c x y z g (u, failures, ends, took, running) =
       took = record {
         reads = took.reads;
         holds = rw append_assoc at took.holds;
-        written = rw (adds-append R begins p s t) (wrote-append x y z (adds R p s) (adds R (p ++ s) t) g.took.written took.written);
+        written = rw (added-append R begins p s t) (wrote-append x y z (added R p s) (added R (p ++ s) t) g.took.written took.written);
       };
       left = consumes-append a.left b.left c.left s t g.left u.left;
       octets = All-append (λ v. v < 256) s t g.octets u.octets;
@@ -120,13 +120,13 @@ failed_on R begins fault.Read p s t e d k a b c x y z g (u, failures, written) h
     record {
       given = given_more R p s t e k a b c x y g u h;
       failures = failures ∙ ap counted g.failures;
-      written = rw (adds-append R begins p s t) (wrote-append x y z (adds R p s) (adds R (p ++ s) t) g.took.written written);
+      written = rw (added-append R begins p s t) (wrote-append x y z (added R p s) (added R (p ++ s) t) g.took.written written);
     }
 failed_on R begins fault.Out p s t e d k a b c x y z g (u, failures, front) h =
     record {
       given = given_more R p s t e k a b c x y g u h;
       failures = failures ∙ g.failures;
-      written = rw (adds-append R begins p s t) (front-append x z (adds R p s ++ adds R (p ++ s) t) (closing R (p ++ (s ++ t))) (wrote-front x y z (adds R p s) (adds R (p ++ s) t) g.took.written front));
+      written = rw (added-append R begins p s t) (front-append x z (added R p s ++ added R (p ++ s) t) (closing R (p ++ (s ++ t))) (wrote-front x y z (added R p s) (added R (p ++ s) t) g.took.written front));
     }
 failed_on R begins fault.Turns p s t e d k a b c x y z g u h = absurd u
 failed_on R begins fault.Failed p s t e d k a b c x y z g u h = absurd u
@@ -167,23 +167,23 @@ over_more p s t a b c e (inr q) = inr (rw append_assoc at q)
 over_on : (R : Reading) → Begins R → (r : Result Report RunFault) (p s t : List ℕ) (e d : EngineMemory) (k : ℕ) (a b c : SourceLog) (x y z w : OutLog) → Going R p s e k a b x y → Turned R (Ok false) (p ++ s) t d b c y z → k < 2 ^ 40
     → Closed R r ((p ++ s) ++ t) z w → Ran R r p (s ++ t) a c x w
 over_on R begins (Ok v) p s t e d k a b c x y z w g (u, failures, over, took) h q =
-    let all = wrote-append x y z (adds R p s) (adds R (p ++ s) t) g.took.written took.written in
+    let all = wrote-append x y z (added R p s) (added R (p ++ s) t) g.took.written took.written in
     let assoc = append_assoc p s t in
     record {
       given = given_more R p s t e k a b c x y g u h;
       over = over_more p s t a b c g.ends over;
       failures = failures ∙ g.failures;
-      written = rw (adds-append R begins p s t, ← assoc) (wrote-append x z w (adds R p s ++ adds R (p ++ s) t) (closing R ((p ++ s) ++ t)) all q.written);
+      written = rw (added-append R begins p s t, ← assoc) (wrote-append x z w (added R p s ++ added R (p ++ s) t) (closing R ((p ++ s) ++ t)) all q.written);
       totals = rw (← assoc) q.totals;
       saved = q.saved;
     }
 over_on R begins (Err fault.Out) p s t e d k a b c x y z w g (u, failures, over, took) h q =
-    let all = wrote-append x y z (adds R p s) (adds R (p ++ s) t) g.took.written took.written in
+    let all = wrote-append x y z (added R p s) (added R (p ++ s) t) g.took.written took.written in
     let assoc = append_assoc p s t in
     record {
       given = given_more R p s t e k a b c x y g u h;
       failures = failures ∙ g.failures;
-      written = rw (adds-append R begins p s t, ← assoc) (wrote-front x z w (adds R p s ++ adds R (p ++ s) t) (closing R ((p ++ s) ++ t)) all q);
+      written = rw (added-append R begins p s t, ← assoc) (wrote-front x z w (added R p s ++ added R (p ++ s) t) (closing R ((p ++ s) ++ t)) all q);
     }
 over_on R begins (Err fault.Read) p s t e d k a b c x y z w g u h q = absurd q
 over_on R begins (Err fault.Turns) p s t e d k a b c x y z w g u h q = absurd q
@@ -202,12 +202,12 @@ stopped_on R (Ok v) p e a x y z f q =
       given = given_none p a;
       over = inr f.1;
       failures = refl;
-      written = wrote-append x y z (adds R p []) (closing R (p ++ [])) f.0.written q.written;
+      written = wrote-append x y z (added R p []) (closing R (p ++ [])) f.0.written q.written;
       totals = q.totals;
       saved = q.saved;
     }
 stopped_on R (Err fault.Out) p e a x y z f q =
-    record { given = given_none p a; failures = refl; written = wrote-front x y z (adds R p []) (closing R (p ++ [])) f.0.written q }
+    record { given = given_none p a; failures = refl; written = wrote-front x y z (added R p []) (closing R (p ++ [])) f.0.written q }
 stopped_on R (Err fault.Read) p e a x y z f q = absurd q
 stopped_on R (Err fault.Turns) p e a x y z f q = absurd q
 stopped_on R (Err fault.Failed) p e a x y z f q = absurd q
@@ -218,7 +218,7 @@ ran_stopped R r p e a x y z f q = stopped_on R r p e a x y z f (closed_by (readi
 -- the empty piece failed
 pub ran_first : (R : Reading) (r : RunFault) (p : List ℕ) (e : EngineMemory) (a : SourceLog) (x y : OutLog) → Fed R (Err r) p [] e x y → Ran R (Err r) p [] a a x y
 ran_first R fault.Out p e a x y f =
-    record { given = given_none p a; failures = refl; written = front-append x y (adds R p []) (closing R (p ++ [])) f }
+    record { given = given_none p a; failures = refl; written = front-append x y (added R p []) (closing R (p ++ [])) f }
 ran_first R fault.Read p e a x y f = absurd f
 ran_first R fault.Turns p e a x y f = absurd f
 ran_first R fault.Failed p e a x y f = absurd f

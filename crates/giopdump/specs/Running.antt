@@ -1,19 +1,16 @@
 -- What a run did (meaning): p is the stream that its engine held, s are the octets that its source gave; R reads a message.
-use Rattle.std.specs.Prelude.{◌≡◌, ℕ, ◌+◌, ◌^◌, ◌≤◌, ◌<◌, List, [], ◌++◌, length, drop, IsSome, Result, Ok, Err, ◌⊎◌}
+use Rattle.std.specs.Prelude.{◌≡◌, ℕ, ◌+◌, ◌^◌, ◌≤◌, ◌<◌, List, [], ◌++◌, length, IsSome, Result, Ok, Err, ◌⊎◌}
 use Rattle.std.specs.Io.KnownBytes.{Consumes}
 use Rattle.giop_cdr.specs.Numbers.{AreOctets}
 use Rattle.giop_print.specs.Output.{OutLog, counted, Wrote, WroteFront}
 use Rattle.giop_message.specs.Reading.{Reading}
 use Rattle.giop_stream.specs.Framing.{cut}
-use Rattle.giop_stream.specs.Stream.{text, closing, final}
+use Rattle.giop_stream.specs.Stream.{closing, final}
+use Rattle.giop_stream.specs.Holding.{added}
 use Rattle.giopdump.specs.SourceLog.{SourceLog}
 use Rattle.giopdump.specs.declared.running.Report.{Report}
 use Rattle.giopdump.specs.declared.fault.RunFault.{RunFault}
 use Rattle.giopdump.specs.declared.fault.RunFault.TheVariants as fault
-
--- what the octets s add to the text of p
-unfoldable pub adds : Reading → List ℕ → List ℕ → List ℕ
-adds R p s = drop (length (text R p)) (text R (p ++ s))
 
 -- the stream p has a fault, so that no octet after it is read
 abbrev pub IsStopped : List ℕ → Type 0
@@ -44,7 +41,7 @@ pub record Finished (R : Reading) (report : Report) (p s : List ℕ) (before aft
   pub given : Given p s before after
   pub over : IsOver (p ++ s) before after
   pub failures : after.failures ≡ before.failures
-  pub written : Wrote x y (adds R p s ++ closing R (p ++ s))
+  pub written : Wrote x y (added R p s ++ closing R (p ++ s))
   pub totals : report.totals ≡ final R (p ++ s)
   pub saved : report.saved ≡ 0
 
@@ -52,7 +49,7 @@ pub record Finished (R : Reading) (report : Report) (p s : List ℕ) (before aft
 pub record ReadStopped (R : Reading) (p s : List ℕ) (before after : SourceLog) (x y : OutLog) : Type 0 where
   pub given : Given p s before after
   pub failures : after.failures ≡ counted before.failures
-  pub written : Wrote x y (adds R p s)
+  pub written : Wrote x y (added R p s)
 
 -- the reads were used up: the lines of what was read are written, and no closing
 pub record ReadsSpent (R : Reading) (p s : List ℕ) (before after : SourceLog) (x y : OutLog) : Type 0 where
@@ -61,13 +58,13 @@ pub record ReadsSpent (R : Reading) (p s : List ℕ) (before after : SourceLog) 
   pub failures : after.failures ≡ before.failures
   pub ends : after.ends ≡ before.ends
   pub running : ¬ IsStopped (p ++ s)
-  pub written : Wrote x y (adds R p s)
+  pub written : Wrote x y (added R p s)
 
 -- a put failed: a front of what was due is written
 pub record WriteStopped (R : Reading) (p s : List ℕ) (before after : SourceLog) (x y : OutLog) : Type 0 where
   pub given : Given p s before after
   pub failures : after.failures ≡ before.failures
-  pub written : WroteFront x y (adds R p s ++ closing R (p ++ s))
+  pub written : WroteFront x y (added R p s ++ closing R (p ++ s))
 
 -- what a run did, by its answer; on an engine that holds a stream it is never Failed
 abbrev pub Ran : Reading → Result Report RunFault → List ℕ → List ℕ → SourceLog → SourceLog → OutLog → OutLog → Type 0

@@ -6,10 +6,10 @@ use Rattle.giop_print.specs.Output.{OutLog, counted, Wrote, WroteFront}
 use Rattle.giop_message.specs.Reading.{Reading}
 use Rattle.giop_stream.specs.Framing.{cut}
 use Rattle.giop_stream.specs.Stream.{closing, final}
-use Rattle.giop_stream.specs.Holding.{Holds, reading_of}
+use Rattle.giop_stream.specs.Holding.{added, Holds, reading_of}
 use Rattle.giop_stream.specs.Remembering.{EngineMemory}
 use Rattle.giopdump.specs.SourceLog.{SourceLog}
-use Rattle.giopdump.specs.Running.{adds, IsStopped, IsOver}
+use Rattle.giopdump.specs.Running.{IsStopped, IsOver}
 use Rattle.giopdump.specs.declared.running.Report.{Report}
 use Rattle.giopdump.specs.declared.fault.RunFault.{RunFault}
 use Rattle.giopdump.specs.declared.fault.RunFault.TheVariants as fault
@@ -22,13 +22,13 @@ IsRunning p = (cut p).stop ≡ None
 pub record Took (R : Reading) (p s : List ℕ) (e : EngineMemory) (x y : OutLog) : Type 0 where
   pub reads : reading_of e ≡ R
   pub holds : Holds e (p ++ s)
-  pub written : Wrote x y (adds R p s)
+  pub written : Wrote x y (added R p s)
 
 -- what feeding the octets s to an engine that held p did: true where the stream goes on
 abbrev pub Fed : Reading → Result Bool RunFault → List ℕ → List ℕ → EngineMemory → OutLog → OutLog → Type 0
 Fed R (Ok true) p s e x y = Took R p s e x y × IsRunning (p ++ s)
 Fed R (Ok false) p s e x y = Took R p s e x y × IsStopped (p ++ s)
-Fed R (Err fault.Out) p s e x y = WroteFront x y (adds R p s)
+Fed R (Err fault.Out) p s e x y = WroteFront x y (added R p s)
 Fed R (Err fault.Read) p s e x y = ⊥
 Fed R (Err fault.Turns) p s e x y = ⊥
 Fed R (Err fault.Failed) p s e x y = ⊥
@@ -47,9 +47,9 @@ Turned R (Ok true) p s e before after x y =
 Turned R (Ok false) p s e before after x y =
     OneRead s before after × (after.failures ≡ before.failures) × IsOver (p ++ s) before after × Took R p s e x y
 Turned R (Err fault.Read) p s e before after x y =
-    OneRead s before after × (after.failures ≡ counted before.failures) × Wrote x y (adds R p s)
+    OneRead s before after × (after.failures ≡ counted before.failures) × Wrote x y (added R p s)
 Turned R (Err fault.Out) p s e before after x y =
-    OneRead s before after × (after.failures ≡ before.failures) × WroteFront x y (adds R p s)
+    OneRead s before after × (after.failures ≡ before.failures) × WroteFront x y (added R p s)
 Turned R (Err fault.Turns) p s e before after x y = ⊥
 Turned R (Err fault.Failed) p s e before after x y = ⊥
 

@@ -1,11 +1,11 @@
 -- What the engine's clauses say of a piece, answer by answer.
 use Rattle.std.proofs.Common.{refl, ◌++◌, sym, ◌∙◌}
-use Rattle.giopdump.specs.Running.{adds}
+use Rattle.giop_stream.specs.Holding.{added}
 use Rattle.giopdump.proofs.TextLemmas.{is_running, is_stopped}
 use Rattle.giopdump.proofs.running.feed.Goals as goal
 
 pub returns-in-Ok-Running-clause-fed : goal.returns-in-Ok-Running-clause-fed
-unfolding adds
+unfolding added
 returns-in-Ok-Running-clause-fed g c =
     λ p h.
     let e = c.in-Ok-Running.ensures in (
@@ -14,7 +14,7 @@ returns-in-Ok-Running-clause-fed g c =
     )
 
 pub returns-in-Ok-Stopped-clause-fed : goal.returns-in-Ok-Stopped-clause-fed
-unfolding adds
+unfolding added
 returns-in-Ok-Stopped-clause-fed g c =
     λ p h.
     let e = c.in-Ok-Stopped.ensures in (
@@ -23,5 +23,5 @@ returns-in-Ok-Stopped-clause-fed g c =
     )
 
 pub returns-in-Err-Out-clause-fed : goal.returns-in-Err-Out-clause-fed
-unfolding adds
+unfolding added
 returns-in-Err-Out-clause-fed g c = λ p h. rw c.in-Err-Out.field-0-is at (c.in-Err-Out.ensures.text p h)
