@@ -84,6 +84,7 @@ impl Decoder {
     }
 
     /// Takes an octet of the value, and writes what it gives to say. A decoder that is done or faulted takes no more.
+    #[inline(always)]
     pub fn take<O: Out>(
         &mut self,
         catalogue: &Catalogue,
@@ -205,6 +206,7 @@ impl Decoder {
     }
 
     /// Takes an octet that only adds to what is held, as most do, and answers whether it was one.
+    #[inline(always)]
     fn hold(&mut self, catalogue: &Catalogue, octet: u8) -> bool
         requires fits { Fits catalogue.now self.old }
         ensures fits { Fits catalogue.now self.new }
@@ -239,7 +241,9 @@ impl Decoder {
         false
     }
 
-    /// Does one step: what the innermost part gives to say is said and heard, and then the parts around it go on.
+    /// Does one step: what the innermost part gives to say is said and heard, and then the parts around it go on. It is
+    /// kept out of line, so that the few instructions of `hold` stand in the loops over octets.
+    #[inline(never)]
     fn advance<O: Out>(
         &mut self,
         catalogue: &Catalogue,

@@ -104,6 +104,7 @@ pub(crate) fn refused(kind: Kind) -> Step
 
 /// Takes an octet that only adds to what is held, as most do, and answers whether it was one: padding, an octet that
 /// leaves a number incomplete, or one that leaves a piece so. Any other is left to `take_octet`.
+#[inline(always)]
 pub(crate) fn hold(
     catalogue: &Catalogue,
     at: u8,

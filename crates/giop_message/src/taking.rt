@@ -30,6 +30,7 @@ impl Message {
 
     /// Takes an octet of the part that the decoder reads, behind so many octets of the stream, and writes its line, or
     /// that of its fault.
+    #[inline(always)]
     fn read<O: Out>(
         &mut self,
         catalogue: &Catalogue,
@@ -257,6 +258,7 @@ impl Message {
     }
 
     /// Takes an octet, behind so many octets of the stream. True says that it is faulted.
+    #[inline]
     pub(crate) fn take_octet<O: Out>(
         &mut self,
         catalogue: &Catalogue,

@@ -1,4 +1,5 @@
 pub mod Output
+pub mod Gathering
 pub mod Sheet
 pub mod Written
 pub mod Text

@@ -2,7 +2,9 @@
 
 ghost use Rattle.std.specs.Prelude.{◌≡◌, MatchResult, flat_map};
 ghost use Rattle.giop_print.specs.Output.{OutLog, counted, Took, Failed, Writes};
+ghost use Rattle.giop_print.specs.Gathering.{Gathers};
 
+use arrayvec::ArrayVec;
 use thiserror::Error;
 
 /// A put that failed: nothing of what it was handed was written.
@@ -33,14 +35,45 @@ pub fn put_all<O: Out>(out: &mut O, octets: &[u8]) -> Result<(), OutFault>
     Ok(())
 }
 
-/// Writes the parts, one after another.
+/// How many octets of parts are gathered for one put. Most lines are shorter.
+const GATHERED: usize = 128;
+
+/// Writes the parts, one after another. Parts that follow each other are gathered, since a put costs more than the
+/// octets of a part.
 pub fn put_parts<O: Out>(out: &mut O, parts: &[&[u8]]) -> Result<(), OutFault>
     ensures { Writes result (O.log out.old) (O.log out.new) (flat_map (λ part. part.now) parts.now) }
 {
+    let mut gathered = ArrayVec::<u8, GATHERED>::new();
     for part in parts {
-        put_all(out, part)?;
+        gather(out, &mut gathered, part)?;
     }
-    Ok(())
+    put_all(out, gathered.as_slice())
+}
+
+/// Appends a part to what is gathered. Where it has no room all of it is written, and the part where it is long.
+#[inline]
+fn gather<O: Out>(
+    out: &mut O,
+    gathered: &mut ArrayVec<u8, GATHERED>,
+    part: &[u8],
+) -> Result<(), OutFault>
+    ensures { Gathers result (O.log out.old) (O.log out.new) gathered.old.items gathered.new.items part.now }
+{
+    if let [octet] = part {
+        if !gathered.is_full() {
+            gathered.push(*octet);
+            return Ok(());
+        }
+    }
+    if gathered.try_extend_from_slice(part).is_ok() {
+        return Ok(());
+    }
+    put_all(out, gathered.as_slice())?;
+    gathered.clear();
+    if gathered.try_extend_from_slice(part).is_ok() {
+        return Ok(());
+    }
+    put_all(out, part)
 }
 
 /// One more, in a count that stays at its greatest.
