@@ -10,9 +10,12 @@ mod taking;
 mod wanted;
 mod word;
 
+pub use header::{kind_of, minor_of, order_of};
 pub use laws::message_laws;
 pub use message::Message;
 pub use sayings::saying_laws;
 
+#[cfg(test)]
+mod message_rows;
 #[cfg(test)]
 mod tests;

@@ -28,7 +28,11 @@ use Rattle.giop_stream.specs.Holding.{Remembers, added, payload_by}
 use Rattle.giop_stream.specs.Steps.{read_on, held_on, begun, dealt}
 use Rattle.giop_stream.specs.Steps as steps
 use Rattle.giop_stream.proofs.Cutting.{settle, header_case}
-use Rattle.giop_stream.proofs.Bridge.{Fits, sound, settle_stop, settled_messages, count_append, place_first, starts_are}
+use Rattle.giop_stream.proofs.Grown.{count_append}
+use Rattle.giop_stream.proofs.Dealt.{settle_stop, settled_messages}
+use Rattle.giop_stream.proofs.Soundness.{Fits}
+use Rattle.giop_stream.proofs.StepCases.{place_first}
+use Rattle.giop_stream.proofs.Bridge.{sound, starts_are}
 use Rattle.giop_stream.proofs.Growing.{Grows, beginner, header_grows}
 use Rattle.giop_stream.proofs.Parts.{in_turn}
 use Rattle.giop_stream.proofs.Staged.{first_is, knows_header}

@@ -15,7 +15,9 @@ use Rattle.giop_stream.specs.Machine.{Step, kept, taking, written, writes, now_w
 use Rattle.giop_stream.specs.Plays.{plays, scene_of, IsBegun, ends_with, with_octet, reading_on, beginning}
 use Rattle.giop_stream.proofs.Ordering.{are_plays}
 use Rattle.giop_stream.proofs.Turns.{happens_ordered}
-use Rattle.giop_stream.proofs.Bridge.{kept_own, CurrentFits, Fits, sound}
+use Rattle.giop_stream.proofs.KeptDeals.{kept_own}
+use Rattle.giop_stream.proofs.Soundness.{CurrentFits, Fits}
+use Rattle.giop_stream.proofs.Bridge.{sound}
 
 settles : State → Message → List Line → List Open → Kept → Step
 settles s m ls live known =

@@ -19,7 +19,11 @@ use Rattle.giop_stream.proofs.Cutting.{settle, header_case, next, of_parts, cut_
 use Rattle.giop_stream.proofs.Happenings.{happens_each}
 use Rattle.giop_stream.proofs.Ordering.{are_plays}
 use Rattle.giop_stream.proofs.Turns.{happens_ordered}
-use Rattle.giop_stream.proofs.Bridge.{said_grows, octets_grow, open_grows, lines_free, settle_stop, settled_messages, events_of_cut, events_on, events_begin, place_more, place_first, next_payload, next_front, Fits, CurrentFits, sound}
+use Rattle.giop_stream.proofs.Grown.{said_grows, octets_grow, open_grows, lines_free}
+use Rattle.giop_stream.proofs.Dealt.{settle_stop, settled_messages}
+use Rattle.giop_stream.proofs.Soundness.{events_on, events_begin, Fits, CurrentFits}
+use Rattle.giop_stream.proofs.StepCases.{events_of_cut, place_more, place_first}
+use Rattle.giop_stream.proofs.Bridge.{next_payload, next_front, sound}
 use Rattle.giop_stream.proofs.Dealing.{octets_are, if_some}
 
 -- what one octet adds, told by its events

@@ -29,7 +29,9 @@ use Rattle.giop_stream.specs.Remembering.{Memory}
 use Rattle.giop_stream.specs.Holding.{Remembers, added, header_by, payload_by}
 use Rattle.giop_stream.specs.Steps.{read_on, held_on, stop}
 use Rattle.giop_stream.proofs.Cutting.{header_case, next, of_parts, cut_grows}
-use Rattle.giop_stream.proofs.Bridge.{CurrentFits, next_stopped, next_limit, next_front, in_header_stop, in_header_held, step_holds, tally_is, sound, cut_nothing, open_nothing, holds_start}
+use Rattle.giop_stream.proofs.Soundness.{CurrentFits}
+use Rattle.giop_stream.proofs.StepCases.{in_header_stop, in_header_held}
+use Rattle.giop_stream.proofs.Bridge.{next_stopped, next_limit, next_front, step_holds, tally_is, sound, cut_nothing, open_nothing, holds_start}
 use Rattle.giop_stream.proofs.Dealing.{if_some}
 use Rattle.giop_stream.proofs.Beginning.{parts_by}
 use Rattle.giop_stream.proofs.Staged.{events_stopped, events_limit, events_front, knows_idle}

@@ -19,11 +19,12 @@ use Rattle.giop_stream.specs.Events.{Takes, Title, Open, Event, title, place, op
 use Rattle.giop_stream.specs.Lines.{Line}
 use Rattle.giop_stream.specs.Text.{line_text, lines_text}
 use Rattle.giop_stream.specs.Stream.{fault_count}
-use Rattle.giop_stream.proofs.Bridge.{count_append}
+use Rattle.giop_stream.proofs.Grown.{count_append}
 use Rattle.giop_stream.specs.Plays.{Scene, Play, plays, scene_at, with_octet}
 use Rattle.giop_stream.specs.Keeping.{Keeps, event, scene_to}
 use Rattle.giop_stream.specs.Whose.{IsNext, IsTaken, IsAt, IsNewest, opener_title, whose, whose_octet, whose_after, id_events, end_events}
-use Rattle.giop_stream.proofs.Happenings.{quiet_octet, quiet_continues, rising_push, rising_filter, kept_id, opened_by}
+use Rattle.giop_stream.proofs.Happenings.{quiet_octet, quiet_continues}
+use Rattle.giop_stream.proofs.HappeningsKeep.{rising_push, rising_filter, opened_by, kept_id}
 use Rattle.giop_stream.proofs.InPlace.{own_then}
 use Rattle.giop_stream.proofs.Beginning.{named_then}
 use Rattle.giop_stream.proofs.Cases.{plays_append, octet_own, octet_passed, octet_lost}

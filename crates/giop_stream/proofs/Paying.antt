@@ -26,7 +26,11 @@ use Rattle.giop_stream.specs.Remembering.{Memory}
 use Rattle.giop_stream.specs.Holding.{Remembers, added, header_by, payload_by}
 use Rattle.giop_stream.specs.Steps.{read_on, come_on, stop, dealt, settle as settled}
 use Rattle.giop_stream.proofs.Cutting.{settle, next, of_parts, cut_grows}
-use Rattle.giop_stream.proofs.Bridge.{CurrentFits, Fits, next_payload, settle_stop, settled_messages, starts_are, count_append, place_more, sound}
+use Rattle.giop_stream.proofs.Grown.{count_append}
+use Rattle.giop_stream.proofs.Dealt.{settle_stop, settled_messages}
+use Rattle.giop_stream.proofs.Soundness.{CurrentFits, Fits}
+use Rattle.giop_stream.proofs.StepCases.{place_more}
+use Rattle.giop_stream.proofs.Bridge.{next_payload, starts_are, sound}
 use Rattle.giop_stream.proofs.Dealing.{if_some}
 use Rattle.giop_stream.proofs.Growing.{payload_grows}
 use Rattle.giop_stream.proofs.Beginning.{parts_by}

@@ -26,7 +26,10 @@ use Rattle.giop_stream.specs.Whose.{Knows, whose, whose_in}
 use Rattle.giop_stream.specs.Remembering.{Memory}
 use Rattle.giop_stream.specs.Holding.{Remembers, added, header_by, payload_by}
 use Rattle.giop_stream.proofs.Cutting.{next, of_parts, cut_grows}
-use Rattle.giop_stream.proofs.Bridge.{CurrentFits, next_payload, starts_are, count_append, place_more, rising_open, sound}
+use Rattle.giop_stream.proofs.Grown.{count_append}
+use Rattle.giop_stream.proofs.Soundness.{CurrentFits}
+use Rattle.giop_stream.proofs.StepCases.{place_more}
+use Rattle.giop_stream.proofs.Bridge.{next_payload, starts_are, rising_open, sound}
 use Rattle.giop_stream.proofs.Dealing.{if_some}
 use Rattle.giop_stream.proofs.Growing.{Grows, payload_grows}
 use Rattle.giop_stream.proofs.Beginning.{parts_by}

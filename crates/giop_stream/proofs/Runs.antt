@@ -25,7 +25,7 @@ use Rattle.giop_stream.specs.Keeping.{IsKept, Keeps, event}
 use Rattle.giop_stream.specs.Runs.{run_scene, run_lines, run_octets, run_of}
 use Rattle.giop_stream.proofs.Lists.{any_append}
 use Rattle.giop_stream.proofs.Parts.{text_append}
-use Rattle.giop_stream.proofs.Bridge.{count_append}
+use Rattle.giop_stream.proofs.Grown.{count_append}
 use Rattle.giop_stream.proofs.ReadingPlays.{over_lines, over_then, take_text, then_by, faults_by}
 use Rattle.giop_stream.proofs.Keepers.{Alters, still_takes, still_alters, own_alters, slot_alters, of_own, of_slot}
 

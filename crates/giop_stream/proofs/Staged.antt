@@ -21,7 +21,10 @@ use Rattle.giop_stream.specs.Keeping.{Keeps}
 use Rattle.giop_stream.specs.Whose.{IsCurrent, IsNext, IsFirst, IsNewest, Knows, whose, whose_in, whose_after}
 use Rattle.giop_stream.proofs.Lists.{each_weaker}
 use Rattle.giop_stream.proofs.Cutting.{settle, header_case, next, of_parts, cut_grows}
-use Rattle.giop_stream.proofs.Bridge.{next_stopped, next_limit, next_payload, next_front, CurrentFits, events_of_cut, said_idle, octets_idle, open_idle, rising_open, sound}
+use Rattle.giop_stream.proofs.Grown.{said_idle, octets_idle, open_idle}
+use Rattle.giop_stream.proofs.Soundness.{CurrentFits}
+use Rattle.giop_stream.proofs.StepCases.{events_of_cut}
+use Rattle.giop_stream.proofs.Bridge.{next_stopped, next_limit, next_payload, next_front, rising_open, sound}
 use Rattle.giop_stream.proofs.Dealing.{if_some}
 use Rattle.giop_stream.proofs.Growing.{beginner, payload_grows, header_grows}
 use Rattle.giop_stream.proofs.Beginning.{alive, parts_by}

@@ -16,12 +16,13 @@ ghost use Rattle.giop_stream.specs.Keeping.{Keeps, AreReady};
 ghost use Rattle.giop_stream.specs.Whose.{IsNamed, IsFirst, IsNext, IsTaken, IsAt, opener_title, whose_named, whose, whose_after, id_events, end_events};
 
 use crate::fault::ImposedFault;
-use crate::header::{order_of, size_of};
+use crate::header::size_of;
 use crate::kinds::{
     is_cancel, is_followed, is_fragment, is_opener, is_short, may_be_cancelled, refused, same_order,
 };
 use crate::lines::start_line;
 use crate::slots::Slots;
+use giop_message::order_of;
 use giop_print::{Out, OutFault, continues_line};
 use giop_sig::{Catalogue, Requests};
 

@@ -1,23 +1,23 @@
 //! What is remembered of a stream, and what an octet of it does: headers, payloads, and what ends the stream.
 
-ghost use Rattle.std.specs.Prelude.{◌≡◌, ◌+◌, ◌*◌, ◌++◌, ◌∷◌, ◌^◌, ◌≤◌, ◌<◌, ℕ, List, [], length, None, OnOk, flat_map, if◌then◌else◌};
+ghost use Rattle.std.specs.Prelude.{◌≡◌, ◌+◌, ◌*◌, ◌++◌, ◌∷◌, ◌^◌, ◌≤◌, ◌<◌, ℕ, List, [], length, None, OnOk, if◌then◌else◌};
 ghost use Rattle.arrayvec.specs.ArrayVec.{array_vec_len};
 
 use crate::dispatch;
 use crate::dispatch::Current;
 use crate::fault::StreamFault;
-use crate::header::{order_of, size_of, unsigned_long, wrong_in};
-use crate::kinds::is_fragment;
-use crate::lines::{stream_fault_line, truncated_line};
+use crate::header::{size_of, unsigned_long, wrong_in};
+use crate::lines::stream_fault_line;
 use crate::slots::Slots;
-use crate::status::{Status, Totals};
+use crate::status::Totals;
 use arrayvec::ArrayVec;
 use giop_cdr::Carry;
-use giop_print::{Out, OutFault, total_line, unfinished_line};
+use giop_message::order_of;
+use giop_print::{Out, OutFault};
 use giop_sig::{Catalogue, Requests};
 
 /// The number of octets that are read of a stream.
-const LIMIT: u64 = 281_474_976_710_656;
+pub const LIMIT: u64 = 281_474_976_710_656;
 
 /// What is remembered of a stream.
 #[derive(Drop)]
@@ -41,22 +41,17 @@ pub struct Framing {
 impl Framing {
     ghost use Rattle.giop_cdr.specs.Numbers.{num};
     ghost use Rattle.giop_print.specs.Output.{Writes};
-    ghost use Rattle.giop_print.specs.Lines.{unfinished_line, total_line};
     ghost use Rattle.giop_sig.specs.Table.{Table};
     ghost use Rattle.giop_message.specs.Signatures.{Kept as Listed};
     ghost use Rattle.giop_message.specs.MessageReading.{message_reading};
     ghost use Rattle.giop_message.specs.Headers.{order, size};
     ghost use Rattle.giop_stream.specs.Headers.{wrong};
-    ghost use Rattle.giop_stream.specs.Framing.{cut};
-    ghost use Rattle.giop_stream.specs.Text.{stop_text, truncated_line};
-    ghost use Rattle.giop_stream.specs.Stream.{is_truncated, final, closing};
-    ghost use Rattle.giop_stream.specs.State.{state_of};
-    ghost use Rattle.giop_stream.specs.Machine.{left_over, left_own};
+    ghost use Rattle.giop_stream.specs.Text.{stop_text};
     ghost use Rattle.giop_stream.specs.Keeping.{AreReady, IsBare};
     ghost use Rattle.giop_stream.specs.Remembering.{Memory};
     ghost use Rattle.giop_stream.specs.Shown.{shown};
-    ghost use Rattle.giop_stream.specs.Holding.{AreOf, Remembers, added, status_of};
-    ghost use Rattle.giop_stream.specs.Steps.{held_on, stop, settle, is_cut_short, final_totals};
+    ghost use Rattle.giop_stream.specs.Holding.{AreOf, Remembers, added};
+    ghost use Rattle.giop_stream.specs.Steps.{held_on, stop, settle};
 
     /// Nothing read.
     pub fn new() -> Framing
@@ -236,7 +231,7 @@ impl Framing {
     }
 
     /// An octet of the stream.
-    fn step<O: Out>(
+    pub fn step<O: Out>(
         &mut self,
         catalogue: &Catalogue,
         requests: &Requests,
@@ -262,174 +257,5 @@ impl Framing {
         } else {
             self.pay(catalogue, requests, octet, out)
         }
-    }
-
-    /// How many of so many octets are of a message's contents alone: they come behind its request id, and none of them is
-    /// its last.
-    fn quiet(&self, room: usize) -> usize
-        ensures within { result ≤ room }
-        ensures full { 0 < result → length self.now.header.items ≡ 12 }
-        ensures running { 0 < result → self.now.stopped ≡ None }
-        ensures named { 0 < result → 4 ≤ self.now.come }
-        ensures before_last { 0 < result → self.now.come + result < size self.now.header.items }
-        ensures limit { 0 < result → self.now.totals.octets + result ≤ 2 ^ 48 }
-    {
-        if self.stopped.is_some() || self.header.len() < 12 || self.come < 4 {
-            return 0;
-        }
-        let left = size_of(self.header.as_slice()).saturating_sub(self.come);
-        let unread = LIMIT.saturating_sub(self.totals.octets);
-        room.min(left.saturating_sub(1) as usize)
-            .min(unread as usize)
-    }
-
-    /// Octets of a message's contents alone.
-    fn run<O: Out>(
-        &mut self,
-        catalogue: &Catalogue,
-        requests: &Requests,
-        octets: &[u8],
-        out: &mut O,
-    ) -> Result<(), OutFault>
-        requires full { length self.old.header.items ≡ 12 }
-        requires running { self.old.stopped ≡ None }
-        requires named { 4 ≤ self.old.come }
-        requires before_last { self.old.come + length octets.now < size self.old.header.items }
-        requires limit { self.old.totals.octets + length octets.now ≤ 2 ^ 48 }
-        requires some { 0 < length octets.now }
-        requires of { AreOf catalogue.now requests.now }
-        requires ready { AreReady catalogue.now (self.old.totals.octets + 1) self.old.slots }
-        ensures remembers { (p : List ℕ) → Remembers catalogue.now requests.now (shown self.old) p →
-            OnOk result (Remembers catalogue.now requests.now (shown self.new) (p ++ octets.now)) }
-        ensures text { (p : List ℕ) → Remembers catalogue.now requests.now (shown self.old) p →
-            Writes result (O.log out.old) (O.log out.new) (added (message_reading catalogue.now requests.now) p octets.now) }
-        ensures ready { OnOk result (AreReady catalogue.now (self.new.totals.octets + 1) self.new.slots) }
-    {
-        let before = self.totals.octets;
-        self.totals.octets += octets.len() as u64;
-        let come = u32::try_from(octets.len()).unwrap_or(u32::MAX);
-        self.come = self.come.saturating_add(come);
-        if self
-            .slots
-            .take_run(catalogue, requests, octets, before, out)?
-        {
-            self.totals.faults += 1;
-        }
-        Ok(())
-    }
-
-    /// The octets of a piece, in runs where they are of a message's contents alone.
-    pub fn steps<O: Out>(
-        &mut self,
-        catalogue: &Catalogue,
-        requests: &Requests,
-        piece: &[u8],
-        out: &mut O,
-    ) -> Result<(), OutFault>
-        requires of { AreOf catalogue.now requests.now }
-        requires ready { AreReady catalogue.now (self.old.totals.octets + 1) self.old.slots }
-        ensures remembers { (p : List ℕ) → Remembers catalogue.now requests.now (shown self.old) p →
-            OnOk result (Remembers catalogue.now requests.now (shown self.new) (p ++ piece.now)) }
-        ensures text { (p : List ℕ) → Remembers catalogue.now requests.now (shown self.old) p →
-            Writes result (O.log out.old) (O.log out.new) (added (message_reading catalogue.now requests.now) p piece.now) }
-        ensures ready { OnOk result (AreReady catalogue.now (self.new.totals.octets + 1) self.new.slots) }
-    {
-        let mut rest = piece;
-        while let Some(octet) = rest.first() {
-            let quiet = self.quiet(rest.len());
-            if quiet == 0 {
-                self.step(catalogue, requests, *octet, out)?;
-                rest = &rest[1..];
-            } else {
-                self.run(catalogue, requests, &rest[..quiet], out)?;
-                rest = &rest[quiet..];
-            }
-        }
-        Ok(())
-    }
-
-    /// Whether the stream goes on.
-    pub fn status(&self) -> Status
-        ensures { result ≡ status_of self.now.stopped }
-    {
-        match self.stopped {
-            Some(fault) => Status::Stopped(fault),
-            None => Status::Running,
-        }
-    }
-
-    /// Whether the stream ends inside a message or a header.
-    #[tactic(auto, unfolding(crate::specs::Steps::is_cut_short))]
-    fn is_cut_short(&self) -> bool
-        ensures { result ≡ is_cut_short (shown self.now) }
-    {
-        self.stopped.is_none() && !self.header.is_empty()
-    }
-
-    /// The totals at the finish.
-    #[tactic(auto, unfolding(crate::specs::Steps::final_totals))]
-    pub fn final_totals(&self) -> Totals
-        ensures state { result ≡ final_totals (shown self.now) }
-        ensures value { (C : Table) (l : Listed) (p : List ℕ) → Remembers C l (shown self.now) p →
-            result ≡ final (message_reading C l) p }
-    {
-        let mut totals = self.totals;
-        if self.is_cut_short() {
-            totals.faults += 1;
-        }
-        totals
-    }
-
-    /// The line of a stream that ends inside a message or a header.
-    fn truncation<O: Out>(&self, out: &mut O) -> Result<(), OutFault>
-        ensures { (C : Table) (l : Listed) (p : List ℕ) → Remembers C l (shown self.now) p →
-            Writes result (O.log out.old) (O.log out.new) (if is_truncated (cut p) then truncated_line (length p) else []) }
-    {
-        if self.is_cut_short() {
-            return truncated_line(out, self.totals.octets);
-        }
-        Ok(())
-    }
-
-    /// Whether the message whose payload comes is unfinished: its own octets come, and it is no Fragment.
-    fn own_is_unfinished(&self) -> bool
-        ensures { (C : Table) (l : Listed) (p : List ℕ) → Remembers C l (shown self.now) p →
-            left_own (cut p).current (state_of (message_reading C l) p).own ≡ (if result then self.now.totals.messages ∷ [] else []) }
-    {
-        self.header.len() == 12 && !is_fragment(self.header.as_slice()) && self.slots.own.is_some()
-    }
-
-    /// The messages that have neither ended nor been faulted, by number.
-    fn unfinished<O: Out>(&self, out: &mut O) -> Result<(), OutFault>
-        ensures { (C : Table) (l : Listed) (p : List ℕ) → Remembers C l (shown self.now) p →
-            Writes result (O.log out.old) (O.log out.new) (flat_map unfinished_line (left_over (state_of (message_reading C l) p))) }
-    {
-        self.slots.unfinished(out)?;
-        if self.own_is_unfinished() {
-            return unfinished_line(out, self.totals.messages);
-        }
-        Ok(())
-    }
-
-    /// What comes behind the line of a truncation.
-    #[tactic(auto, using(giop_print::proofs::Writing::writes_then, giop_print::proofs::Writing::writes_err))]
-    fn ending<O: Out>(&self, out: &mut O) -> Result<(), OutFault>
-        ensures { (C : Table) (l : Listed) (p : List ℕ) → Remembers C l (shown self.now) p →
-            Writes result (O.log out.old) (O.log out.new) (flat_map unfinished_line (left_over (state_of (message_reading C l) p))
-            ++ total_line (final (message_reading C l) p).messages (final (message_reading C l) p).faults (final (message_reading C l) p).octets) }
-    {
-        self.unfinished(out)?;
-        let totals = self.final_totals();
-        total_line(out, totals.messages, totals.faults, totals.octets)
-    }
-
-    /// The lines of the finish.
-    #[tactic(auto, using(giop_print::proofs::Writing::writes_then, giop_print::proofs::Writing::writes_err))]
-    pub fn finish<O: Out>(&self, out: &mut O) -> Result<(), OutFault>
-        ensures { (C : Table) (l : Listed) (p : List ℕ) → Remembers C l (shown self.now) p →
-            Writes result (O.log out.old) (O.log out.new) (closing (message_reading C l) p) }
-    {
-        self.truncation(out)?;
-        self.ending(out)
     }
 }

@@ -2,11 +2,12 @@
 
 ghost use Rattle.std.specs.Prelude.{◌≡◌, ◌≤◌, ◌<◌, ℕ, List, [], ◌∷◌, length};
 ghost use Rattle.giop_cdr.specs.Numbers.{little, num};
-ghost use Rattle.giop_message.specs.Headers.{minor, order, has_more, kind, size};
+ghost use Rattle.giop_message.specs.Headers.{has_more, size};
 ghost use Rattle.giop_stream.specs.Headers.{wrong};
 
 use crate::fault::StreamFault;
 use giop_cdr::{Carry, Number, Order, Prim};
+use giop_message::order_of;
 
 /// The number that the four octets of a carry spell (CDR Transfer Syntax, Primitive Types).
 pub fn unsigned_long(order: Order, carry: &Carry) -> u32
@@ -24,37 +25,6 @@ fn lightest_first(a: u8, b: u8, c: u8, d: u8) -> u32
     ensures { result ≡ little (a ∷ b ∷ c ∷ d ∷ []) }
 {
     u32::from(a) + 256 * (u32::from(b) + 256 * (u32::from(c) + 256 * u32::from(d)))
-}
-
-/// The order of a message's numbers.
-#[tactic(auto, unfolding(giop_message::specs::Headers::order))]
-pub fn order_of(header: &[u8]) -> Order
-    requires { length header.now ≡ 12 }
-    ensures { result ≡ order header.now }
-{
-    if header[6] % 2 == 1 {
-        Order::Little
-    } else {
-        Order::Big
-    }
-}
-
-/// The minor version.
-#[tactic(auto, unfolding(giop_message::specs::Headers::minor))]
-pub fn minor_of(header: &[u8]) -> u8
-    requires { length header.now ≡ 12 }
-    ensures { result ≡ minor header.now }
-{
-    header[5]
-}
-
-/// The message type.
-#[tactic(auto, unfolding(giop_message::specs::Headers::kind))]
-pub fn kind_of(header: &[u8]) -> u8
-    requires { length header.now ≡ 12 }
-    ensures { result ≡ kind header.now }
-{
-    header[7]
 }
 
 /// Whether more fragments follow.

@@ -6,8 +6,9 @@ ghost use Rattle.giop_stream.specs.Kinds.{may_be_cancelled, refused, is_short, i
 ghost use Rattle.giop_stream.specs.Events.{same_order};
 
 use crate::fault::ImposedFault;
-use crate::header::{kind_of, minor_of, more_of, size_of};
+use crate::header::{more_of, size_of};
 use giop_cdr::Order;
+use giop_message::{kind_of, minor_of};
 
 /// Whether messages of this type may have fragments.
 #[tactic(auto, unfolding(giop_message::specs::Headers::may_be_fragmented))]

@@ -4,11 +4,13 @@
 mod dispatch;
 mod engine;
 mod fault;
+mod finish;
 mod framing;
 mod header;
 mod kinds;
 mod laws;
 mod lines;
+mod pieces;
 mod slots;
 mod status;
 

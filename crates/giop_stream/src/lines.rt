@@ -6,7 +6,8 @@ ghost use Rattle.giop_print.specs.Lines.{fault_line};
 ghost use Rattle.giop_stream.specs.Text.{stream_word, start_line, stop_text, truncated_line, imposed_word};
 
 use crate::fault::{ImposedFault, StreamFault};
-use crate::header::{kind_of, minor_of, more_of, order_of, size_of};
+use crate::header::{more_of, size_of};
+use giop_message::{kind_of, minor_of, order_of};
 use giop_print::{Out, OutFault};
 
 /// The word of a stream's fault.

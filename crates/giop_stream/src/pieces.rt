@@ -1,0 +1,101 @@
+//! A piece of a stream, in runs of octets of a message's contents where there are such.
+
+ghost use Rattle.std.specs.Prelude.{◌≡◌, ◌+◌, ◌*◌, ◌++◌, ◌^◌, ◌≤◌, ◌<◌, ℕ, List, length, None, OnOk, if◌then◌else◌};
+
+use crate::framing::{Framing, LIMIT};
+use crate::header::size_of;
+use giop_print::{Out, OutFault};
+use giop_sig::{Catalogue, Requests};
+
+impl Framing {
+    ghost use Rattle.giop_print.specs.Output.{Writes};
+    ghost use Rattle.giop_message.specs.MessageReading.{message_reading};
+    ghost use Rattle.giop_message.specs.Headers.{size};
+    ghost use Rattle.giop_stream.specs.Keeping.{AreReady};
+    ghost use Rattle.giop_stream.specs.Shown.{shown};
+    ghost use Rattle.giop_stream.specs.Holding.{AreOf, Remembers, added};
+
+    /// How many of so many octets are of a message's contents alone: they come behind its request id, and none of them is
+    /// its last.
+    fn quiet(&self, room: usize) -> usize
+        ensures within { result ≤ room }
+        ensures full { 0 < result → length self.now.header.items ≡ 12 }
+        ensures running { 0 < result → self.now.stopped ≡ None }
+        ensures named { 0 < result → 4 ≤ self.now.come }
+        ensures before_last { 0 < result → self.now.come + result < size self.now.header.items }
+        ensures limit { 0 < result → self.now.totals.octets + result ≤ 2 ^ 48 }
+    {
+        if self.stopped.is_some() || self.header.len() < 12 || self.come < 4 {
+            return 0;
+        }
+        let left = size_of(self.header.as_slice()).saturating_sub(self.come);
+        let unread = LIMIT.saturating_sub(self.totals.octets);
+        room.min(left.saturating_sub(1) as usize)
+            .min(unread as usize)
+    }
+
+    /// Octets of a message's contents alone.
+    fn run<O: Out>(
+        &mut self,
+        catalogue: &Catalogue,
+        requests: &Requests,
+        octets: &[u8],
+        out: &mut O,
+    ) -> Result<(), OutFault>
+        requires full { length self.old.header.items ≡ 12 }
+        requires running { self.old.stopped ≡ None }
+        requires named { 4 ≤ self.old.come }
+        requires before_last { self.old.come + length octets.now < size self.old.header.items }
+        requires limit { self.old.totals.octets + length octets.now ≤ 2 ^ 48 }
+        requires some { 0 < length octets.now }
+        requires of { AreOf catalogue.now requests.now }
+        requires ready { AreReady catalogue.now (self.old.totals.octets + 1) self.old.slots }
+        ensures remembers { (p : List ℕ) → Remembers catalogue.now requests.now (shown self.old) p →
+            OnOk result (Remembers catalogue.now requests.now (shown self.new) (p ++ octets.now)) }
+        ensures text { (p : List ℕ) → Remembers catalogue.now requests.now (shown self.old) p →
+            Writes result (O.log out.old) (O.log out.new) (added (message_reading catalogue.now requests.now) p octets.now) }
+        ensures ready { OnOk result (AreReady catalogue.now (self.new.totals.octets + 1) self.new.slots) }
+    {
+        let before = self.totals.octets;
+        self.totals.octets += octets.len() as u64;
+        let come = u32::try_from(octets.len()).unwrap_or(u32::MAX);
+        self.come = self.come.saturating_add(come);
+        if self
+            .slots
+            .take_run(catalogue, requests, octets, before, out)?
+        {
+            self.totals.faults += 1;
+        }
+        Ok(())
+    }
+
+    /// The octets of a piece, in runs where they are of a message's contents alone.
+    pub fn steps<O: Out>(
+        &mut self,
+        catalogue: &Catalogue,
+        requests: &Requests,
+        piece: &[u8],
+        out: &mut O,
+    ) -> Result<(), OutFault>
+        requires of { AreOf catalogue.now requests.now }
+        requires ready { AreReady catalogue.now (self.old.totals.octets + 1) self.old.slots }
+        ensures remembers { (p : List ℕ) → Remembers catalogue.now requests.now (shown self.old) p →
+            OnOk result (Remembers catalogue.now requests.now (shown self.new) (p ++ piece.now)) }
+        ensures text { (p : List ℕ) → Remembers catalogue.now requests.now (shown self.old) p →
+            Writes result (O.log out.old) (O.log out.new) (added (message_reading catalogue.now requests.now) p piece.now) }
+        ensures ready { OnOk result (AreReady catalogue.now (self.new.totals.octets + 1) self.new.slots) }
+    {
+        let mut rest = piece;
+        while let Some(octet) = rest.first() {
+            let quiet = self.quiet(rest.len());
+            if quiet == 0 {
+                self.step(catalogue, requests, *octet, out)?;
+                rest = &rest[1..];
+            } else {
+                self.run(catalogue, requests, &rest[..quiet], out)?;
+                rest = &rest[quiet..];
+            }
+        }
+        Ok(())
+    }
+}
