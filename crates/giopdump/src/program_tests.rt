@@ -1,129 +1,17 @@
-//! The program's words, the files that it reads, and what it says of those that it refuses.
+//! The program's steps on files: its lines, what it says, and its status.
 
 use super::arguments::Arguments;
 use super::console::status;
-use super::fakes::{EndlessReader, FailingReader, FailingWriter};
-use super::fault::{ProgramFault, RunFault};
-use super::files::{front, unreadable};
+use super::fakes::FailingWriter;
+use super::fault::ProgramFault;
 use super::program::performed;
+use super::running::Report;
 use super::tests::{octets, text};
-use clap::error::ErrorKind as WordsKind;
-use giop_sig::{ListFault, ListFaultKind, SigFault, SigFaultKind};
-use std::cell::{Cell, RefCell};
-use std::io::ErrorKind;
+use std::alloc::Global;
+use std::cell::RefCell;
+use std::fs;
+use std::process::Abort;
 use std::test::Fail;
-use std::{fs, io};
-
-const NONE: Arguments<'static> = Arguments {
-    signatures: None,
-    requests: None,
-    stream: None,
-};
-
-/// Words behind the program's name, and what they ask for, or the kind of what is printed and the status.
-type Words = (
-    &'static [&'static str],
-    Result<Arguments<'static>, (WordsKind, i32)>,
-);
-
-static WORDS: [Words; 21] = [
-    (&[], Ok(NONE)),
-    (
-        &["one.giop"],
-        Ok(Arguments {
-            stream: Some("one.giop"),
-            ..NONE
-        }),
-    ),
-    (
-        &["-"],
-        Ok(Arguments {
-            stream: Some("-"),
-            ..NONE
-        }),
-    ),
-    (
-        &["--", "--help"],
-        Ok(Arguments {
-            stream: Some("--help"),
-            ..NONE
-        }),
-    ),
-    (
-        &["--signatures", "a.sig"],
-        Ok(Arguments {
-            signatures: Some("a.sig"),
-            ..NONE
-        }),
-    ),
-    (
-        &["--signatures=a.sig"],
-        Ok(Arguments {
-            signatures: Some("a.sig"),
-            ..NONE
-        }),
-    ),
-    (
-        &["--signatures", "-"],
-        Ok(Arguments {
-            signatures: Some("-"),
-            ..NONE
-        }),
-    ),
-    (
-        &["--requests", "a.req"],
-        Ok(Arguments {
-            requests: Some("a.req"),
-            ..NONE
-        }),
-    ),
-    (
-        &["one.giop", "--requests=a.req", "--signatures", "a.sig"],
-        Ok(Arguments {
-            signatures: Some("a.sig"),
-            requests: Some("a.req"),
-            stream: Some("one.giop"),
-        }),
-    ),
-    (&["--help"], Err((WordsKind::DisplayHelp, 0))),
-    (&["-h"], Err((WordsKind::DisplayHelp, 0))),
-    (&["--version"], Err((WordsKind::DisplayVersion, 0))),
-    (&["-V"], Err((WordsKind::DisplayVersion, 0))),
-    (&["one", "two"], Err((WordsKind::UnknownArgument, 2))),
-    (&["--resume", "x"], Err((WordsKind::UnknownArgument, 2))),
-    (&["--save=x"], Err((WordsKind::UnknownArgument, 2))),
-    (&["--signatures"], Err((WordsKind::InvalidValue, 2))),
-    (&["--requests"], Err((WordsKind::InvalidValue, 2))),
-    (
-        &["--requests", "--signatures", "a"],
-        Err((WordsKind::InvalidValue, 2)),
-    ),
-    (
-        &["--signatures", "a", "--signatures", "b"],
-        Err((WordsKind::ArgumentConflict, 2)),
-    ),
-    (
-        &["--requests=a", "--requests=a"],
-        Err((WordsKind::ArgumentConflict, 2)),
-    ),
-];
-
-#[test]
-fn words_ask_for_files(rt: HostRuntime) -> Result<(), Fail> {
-    for (given, want) in &WORDS {
-        let mut words = Vec::new(rt.alloc());
-        words.push(String::from_str(rt.alloc(), "giopdump")?)?;
-        for word in *given {
-            words.push(String::from_str(rt.alloc(), word)?)?;
-        }
-        let asked = match Arguments::read(rt.alloc(), words.as_slice()) {
-            Ok(asked) => Ok(asked),
-            Err(error) => Err((error.kind(), error.exit_code())),
-        };
-        assert_eq!(rt; asked, *want, "{given:?}");
-    }
-    Ok(())
-}
 
 /// The texts of files, by their names.
 static FILES: [(&str, &str); 5] = [
@@ -298,108 +186,60 @@ static CASES: [Case; 16] = [
     },
 ];
 
-#[test]
-fn the_first_step_that_fails_decides(rt: HostRuntime) -> Result<(), Fail> {
+/// Writes the files and the streams.
+fn write_files(rt: &HostRuntime, abort: &impl Abort) -> Result<(), Fail> {
     for (name, text) in &FILES {
-        fs::write(&rt, name, text.as_bytes())?;
+        fs::write(rt, name, text.as_bytes())?;
     }
     for (name, stream) in &STREAMS {
-        fs::write(&rt, name, octets(&rt, rt.alloc(), stream)?.as_slice())?;
+        let octets = octets(abort, rt.alloc(), stream)?;
+        fs::write(rt, name, octets.as_slice())?;
     }
-    for case in &CASES {
-        let (signatures, requests, stream) = case.files;
-        let asked = Arguments {
-            signatures,
-            requests,
-            stream,
-        };
-        let held = RefCell::new(Vec::new(rt.alloc()));
-        let ended = performed(&rt, asked, FailingWriter::new(&held, 1000));
-        let want = text(rt.alloc(), case.lines)?;
-        assert_eq!(rt;
-            held.try_borrow()?.as_slice(),
-            want.as_slice(),
-            "{:?}",
-            asked
-        );
-        assert_eq!(rt; status(&ended), case.status, "{:?}", asked);
-        let says = match ended {
-            Ok(_) => String::new(rt.alloc()),
-            Err(fault) => format!(in rt.alloc(); "{fault}")?,
-        };
-        assert_eq!(rt; says.as_str(), case.says, "{:?}", asked);
-    }
+    Ok(())
+}
+
+/// Removes them.
+fn remove_files(rt: &HostRuntime) -> Result<(), Fail> {
     for (name, _) in &FILES {
-        fs::remove_file(&rt, name)?;
+        fs::remove_file(rt, name)?;
     }
     for (name, _) in &STREAMS {
-        fs::remove_file(&rt, name)?;
+        fs::remove_file(rt, name)?;
     }
     Ok(())
 }
 
-#[test]
-fn each_fault_has_its_text_and_its_status(rt: HostRuntime) -> Result<(), Fail> {
-    let signatures = |line, kind| ProgramFault::of_signatures("a.sig", SigFault { line, kind });
-    let requests = |line, kind| ProgramFault::of_requests("a.req", ListFault { line, kind });
-    let table = [
-        (
-            signatures(7, SigFaultKind::Duplicate),
-            "a.sig:7: duplicate",
-            3,
-        ),
-        (signatures(0, SigFaultKind::OutOfMemory), "out of memory", 5),
-        (
-            requests(65_537, ListFaultKind::Limit),
-            "a.req:65537: limit",
-            3,
-        ),
-        (requests(0, ListFaultKind::OutOfMemory), "out of memory", 5),
-        (ProgramFault::Unreadable { name: "a" }, "a: cannot read", 4),
-        (ProgramFault::Run(RunFault::Read), "read failed", 4),
-        (ProgramFault::Run(RunFault::Turns), "too many reads", 4),
-        (ProgramFault::Run(RunFault::Out), "write failed", 4),
-        (ProgramFault::OutOfMemory, "out of memory", 5),
-        (
-            unreadable("a", &io::Error::from(ErrorKind::NotFound)),
-            "a: cannot read",
-            4,
-        ),
-        (
-            unreadable("a", &io::Error::from(ErrorKind::OutOfMemory)),
-            "out of memory",
-            5,
-        ),
-    ];
-    for (fault, says, status) in table {
-        assert_eq!(rt; format!(in rt.alloc(); "{fault}")?.as_str(), says);
-        assert_eq!(rt; fault.status(), status, "{says}");
+/// What is printed behind the program's name.
+fn said(alloc: Global, ended: &Result<Report, ProgramFault>) -> Result<String, Fail> {
+    match ended {
+        Ok(_) => Ok(String::new(alloc)),
+        Err(fault) => Ok(format!(in alloc; "{fault}")?),
     }
+}
+
+/// Performs a case, which has this place in the table.
+fn perform(rt: &HostRuntime, abort: &impl Abort, place: usize, case: &Case) -> Result<(), Fail> {
+    let (signatures, requests, stream) = case.files;
+    let asked = Arguments {
+        signatures,
+        requests,
+        stream,
+    };
+    let held = RefCell::new(Vec::new(rt.alloc()));
+    let ended = performed(rt, asked, FailingWriter::new(&held, 1000));
+    let want = text(rt.alloc(), case.lines)?;
+    let says = said(rt.alloc(), &ended)?;
+    assert!(abort; held.into_inner() == want, "case {place}");
+    assert_eq!(abort; status(&ended), case.status, "case {place}");
+    assert_eq!(abort; says.as_str(), case.says, "case {place}");
     Ok(())
 }
 
 #[test]
-fn a_file_is_read_up_to_one_octet_past_its_limit(rt: HostRuntime) -> Result<(), Fail> {
-    let table: [(u64, &[u8]); 5] = [
-        (0, b"a"),
-        (1, b"ab"),
-        (2, b"abc"),
-        (3, b"abc"),
-        (u64::MAX, b"abc"),
-    ];
-    for (most, want) in table {
-        assert_eq!(rt;
-            front(rt.alloc(), b"abc".as_slice(), most)?.as_slice(),
-            want,
-            "{most}"
-        );
+fn the_first_step_that_fails_decides(rt: HostRuntime) -> Result<(), Fail> {
+    write_files(&rt, &rt)?;
+    for (place, case) in CASES.iter().enumerate() {
+        perform(&rt, &rt, place, case)?;
     }
-    let given = front(rt.alloc(), EndlessReader, 1_048_576)?;
-    assert_eq!(rt; given.len(), 1_048_577);
-    for fails_at in 0..4 {
-        let reads = Cell::new(0);
-        let read = front(rt.alloc(), FailingReader::new(b"abc", &reads, fails_at), 10);
-        assert!(rt; read.is_err(), "read {fails_at}");
-    }
-    Ok(())
+    remove_files(&rt)
 }
