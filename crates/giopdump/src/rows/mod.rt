@@ -65,7 +65,7 @@ fn catalogue_of(alloc: Global, row: &Row) -> Result<Catalogue, SigFault> {
 }
 
 /// Feeds the octets in front of the cut at once, runs the others by pieces of `step` octets, and compares the lines and
-/// the status. It is handed no allocator, so nothing that it calls can take memory.
+/// the status. It is handed no allocator.
 fn dumps(
     rt: &impl Abort,
     engine: Engine,
