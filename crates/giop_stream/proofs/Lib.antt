@@ -18,6 +18,7 @@ pub mod Finishing
 pub mod Sharing
 pub mod Rows
 pub mod Ordering
+pub mod Spans
 pub mod Turns
 pub mod Dealing
 pub mod InPlace

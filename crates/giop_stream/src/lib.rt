@@ -7,6 +7,7 @@ mod fault;
 mod finish;
 mod framing;
 mod header;
+mod kept;
 mod kinds;
 mod laws;
 mod lines;

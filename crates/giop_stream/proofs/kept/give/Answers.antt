@@ -3,7 +3,7 @@ use Rattle.giop_print.specs.Output.{Writes, Wrote}
 use Rattle.giop_print.proofs.Writing.{wrote-nil}
 use Rattle.giop_stream.proofs.Exits.{writes_front}
 use Rattle.giop_stream.proofs.ReadingPlays.{given_text, given_kept, given_faultless, given_over, given_fault, ready_before, none_text, none_kept, none_faults}
-use Rattle.giop_stream.proofs.slots.give.Goals as goal
+use Rattle.giop_stream.proofs.kept.give.Goals as goal
 
 pub returns-in_default-clause-text : goal.returns-in_default-clause-text
 returns-in_default-clause-text g c =

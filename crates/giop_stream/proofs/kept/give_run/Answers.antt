@@ -5,7 +5,7 @@ use Rattle.giop_stream.specs.Text.{lines_text}
 use Rattle.giop_stream.specs.Stream.{fault_count}
 use Rattle.giop_stream.proofs.Exits.{writes_front}
 use Rattle.giop_stream.proofs.Runs.{given_run_text, given_run_kept, given_run_faultless, given_run_over, given_run_fault, none_run_lines, none_run_kept}
-use Rattle.giop_stream.proofs.slots.give_run.Goals as goal
+use Rattle.giop_stream.proofs.kept.give_run.Goals as goal
 
 pub returns-in_default-clause-text : goal.returns-in_default-clause-text
 returns-in_default-clause-text g c =

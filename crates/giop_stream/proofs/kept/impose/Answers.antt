@@ -3,7 +3,7 @@ use Rattle.std.specs.Prelude.{is_some}
 use Rattle.giop_print.proofs.Writing.{wrote-nil}
 use Rattle.giop_stream.proofs.Exits.{writes_front}
 use Rattle.giop_stream.proofs.ReadingPlays.{some_imposed_text, some_imposed_faults, imposed_kept, none_text, none_faults, no_message}
-use Rattle.giop_stream.proofs.slots.impose.Goals as goal
+use Rattle.giop_stream.proofs.kept.impose.Goals as goal
 
 pub returns-then-is_none-clause-text : goal.returns-then-is_none-clause-text
 returns-then-is_none-clause-text g c = λ C l w o k n. let kept = rw (no_message c.args.message.now (ap is_some (sym c.take.ensures.value) ∙ c.if-is_none.ensures)) at k in rw (none_text C l w o _ kept) (wrote-nil _)

@@ -1,7 +1,7 @@
 use Rattle.giop_print.specs.Output.{Writes}
 use Rattle.giop_print.proofs.Writing.{wrote-nil}
 use Rattle.giop_stream.proofs.ReadingPlays.{shut_text, shut_result, none_text, none_faults}
-use Rattle.giop_stream.proofs.slots.shut.Goals as goal
+use Rattle.giop_stream.proofs.kept.shut.Goals as goal
 
 pub returns-in-Some-clause-text : goal.returns-in-Some-clause-text
 returns-in-Some-clause-text g c = λ l w o k. let kept = rw c.in-Some.is at k in shut_text c.args.catalogue.now l (λ text. Writes c.close.result (g.O.Out.log c.args.out.now) (g.O.Out.log c.close.new.out) text) c.in-Some.m w o c.args.place kept (c.close.ensures.writes l)

@@ -1,0 +1,132 @@
+//! What is done to one message that has begun and not ended, of which nothing is kept once it is over.
+
+ghost use Rattle.std.specs.Prelude.{◌≡◌, ◌+◌, ◌≤◌, ◌^◌, ℕ, List, length, Option, None, OnOk, IfOk, if◌then◌else◌};
+ghost use Rattle.giop_print.specs.Output.{Writes};
+ghost use Rattle.giop_sig.specs.Table.{Table};
+ghost use Rattle.giop_message.specs.Signatures.{Kept as Listed};
+ghost use Rattle.giop_message.specs.MessageReading.{message_reading};
+ghost use Rattle.giop_message.specs.Holding.{AreOf};
+ghost use Rattle.giop_stream.specs.Events.{Title, Takes, Imposed, Closes};
+ghost use Rattle.giop_stream.specs.Text.{lines_text};
+ghost use Rattle.giop_stream.specs.Stream.{fault_count};
+ghost use Rattle.giop_stream.specs.Plays.{lines_of, octets_then};
+ghost use Rattle.giop_stream.specs.Keeping.{IsKept, IsReady, event};
+ghost use Rattle.giop_stream.specs.Runs.{run_of, run_octets};
+
+use crate::fault::ImposedFault;
+use crate::lines::imposed_line;
+use giop_message::Message;
+use giop_print::{Out, OutFault};
+use giop_sig::{Catalogue, Requests};
+
+/// Lets go of a message that is over. It stands apart from what is done at every octet, which needs no room for it.
+fn forget(message: &mut Option<Message>)
+    ensures { message.new ≡ None }
+{
+    *message = None;
+}
+
+/// Gives a message an octet; says whether that faults it.
+pub fn give<O: Out>(
+    message: &mut Option<Message>,
+    catalogue: &Catalogue,
+    requests: &Requests,
+    octet: u8,
+    place: u64,
+    out: &mut O,
+) -> Result<bool, OutFault>
+    requires ready { IsReady catalogue.now place message.old }
+    requires of { AreOf catalogue.now requests.now }
+    requires limit { place ≤ 2 ^ 48 }
+    ensures text { (w : Title) (o : Option (List ℕ)) → IsKept catalogue.now requests.now message.old w o →
+        Writes result (O.log out.old) (O.log out.new) (lines_text (lines_of (message_reading catalogue.now requests.now) (event place w (Takes octet)) o)) }
+    ensures kept { (w : Title) (o : Option (List ℕ)) → IsKept catalogue.now requests.now message.old w o →
+        OnOk result (IsKept catalogue.now requests.now message.new w (octets_then (message_reading catalogue.now requests.now) (event place w (Takes octet)) o)) }
+    ensures faults { (w : Title) (o : Option (List ℕ)) → IsKept catalogue.now requests.now message.old w o →
+        IfOk result (λ fault. fault_count (lines_of (message_reading catalogue.now requests.now) (event place w (Takes octet)) o) ≡ (if fault then 1 else 0)) }
+    ensures ready { OnOk result (IsReady catalogue.now (place + 1) message.new) }
+{
+    let Some(m) = message else {
+        return Ok(false);
+    };
+    let before = place - 1;
+    if m.take(catalogue, requests, &[octet], before, out)?
+        .is_none()
+    {
+        return Ok(false);
+    }
+    forget(message);
+    Ok(true)
+}
+
+/// Gives a message octets, behind so many of the stream; says whether one of them faults it.
+pub fn give_run<O: Out>(
+    message: &mut Option<Message>,
+    catalogue: &Catalogue,
+    requests: &Requests,
+    octets: &[u8],
+    before: u64,
+    out: &mut O,
+) -> Result<bool, OutFault>
+    requires ready { IsReady catalogue.now (before + 1) message.old }
+    requires of { AreOf catalogue.now requests.now }
+    requires limit { before + length octets.now ≤ 2 ^ 48 }
+    ensures text { (w : Title) (o : Option (List ℕ)) → IsKept catalogue.now requests.now message.old w o →
+        Writes result (O.log out.old) (O.log out.new) (lines_text (run_of catalogue.now requests.now before w o octets.now)) }
+    ensures kept { (w : Title) (o : Option (List ℕ)) → IsKept catalogue.now requests.now message.old w o →
+        OnOk result (IsKept catalogue.now requests.now message.new w (run_octets catalogue.now requests.now before w o octets.now)) }
+    ensures faults { (w : Title) (o : Option (List ℕ)) → IsKept catalogue.now requests.now message.old w o →
+        IfOk result (λ fault. fault_count (run_of catalogue.now requests.now before w o octets.now) ≡ (if fault then 1 else 0)) }
+    ensures ready { OnOk result (IsReady catalogue.now (before + length octets.now + 1) message.new) }
+{
+    let Some(m) = message else {
+        return Ok(false);
+    };
+    if m.take(catalogue, requests, octets, before, out)?.is_none() {
+        return Ok(false);
+    }
+    forget(message);
+    Ok(true)
+}
+
+/// Faults a message of this number, unless it is over; says whether it does.
+pub fn impose<O: Out>(
+    message: &mut Option<Message>,
+    number: u64,
+    fault: ImposedFault,
+    place: u64,
+    out: &mut O,
+) -> Result<bool, OutFault>
+    ensures text { (C : Table) (l : Listed) (w : Title) (o : Option (List ℕ)) → IsKept C l message.old w o → w.number ≡ number →
+        Writes result (O.log out.old) (O.log out.new) (lines_text (lines_of (message_reading C l) (event place w (Imposed fault)) o)) }
+    ensures kept { (C : Table) (l : Listed) (w : Title) (o : Option (List ℕ)) → IsKept C l message.old w o →
+        OnOk result (IsKept C l message.new w (octets_then (message_reading C l) (event place w (Imposed fault)) o)) }
+    ensures faults { (C : Table) (l : Listed) (w : Title) (o : Option (List ℕ)) → IsKept C l message.old w o →
+        IfOk result (λ does. fault_count (lines_of (message_reading C l) (event place w (Imposed fault)) o) ≡ (if does then 1 else 0)) }
+    ensures ready { (C : Table) (n : ℕ) → IsReady C n message.new }
+{
+    if message.take().is_none() {
+        return Ok(false);
+    }
+    imposed_line(out, number, fault, place)?;
+    Ok(true)
+}
+
+/// Closes a message, unless it is over; says whether that faults it.
+pub fn shut<O: Out>(
+    message: Option<Message>,
+    catalogue: &Catalogue,
+    place: u64,
+    out: &mut O,
+) -> Result<bool, OutFault>
+    requires ready { IsReady catalogue.now (place + 1) message }
+    ensures text { (l : Listed) (w : Title) (o : Option (List ℕ)) → IsKept catalogue.now l message w o →
+        Writes result (O.log out.old) (O.log out.new) (lines_text (lines_of (message_reading catalogue.now l) (event place w Closes) o)) }
+    ensures faults { (l : Listed) (w : Title) (o : Option (List ℕ)) → IsKept catalogue.now l message w o →
+        IfOk result (λ short. fault_count (lines_of (message_reading catalogue.now l) (event place w Closes) o) ≡ (if short then 1 else 0)) }
+{
+    match message {
+        Some(m) => m.close(catalogue, place, out),
+        None => Ok(false),
+    }
+}
