@@ -8,14 +8,11 @@ use Rattle.giop_decode.specs.declared.progress.Progress.TheVariants as progress
 use Rattle.giop_decode.specs.Spine.{Seg, Line, Place, Part, Member, Read, Done, Short, Fault, within, lines_of}
 use Rattle.giop_decode.specs.Reading.{parts_from}
 use Rattle.giop_decode.specs.Begins.{start_outer, start_leaf}
-use Rattle.giop_decode.specs.Steps.{around, part_at, seg_of, step}
-use Rattle.giop_decode.proofs.Now.{Quiet, quiet_followed, quiet_within, parts_quiet}
+use Rattle.giop_decode.specs.Steps.{Quiet, around, part_at, seg_of, step}
+use Rattle.giop_decode.proofs.Now.{quiet_followed, quiet_within, parts_quiet}
 use Rattle.giop_decode.proofs.Resuming.{lines_front}
 use Rattle.giop_decode.proofs.Settling.{around_done}
 use Rattle.giop_sig.specs.Types.{Ty, part_of}
-use Rattle.giop_print.specs.Output.{OutLog, WroteFront, Writes}
-use Rattle.std.specs.Prelude.{Result, IsErr}
-use Rattle.std.proofs.Common.{Ok, Err}
 use Rattle.giop_decode.specs.declared.decoder.Decoder.{Decoder}
 use Rattle.giop_decode.specs.declared.leaf.Leaf.{Leaf as Innermost}
 use Rattle.giop_decode.specs.declared.leaf.Leaf.TheVariants as innermost
@@ -147,8 +144,3 @@ lines_turned C order path ps T turns.Ended carry piece lines at =
     let inner = around order path ps (Done [] at []) in
     let none : lines_of inner ≡ [] = quiet_lines at inner (around_quiet at order path ps (Done [] at []) (refl, refl, refl)) in
     ap lines_of (around_done order path ps lines at) ∙ (lines_front lines inner ∙ (ap (λ ls. lines ++ ls) none ∙ append-nil lines))
-
--- a front, where the answer is an error
-pub err_writes : {A E : Type 0} (r : Result A E) (a b : OutLog) (due : List ℕ) → IsErr r → WroteFront a b due → Writes r a b due
-err_writes (Ok x) a b due is h = cc
-err_writes (Err e) a b due is h = h

@@ -8,11 +8,11 @@ use Rattle.giop_decode.specs.Fits.{HasParts}
 use Rattle.giop_decode.specs.Pieces.{Waiting, block, number}
 use Rattle.giop_decode.specs.Reading.{parts_from, read}
 use Rattle.giop_decode.specs.Spine.{Done, Fault, Index, Leaf, Line, Member, Name, Part, Place, Read, Seg, Short, with_front, within}
-use Rattle.giop_decode.specs.Steps.{around, part_at, path_in, resumed, seg_in, seg_of}
+use Rattle.giop_decode.specs.Steps.{inner_path, around, part_at, path_in, resumed, seg_in, seg_of}
 use Rattle.giop_decode.specs.declared.progress.Kind.{Kind}
 use Rattle.giop_sig.specs.Fits.{IsFit}
 use Rattle.giop_sig.specs.Types.{Array, Octets, Sequence, Single, Struct, Text, Ty, Union, part_of, width}
-use Rattle.giop_decode.proofs.Law.{inner_path, with_front-followed, with_front-within, block_waits, number_waits, number_blocks, width_pos}
+use Rattle.giop_decode.proofs.Law.{with_front-followed, with_front-within, block_waits, number_waits, number_blocks, width_pos}
 
 pub around-append : (order : Order) (path : List Seg) (outer : List Place) (place : Place) (r : Read) →
     around order path (outer ++ place ∷ []) r ≡ around order path outer (resumed order (path_in path outer) place r)

@@ -13,7 +13,7 @@ use Rattle.giop_cdr.specs.declared.prim.Primitive.{Primitive}
 use Rattle.giop_decode.specs.Pieces.{Got, Grab, Waiting, block, content, ends, full_piece, full_pieces, last_piece, number, octets, over, tail, text, unless}
 use Rattle.giop_decode.specs.Reading.{headed, member, parts_from, read, refused, single, wrong}
 use Rattle.giop_decode.specs.Spine.{Content, Count, Done, Fault, Head, Index, Leaf, Line, Member, Name, Part, Piece, Place, Read, Seg, Short, Switch, followed, line, with_front, within}
-use Rattle.giop_decode.specs.Steps.{advance, after, block_step, head_width, number_step, part_at, seg_of, step}
+use Rattle.giop_decode.specs.Steps.{advance, after, block_step, head_width, inner_path, number_step, part_at, step}
 use Rattle.giop_decode.specs.declared.progress.Kind.{Kind}
 use Rattle.giop_sig.specs.Types.{Array, Enum, Octets, Plain, Scalar, Sequence, Single, Struct, Text, Ty, Union, part_of, width}
 use Rattle.giop_sig.specs.declared.types.Selected.{Selected}
@@ -53,10 +53,6 @@ with_front-within front place (Short lines at outer leaf) = refl
 with_front-within front place (Fault lines at kind S) = refl
 
 -- a part, and what follows it
-
--- the path inside a part
-abbrev pub inner_path : List Seg → Ty → ℕ → List Seg
-inner_path path T i = path ++ seg_of T i ∷ []
 
 pub part_goes : (order : Order) (path : List Seg) (T : Ty) (count i more : ℕ) → more ≡ count - suc i →
     Goes order path (parts_from (part_at order path T count) more (suc i)) → (r : Read) (b : ℕ) →

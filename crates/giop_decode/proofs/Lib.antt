@@ -1,21 +1,22 @@
-pub mod Law
-pub mod Now
-pub mod Around
-pub mod Sound
-pub mod Leaving
-pub mod Resuming
-pub mod Rows
-pub mod Shapes
-pub mod Padding
-pub mod Linking
-pub mod Beginning
-pub mod Going
-pub mod Turning
-pub mod PieceLaws
-pub mod Segments
-pub mod Settling
-pub mod Advancing
-pub mod Waiting
-pub mod Starting
-pub mod Hearing
-pub mod Taking
+mod Law
+mod Now
+mod Around
+mod Sound
+mod Leaving
+mod Resuming
+mod Rows
+mod Shapes
+mod Padding
+mod Linking
+mod Beginning
+mod Going
+mod Turning
+mod PieceLaws
+mod Segments
+mod Settling
+mod Advancing
+mod Waiting
+mod Starting
+mod Hearing
+mod Taking
+pub mod ReadingLaws

@@ -9,22 +9,17 @@ use Rattle.giop_cdr.specs.declared.order.Order.{Order}
 use Rattle.giop_decode.specs.Pieces.{Got, Grab, Waiting, block, content, ends, full_piece, full_pieces, last_piece, number, over, tail, unless}
 use Rattle.giop_decode.specs.Reading.{headed, member, parts_from, read, refused, single, wrong}
 use Rattle.giop_decode.specs.Spine.{Content, Count, Done, Fault, Head, Index, Leaf, Line, Member, Name, Part, Piece, Place, Read, Seg, Short, Switch, followed, line, with_front, within}
-use Rattle.giop_decode.specs.Steps.{OneAt, Now, after, around, block_step, head_width, leaf_step, number_step, part_at, path_in, seg_of, step}
+use Rattle.giop_decode.specs.Steps.{OneAt, Now, Quiet, inner_path, after, around, block_step, head_width, leaf_step, number_step, part_at, path_in, seg_of, step}
 use Rattle.giop_decode.specs.declared.progress.Kind.{Kind}
 use Rattle.giop_sig.specs.Types.{Array, Octets, Scalar, Sequence, Single, Struct, Text, Ty, Union, part_of, width}
 use Rattle.giop_sig.specs.declared.types.Selected.{Selected}
 use Rattle.giop_sig.specs.declared.types.Selected.TheVariants.{Case, Nothing, Refused}
 use Rattle.giop_decode.specs.Spine
-use Rattle.giop_decode.proofs.Law.{inner_path, block_waits, number_waits, number_blocks, width_pos}
+use Rattle.giop_decode.proofs.Law.{block_waits, number_waits, number_blocks, width_pos}
 
 pub each_append : {A : Type 0} (P : A → Type 0) (xs ys : List A) → Each P xs → Each P ys → Each P (xs ++ ys)
 each_append P [] ys h k = k
 each_append P (x ∷ xs) ys h k = (h.0, each_append P xs ys h.1 k)
-
-abbrev pub Quiet : ℕ → Read → Type 0
-Quiet n (Done lines at rest) = (lines ≡ []) × (at ≡ n) × (rest ≡ [])
-Quiet n (Short lines at outer leaf) = (lines ≡ []) × (at ≡ n)
-Quiet n (Fault lines at why S) = ⊥
 
 none_at : (n : ℕ) (lines : List Line) → lines ≡ [] → OneAt n lines
 none_at n lines e = rw e tt

@@ -9,13 +9,13 @@ use Rattle.giop_decode.specs.Pieces.{Got, Grab, Waiting, block, content, ends, f
 use Rattle.giop_decode.specs.Reading.{headed, member, parts_from, read, refused, single, wrong}
 use Rattle.giop_decode.specs.Spine
 use Rattle.giop_decode.specs.Spine.{Count, Done, Fault, Index, Line, Member, Name, Part, Piece, Read, Seg, Short, Switch, followed, line, with_front, within}
-use Rattle.giop_decode.specs.Steps.{after, head_width, part_at}
+use Rattle.giop_decode.specs.Steps.{inner_path, after, head_width, part_at}
 use Rattle.giop_decode.specs.declared.progress.Kind.{Kind}
 use Rattle.giop_sig.specs.Fits.{IsFit, SelectsBelow}
 use Rattle.giop_sig.specs.Types.{Array, Octets, Scalar, Sequence, Single, Struct, Text, Ty, Union, part_of}
 use Rattle.giop_sig.specs.declared.types.Selected.{Selected}
 use Rattle.giop_sig.specs.declared.types.Selected.TheVariants.{Case, Nothing, Refused}
-use Rattle.giop_decode.proofs.Law.{inner_path, block_waits, block_got, number_waits, number_blocks, width_pos}
+use Rattle.giop_decode.proofs.Law.{block_waits, block_got, number_waits, number_blocks, width_pos}
 
 abbrev pub Keeps : Ty → (ℕ → List ℕ → Read) → Type 0
 Keeps T reader = (at : ℕ) (s : List ℕ) → Sound T (at + length s) (reader at s)

@@ -16,11 +16,11 @@ use Rattle.giop_decode.specs.Spine
 use Rattle.giop_decode.specs.Spine.{Seg, Switch, line, Count, Piece, Part, Member, Content, Done, Short, with_front, within}
 use Rattle.giop_decode.specs.Pieces.{over, full_pieces, tail, content}
 use Rattle.giop_decode.specs.Reading.{wrong}
-use Rattle.giop_decode.specs.Steps.{after, head_width}
+use Rattle.giop_decode.specs.Steps.{inner_path, after, head_width}
 use Rattle.giop_decode.specs.Begins.{start_outer, start_leaf}
 use Rattle.giop_decode.specs.Fits.{HasCase}
 use Rattle.giop_decode.specs.Turns.{IsNumberOf, Turns, over_by}
-use Rattle.giop_decode.proofs.Law.{inner_path, block_got}
+use Rattle.giop_decode.proofs.Law.{block_got}
 use Rattle.giop_decode.proofs.Around.{block_none, first_part, read_none}
 use Rattle.giop_sig.specs.Types.{Scalar, Plain, Enum, Ty, Single, Text, Octets, Struct, Union, Sequence, Array, part_of, switch_of, shape_in, select_in, taken_in, IsUnion, HasMember}
 use Rattle.giop_sig.specs.declared.types.Selected.TheVariants.{Case, Nothing, Refused}

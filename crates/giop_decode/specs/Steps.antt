@@ -28,6 +28,10 @@ seg_of (Struct count names parts) i = Name (names i)
 seg_of (Union count scalar select names cases) i = Name (names i)
 seg_of T i = Index i
 
+-- the path inside a part
+abbrev pub inner_path : List Seg → Ty → ℕ → List Seg
+inner_path path T i = path ++ seg_of T i ∷ []
+
 abbrev pub part_at : Order → List Seg → Ty → ℕ → ℕ → ℕ → List ℕ → Read
 part_at order path T count i at s = within (Part T i count) (read order (path ++ seg_of T i ∷ []) (part_of T i) at s)
 
@@ -96,3 +100,9 @@ abbrev pub Now : ℕ → Read → Type 0
 Now n (Done lines at rest) = OneAt n lines × (at ≡ n) × (rest ≡ [])
 Now n (Short lines at outer leaf) = OneAt n lines × (at ≡ n)
 Now n (Fault lines at why S) = (lines ≡ []) × (at ≡ n)
+
+-- what no octets come to: no line, and no refusal
+abbrev pub Quiet : ℕ → Read → Type 0
+Quiet n (Done lines at rest) = (lines ≡ []) × (at ≡ n) × (rest ≡ [])
+Quiet n (Short lines at outer leaf) = (lines ≡ []) × (at ≡ n)
+Quiet n (Fault lines at why S) = ⊥

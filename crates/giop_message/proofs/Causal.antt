@@ -12,10 +12,9 @@ use Rattle.giop_sig.specs.Types.{Ty}
 use Rattle.giop_decode.specs.Spine.{Seg, Value as Valued, Line, Place, Leaf, Read, Done, Short, Fault}
 use Rattle.giop_decode.specs.Reading.{read}
 use Rattle.giop_decode.specs.Steps as decoder
-use Rattle.giop_decode.specs.Steps.{OneAt, Now}
+use Rattle.giop_decode.specs.Steps.{Quiet, OneAt, Now}
 use Rattle.giop_decode.specs.Heard.{Heard, nothing, hear, heard, ends_operation, is_header_root}
-use Rattle.giop_decode.proofs.Law.{length_one_more}
-use Rattle.giop_decode.proofs.Now.{each_append, Quiet, read_quiet, step_now}
+use Rattle.giop_decode.proofs.ReadingLaws.{length_one_more, each_append, read_quiet, step_now}
 use Rattle.giop_message.specs.Headers.{minor, kind, order}
 use Rattle.giop_message.specs.Reading.{Saying, Remark, InTurn, IsOrdered, IsCausal}
 use Rattle.giop_message.specs.Signatures.{Signatures}

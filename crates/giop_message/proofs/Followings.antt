@@ -11,7 +11,7 @@ use Rattle.giop_decode.specs.declared.decoder.Decoder.{Decoder}
 use Rattle.giop_decode.specs.declared.leaf.Leaf.{Leaf as Innermost}
 use Rattle.giop_decode.specs.Spine.{Seg, Value, Number, Count, Piece, Line, Place, Leaf, Read, Done, Short, Fault, lines_of}
 use Rattle.giop_decode.specs.Spine as spine
-use Rattle.giop_decode.proofs.Resuming.{lines_front, heard-append}
+use Rattle.giop_decode.proofs.ReadingLaws.{lines_front, heard-append, length_one_more}
 use Rattle.giop_decode.specs.Reading.{read}
 use Rattle.giop_decode.specs.Steps.{OneAt}
 use Rattle.giop_decode.specs.Heard.{Heard, nothing, hear, heard, heard_of, hushed, in_string, is_header_root}
@@ -24,7 +24,6 @@ use Rattle.giop_message.specs.Signatures.{Signatures, Kept, said_by}
 use Rattle.giop_message.specs.Messages.{Said, Told, tell, calls, tells, Stage, In_header, In_exception, In_body, Message, Comes, with_front, passes, rest, is_request, after_exception, after_header, of_header, message, told_of, stage_of}
 use Rattle.giop_message.specs.MessageReading.{id_in, first_id, id_said, is_over}
 use Rattle.giop_message.specs.Holding.{due, Stands, Follows, Took}
-use Rattle.giop_decode.proofs.Law.{length_one_more}
 use Rattle.std.proofs.lemmas.Bool.{false≢true}
 use Rattle.giop_message.proofs.Going.{front_none}
 use Rattle.giop_message.proofs.Causal.{MayCall, calls_is, Silent, rest_silent, after_exception_silent, after_header_silent, told_begins}

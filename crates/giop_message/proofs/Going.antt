@@ -13,7 +13,7 @@ use Rattle.giop_decode.specs.Spine.{Line, Place, Leaf, Read, Done, Short, Fault}
 use Rattle.giop_decode.specs.Reading.{read}
 use Rattle.giop_decode.specs.Steps as decoder
 use Rattle.giop_decode.specs.Heard.{Heard, nothing, hear, heard, is_header_root}
-use Rattle.giop_decode.proofs.Law.{read_goes, length_one_more}
+use Rattle.giop_decode.proofs.ReadingLaws.{read_goes, length_one_more}
 use Rattle.giop_message.specs.Headers.{minor, kind, order}
 use Rattle.giop_message.specs.Signatures.{Signatures}
 use Rattle.giop_message.specs.Messages.{Said, Left, Wrong, Told, tell, calls, tells, BodyType, Untyped, Typed, Raised, Stage, In_header, In_padding, In_exception, In_body, In_rest, Over, Message, Comes, with_front, passes, rest_in, rest, typed, option_typed, members_of, after_exception, body, is_request, body_of, has_body, padded, after_header, of_header, message}

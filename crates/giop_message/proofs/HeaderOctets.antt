@@ -21,8 +21,7 @@ use Rattle.giop_decode.specs.Steps.{Now, OneAt}
 use Rattle.giop_decode.specs.Heard.{Heard, nothing, hear, heard, heard_of, hushed, in_string, ends_text, is_member, ends_operation, names_operation}
 use Rattle.giop_decode.specs.Holding as decoders
 use Rattle.giop_decode.specs.Spelling.{lines_text}
-use Rattle.giop_decode.proofs.Resuming.{lines_front, heard-append}
-use Rattle.giop_decode.proofs.Sound.{read_keeps}
+use Rattle.giop_decode.proofs.ReadingLaws.{lines_front, heard-append, read_keeps}
 use Rattle.giop_message.specs.declared.message.Message.{Message as Struct_of}
 use Rattle.giop_message.specs.declared.message.Part.TheVariants as parts
 use Rattle.giop_message.specs.Headers.{minor, kind, order}

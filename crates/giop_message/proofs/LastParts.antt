@@ -19,9 +19,7 @@ use Rattle.giop_decode.specs.Reading.{parts_from}
 use Rattle.giop_decode.specs.Steps.{Now, part_at, path_in, seg_of, seg_in, step, resumed}
 use Rattle.giop_decode.specs.Fits.{FitsIn}
 use Rattle.giop_decode.specs.Heard.{is_member, ends_operation, ends_text}
-use Rattle.giop_decode.proofs.Now.{step_now}
-use Rattle.giop_decode.proofs.Around.{next_part}
-use Rattle.giop_decode.proofs.Hearing.{switch_member}
+use Rattle.giop_decode.proofs.ReadingLaws.{step_now, next_part, switch_member}
 use Rattle.giop_message.proofs.Saying.{IsOf, step_of, fits_say}
 
 -- a struct whose last part has another name

@@ -1,25 +1,26 @@
-pub mod Going
-pub mod Causal
-pub mod Named
-pub mod Faults
-pub mod AtOctet
-pub mod Spelling
-pub mod Saying
-pub mod Starting
-pub mod Octets
-pub mod Operations
-pub mod LastParts
-pub mod Calling
-pub mod Faulting
-pub mod Parts
-pub mod Followings
-pub mod Opened
-pub mod Bodies
-pub mod Rests
-pub mod HeaderOctets
-pub mod Results
-pub mod Dues
-pub mod Closing
-pub mod Remarks
-pub mod Closes
-pub mod Rows
+mod Going
+mod Causal
+mod Named
+mod Faults
+mod AtOctet
+mod Spelling
+mod Saying
+mod Starting
+mod Octets
+mod Operations
+mod LastParts
+mod Calling
+mod Faulting
+mod Parts
+mod Followings
+mod Opened
+mod Bodies
+mod Rests
+mod HeaderOctets
+mod Results
+mod Dues
+mod Closing
+mod Remarks
+mod Closes
+mod Rows
+pub mod MessageLaws

@@ -16,9 +16,9 @@ use Rattle.giop_decode.specs.Spine as spine
 use Rattle.giop_decode.specs.Spine.{Seg, Name, Line, Number, line, Place, Leaf, Part, Read, Done, Short, followed, within}
 use Rattle.giop_decode.specs.Pieces.{block, number}
 use Rattle.giop_decode.specs.Reading.{read, parts_from}
-use Rattle.giop_decode.specs.Steps.{part_at}
+use Rattle.giop_decode.specs.Steps.{Quiet, part_at}
 use Rattle.giop_decode.specs.Heard.{Heard, nothing, heard, is_member, ends_operation}
-use Rattle.giop_decode.proofs.Now.{Quiet, quiet_parts, part_quiet}
+use Rattle.giop_decode.proofs.ReadingLaws.{quiet_parts, part_quiet}
 use Rattle.giop_message.specs.Headers.{minor, kind, order, has_more, may_be_fragmented, is_opener, is_fragment, is_cancel, has_name}
 use Rattle.giop_message.specs.Reading.{Value, is_last, IsEnding, IsNamed}
 use Rattle.giop_message.specs.Signatures.{Signatures, Kept, said_by}

@@ -12,7 +12,7 @@ use Rattle.giop_decode.specs.Steps as decoder
 use Rattle.giop_decode.specs.Steps.{Now, OneAt}
 use Rattle.giop_decode.specs.Heard.{Heard, nothing, hear, heard, is_header_root}
 use Rattle.giop_decode.specs.Spelling.{line_text, lines_text}
-use Rattle.giop_decode.proofs.Law.{read_goes}
+use Rattle.giop_decode.proofs.ReadingLaws.{read_goes}
 use Rattle.giop_message.specs.Headers.{order}
 use Rattle.giop_message.specs.Signatures.{Signatures}
 use Rattle.giop_message.specs.Messages.{Said, Wrong, Told, tell, calls, tells, Stage, Message, Comes, with_front, passes, message, told_of, stage_of}

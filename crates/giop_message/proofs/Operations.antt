@@ -13,11 +13,9 @@ use Rattle.giop_decode.specs.Spine
 use Rattle.giop_decode.specs.Spine.{Seg, Name, Index, Switch, Line, Count, Piece, line, Place, Part, Member, Leaf, Head, Content, Read, Done, Short, Fault, lines_of, with_front, followed, within}
 use Rattle.giop_decode.specs.Pieces.{Grab, Waiting, Got, unless, over, block, content, full_piece, full_pieces, last_piece, tail, ends}
 use Rattle.giop_decode.specs.Reading.{read, headed, wrong, refused, member, parts_from}
-use Rattle.giop_decode.specs.Steps.{Now, after, block_step, head_width, leaf_step, number_step, part_at, seg_of, step}
+use Rattle.giop_decode.specs.Steps.{inner_path, Quiet, Now, after, block_step, head_width, leaf_step, number_step, part_at, seg_of, step}
 use Rattle.giop_decode.specs.Heard.{in_string, ends_text}
-use Rattle.giop_decode.proofs.Law.{inner_path, block_waits, width_pos}
-use Rattle.giop_decode.proofs.Now.{each_append, number_none, Quiet, quiet_within, part_quiet, read_quiet, parts_quiet, step_now}
-use Rattle.giop_decode.proofs.Resuming.{lines_front}
+use Rattle.giop_decode.proofs.ReadingLaws.{block_waits, width_pos, each_append, number_none, quiet_within, part_quiet, read_quiet, parts_quiet, step_now, lines_front}
 use Rattle.giop_message.proofs.Saying.{IsAll, number_all, block_all, now_within}
 
 -- ---- no octets begin no string

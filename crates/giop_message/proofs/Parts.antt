@@ -20,9 +20,7 @@ use Rattle.giop_decode.specs.Turns.{places, leaf_of}
 use Rattle.giop_decode.specs.Heard.{Heard, nothing, heard, heard_of, is_header_root}
 use Rattle.giop_decode.specs.Holding as decoders
 use Rattle.giop_decode.specs.Spelling.{lines_text}
-use Rattle.giop_decode.proofs.Law.{read_goes, length_one_more}
-use Rattle.giop_decode.proofs.Now.{step_now}
-use Rattle.giop_decode.proofs.Resuming.{lines_front}
+use Rattle.giop_decode.proofs.ReadingLaws.{read_goes, length_one_more, step_now, lines_front}
 use Rattle.giop_message.specs.Headers.{order}
 use Rattle.giop_message.specs.Signatures.{Signatures}
 use Rattle.giop_message.specs.Messages.{Told, tells, Stage, Message, with_front, passes, message, stage_of}

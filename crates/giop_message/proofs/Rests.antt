@@ -4,7 +4,7 @@ use Rattle.std.proofs.lemmas.Bool.{lt-ltb, le-ltb}
 use Rattle.giop_cdr.specs.Alignment.{padding}
 use Rattle.giop_print.specs.Lines.{rest_line}
 use Rattle.giop_sig.specs.Table.{Table}
-use Rattle.giop_decode.proofs.Law.{length_one_more}
+use Rattle.giop_decode.proofs.ReadingLaws.{length_one_more}
 use Rattle.giop_message.specs.declared.message.Message.{Message as Struct_of}
 use Rattle.giop_message.specs.declared.message.Part.TheVariants as parts
 use Rattle.giop_message.specs.declared.wanted.Wanted.{Wanted}

@@ -13,11 +13,9 @@ use Rattle.giop_decode.specs.Spine.{Seg, Switch, Line, Count, Piece, line, Place
 use Rattle.giop_cdr.specs.Alignment.{padding}
 use Rattle.giop_decode.specs.Pieces.{Grab, Waiting, Got, block, unless, over, content, full_piece, full_pieces, last_piece, tail, ends, text}
 use Rattle.giop_decode.specs.Reading.{read, headed, single, wrong, refused, member, parts_from}
-use Rattle.giop_decode.specs.Steps.{Now, after, block_step, head_width, leaf_step, number_step, part_at, path_in, seg_of, step}
+use Rattle.giop_decode.specs.Steps.{inner_path, Quiet, Now, after, block_step, head_width, leaf_step, number_step, part_at, path_in, seg_of, step}
 use Rattle.giop_decode.specs.Fits.{HasContent, FitsIn}
-use Rattle.giop_decode.proofs.Law.{inner_path}
-use Rattle.giop_decode.proofs.Now.{each_append, Quiet, quiet_within, read_quiet, parts_quiet, step_now}
-use Rattle.giop_decode.proofs.Resuming.{lines_front}
+use Rattle.giop_decode.proofs.ReadingLaws.{each_append, quiet_within, read_quiet, parts_quiet, step_now, lines_front}
 use Rattle.giop_message.proofs.Spelling.{Sayable, right_sayable}
 
 -- a line of the part with this path

@@ -117,3 +117,8 @@ writes_err (Err e) a b x y h p = front-append a b x y p
 pub writes_nothing : {A E : Type 0} (r : Result A E) (a : OutLog) → IsOk r → Writes r a a []
 writes_nothing (Ok v) a e = wrote-nil a
 writes_nothing (Err v) a e = absurd (false≢true e)
+
+-- a front, where the answer is an error
+pub writes_failed : {A E : Type 0} (r : Result A E) (a b : OutLog) (x : List ℕ) → IsErr r → WroteFront a b x → Writes r a b x
+writes_failed (Ok v) a b x e p = absurd (false≢true e)
+writes_failed (Err v) a b x e p = p

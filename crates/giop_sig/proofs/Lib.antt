@@ -1,45 +1,45 @@
-pub mod TreeLaws
-pub mod Nodes
-pub mod Depths
-pub mod Formed
-pub mod Kept
-pub mod Finds
-pub mod Solid
-pub mod Tables
+mod TreeLaws
+mod Nodes
+mod Depths
+mod Formed
+mod Kept
+mod Finds
+mod Solid
+mod Tables
 pub mod Builtins
 pub mod HeaderLaws
-pub mod Added
-pub mod ListNumbers
-pub mod ListLines
-pub mod ListEntries
-pub mod OneToOne
-pub mod ListKept
-pub mod OneList
-pub mod ScopeLaws
-pub mod ReadingLaws
-pub mod PlaceLaws
-pub mod TypeTaken
-pub mod TypeLaws
-pub mod TypeSteps
-pub mod MemberLoop
-pub mod ItemTaken
-pub mod ItemLaws
-pub mod ParamLoop
-pub mod CallTaken
-pub mod DeclaredLaws
-pub mod CallLaws
-pub mod RepeatLaws
-pub mod EnumLaws
-pub mod LabelLaws
-pub mod TokensFew
-pub mod SpellLaws
-pub mod FreeLaws
-pub mod FileLoop
-pub mod FileLaws
-pub mod UnionWhole
-pub mod Negatives
-pub mod LabelReads
-pub mod UnionLaws
-pub mod UnionReads
-pub mod UnionTaken
-pub mod UnionDeclared
+mod Added
+mod ListNumbers
+mod ListLines
+mod ListEntries
+mod OneToOne
+mod ListKept
+mod OneList
+mod ScopeLaws
+mod ReadingLaws
+mod PlaceLaws
+mod TypeTaken
+mod TypeLaws
+mod TypeSteps
+mod MemberLoop
+mod ItemTaken
+mod ItemLaws
+mod ParamLoop
+mod CallTaken
+mod DeclaredLaws
+mod CallLaws
+mod RepeatLaws
+mod EnumLaws
+mod LabelLaws
+mod TokensFew
+mod SpellLaws
+mod FreeLaws
+mod FileLoop
+mod FileLaws
+mod UnionWhole
+mod Negatives
+mod LabelReads
+mod UnionLaws
+mod UnionReads
+mod UnionTaken
+mod UnionDeclared

@@ -11,8 +11,7 @@ use Rattle.giop_message.specs.Signatures.{Kept as Listed, said_by}
 use Rattle.giop_message.specs.declared.message.Message.{Message as Kept_message}
 use Rattle.giop_message.specs.MessageReading.{message_reading}
 use Rattle.giop_message.specs.Headers.{size, is_fragment}
-use Rattle.giop_message.proofs.Causal.{is_causal}
-use Rattle.giop_message.proofs.Named.{is_ending}
+use Rattle.giop_message.proofs.MessageLaws.{is_causal, is_ending}
 use Rattle.giop_stream.specs.declared.fault.StreamFault.{StreamFault}
 use Rattle.giop_stream.specs.declared.status.Totals.{Totals}
 use Rattle.giop_stream.specs.declared.slots.Slot.{Slot as Kept_slot}

@@ -1,48 +1,49 @@
-pub mod Lists
-pub mod Cutting
-pub mod Happenings
-pub mod HappeningsKeep
-pub mod Telling
-pub mod Starting
-pub mod KeptDeals
-pub mod Grown
-pub mod Dealt
-pub mod Soundness
-pub mod StepCases
-pub mod Bridge
-pub mod LastLines
-pub mod Heads
-pub mod Staying
-pub mod Completing
-pub mod Finishing
-pub mod Sharing
-pub mod Rows
-pub mod Ordering
-pub mod Spans
-pub mod Turns
-pub mod Dealing
-pub mod InPlace
-pub mod Growing
-pub mod Places
-pub mod Cases
-pub mod Beginning
-pub mod ReadingPlays
-pub mod Exits
-pub mod Keepers
-pub mod Naming
-pub mod Named
-pub mod Ending
-pub mod Taken
-pub mod Parts
-pub mod Headed
-pub mod Staged
-pub mod Adding
-pub mod Sizes
-pub mod Idle
-pub mod Begun
-pub mod Further
-pub mod OfOctets
-pub mod Paying
-pub mod Running
-pub mod Closing
-pub mod Runs
+mod Lists
+mod Cutting
+mod Happenings
+mod HappeningsKeep
+mod Telling
+mod Starting
+mod KeptDeals
+mod Grown
+mod Dealt
+mod Soundness
+mod StepCases
+mod Bridge
+mod LastLines
+mod Heads
+mod Staying
+mod Completing
+mod Finishing
+mod Sharing
+mod Rows
+mod Ordering
+mod Spans
+mod Turns
+mod Dealing
+mod InPlace
+mod Growing
+mod Places
+mod Cases
+mod Beginning
+mod ReadingPlays
+mod Exits
+mod Keepers
+mod Naming
+mod Named
+mod Ending
+mod Taken
+mod Parts
+mod Headed
+mod Staged
+mod Adding
+mod Sizes
+mod Idle
+mod Begun
+mod Further
+mod OfOctets
+mod Paying
+mod Running
+mod Closing
+mod Runs
+pub mod StreamLaws

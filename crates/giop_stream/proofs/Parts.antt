@@ -9,9 +9,7 @@ use Rattle.giop_message.specs.Signatures.{Kept as Listed, said_by}
 use Rattle.giop_message.specs.MessageReading.{message_reading}
 use Rattle.giop_message.specs.Reading.{Reading, IsInTurn}
 use Rattle.giop_message.specs.Headers.{size, is_fragment, has_name}
-use Rattle.giop_message.proofs.Causal.{is_ordered}
-use Rattle.giop_message.proofs.Closes.{is_closing}
-use Rattle.giop_message.proofs.Named.{is_named, has_ids}
+use Rattle.giop_message.proofs.MessageLaws.{is_ordered, is_closing, is_named}
 use Rattle.giop_stream.specs.declared.slots.Slots.{Slots}
 use Rattle.giop_stream.specs.declared.dispatch.Current.{Current}
 use Rattle.giop_stream.specs.Framing.{Message}
@@ -147,7 +145,7 @@ whose_next live m x = elim (cases_lt (length m.payload) 4) [
 
 module _ (C : Table) (l : Listed) where
   pub in_turn : IsInTurn (message_reading C l)
-  in_turn = record { named = is_named (said_by C l) (has_ids C l); ordered = is_ordered (said_by C l); closing = is_closing (said_by C l) }
+  in_turn = record { named = is_named C l; ordered = is_ordered (said_by C l); closing = is_closing (said_by C l) }
 
   about_takes : (c : Scene) (m : Message) (x at : ℕ) (r : Option Open) → goes_past m ≡ true → opener_of c.live m ≡ r → get_or m.payload (length m.payload - 1) 0 ≡ x → place m ≡ at
       → DoesTo C l at c (opener_title r) (Takes x) (plays (message_reading C l) c (at_octet c.live m))

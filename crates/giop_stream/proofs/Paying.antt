@@ -9,7 +9,7 @@ use Rattle.giop_sig.specs.Table.{Table}
 use Rattle.giop_message.specs.Headers.{order, size}
 use Rattle.giop_message.specs.Signatures.{Kept as Listed, said_by}
 use Rattle.giop_message.specs.MessageReading.{message_reading}
-use Rattle.giop_message.proofs.Causal.{is_causal}
+use Rattle.giop_message.proofs.MessageLaws.{is_causal}
 use Rattle.giop_stream.specs.declared.fault.StreamFault.{StreamFault}
 use Rattle.giop_stream.specs.declared.status.Totals.{Totals}
 use Rattle.giop_stream.specs.declared.slots.Slots.{Slots}

@@ -12,11 +12,7 @@ use Rattle.giop_message.specs.Signatures.{Kept as Listed, said_by}
 use Rattle.giop_message.specs.Messages.{message, stage_of, close}
 use Rattle.giop_message.specs.MessageReading.{message_reading, is_over}
 use Rattle.giop_message.specs.Holding.{due_text, closing_text, closes_text, is_short, Follows, TookAll, FaultedAt}
-use Rattle.giop_message.proofs.Causal.{is_ordered}
-use Rattle.giop_message.proofs.Followings.{follows_goes}
-use Rattle.giop_message.proofs.AtOctet.{octet_text, octet_over, close_short}
-use Rattle.giop_message.proofs.Closes.{is_closing}
-use Rattle.giop_message.proofs.Remarks.{close_is}
+use Rattle.giop_message.proofs.MessageLaws.{is_ordered, follows_goes, octet_text, octet_over, close_short, is_closing, close_is}
 use Rattle.giop_stream.specs.declared.fault.ImposedFault.{ImposedFault}
 use Rattle.giop_stream.specs.Events.{Title, Event, Takes, Imposed, Cancelled, Closes, octet, joined}
 use Rattle.giop_stream.specs.Lines.{Line, Said, Ended_by, Faulted, line, tells, is_last_of, standing}

@@ -11,7 +11,7 @@ use Rattle.giop_message.specs.Headers.{size}
 use Rattle.giop_message.specs.Signatures.{Kept as Listed, said_by}
 use Rattle.giop_message.specs.MessageReading.{message_reading}
 use Rattle.giop_message.specs.Reading.{Reading, IsCausal}
-use Rattle.giop_message.proofs.Causal.{is_causal}
+use Rattle.giop_message.proofs.MessageLaws.{is_causal}
 use Rattle.giop_stream.specs.declared.status.Totals.{Totals}
 use Rattle.giop_stream.specs.declared.slots.Slots.{Slots}
 use Rattle.giop_stream.specs.Framing.{Message, Cut, with_payload, limit, cut, messages, read_of, fault_of}

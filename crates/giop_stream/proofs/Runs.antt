@@ -9,10 +9,7 @@ use Rattle.giop_message.specs.Signatures.{Signatures, Kept as Listed, said_by}
 use Rattle.giop_message.specs.Messages.{message, told_of, stage_of}
 use Rattle.giop_message.specs.MessageReading.{message_reading, is_over, is_wrong}
 use Rattle.giop_message.specs.Holding.{due, due_text, Follows, TookAll, FaultedAt}
-use Rattle.giop_message.proofs.AtOctet.{octet_over}
-use Rattle.giop_message.proofs.Dues.{text_both, text_none, text_over}
-use Rattle.giop_message.proofs.Faults.{over_where_faulted}
-use Rattle.giop_message.proofs.Followings.{told_more, follows_goes}
+use Rattle.giop_message.proofs.MessageLaws.{octet_over, text_both, text_none, text_over, over_where_faulted, told_more, follows_goes}
 use Rattle.giop_stream.specs.declared.slots.Slot.{Slot as Kept_slot}
 use Rattle.giop_stream.specs.declared.slots.Slots.{Slots}
 use Rattle.giop_stream.specs.declared.slots.Payload.TheVariants as payload

@@ -1,5 +1,5 @@
 pub mod ReaderLaws
-pub mod RefusalLaws
+mod RefusalLaws
 mod Gaps
 mod Digits
 mod LayoutLaws

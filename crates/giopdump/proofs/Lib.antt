@@ -1,3 +1,3 @@
-pub mod TextLemmas
-pub mod ReadLemmas
-pub mod TurnLemmas
+mod TextLemmas
+mod ReadLemmas
+mod TurnLemmas

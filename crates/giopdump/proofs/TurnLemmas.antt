@@ -15,7 +15,7 @@ use Rattle.giopdump.specs.Turns.{Took, Fed, OneRead, Turned, Closed, Going}
 use Rattle.giopdump.specs.declared.running.Report.{Report}
 use Rattle.giopdump.specs.declared.fault.RunFault.{RunFault}
 use Rattle.giopdump.specs.declared.fault.RunFault.TheVariants as fault
-use Rattle.giopdump.proofs.TextLemmas.{Begins, added-append, wrote-none, runs_or_stops}
+use Rattle.giopdump.proofs.TextLemmas.{AddsUp, wrote-none, runs_or_stops}
 use Rattle.giopdump.proofs.ReadLemmas.{consumes-same, consumes-append}
 
 -- one turn
@@ -89,16 +89,16 @@ going_start R p e a x y f =
       ends = refl;
     }
 
-going_on : (R : Reading) → Begins R → (p s t : List ℕ) (e d : EngineMemory) (k : ℕ) (a b c : SourceLog) (x y z : OutLog) → Going R p s e k a b x y → Turned R (Ok true) (p ++ s) t d b c y z → Going R p (s ++ t) d (k + 1) a c x z
+going_on : (R : Reading) → AddsUp R → (p s t : List ℕ) (e d : EngineMemory) (k : ℕ) (a b c : SourceLog) (x y z : OutLog) → Going R p s e k a b x y → Turned R (Ok true) (p ++ s) t d b c y z → Going R p (s ++ t) d (k + 1) a c x z
 unfolding counted
-going_on R begins p s t e d k a b c x y z g (u, failures, ends, took, running) =
+going_on R adds p s t e d k a b c x y z g (u, failures, ends, took, running) =
     record {
       began = g.began;
       running = rw append_assoc at running;
       took = record {
         reads = took.reads;
         holds = rw append_assoc at took.holds;
-        written = rw (added-append R begins p s t) (wrote-append x y z (added R p s) (added R (p ++ s) t) g.took.written took.written);
+        written = rw (adds p s t) (wrote-append x y z (added R p s) (added R (p ++ s) t) g.took.written took.written);
       };
       left = consumes-append a.left b.left c.left s t g.left u.left;
       octets = All-append (λ v. v < 256) s t g.octets u.octets;
@@ -108,32 +108,32 @@ going_on R begins p s t e d k a b c x y z g (u, failures, ends, took, running) =
       ends = ends ∙ g.ends;
     }
 
-pub going_more : (R : Reading) → Begins R → (p s t : List ℕ) (e d : EngineMemory) (k : ℕ) (a b c : SourceLog) (x y z : OutLog) → Going R p s e k a b x y → Turned (reading_of e) (Ok true) (p ++ s) t d b c y z → Going R p (s ++ t) d (k + 1) a c x z
-going_more R begins p s t e d k a b c x y z g u =
-    going_on R begins p s t e d k a b c x y z g (turned_by (reading_of e) R (Ok true) (p ++ s) t d b c y z g.took.reads u)
+pub going_more : (R : Reading) → AddsUp R → (p s t : List ℕ) (e d : EngineMemory) (k : ℕ) (a b c : SourceLog) (x y z : OutLog) → Going R p s e k a b x y → Turned (reading_of e) (Ok true) (p ++ s) t d b c y z → Going R p (s ++ t) d (k + 1) a c x z
+going_more R adds p s t e d k a b c x y z g u =
+    going_on R adds p s t e d k a b c x y z g (turned_by (reading_of e) R (Ok true) (p ++ s) t d b c y z g.took.reads u)
 
 -- the last turn
 
 -- a turn failed
-failed_on : (R : Reading) → Begins R → (r : RunFault) (p s t : List ℕ) (e d : EngineMemory) (k : ℕ) (a b c : SourceLog) (x y z : OutLog) → Going R p s e k a b x y → Turned R (Err r) (p ++ s) t d b c y z → k < 2 ^ 40 → Ran R (Err r) p (s ++ t) a c x z
-failed_on R begins fault.Read p s t e d k a b c x y z g (u, failures, written) h =
+failed_on : (R : Reading) → AddsUp R → (r : RunFault) (p s t : List ℕ) (e d : EngineMemory) (k : ℕ) (a b c : SourceLog) (x y z : OutLog) → Going R p s e k a b x y → Turned R (Err r) (p ++ s) t d b c y z → k < 2 ^ 40 → Ran R (Err r) p (s ++ t) a c x z
+failed_on R adds fault.Read p s t e d k a b c x y z g (u, failures, written) h =
     record {
       given = given_more R p s t e k a b c x y g u h;
       failures = failures ∙ ap counted g.failures;
-      written = rw (added-append R begins p s t) (wrote-append x y z (added R p s) (added R (p ++ s) t) g.took.written written);
+      written = rw (adds p s t) (wrote-append x y z (added R p s) (added R (p ++ s) t) g.took.written written);
     }
-failed_on R begins fault.Out p s t e d k a b c x y z g (u, failures, front) h =
+failed_on R adds fault.Out p s t e d k a b c x y z g (u, failures, front) h =
     record {
       given = given_more R p s t e k a b c x y g u h;
       failures = failures ∙ g.failures;
-      written = rw (added-append R begins p s t) (front-append x z (added R p s ++ added R (p ++ s) t) (closing R (p ++ (s ++ t))) (wrote-front x y z (added R p s) (added R (p ++ s) t) g.took.written front));
+      written = rw (adds p s t) (front-append x z (added R p s ++ added R (p ++ s) t) (closing R (p ++ (s ++ t))) (wrote-front x y z (added R p s) (added R (p ++ s) t) g.took.written front));
     }
-failed_on R begins fault.Turns p s t e d k a b c x y z g u h = absurd u
-failed_on R begins fault.Failed p s t e d k a b c x y z g u h = absurd u
+failed_on R adds fault.Turns p s t e d k a b c x y z g u h = absurd u
+failed_on R adds fault.Failed p s t e d k a b c x y z g u h = absurd u
 
-pub ran_err : (R : Reading) → Begins R → (r : RunFault) (p s t : List ℕ) (e d : EngineMemory) (k : ℕ) (a b c : SourceLog) (x y z : OutLog) → Going R p s e k a b x y → Turned (reading_of e) (Err r) (p ++ s) t d b c y z → k < 2 ^ 40 → Ran R (Err r) p (s ++ t) a c x z
-ran_err R begins r p s t e d k a b c x y z g u h =
-    failed_on R begins r p s t e d k a b c x y z g (turned_by (reading_of e) R (Err r) (p ++ s) t d b c y z g.took.reads u) h
+pub ran_err : (R : Reading) → AddsUp R → (r : RunFault) (p s t : List ℕ) (e d : EngineMemory) (k : ℕ) (a b c : SourceLog) (x y z : OutLog) → Going R p s e k a b x y → Turned (reading_of e) (Err r) (p ++ s) t d b c y z → k < 2 ^ 40 → Ran R (Err r) p (s ++ t) a c x z
+ran_err R adds r p s t e d k a b c x y z g u h =
+    failed_on R adds r p s t e d k a b c x y z g (turned_by (reading_of e) R (Err r) (p ++ s) t d b c y z g.took.reads u) h
 
 -- no turn is left
 pub ran_turns : (R : Reading) (p s : List ℕ) (e : EngineMemory) (k : ℕ) (a b : SourceLog) (x y : OutLog) → Going R p s e k a b x y → k ≡ 2 ^ 40 → Ran R (Err fault.Turns) p s a b x y
@@ -164,36 +164,36 @@ over_more p s t a b c e (inl q) = inl (q ∙ ap counted e)
 over_more p s t a b c e (inr q) = inr (rw append_assoc at q)
 
 -- the stream is over after a turn
-over_on : (R : Reading) → Begins R → (r : Result Report RunFault) (p s t : List ℕ) (e d : EngineMemory) (k : ℕ) (a b c : SourceLog) (x y z w : OutLog) → Going R p s e k a b x y → Turned R (Ok false) (p ++ s) t d b c y z → k < 2 ^ 40
+over_on : (R : Reading) → AddsUp R → (r : Result Report RunFault) (p s t : List ℕ) (e d : EngineMemory) (k : ℕ) (a b c : SourceLog) (x y z w : OutLog) → Going R p s e k a b x y → Turned R (Ok false) (p ++ s) t d b c y z → k < 2 ^ 40
     → Closed R r ((p ++ s) ++ t) z w → Ran R r p (s ++ t) a c x w
-over_on R begins (Ok v) p s t e d k a b c x y z w g (u, failures, over, took) h q =
+over_on R adds (Ok v) p s t e d k a b c x y z w g (u, failures, over, took) h q =
     let all = wrote-append x y z (added R p s) (added R (p ++ s) t) g.took.written took.written in
     let assoc = append_assoc p s t in
     record {
       given = given_more R p s t e k a b c x y g u h;
       over = over_more p s t a b c g.ends over;
       failures = failures ∙ g.failures;
-      written = rw (added-append R begins p s t, ← assoc) (wrote-append x z w (added R p s ++ added R (p ++ s) t) (closing R ((p ++ s) ++ t)) all q.written);
+      written = rw (adds p s t, ← assoc) (wrote-append x z w (added R p s ++ added R (p ++ s) t) (closing R ((p ++ s) ++ t)) all q.written);
       totals = rw (← assoc) q.totals;
       saved = q.saved;
     }
-over_on R begins (Err fault.Out) p s t e d k a b c x y z w g (u, failures, over, took) h q =
+over_on R adds (Err fault.Out) p s t e d k a b c x y z w g (u, failures, over, took) h q =
     let all = wrote-append x y z (added R p s) (added R (p ++ s) t) g.took.written took.written in
     let assoc = append_assoc p s t in
     record {
       given = given_more R p s t e k a b c x y g u h;
       failures = failures ∙ g.failures;
-      written = rw (added-append R begins p s t, ← assoc) (wrote-front x z w (added R p s ++ added R (p ++ s) t) (closing R ((p ++ s) ++ t)) all q);
+      written = rw (adds p s t, ← assoc) (wrote-front x z w (added R p s ++ added R (p ++ s) t) (closing R ((p ++ s) ++ t)) all q);
     }
-over_on R begins (Err fault.Read) p s t e d k a b c x y z w g u h q = absurd q
-over_on R begins (Err fault.Turns) p s t e d k a b c x y z w g u h q = absurd q
-over_on R begins (Err fault.Failed) p s t e d k a b c x y z w g u h q = absurd q
+over_on R adds (Err fault.Read) p s t e d k a b c x y z w g u h q = absurd q
+over_on R adds (Err fault.Turns) p s t e d k a b c x y z w g u h q = absurd q
+over_on R adds (Err fault.Failed) p s t e d k a b c x y z w g u h q = absurd q
 
-pub ran_over : (R : Reading) → Begins R → (r : Result Report RunFault) (p s t : List ℕ) (e d : EngineMemory) (k : ℕ) (a b c : SourceLog) (x y z w : OutLog) → Going R p s e k a b x y → Turned (reading_of e) (Ok false) (p ++ s) t d b c y z → k < 2 ^ 40
+pub ran_over : (R : Reading) → AddsUp R → (r : Result Report RunFault) (p s t : List ℕ) (e d : EngineMemory) (k : ℕ) (a b c : SourceLog) (x y z w : OutLog) → Going R p s e k a b x y → Turned (reading_of e) (Ok false) (p ++ s) t d b c y z → k < 2 ^ 40
     → Closed (reading_of d) r ((p ++ s) ++ t) z w → Ran R r p (s ++ t) a c x w
-ran_over R begins r p s t e d k a b c x y z w g u h q =
+ran_over R adds r p s t e d k a b c x y z w g u h q =
     let v = turned_by (reading_of e) R (Ok false) (p ++ s) t d b c y z g.took.reads u in
-    over_on R begins r p s t e d k a b c x y z w g v h (closed_by (reading_of d) R r ((p ++ s) ++ t) z w v.3.reads q)
+    over_on R adds r p s t e d k a b c x y z w g v h (closed_by (reading_of d) R r ((p ++ s) ++ t) z w v.3.reads q)
 
 -- the stream was over before the first read
 stopped_on : (R : Reading) (r : Result Report RunFault) (p : List ℕ) (e : EngineMemory) (a : SourceLog) (x y z : OutLog) → Fed R (Ok false) p [] e x y → Closed R r (p ++ []) y z → Ran R r p [] a a x z

@@ -1,6 +1,6 @@
 use Rattle.giop_message.specs.Signatures.{said_by}
 use Rattle.giop_message.specs.MessageReading.{message_reading}
-use Rattle.giop_message.proofs.Causal.{is_causal}
+use Rattle.giop_message.proofs.MessageLaws.{is_causal}
 use Rattle.giop_stream.specs.Holding.{added}
 use Rattle.giop_stream.proofs.Further.{text_adds}
 use Rattle.giop_stream.proofs.engine.text_begins.Goals as goal

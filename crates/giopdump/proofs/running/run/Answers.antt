@@ -1,7 +1,7 @@
 -- Each way out of a run, by the turns before it.
 use Rattle.std.proofs.Common.{◌+◌, [], ◌++◌, arith}
 use Rattle.std.proofs.lemmas.Result.{err_from_is_err_and}
-use Rattle.giopdump.proofs.TextLemmas.{begins}
+use Rattle.giopdump.proofs.TextLemmas.{adds_up}
 use Rattle.giopdump.proofs.ReadLemmas.{one_more_read}
 use Rattle.giopdump.proofs.TurnLemmas.{going_start, going_more, ran_err, ran_turns, ran_over, ran_stopped, ran_first}
 use Rattle.giopdump.proofs.running.run.Goals as goal
@@ -32,7 +32,7 @@ returns-in_err-turn-clause-ran g c =
     let s = c.loop-turn.invariant.going p h in
     let t = c.in_err-turn.ensures.turned (p ++ s.0) s.1.took.holds in
     let r = err_from_is_err_and c.from_residual-in_err-turn.result c.from_residual-in_err-turn.ensures.1 in
-    (s.0 ++ t.0, rw (r.1, r.2) (ran_err _ (begins c.args.engine) c.in_err-turn.field-0.0 p s.0 t.0 _ _ c.loop-turn._turn _ _ _ _ _ _ s.1 t.1 (omega (arith, c.loop-turn-test.true))))
+    (s.0 ++ t.0, rw (r.1, r.2) (ran_err _ (adds_up c.args.engine) c.in_err-turn.field-0.0 p s.0 t.0 _ _ c.loop-turn._turn _ _ _ _ _ _ s.1 t.1 (omega (arith, c.loop-turn-test.true))))
 
 pub returns-then-not-branch-2-clause-ran : goal.returns-then-not-branch-2-clause-ran
 returns-then-not-branch-2-clause-ran g c =
@@ -40,7 +40,7 @@ returns-then-not-branch-2-clause-ran g c =
     let s = c.loop-turn.invariant.going p h in
     let t = c.in_ok-turn.ensures.turned (p ++ s.0) s.1.took.holds in
     let u = rw c.if-not-branch-2.true at t.1 in
-    (s.0 ++ t.0, ran_over _ (begins c.args.engine) c.close-then-not-branch-2.result p s.0 t.0 _ _ c.loop-turn._turn _ _ _ _ _ _ _ s.1 u (omega (arith, c.loop-turn-test.true)) (c.close-then-not-branch-2.ensures.closed ((p ++ s.0) ++ t.0) u.3.holds))
+    (s.0 ++ t.0, ran_over _ (adds_up c.args.engine) c.close-then-not-branch-2.result p s.0 t.0 _ _ c.loop-turn._turn _ _ _ _ _ _ _ s.1 u (omega (arith, c.loop-turn-test.true)) (c.close-then-not-branch-2.ensures.closed ((p ++ s.0) ++ t.0) u.3.holds))
 
 pub returns-in_err-turn-clause-reads : goal.returns-in_err-turn-clause-reads
 returns-in_err-turn-clause-reads g c =
@@ -56,7 +56,7 @@ loop-turn-preserved g c =
       going = λ p h.
           let s = c.loop-turn.invariant.going p h in
           let t = c.in_ok-turn.ensures.turned (p ++ s.0) s.1.took.holds in
-          (s.0 ++ t.0, going_more _ (begins c.args.engine) p s.0 t.0 _ _ c.loop-turn._turn _ _ _ _ _ _ s.1 (rw c.if-not-branch-2.false at t.1));
+          (s.0 ++ t.0, going_more _ (adds_up c.args.engine) p s.0 t.0 _ _ c.loop-turn._turn _ _ _ _ _ _ s.1 (rw c.if-not-branch-2.false at t.1));
       sound = c.in_ok-turn.ensures.leaves c.loop-turn.invariant.sound;
       reads = one_more_read _ _ _ _ (c.loop-turn._turn + 1) c.loop-turn.invariant.reads c.in_ok-turn.ensures.reads (omega arith);
     }

@@ -1,5 +1,6 @@
 use Rattle.std.proofs.Common.{◌+◌, [], ap, subst, sym, ◌∙◌, arith}
-use Rattle.giop_decode.proofs.Advancing.{stands_at, same_some, comes_by, goes, moved, step_fits, lines_turned, err_writes}
+use Rattle.giop_decode.proofs.Advancing.{stands_at, same_some, comes_by, goes, moved, step_fits, lines_turned}
+use Rattle.giop_print.proofs.Writing.{writes_failed}
 use Rattle.giop_decode.proofs.Hearing.{heard_on, leaf_inside}
 use Rattle.giop_decode.specs.Heard.{heard, hushed, in_string, is_header_root, nothing}
 use Rattle.giop_decode.specs.Holding.{Recalls}
@@ -52,7 +53,7 @@ returns-in_err-say-clause-writes g c here h =
     let e = ap (λ l. step d.order [] ps (leaf_in C d l) here c.args.octet) c.in-Some.is ∙ ap (around d.order [] ps) t.comes in
     let ls = ap lines_of e ∙ lines_turned C d.order [] ps T c.take_octet-step.result.turn c.take_octet-step.new.carry c.take_octet-step.new.piece.items t.lines (here + 1) in
     let w = rw (c.of-of.ensures, c.as_slice.ensures.value) at (c.in_err-say.ensures (here + 1) t.lines) in
-    rw ls (err_writes c.from_residual.result _ _ _ c.from_residual.ensures.0 (w t.says))
+    rw ls (writes_failed c.from_residual.result _ _ _ c.from_residual.ensures.0 (w t.says))
 
 pub returns-clause-writes : goal.returns-clause-writes
 returns-clause-writes g c here h =

@@ -1,10 +1,9 @@
 use Rattle.std.proofs.Common.{◌+◌, length, refl, sym, ◌∙◌, subst, arith}
 use Rattle.giop_decode.specs.Holding.{Reads}
-use Rattle.giop_decode.proofs.Advancing.{err_writes}
 use Rattle.giop_decode.proofs.Segments.{said_none}
 use Rattle.giop_decode.proofs.Taking.{takes_to, due_is, done}
 use Rattle.giop_decode.proofs.decoder.Decoder.take.Goals as goal
-use Rattle.giop_print.proofs.Writing.{wrote-nil}
+use Rattle.giop_print.proofs.Writing.{wrote-nil, writes_failed}
 
 pub returns-then-hold-clause-writes : goal.returns-then-hold-clause-writes
 returns-then-hold-clause-writes g c T order at message root s r =
@@ -25,7 +24,7 @@ returns-in_err-progress-clause-writes g c T order at message root s r =
     let d = c.hold.new.self in
     let k = subst (λ e. Reads C T order at message root e s) (sym (c.if-hold.ensures.left refl)) r in
     rw (due_is C T order at message root d s c.args.octet c.if-hold.ensures.fits k, ← k.same_message, ← k.same_root)
-    (err_writes c.from_residual.result _ _ _ c.from_residual.ensures.0 (c.in_err-progress.ensures.writes (at + length s) (sym k.offset)))
+    (writes_failed c.from_residual.result _ _ _ c.from_residual.ensures.0 (c.in_err-progress.ensures.writes (at + length s) (sym k.offset)))
 
 pub returns-clause-writes : goal.returns-clause-writes
 returns-clause-writes g c T order at message root s r =

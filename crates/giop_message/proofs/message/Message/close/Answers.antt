@@ -1,6 +1,5 @@
 use Rattle.std.proofs.Common.{◌≡◌, true, false, sym, ◌∙◌}
-use Rattle.giop_print.proofs.Writing.{writes_err, wrote-append, wrote-front}
-use Rattle.giop_decode.proofs.Advancing.{err_writes}
+use Rattle.giop_print.proofs.Writing.{writes_err, wrote-append, wrote-front, writes_failed}
 use Rattle.giop_message.specs.Signatures.{said_by}
 use Rattle.giop_message.specs.Messages.{message, stage_of, close}
 use Rattle.giop_message.specs.Holding.{is_short}
@@ -11,7 +10,7 @@ pub returns-in_err-fault_line-clause-writes : goal.returns-in_err-fault_line-cla
 returns-in_err-fault_line-clause-writes g c kept number header s f =
     let stage = stage_of (message (said_by c.args.catalogue.now kept) header s) in
     let short : is_short (close stage) ≡ true = sym (c.is_short.ensures kept number header s f) ∙ c.if-is_short.true in
-    rw (short_text number c.args.place stage short, ← f.same_number) (err_writes _ _ _ _ c.from_residual.ensures.0 c.in_err-fault_line.ensures)
+    rw (short_text number c.args.place stage short, ← f.same_number) (writes_failed _ _ _ _ c.from_residual.ensures.0 c.in_err-fault_line.ensures)
 
 pub returns-then-is_short-clause-writes : goal.returns-then-is_short-clause-writes
 returns-then-is_short-clause-writes g c kept number header s f =
@@ -30,7 +29,7 @@ returns-in_err-end_line-clause-writes g c kept number header s f =
     let C = c.args.catalogue.now in
     let ended : is_short (close (stage_of (message (said_by C kept) header s))) ≡ false = sym (c.is_short.ensures kept number header s f) ∙ c.if-is_short.false in
     rw (ended_text C kept number header c.args.self s f c.requires.fits c.args.place ended)
-    (err_writes _ _ _ _ c.from_residual-in_err-end_line.ensures.0 (wrote-front _ _ _ _ _ c.in_ok-last_rest.ensures c.in_err-end_line.ensures))
+    (writes_failed _ _ _ _ c.from_residual-in_err-end_line.ensures.0 (wrote-front _ _ _ _ _ c.in_ok-last_rest.ensures c.in_err-end_line.ensures))
 
 pub returns-clause-writes : goal.returns-clause-writes
 returns-clause-writes g c kept number header s f =

@@ -1,6 +1,5 @@
 use Rattle.std.proofs.Common.{◌+◌, ◌∷◌, [], ◌++◌, refl, append-nil}
-use Rattle.giop_print.proofs.Writing.{writes_err, wrote-append, wrote-front}
-use Rattle.giop_decode.proofs.Advancing.{err_writes}
+use Rattle.giop_print.proofs.Writing.{writes_err, wrote-append, wrote-front, writes_failed}
 use Rattle.giop_decode.specs.Reading.{read}
 use Rattle.giop_message.proofs.Faulting.{fault_from, no_fault, not_fault}
 use Rattle.giop_message.proofs.message.Message.read.Goals as goal
@@ -14,7 +13,7 @@ returns-in_err-fault_line-clause-writes g c T o at root s reads =
     let number = c.args.self.now.number in
     let taken = c.in_ok-progress.ensures.takes T o at number root s reads in
     rw (fault_from number (c.args.place + 1) _ _ c.in-Fault.kind c.in_ok-progress.progress (read o [] T at (s ++ c.args.octet ∷ [])) c.in-Fault.is taken.answer, ← c.fault_word.ensures)
-    (err_writes _ _ _ _ c.from_residual-in_err-fault_line.ensures.0 (wrote-front _ _ _ _ _ (c.in_ok-progress.ensures.writes T o at number root s reads) c.in_err-fault_line.ensures))
+    (writes_failed _ _ _ _ c.from_residual-in_err-fault_line.ensures.0 (wrote-front _ _ _ _ _ (c.in_ok-progress.ensures.writes T o at number root s reads) c.in_err-fault_line.ensures))
 
 pub returns-in_ok-fault_line-clause-writes : goal.returns-in_ok-fault_line-clause-writes
 returns-in_ok-fault_line-clause-writes g c T o at root s reads =

@@ -1,6 +1,6 @@
 use Rattle.std.proofs.Common.{◌+◌, ◌∷◌, [], ◌++◌, length}
 use Rattle.giop_print.specs.declared.path.Root.TheVariants.{Body}
-use Rattle.giop_decode.proofs.Advancing.{err_writes}
+use Rattle.giop_print.proofs.Writing.{writes_failed}
 use Rattle.giop_message.specs.Headers.{order}
 use Rattle.giop_message.proofs.Faulting.{more_no_fault, named_no_fault}
 use Rattle.giop_message.proofs.Bodies.{body_open, body_reads, body_text, body_on, body_done, body_fault}
@@ -12,7 +12,7 @@ returns-in_err-read-clause-writes g c kept number header s f =
     let m = c.args.self.now in
     let b = c.args.octet in
     let x = body_open C kept number header m s f c.requires.part in
-    rw (body_text C kept number header m s f x.0 x.1 c.requires.fits b c.args.place) (err_writes _ _ _ _ c.from_residual.ensures.0 (c.in_err-read.ensures.writes x.0 (order header) (12 + length x.1.front) Body x.1.octets (body_reads C kept number header m s f x.0 x.1 c.requires.fits b)))
+    rw (body_text C kept number header m s f x.0 x.1 c.requires.fits b c.args.place) (writes_failed _ _ _ _ c.from_residual.ensures.0 (c.in_err-read.ensures.writes x.0 (order header) (12 + length x.1.front) Body x.1.octets (body_reads C kept number header m s f x.0 x.1 c.requires.fits b)))
 
 pub returns-in-More-clause-writes : goal.returns-in-More-clause-writes
 returns-in-More-clause-writes g c kept number header s f =

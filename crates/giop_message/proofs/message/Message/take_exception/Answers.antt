@@ -2,7 +2,7 @@ use Rattle.std.proofs.Common.{◌+◌, ◌∷◌, [], ◌++◌, length}
 use Rattle.giop_print.specs.declared.path.Root.TheVariants.{Exception}
 use Rattle.giop_sig.specs.declared.types.Fixed.TheVariants.{ExceptionId}
 use Rattle.giop_sig.specs.Headers.{fixed_type}
-use Rattle.giop_decode.proofs.Advancing.{err_writes}
+use Rattle.giop_print.proofs.Writing.{writes_failed}
 use Rattle.giop_message.specs.Headers.{order}
 use Rattle.giop_message.proofs.Faulting.{more_no_fault, named_no_fault}
 use Rattle.giop_message.proofs.Bodies.{exception_open, exception_read, exception_reads, exception_text, exception_on, exception_done, exception_fault}
@@ -14,7 +14,7 @@ returns-in_err-read-clause-writes g c kept number header s f =
     let m = c.args.self.now in
     let b = c.args.octet in
     let x = exception_open C kept number header m s f c.requires.part in
-    rw (exception_text C kept number header m s f x c.requires.fits b c.args.place) (err_writes _ _ _ _ c.from_residual.ensures.0 (c.in_err-read.ensures.writes (fixed_type ExceptionId) (order header) (12 + length x.front) Exception x.octets (exception_reads C kept number header m s f x c.requires.fits b)))
+    rw (exception_text C kept number header m s f x c.requires.fits b c.args.place) (writes_failed _ _ _ _ c.from_residual.ensures.0 (c.in_err-read.ensures.writes (fixed_type ExceptionId) (order header) (12 + length x.front) Exception x.octets (exception_reads C kept number header m s f x c.requires.fits b)))
 
 pub returns-in-More-clause-writes : goal.returns-in-More-clause-writes
 returns-in-More-clause-writes g c kept number header s f =

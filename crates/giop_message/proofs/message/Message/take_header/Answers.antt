@@ -1,7 +1,6 @@
 use Rattle.std.proofs.Common.{◌∷◌, [], ◌++◌, true, sym, ap, subst, ◌∙◌}
 use Rattle.giop_print.specs.declared.path.Root.TheVariants.{Header}
-use Rattle.giop_print.proofs.Writing.{writes_err, wrote-append, wrote-front}
-use Rattle.giop_decode.proofs.Advancing.{err_writes}
+use Rattle.giop_print.proofs.Writing.{writes_err, wrote-append, wrote-front, writes_failed}
 use Rattle.giop_decode.specs.Heard.{heard_of}
 use Rattle.giop_decode.specs.Holding.{Minds, Reads}
 use Rattle.giop_message.specs.Headers.{order}
@@ -32,7 +31,7 @@ returns-in_err-call-in-Named-clause-writes g c number header s f =
     let minds = subst (λ d. Minds Header d R) (sym c.hear_id.ensures.decoder) taken.minds in
     let called = rw ((c.hear_id.ensures.number ∙ c.in_ok-progress.ensures.number), (c.hear_id.ensures.header ∙ c.in_ok-progress.ensures.header)) at (c.in_err-call-in-Named.ensures R minds) in
     rw (named_text C kept number header m s f x.0 x.1 x.2 c.requires.fits b c.args.place (named_is _ _ _ R c.in-Named.is taken.answer))
-    (err_writes _ _ _ _ c.from_residual-in_err-call-in-Named.ensures.0 (wrote-front _ _ _ _ _ (c.in_ok-progress.ensures.writes x.0 (order header) 12 Header s (header_reads C kept number header m s f x.0 x.1 x.2 c.requires.fits b)) called))
+    (writes_failed _ _ _ _ c.from_residual-in_err-call-in-Named.ensures.0 (wrote-front _ _ _ _ _ (c.in_ok-progress.ensures.writes x.0 (order header) 12 Header s (header_reads C kept number header m s f x.0 x.1 x.2 c.requires.fits b)) called))
 
 pub returns-in-More-clause-writes : goal.returns-in-More-clause-writes
 returns-in-More-clause-writes g c number header s f =

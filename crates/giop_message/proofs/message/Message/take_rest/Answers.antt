@@ -1,6 +1,6 @@
 use Rattle.std.proofs.Common.{◌≡◌, ◌<◌, [], ◌∷◌, ◌++◌, length, refl, ap, arith}
 use Rattle.giop_print.proofs.Writing.{wrote-nil}
-use Rattle.giop_decode.proofs.Law.{length_one_more}
+use Rattle.giop_decode.proofs.ReadingLaws.{length_one_more}
 use Rattle.giop_message.proofs.Rests.{more_text, full_text, more_took, full_took}
 use Rattle.giop_message.proofs.Results.{on_any}
 use Rattle.giop_message.proofs.message.Message.take_rest.Goals as goal

@@ -3,7 +3,7 @@ use Rattle.std.proofs.lemmas.List.{take-append-drop}
 use Rattle.giop_print.proofs.Writing.{writes_err, wrote-append, wrote-front, wrote-nil}
 use Rattle.giop_message.specs.Signatures.{said_by}
 use Rattle.giop_message.specs.MessageReading.{message_reading}
-use Rattle.giop_message.proofs.Causal.{is_causal}
+use Rattle.giop_message.proofs.MessageLaws.{is_causal}
 use Rattle.giop_stream.specs.Shown.{shown}
 use Rattle.giop_stream.specs.Holding.{Remembers}
 use Rattle.giop_stream.proofs.Adding.{added_nil}
