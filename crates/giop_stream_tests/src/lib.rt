@@ -1,0 +1,5 @@
+//! Tests of giop_stream from outside, as a program of one's own would use it.
+#![tactic(auto)]
+
+#[cfg(test)]
+mod own_out;

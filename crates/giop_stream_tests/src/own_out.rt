@@ -1,0 +1,68 @@
+//! A program of one's own over the engine: an out that counts lines. docs/LIBRARY.md shows it.
+
+ghost use Rattle.std.specs.Prelude.{IfOk};
+ghost use Rattle.giop_stream.specs.Holding.{AreOf};
+
+use giop_print::{Out, OutFault};
+use giop_sig::{Catalogue, Requests};
+use giop_stream::{Engine, Stop};
+use std::alloc::Global;
+use std::test::Fail;
+
+/// Counts the lines that it is handed, and keeps none of their text.
+#[derive(Drop)]
+struct LineCount {
+    lines: u64,
+    puts: u64,
+}
+
+impl Out for LineCount {
+    ghost use Rattle.std.specs.Prelude.{None};
+
+    ghost log = { λ c. record { written = None; puts = c.puts; failures = 0 } };
+
+    #[tactic(auto, unfolding(giop_print::specs::Output::counted))]
+    fn put(&mut self, octets: &[u8]) -> Result<usize, OutFault> {
+        self.puts = self.puts.saturating_add(1);
+        self.lines = self.lines.saturating_add(line_feeds(octets));
+        Ok(octets.len())
+    }
+}
+
+/// How many lines end in these octets.
+fn line_feeds(octets: &[u8]) -> u64 {
+    octets.iter().filter(|octet| **octet == b'\n').count() as u64
+}
+
+/// How many lines a stream has, read in pieces of a kibibyte.
+fn lines_of(catalogue: &Catalogue, requests: &Requests, stream: &[u8]) -> Result<u64, Stop>
+    requires { AreOf catalogue.now requests.now }
+{
+    let mut out = LineCount { lines: 0, puts: 0 };
+    let mut engine = Engine::new(catalogue, requests);
+    for piece in stream.chunks(1024) {
+        engine.feed(piece, &mut out)?;
+    }
+    engine.finish(&mut out)?;
+    Ok(out.lines)
+}
+
+/// The built-in types, and no requests.
+fn built_in(alloc: Global) -> Result<(Catalogue, Requests), Fail>
+    ensures { IfOk result (λ known. AreOf known.0 known.1) }
+{
+    let catalogue = Catalogue::builtin(alloc)?;
+    let requests = Requests::parse(alloc, b"", &catalogue)?;
+    Ok((catalogue, requests))
+}
+
+/// A header of CloseConnection in 1.0, big endian, without a payload; and the front of another.
+const CLOSED: &[u8] = b"GIOP\x01\x00\x00\x05\x00\x00\x00\x00GIOP";
+
+#[test]
+fn lines_are_counted(rt: HostRuntime) -> Result<(), Fail> {
+    let known = built_in(rt.alloc())?;
+    let lines = lines_of(&known.0, &known.1, CLOSED);
+    assert!(rt; lines == Ok(4));
+    Ok(())
+}
