@@ -16,11 +16,12 @@ pub struct Sheet<'a> {
 }
 
 impl<'a> Sheet<'a> {
-    ghost use Rattle.giop_print.specs.Sheet.{sheet_log};
+    ghost use Rattle.giop_print.specs.Sheet.{sheet_log, sheet_room};
 
     /// A sheet on which nothing is written.
     pub fn new(into: &'a mut [u8]) -> Sheet<'a>
-        ensures { sheet_log result ≡ record { written = Some []; puts = 0; failures = 0 } }
+        ensures log { sheet_log result ≡ record { written = Some []; puts = 0; failures = 0 } }
+        ensures room { sheet_room result ≡ length into.old }
     {
         Sheet {
             into,
