@@ -36,7 +36,7 @@ text_inside : (T : Ty) (leaf : Innermost) → leaf_in_string T leaf ≡ true →
 text_inside T (innermost.Number of) h = cc
 text_inside T (innermost.Content of total offset) h = h
 
-front_inside : (front : List Line) (r : Read) → in_string (with_front front r) ≡ in_string r
+pub front_inside : (front : List Line) (r : Read) → in_string (with_front front r) ≡ in_string r
 front_inside front (Done lines at rest) = refl
 front_inside front (Short lines at outer leaf) = refl
 front_inside front (Fault lines at kind T) = refl

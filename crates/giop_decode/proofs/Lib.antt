@@ -18,5 +18,7 @@ mod Advancing
 mod Waiting
 mod Starting
 mod Hearing
+mod WholeStrings
+mod Left
 mod Taking
 pub mod ReadingLaws

@@ -24,5 +24,5 @@ mod tests;
 mod value_rows;
 
 pub use decoder::Decoder;
-pub use laws::reading_laws;
+pub use laws::{memory_laws, reading_laws};
 pub use progress::{Kind, Progress};

@@ -1,0 +1,201 @@
+-- The lines of a reading that are pieces of strings: those of whole contents, one after the other, and those of one that has begun.
+use Rattle.std.proofs.Common.{◌≡◌, ℕ, zero, suc, ◌+◌, ◌-◌, ◌*◌, ◌<◌, ◌≤◌, true, false, List, [], ◌∷◌, ◌++◌, length, take, drop, Option, Some, None, refl, sym, ◌∙◌, ap, append_assoc, append-nil, length-append, true≢false, arith, ◌⊎◌, inl, inr}
+use Rattle.std.specs.Prelude.{flat_map}
+use Rattle.std.specs.List.{AllByRecursion as Each}
+use Rattle.std.proofs.lemmas.Bool.{cases_lt}
+use Rattle.std.proofs.lemmas.Grind.{flat_map-append}
+use Rattle.std.proofs.lemmas.List.{length-take-le, take_at}
+use Rattle.std.proofs.lemmas.List.Elements.{filter_map-append}
+use Rattle.std.proofs.Math.Seq.{drop-append_seam}
+use Rattle.giop_cdr.specs.Numbers.{num}
+use Rattle.giop_cdr.specs.declared.order.Order.{Order}
+use Rattle.giop_decode.specs.Heard.{in_string}
+use Rattle.giop_decode.specs.Memories.{piece, text_of, text_pieces, cut_from, pieces_of, Strings}
+use Rattle.giop_decode.specs.Pieces.{Got, Grab, Waiting, block, content, ends, full_piece, full_pieces, last_piece, number, octets, over, text, unless}
+use Rattle.giop_decode.specs.Reading.{headed, member, parts_from, read, refused, single, wrong}
+use Rattle.giop_decode.specs.Spine.{Count, Done, Fault, Index, Line, Member, Name, Number, Part, Piece, Place, Read, Seg, Short, Switch, followed, line, with_front, within, lines_of}
+use Rattle.giop_decode.specs.declared.progress.Kind.{Kind}
+use Rattle.giop_sig.specs.Types.{Array, Octets, Scalar, Sequence, Single, Struct, Text, Ty, Union, width}
+use Rattle.giop_sig.specs.declared.types.Selected.{Selected}
+use Rattle.giop_sig.specs.declared.types.Selected.TheVariants.{Case, Nothing, Refused}
+use Rattle.giop_decode.proofs.Hearing.{front_inside}
+use Rattle.giop_decode.proofs.Law.{block_got, block_waits}
+use Rattle.giop_decode.proofs.Resuming.{lines_front}
+
+texts_append : (xs ys : List Line) → text_pieces (xs ++ ys) ≡ text_pieces xs ++ text_pieces ys
+texts_append xs ys = filter_map-append (λ l. text_of l.value) xs ys
+
+-- readings with no string among their lines
+no_strings : (r : Read) → text_pieces (lines_of r) ≡ [] → Strings r
+no_strings r e = record { contents = []; begun = []; lines = e; unended = tt; none = λ _. refl }
+
+whole_then : (front : List Line) (contents : List (List ℕ)) (r : Read) → text_pieces front ≡ flat_map pieces_of contents → Strings r → Strings (with_front front r)
+whole_then front contents r e h = record {
+  contents = contents ++ h.contents;
+  begun = h.begun;
+  lines = rw (lines_front front r, texts_append front (lines_of r), e, h.lines, flat_map-append, append_assoc) refl;
+  unended = h.unended;
+  none = λ k. h.none (sym (front_inside front r) ∙ k);
+}
+
+-- lines in front, of which none is a string's
+then_strings : (front : List Line) (r : Read) → text_pieces front ≡ [] → Strings r → Strings (with_front front r)
+then_strings front r e h = whole_then front [] r e h
+
+followed_strings : (r : Read) (next : ℕ → List ℕ → Read) → Strings r → ((at : ℕ) (s : List ℕ) → Strings (next at s)) → Strings (followed r next)
+followed_strings (Done lines at rest) next h k =
+    whole_then lines h.contents (next at rest) (h.lines ∙ (ap (λ begun. flat_map pieces_of h.contents ++ begun) (h.none refl) ∙ append-nil (flat_map pieces_of h.contents))) (k at rest)
+followed_strings (Short lines at outer leaf) next h k = h
+followed_strings (Fault lines at kind T) next h k = h
+
+within_strings : (place : Place) (r : Read) → Strings r → Strings (within place r)
+within_strings place (Done lines at rest) h = h
+within_strings place (Short lines at outer leaf) h = record { contents = h.contents; begun = h.begun; lines = h.lines; unended = h.unended; none = h.none }
+within_strings place (Fault lines at kind T) h = h
+
+unless_strings : (T : Ty) (why : Option Kind) (at : ℕ) (r : Read) → Strings r → Strings (unless T why at r)
+unless_strings T None at r h = h
+unless_strings T (Some kind) at r h = no_strings (Fault [] at kind T) refl
+
+headed_strings : (T : Ty) (after : List ℕ → ℕ → List ℕ → Read) → ((xs : List ℕ) (at : ℕ) (s : List ℕ) → Strings (after xs at s)) → (g : Grab) → Strings (headed T after g)
+headed_strings T after h (Waiting carry at) = no_strings (Short [] at [] _) refl
+headed_strings T after h (Got xs at rest) = h xs at rest
+
+parts_strings : (part : ℕ → ℕ → List ℕ → Read) → ((i at : ℕ) (s : List ℕ) → Strings (part i at s)) → (more i at : ℕ) (s : List ℕ) → Strings (parts_from part more i at s)
+parts_strings part h zero i at s = no_strings (Done [] at s) refl
+parts_strings part h (suc more) i at s = followed_strings (part i at s) (parts_from part more (suc i)) (h i at s) (parts_strings part h more (suc i))
+
+-- ---- one string
+
+-- A content from an offset on has come, or ends inside.
+abbrev Comes : ℕ → ℕ → ℕ → Read → Type 0
+Comes total full offset r =
+    ((octets : List ℕ) × (offset + length octets ≡ total) × (text_pieces (lines_of r) ≡ cut_from full offset octets))
+    ⊎ ((in_string r ≡ true) × Each (λ p. p.more ≡ true) (text_pieces (lines_of r)))
+
+last_comes : (bound : Option ℕ) (path : List Seg) (total offset at : ℕ) (s : List ℕ) → offset ≤ total →
+    Comes total 0 offset (last_piece (Text bound) path total offset (block (total - offset + 1) at s))
+last_comes bound path total offset at s ahead = go (cases_lt (length s) (total - offset + 1))
+  where
+    ended : (why : Option Kind) (xs rest : List ℕ) (at : ℕ) → total - offset ≤ length xs →
+        Comes total 0 offset (unless (Text bound) why at (Done (line at path (Piece (Text bound) offset (take (total - offset) xs) false) ∷ []) at rest))
+    ended None xs rest at h = inl (take (total - offset) xs, let e = length-take-le (total - offset) xs h in omega arith, refl)
+    ended (Some kind) xs rest at h = inr (refl, tt)
+
+    go : (length s < total - offset + 1) ⊎ (total - offset + 1 ≤ length s) → Comes total 0 offset (last_piece (Text bound) path total offset (block (total - offset + 1) at s))
+    go (inl h) = rw (block_waits (total - offset + 1) at s h) (inr (refl, tt))
+    go (inr h) =
+        let e = length-take-le (total - offset + 1) s h in
+        rw (block_got (total - offset + 1) at s h) (ended (ends (Text bound) (total - offset) (take (total - offset + 1) s)) (take (total - offset + 1) s) (drop (total - offset + 1) s) (at + (total - offset + 1)) (omega arith))
+
+cut_more : (full offset : ℕ) (xs ys : List ℕ) → length xs ≡ 32 → piece offset xs true ∷ cut_from full (offset + 32) ys ≡ cut_from (suc full) offset (xs ++ ys)
+cut_more full offset xs ys h =
+    let front : take 32 (xs ++ ys) ≡ xs = take_at xs ys 32 h in
+    let behind : drop 32 (xs ++ ys) ≡ ys = ap (λ n. drop n (xs ++ ys)) (sym h) ∙ drop-append_seam xs ys in
+    rw (front, behind) refl
+
+full_comes : (bound : Option ℕ) (path : List Seg) (total full offset : ℕ) (next : ℕ → List ℕ → Read) (xs rest : List ℕ) (at : ℕ) → length xs ≡ 32 →
+    Comes total full (offset + 32) (next at rest) → Comes total (suc full) offset (with_front (line at path (Piece (Text bound) offset xs true) ∷ []) (next at rest))
+full_comes bound path total full offset next xs rest at h (inl (ys, len, is)) =
+    inl (xs ++ ys, omega (arith, length-append {A = ℕ}), rw (lines_front (line at path (Piece (Text bound) offset xs true) ∷ []) (next at rest), is) (cut_more full offset xs ys h))
+full_comes bound path total full offset next xs rest at h (inr (inside, each)) =
+    inr (front_inside (line at path (Piece (Text bound) offset xs true) ∷ []) (next at rest) ∙ inside, rw (lines_front (line at path (Piece (Text bound) offset xs true) ∷ []) (next at rest)) (refl, each))
+
+content_comes : (bound : Option ℕ) (path : List Seg) (total full offset at : ℕ) (s : List ℕ) → offset + 32 * full ≤ total →
+    Comes total full offset (content (Text bound) path total full offset at s)
+content_comes bound path total zero offset at s ahead = last_comes bound path total offset at s (omega arith)
+content_comes bound path total (suc full) offset at s ahead =
+    go (cases_lt (length s) 32) (content_comes bound path total full (offset + 32) (at + 32) (drop 32 s) (omega arith))
+  where
+    next : ℕ → List ℕ → Read
+    next = content (Text bound) path total full (offset + 32)
+
+    go : (length s < 32) ⊎ (32 ≤ length s) → Comes total full (offset + 32) (next (at + 32) (drop 32 s)) → Comes total (suc full) offset (full_piece (Text bound) path total offset next (block 32 at s))
+    go (inl h) k = rw (block_waits 32 at s h) (inr (refl, tt))
+    go (inr h) k = rw (block_got 32 at s h) (full_comes bound path total full offset next (take 32 s) (drop 32 s) (at + 32) (length-take-le 32 s h) k)
+
+comes_strings : (total : ℕ) (r : Read) → Comes total (full_pieces total) 0 r → Strings r
+comes_strings total r (inl (octets, len, is)) = record {
+  contents = octets ∷ [];
+  begun = [];
+  lines = let e : length octets ≡ total = omega arith in is ∙ rw (e, append-nil, append-nil) refl;
+  unended = tt;
+  none = λ _. refl;
+}
+comes_strings total r (inr (inside, each)) = record {
+  contents = [];
+  begun = text_pieces (lines_of r);
+  lines = refl;
+  unended = each;
+  none = λ outside. absurd (true≢false (sym inside ∙ outside));
+}
+
+text_strings : (bound : Option ℕ) (path : List Seg) (n at : ℕ) (s : List ℕ) → Strings (text bound path n at s)
+text_strings bound path zero at s = record { contents = [] ∷ []; begun = []; lines = refl; unended = tt; none = λ _. refl }
+text_strings bound path (suc n) at s =
+    unless_strings (Text bound) (over bound n) at (content (Text bound) path n (full_pieces n) 0 at s)
+    (comes_strings n (content (Text bound) path n (full_pieces n) 0 at s) (content_comes bound path n (full_pieces n) 0 at s (omega arith)))
+
+-- ---- octets are no string
+
+octets_last : (bound : Option ℕ) (path : List Seg) (total offset : ℕ) (g : Grab) → text_pieces (lines_of (last_piece (Octets bound) path total offset g)) ≡ []
+octets_last bound path total offset (Waiting held at) = refl
+octets_last bound path total offset (Got xs at rest) = refl
+
+octets_full : (bound : Option ℕ) (path : List Seg) (total offset : ℕ) (next : ℕ → List ℕ → Read) (g : Grab) →
+    ((at : ℕ) (s : List ℕ) → text_pieces (lines_of (next at s)) ≡ []) → text_pieces (lines_of (full_piece (Octets bound) path total offset next g)) ≡ []
+octets_full bound path total offset next (Waiting held at) h = refl
+octets_full bound path total offset next (Got xs at rest) h = rw (lines_front (line at path (Piece (Octets bound) offset xs true) ∷ []) (next at rest)) (h at rest)
+
+octets_none : (bound : Option ℕ) (path : List Seg) (total full offset at : ℕ) (s : List ℕ) → text_pieces (lines_of (content (Octets bound) path total full offset at s)) ≡ []
+octets_none bound path total zero offset at s = octets_last bound path total offset (block (total - offset + 0) at s)
+octets_none bound path total (suc full) offset at s =
+    octets_full bound path total offset (content (Octets bound) path total full (offset + 32)) (block 32 at s) (octets_none bound path total full (offset + 32))
+
+octets_strings : (bound : Option ℕ) (path : List Seg) (n at : ℕ) (s : List ℕ) → Strings (octets bound path n at s)
+octets_strings bound path n at s =
+    unless_strings (Octets bound) (over bound n) at (content (Octets bound) path n (full_pieces n) 0 at s) (no_strings _ (octets_none bound path n (full_pieces n) 0 at s))
+
+-- ---- any type
+
+single_strings : (path : List Seg) (scalar : Scalar) (n at : ℕ) (s : List ℕ) → Strings (single path scalar n at s)
+single_strings path scalar n at s = unless_strings (Single scalar) (wrong scalar n) at (Done (line at path (Number scalar n) ∷ []) at s) (no_strings _ refl)
+
+member_strings : (selected : Selected) (case : ℕ → ℕ → List ℕ → Read) → ((i at : ℕ) (s : List ℕ) → Strings (case i at s)) → (at : ℕ) (s : List ℕ) → Strings (member selected case at s)
+member_strings (Case i) case h at s = h i at s
+member_strings Nothing case h at s = no_strings (Done [] at s) refl
+member_strings Refused case h at s = no_strings (Done [] at s) refl
+
+-- The strings of any reading.
+pub read_strings : (order : Order) (path : List Seg) (T : Ty) (at : ℕ) (s : List ℕ) → Strings (read order path T at s)
+read_strings order path (Single scalar) at s =
+    headed_strings (Single scalar) (λ xs at rest. single path scalar (num order xs) at rest) (λ xs at rest. single_strings path scalar (num order xs) at rest) (number (width scalar) at s)
+read_strings order path (Text bound) at s =
+    headed_strings (Text bound) (λ xs at rest. text bound path (num order xs) at rest) (λ xs at rest. text_strings bound path (num order xs) at rest) (number 4 at s)
+read_strings order path (Octets bound) at s =
+    headed_strings (Octets bound) (λ xs at rest. octets bound path (num order xs) at rest) (λ xs at rest. octets_strings bound path (num order xs) at rest) (number 4 at s)
+read_strings order path (Struct count names parts) at s =
+    parts_strings (λ i at s. within (Part (Struct count names parts) i count) (read order (path ++ Name (names i) ∷ []) (parts i) at s))
+    (λ i at s. within_strings (Part (Struct count names parts) i count) (read order (path ++ Name (names i) ∷ []) (parts i) at s) (read_strings order (path ++ Name (names i) ∷ []) (parts i) at s)) count 0 at s
+read_strings order path (Array count T) at s =
+    parts_strings (λ i at s. within (Part (Array count T) i count) (read order (path ++ Index i ∷ []) T at s))
+    (λ i at s. within_strings (Part (Array count T) i count) (read order (path ++ Index i ∷ []) T at s) (read_strings order (path ++ Index i ∷ []) T at s)) count 0 at s
+read_strings order path (Sequence bound T) at s =
+    headed_strings (Sequence bound T) _ (λ xs at rest.
+    let elements = parts_from (λ i at s. within (Part (Sequence bound T) i (num order xs)) (read order (path ++ Index i ∷ []) T at s)) (num order xs) 0 at rest in
+    unless_strings (Sequence bound T) (over bound (num order xs)) at (with_front (line at path (Count (num order xs)) ∷ []) elements)
+    (then_strings (line at path (Count (num order xs)) ∷ []) elements refl
+    (parts_strings (λ i at s. within (Part (Sequence bound T) i (num order xs)) (read order (path ++ Index i ∷ []) T at s))
+    (λ i at s. within_strings (Part (Sequence bound T) i (num order xs)) (read order (path ++ Index i ∷ []) T at s) (read_strings order (path ++ Index i ∷ []) T at s)) (num order xs) 0 at rest)))
+    (number 4 at s)
+read_strings order path (Union count scalar select names cases) at s =
+    headed_strings (Union count scalar select names cases) _ (λ xs at rest.
+    let T = Union count scalar select names cases in
+    let n = num order xs in
+    let case : ℕ → ℕ → List ℕ → Read = λ i at s. within (Member T i) (read order (path ++ Name (names i) ∷ []) (cases i) at s) in
+    let front : List Line = line at (path ++ Switch ∷ []) (Number scalar n) ∷ [] in
+    unless_strings T (wrong scalar n) at (unless T (refused (select n)) at (with_front front (member (select n) case at rest)))
+    (unless_strings T (refused (select n)) at (with_front front (member (select n) case at rest))
+    (then_strings front (member (select n) case at rest) refl
+    (member_strings (select n) case (λ i at s. within_strings (Member T i) (read order (path ++ Name (names i) ∷ []) (cases i) at s) (read_strings order (path ++ Name (names i) ∷ []) (cases i) at s)) at rest))))
+    (number (width scalar) at s)

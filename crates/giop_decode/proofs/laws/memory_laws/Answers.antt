@@ -1,0 +1,5 @@
+use Rattle.giop_decode.proofs.Left.{read_left}
+use Rattle.giop_decode.proofs.laws.memory_laws.Goals as goal
+
+pub returns : goal.returns
+returns c = read_left
