@@ -22,5 +22,6 @@ mod Dues
 mod Closing
 mod Remarks
 mod Closes
+mod Apart
 mod Rows
 pub mod MessageLaws

@@ -1,5 +1,6 @@
 pub mod Headers
 pub mod Reading
+pub mod Apart
 pub mod Text
 pub mod Signatures
 pub mod Messages

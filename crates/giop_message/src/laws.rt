@@ -7,6 +7,7 @@ ghost use Rattle.giop_sig.specs.Types.{Ty};
 ghost use Rattle.giop_sig.specs.Table.{Table};
 ghost use Rattle.giop_sig.specs.Headers.{BeginsWithId, header_type};
 ghost use Rattle.giop_message.specs.Headers.{minor, kind, order};
+ghost use Rattle.giop_message.specs.Apart.{IsApart};
 ghost use Rattle.giop_message.specs.Reading.{IsCausal, IsEnding, IsNamed, IsOrdered, IsClosing};
 ghost use Rattle.giop_message.specs.Signatures.{Kept, said_by};
 ghost use Rattle.giop_message.specs.Messages.{message, told_of, stage_of, close};
@@ -54,4 +55,10 @@ pub fn message_laws()
     ensures closes { (C : Table) (kept : Kept) (number place : ℕ) (header s : List ℕ) →
         closing_text number place (close (stage_of (message (said_by C kept) header s)))
         ≡ closes_text number place ((message_reading C kept).closes header s) }
+{}
+
+/// No octet of a message has two lines of one kind, with those of a close at it. It has no body, and is called for its
+/// contract.
+pub fn apart_laws()
+    ensures { (C : Table) (kept : Kept) → IsApart (message_reading C kept) }
 {}

@@ -11,7 +11,7 @@ mod wanted;
 mod word;
 
 pub use header::{kind_of, minor_of, order_of};
-pub use laws::message_laws;
+pub use laws::{apart_laws, message_laws};
 pub use message::Message;
 pub use sayings::saying_laws;
 

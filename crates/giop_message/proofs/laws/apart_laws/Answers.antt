@@ -1,0 +1,6 @@
+use Rattle.giop_message.specs.Signatures.{said_by}
+use Rattle.giop_message.proofs.Apart.{is_apart}
+use Rattle.giop_message.proofs.laws.apart_laws.Goals as goal
+
+pub returns : goal.returns
+returns c C kept = is_apart (said_by C kept)
