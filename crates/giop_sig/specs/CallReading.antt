@@ -82,6 +82,10 @@ pub record Way : Type 0 where
   pub request : List Part
   pub reply : List Part
 
+-- with a parameter more
+abbrev pub with_param : Way → Direction → Part → Way
+with_param w d p = record { seen = w.seen ++ p.name ∷ []; request = in_request d p w.request; reply = in_reply d p w.reply }
+
 abbrev pub params_of : Way → Direction → ItemRead → List ℕ → Bool → Params
 params_of w d i rest closed = record { scope = i.0; seen = w.seen ++ (i.1).name ∷ []; request = in_request d i.1 w.request; reply = in_reply d i.1 w.reply; rest = rest; closed = closed }
 

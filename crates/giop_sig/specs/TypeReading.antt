@@ -88,15 +88,20 @@ text_at at s rest = do
   t ← text_type at s b.0
   Ok (t.0, t.1, b.1)
 
+-- a sequence, behind the type of its elements: perhaps a bound, and the closing mark
+abbrev pub behind_element : ℕ → TypeRead → Result TypeRead Refusal
+behind_element at e = do
+  b ← most_at e.2
+  r ← mark_at marks.CloseAngle b.1
+  t ← added at e.0 (sequence_node b.0 e.1)
+  Ok (t.0, t.1, r)
+
 -- a sequence, behind its word; element reads the element's type
 abbrev pub sequence_at : ℕ → (List ℕ → Result TypeRead Refusal) → List ℕ → Result TypeRead Refusal
 sequence_at at element rest = do
   inner ← mark_at marks.OpenAngle rest
   e ← element inner
-  b ← most_at e.2
-  r ← mark_at marks.CloseAngle b.1
-  t ← added at e.0 (sequence_node b.0 e.1)
-  Ok (t.0, t.1, r)
+  behind_element at e
 
 abbrev pub found_type : Scope → List ℕ → List ℕ → Option ℕ → Result TypeRead Refusal
 found_type s text rest None = Err (refused kinds.UnknownType text)

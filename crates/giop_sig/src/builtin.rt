@@ -242,14 +242,20 @@ fn parts_of(alloc: Global, parts: &[Named]) -> Result<Vec<PartEntry>, AllocError
     Ok(all)
 }
 
+fn case_of(alloc: Global, case: &Labelled) -> Result<CaseEntry, AllocError>
+    ensures { IfOk result (λ c. case_view c ≡ literal_case case.now) }
+{
+    let part = part_of(alloc, case.1, case.2)?;
+    let labels = vec![in alloc; Number::Signed(case.0)]?;
+    Ok(CaseEntry { labels, part })
+}
+
 fn cases_of(alloc: Global, cases: &[Labelled]) -> Result<Vec<CaseEntry>, AllocError>
     ensures { IfOk result (λ v. map case_view v.items ≡ map literal_case cases.now) }
 {
     let mut all = Vec::new(alloc);
     for case in cases {
-        let part = part_of(alloc, case.1, case.2)?;
-        let labels = vec![in alloc; Number::Signed(case.0)]?;
-        all.push(CaseEntry { labels, part })?;
+        all.push(case_of(alloc, case)?)?;
     }
     Ok(all)
 }

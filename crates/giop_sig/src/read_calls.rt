@@ -2,13 +2,13 @@
 ghost use Rattle.std.specs.Prelude.{◌≡◌, ◌<◌, length, map};
 ghost use Rattle.giop_sig.specs.Outcomes.{Gives};
 ghost use Rattle.giop_sig.specs.Views.{part_view};
-ghost use Rattle.giop_sig.specs.CallReading.{Way, return_at, new_operation_at, direction_of, direction_at, in_request, in_reply, param_step, params_run, params_at, operation_at, no_way};
+ghost use Rattle.giop_sig.specs.CallReading.{Way, return_at, new_operation_at, direction_of, direction_at, in_request, in_reply, with_param, param_step, params_run, params_at, operation_at, no_way};
 ghost use Rattle.giop_sig.specs.Scopes.{part};
 ghost use Rattle.giop_sig.specs.WayViews.{way_view};
 
 use crate::draft::Draft;
 use crate::entries::{Entry, PartEntry};
-use crate::read_items::{DECLARED_MAX, WORDS_MAX, item_at};
+use crate::read_items::{DECLARED_MAX, WORDS_MAX, item_at, part_of};
 use crate::read_types::{refused, type_at};
 use crate::stop::Stop;
 use crate::types::TypeId;
@@ -27,16 +27,6 @@ pub(crate) enum Direction {
     In,
     Out,
     Inout,
-}
-
-// A part of a name.
-fn part_of(alloc: Global, name: &[u8], type_id: TypeId) -> Result<PartEntry, Stop>
-    ensures { Gives part_view result (Ok (part name.now type_id.0)) }
-{
-    Ok(PartEntry {
-        name: Vec::from_slice(alloc, name)?,
-        type_id,
-    })
 }
 
 // What an operation returns, as a member of its replies.
@@ -143,6 +133,22 @@ struct Ways<'a> {
     reply: Vec<PartEntry>,
 }
 
+// Keeps a parameter.
+fn keep_param<'a>(
+    alloc: Global,
+    ways: &mut Ways<'a>,
+    direction: Direction,
+    name: &'a [u8],
+    t: TypeId,
+) -> Result<(), Stop>
+    ensures { Gives (λ x. way_view ways.new) result
+        (Ok (with_param (way_view ways.old) direction (part name.now t.0))) }
+{
+    ways.seen.push(name)?;
+    to_request(alloc, &mut ways.request, direction, name, t)?;
+    to_reply(alloc, &mut ways.reply, direction, name, t)
+}
+
 // Reads a parameter and the mark behind it: whether it was the closing one, and what follows.
 #[tactic(auto, unfolding(crate::specs::CallReading::param_step))]
 fn param_step<'a>(
@@ -159,9 +165,7 @@ fn param_step<'a>(
 {
     let (direction, rest) = direction_at(text)?;
     let (name, t, rest) = item_at(draft, at, PARAMS_MAX, ways.seen.as_slice(), rest)?;
-    ways.seen.push(name)?;
-    to_request(alloc, &mut ways.request, direction, name, t)?;
-    to_reply(alloc, &mut ways.reply, direction, name, t)?;
+    keep_param(alloc, ways, direction, name, t)?;
     if let Some(rest) = starts_with_mark(rest, Mark::Comma)? {
         return Ok((false, rest));
     }

@@ -1,5 +1,5 @@
 //! Reading enums.
-ghost use Rattle.std.specs.Prelude.{◌≡◌, map, []};
+ghost use Rattle.std.specs.Prelude.{◌≡◌, ◌++◌, ◌∷◌, map, []};
 ghost use Rattle.giop_sig.specs.Outcomes.{Gives};
 ghost use Rattle.giop_sig.specs.Validity.{is_among};
 ghost use Rattle.giop_sig.specs.Repeats.{in_steps};
@@ -23,6 +23,15 @@ fn is_among(names: &[Vec<u8>], name: &[u8]) -> bool
     names.iter().any(|one| one.as_slice() == name)
 }
 
+// Adds a name.
+fn add_name(alloc: Global, names: &mut Vec<Vec<u8>>, name: &[u8]) -> Result<(), Stop>
+    ensures { Gives (λ x. map (λ n. n.items) names.new.items) result
+        (Ok (map (λ n. n.items) names.old.items ++ name.now ∷ [])) }
+{
+    names.push(Vec::from_slice(alloc, name)?)?;
+    Ok(())
+}
+
 // An enumerator behind others; what follows it.
 #[tactic(auto, unfolding(crate::specs::EnumReading::enumerator_at))]
 fn enumerator<'a>(alloc: Global, names: &mut Vec<Vec<u8>>, text: &'a [u8]) -> Result<&'a [u8], Stop>
@@ -35,7 +44,7 @@ fn enumerator<'a>(alloc: Global, names: &mut Vec<Vec<u8>>, text: &'a [u8]) -> Re
     if names.len() >= NAMES_MAX {
         return Err(Stop::Refused(refused(SigFaultKind::Limit, text)));
     }
-    names.push(Vec::from_slice(alloc, name)?)?;
+    add_name(alloc, names, name)?;
     Ok(rest)
 }
 

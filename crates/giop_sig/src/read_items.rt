@@ -107,6 +107,16 @@ pub(crate) fn item_at<'a>(
     Ok((name, t, rest))
 }
 
+/// A part of a name.
+pub(crate) fn part_of(alloc: Global, name: &[u8], type_id: TypeId) -> Result<PartEntry, Stop>
+    ensures { Gives part_view result (Ok (part name.now type_id.0)) }
+{
+    Ok(PartEntry {
+        name: Vec::from_slice(alloc, name)?,
+        type_id,
+    })
+}
+
 // Reads the closing mark, or one member more: whether it was the mark, and what follows.
 #[tactic(auto, unfolding(crate::specs::ItemReading::member_step, crate::specs::ItemReading::member_at))]
 fn member_step<'a>(
@@ -128,10 +138,7 @@ fn member_step<'a>(
     let (name, t, rest) = item_at(draft, at, MEMBERS_MAX, seen.as_slice(), text)?;
     let rest = mark(rest, Mark::Semicolon)?;
     seen.push(name)?;
-    parts.push(PartEntry {
-        name: Vec::from_slice(alloc, name)?,
-        type_id: t,
-    })?;
+    parts.push(part_of(alloc, name, t)?)?;
     Ok((false, rest))
 }
 

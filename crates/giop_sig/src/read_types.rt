@@ -4,7 +4,7 @@ ghost use Rattle.std.specs.Option.{option_map};
 ghost use Rattle.giop_sig.specs.Outcomes.{Gives, refused};
 ghost use Rattle.giop_sig.specs.Scopes.{sequence_node};
 ghost use Rattle.giop_sig.specs.ScopeViews.{IsKnown};
-ghost use Rattle.giop_sig.specs.TypeReading.{added, size_at, enclosed_at, most_at, base_of, text_at, named_type, type_at};
+ghost use Rattle.giop_sig.specs.TypeReading.{added, size_at, enclosed_at, most_at, base_of, text_at, behind_element, named_type, type_at};
 
 use crate::draft::Draft;
 use crate::entries::Entry;
@@ -166,6 +166,23 @@ fn sequence_of(
     }
 }
 
+// What stands behind the element of a sequence: perhaps a bound, and the closing mark.
+fn behind_element<'a>(
+    draft: &mut Draft,
+    at: usize,
+    element: TypeId,
+    text: &'a [u8],
+) -> Result<(TypeId, &'a [u8]), Stop>
+    requires { IsKnown draft.old.table.types element.0 }
+    ensures { Gives (λ x. (draft.new, x.0.0, x.1.now)) result
+        (behind_element at (draft.old, element.0, text.now)) }
+{
+    let (bound, rest) = most_at(text)?;
+    let rest = mark(rest, Mark::CloseAngle)?;
+    let t = sequence_of(draft, at, bound, element)?;
+    Ok((t, rest))
+}
+
 /// A type, with at most so many words `sequence` around it. One that is too deep is refused, in the declaration whose
 /// name is at this place.
 #[tactic(auto, using(crate::proofs::TypeSteps::type_steps))]
@@ -197,9 +214,7 @@ pub(crate) fn type_at<'a>(
     if name == b"sequence".as_slice() {
         let rest = mark(rest, Mark::OpenAngle)?;
         let (element, rest) = type_at(draft, at, left - 1, rest)?;
-        let (bound, rest) = most_at(rest)?;
-        let rest = mark(rest, Mark::CloseAngle)?;
-        return Ok((sequence_of(draft, at, bound, element)?, rest));
+        return behind_element(draft, at, element, rest);
     }
     named_type(draft, text, name, rest)
 }

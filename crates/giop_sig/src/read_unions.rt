@@ -3,16 +3,16 @@ ghost use Rattle.std.specs.Prelude.{◌≡◌, ◌+◌, ◌^◌, ◌<◌, ◌≤
 ghost use Rattle.std.specs.List.{list_any};
 ghost use Rattle.giop_sig.specs.Outcomes.{Gives};
 ghost use Rattle.giop_sig.specs.Table.{node_at};
-ghost use Rattle.giop_sig.specs.Scopes.{label_number};
+ghost use Rattle.giop_sig.specs.Scopes.{label_number, part};
 ghost use Rattle.giop_sig.specs.Views.{node_view};
 ghost use Rattle.giop_sig.specs.Labels.{value_view, cases_view};
 ghost use Rattle.giop_sig.specs.Repeats.{in_steps};
-ghost use Rattle.giop_sig.specs.UnionReading.{same_mark, number_of_value, fresh, label_at, begins_label, labels_step, too_many_labels, labels_at, no_cases, chosen, case_at, cases_step, too_many_cases, cases_at, can_switch, switch_at, union_at};
+ghost use Rattle.giop_sig.specs.UnionReading.{same_mark, number_of_value, fresh, label_at, begins_label, labels_step, too_many_labels, labels_at, no_cases, chosen, with_case, case_at, cases_step, too_many_cases, cases_at, can_switch, switch_at, union_at};
 
 use crate::draft::Draft;
-use crate::entries::{CaseEntry, Entry, PartEntry};
+use crate::entries::{CaseEntry, Entry};
 use crate::labels::{LabelValue, label_number, value_at};
-use crate::read_items::{WORDS_MAX, declared_at, item_at};
+use crate::read_items::{WORDS_MAX, declared_at, item_at, part_of};
 use crate::read_types::{refused, type_at};
 use crate::stop::Stop;
 use crate::types::{Selected, TypeId};
@@ -231,6 +231,27 @@ fn switch_at<'a>(draft: &mut Draft, at: usize, text: &'a [u8]) -> Result<(TypeId
     }
 }
 
+// Adds a case behind others: its labels, whether the default is among them, and its name and type.
+fn add_case<'a>(
+    alloc: Global,
+    cases: &mut Cases<'a>,
+    labels: Vec<Number>,
+    default: bool,
+    name: &'a [u8],
+    type_id: TypeId,
+) -> Result<(), Stop>
+    requires { length cases.old.names.items ≤ 256 }
+    ensures gives { Gives (λ x. cases_view cases.new) result (Ok (with_case (cases_view cases.old)
+        (cases.old.labels.items, labels.items, default, []) (part name.now type_id.0))) }
+    ensures room { OnOk result (length cases.new.names.items ≤ length cases.old.names.items + 1) }
+{
+    let part = part_of(alloc, name, type_id)?;
+    cases.otherwise = chosen(cases.otherwise, default, cases.names.len());
+    cases.names.push(name)?;
+    cases.cases.push(CaseEntry { labels, part })?;
+    Ok(())
+}
+
 // A case behind others, of a union in the declaration whose name is at this place; what follows it.
 #[tactic(auto, unfolding(crate::specs::UnionReading::case_at))]
 fn case_at<'a>(
@@ -248,13 +269,7 @@ fn case_at<'a>(
     let (labels, default, rest) = labels_at(alloc, draft, switch, &mut cases.labels, text)?;
     let (name, type_id, rest) = item_at(draft, at, CASES_MAX, &cases.names, rest)?;
     let rest = mark(rest, Mark::Semicolon)?;
-    let part = PartEntry {
-        name: Vec::from_slice(alloc, name)?,
-        type_id,
-    };
-    cases.otherwise = chosen(cases.otherwise, default, cases.names.len());
-    cases.names.push(name)?;
-    cases.cases.push(CaseEntry { labels, part })?;
+    add_case(alloc, cases, labels, default, name, type_id)?;
     Ok(rest)
 }
 

@@ -2,5 +2,5 @@ use Rattle.std.proofs.Common.{◌-◌}
 use Rattle.giop_sig.proofs.TypeTaken.{type_takes}
 use Rattle.giop_sig.proofs.read_types.+type_at.Goals as goal
 
-pub sequence_of-requires : goal.sequence_of-requires
-sequence_of-requires t c = ((type_takes c.args.at (c.args.left - 1) c.args.draft.now _ _ c.in_ok-element.ensures).sound c.laws.ensures.scope).known
+pub behind_element-requires : goal.behind_element-requires
+behind_element-requires t c = ((type_takes c.args.at (c.args.left - 1) c.args.draft.now _ _ c.in_ok-element.ensures).sound c.laws.ensures.scope).known
