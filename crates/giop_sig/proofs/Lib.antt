@@ -36,6 +36,7 @@ mod SpellLaws
 mod FreeLaws
 mod FileLoop
 mod FileLaws
+mod Told
 mod UnionWhole
 mod Negatives
 mod LabelReads

@@ -1,9 +1,13 @@
 -- Reading a signature file from left to right.
-use Rattle.std.specs.Prelude.{ℕ, zero, suc, ◌==◌, if◌then◌else◌, List, length, Result, Ok, Err, codes}
+use Rattle.std.specs.Prelude.{◌≡◌, ◌⊎◌, ℕ, zero, suc, ◌==◌, if◌then◌else◌, List, length, Result, Ok, Err, codes}
 use Rattle.std.specs.Str.{bytes_eq}
 use Rattle.giop_tokens.specs.declared.fault.Refusal.{Refusal}
+use Rattle.giop_tokens.specs.declared.fault.SigFault.{SigFault}
+use Rattle.giop_tokens.specs.declared.fault.SigFaultKind.TheVariants as kinds
 use Rattle.giop_tokens.specs.declared.marks.Mark.TheVariants as marks
 use Rattle.giop_tokens.specs.Reading.{◌>>=◌}
+use Rattle.giop_tokens.specs.Faults.{no_memory}
+use Rattle.giop_tokens.specs.Lines.{fault_of}
 use Rattle.giop_tokens.specs.Readers.{misplaced, word_at, number_at, mark_at, keyword_at, end_at}
 use Rattle.giop_sig.specs.Scopes.{Scope, builtin_scope}
 use Rattle.giop_sig.specs.ItemReading.{Declared, structure_at, raise_at}
@@ -43,3 +47,11 @@ file_at text = do
   v ← version_at k
   r ← mark_at marks.Semicolon v
   declarations_run (length text) builtin_scope r
+
+-- the refusal of a text that is too long
+abbrev pub text_too_long : SigFault
+text_too_long = record { line = 1; kind = kinds.Limit }
+
+-- where reading from the front is refused first, and why; memory may be refused at any time
+abbrev pub IsFirstRefusal : List ℕ → SigFault → Type 0
+IsFirstRefusal text f = (f ≡ no_memory) ⊎ ((r : Refusal) × (file_at text ≡ Err r) × (f ≡ fault_of text r))

@@ -1,10 +1,10 @@
 //! Reading a signature file (docs/FORMATS.md).
-ghost use Rattle.std.specs.Prelude.{◌≡◌, List, IfOk, IfErr};
+ghost use Rattle.std.specs.Prelude.{◌≡◌, ◌<◌, ◌≤◌, ◌↔◌, List, length, IfOk, IfErr};
 ghost use Rattle.giop_sig.specs.Grammar.{Declaration};
 ghost use Rattle.giop_sig.specs.Scopes.{table};
 ghost use Rattle.giop_sig.specs.Validity.{AreValid, Spells, Refuses};
 ghost use Rattle.giop_sig.specs.Outcomes.{Gives};
-ghost use Rattle.giop_sig.specs.FileReading.{declaration_at, declarations_run, version_at, file_at};
+ghost use Rattle.giop_sig.specs.FileReading.{declaration_at, declarations_run, version_at, file_at, text_too_long, IsFirstRefusal};
 
 use crate::catalogue::Catalogue;
 use crate::draft::Draft;
@@ -45,16 +45,15 @@ fn declaration_at<'a>(alloc: Global, draft: &mut Draft, text: &'a [u8]) -> Resul
 }
 
 // Declarations up to the end of the text, in so many steps.
-fn declarations(alloc: Global, draft: Draft, steps: usize, text: &[u8]) -> Result<Draft, Stop>
-    ensures { Gives (λ x. x) result (declarations_run steps draft text.now) }
+fn declarations(alloc: Global, draft: &mut Draft, steps: usize, text: &[u8]) -> Result<(), Stop>
+    ensures { Gives (λ x. draft.new) result (declarations_run steps draft.old text.now) }
 {
-    let mut draft = draft;
     let mut rest = text;
     for _ in 0..steps {
         if ends(rest)? {
-            return Ok(draft);
+            return Ok(());
         }
-        rest = declaration_at(alloc, &mut draft, rest)?;
+        rest = declaration_at(alloc, draft, rest)?;
     }
     Err(Stop::Refused(misplaced(rest)))
 }
@@ -80,8 +79,9 @@ fn file_at(alloc: Global, text: &[u8]) -> Result<Draft, Stop>
     let rest = keyword(text, b"signatures")?;
     let rest = version_at(rest)?;
     let rest = mark(rest, Mark::Semicolon)?;
-    let draft = Draft::new(alloc)?;
-    declarations(alloc, draft, text.len(), rest)
+    let mut draft = Draft::new(alloc)?;
+    declarations(alloc, &mut draft, text.len(), rest)?;
+    Ok(draft)
 }
 
 impl Catalogue {
@@ -93,6 +93,11 @@ impl Catalogue {
         // Of a text that spells declarations, the refusal is that of a rule which one of them breaks, unless memory was
         // refused.
         ensures err { (ds : List Declaration) → Spells text.now ds → IfErr result (λ f. Refuses f.kind ds) }
+        // A text that is too long isn't read. Another is refused where reading it from the front comes to what can't
+        // stand, at the line of that token; want of memory alone has no line.
+        ensures long { 1048576 < length text.now → result ≡ Err text_too_long }
+        ensures first { length text.now ≤ 1048576 → IfErr result (λ f. IsFirstRefusal text.now f) }
+        ensures memory { IfErr result (λ f. (f.line ≡ 0) ↔ (f.kind ≡ SigFaultKind.OutOfMemory)) }
     {
         if text.len() > TEXT_MAX {
             return Err(SigFault {

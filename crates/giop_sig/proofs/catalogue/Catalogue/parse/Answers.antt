@@ -1,10 +1,11 @@
-use Rattle.std.proofs.Common.{◌≤◌, sym, subst, ◌∙◌, arith}
+use Rattle.std.proofs.Common.{◌≤◌, sym, subst, ◌∙◌, inr, arith}
 use Rattle.giop_sig.specs.Table.{Table}
 use Rattle.giop_sig.specs.Trees.{depth_of}
 use Rattle.giop_sig.specs.Outcomes.{Stops}
 use Rattle.giop_sig.specs.FileReading.{file_at}
 use Rattle.giop_sig.specs.Validity.{Refuses}
 use Rattle.giop_sig.proofs.FileLaws.{file_takes, file_valid, file_refuses}
+use Rattle.giop_sig.proofs.Told.{has_line}
 use Rattle.giop_sig.proofs.UnionWhole.{union_read, union_taken}
 use Rattle.giop_sig.proofs.catalogue.Catalogue.parse.Goals as goal
 
@@ -20,3 +21,11 @@ pub returns-in-Err-Refused-clause-err : goal.returns-in-Err-Refused-clause-err
 returns-in-Err-Refused-clause-err c = λ ds spells.
     let e = subst (λ stop. Stops stop (file_at c.args.text.now)) c.in-Err-Refused.field-0-is c.in-Err-Refused.ensures in
     subst (λ f. Refuses f.kind ds) (sym c.fault_in.ensures) (file_refuses union_read c.args.text.now c.in-Err-Refused.refusal ds spells e)
+
+pub returns-in-Err-Refused-clause-first : goal.returns-in-Err-Refused-clause-first
+returns-in-Err-Refused-clause-first c = λ short.
+    let e = subst (λ stop. Stops stop (file_at c.args.text.now)) c.in-Err-Refused.field-0-is c.in-Err-Refused.ensures in
+    inr (c.in-Err-Refused.refusal, e, c.fault_in.ensures)
+
+pub returns-in-Err-Refused-clause-memory : goal.returns-in-Err-Refused-clause-memory
+returns-in-Err-Refused-clause-memory c = has_line c.args.text.now c.in-Err-Refused.refusal c.fault_in.result c.fault_in.ensures
