@@ -14,8 +14,3 @@ pub use header::{kind_of, minor_of, order_of};
 pub use laws::{apart_laws, message_laws};
 pub use message::Message;
 pub use sayings::saying_laws;
-
-#[cfg(test)]
-mod message_rows;
-#[cfg(test)]
-mod tests;
