@@ -1,0 +1,25 @@
+//! Tests of the decoder: what it writes, answers and keeps in mind after each octet, and outs that are full.
+#![tactic(auto)]
+
+#[cfg(test)]
+mod content_rows;
+#[cfg(test)]
+mod declared_rows;
+#[cfg(test)]
+mod declared_tests;
+#[cfg(test)]
+mod header_rows;
+#[cfg(test)]
+mod number_tests;
+#[cfg(test)]
+mod octets;
+#[cfg(test)]
+mod room_tests;
+#[cfg(test)]
+mod rows;
+#[cfg(test)]
+mod tests;
+#[cfg(test)]
+mod tracing;
+#[cfg(test)]
+mod value_rows;

@@ -1,0 +1,50 @@
+//! What a row says of a value.
+
+use giop_cdr::Order;
+use giop_print::Root;
+use giop_sig::TypeId;
+
+/// A value from its first octet to its last, at an offset of message 1, and what comes of it. What is wanted has a
+/// number of octets taken first, and then a line, an answer other than that the value goes on, or what the readers tell
+/// where that has changed.
+#[derive(Clone, Copy)]
+pub struct Row<'a> {
+    pub name: &'a str,
+    pub of: TypeId,
+    pub order: Order,
+    pub offset: u64,
+    pub root: Root,
+    /// In hexadecimal digits, where `xx*n` is n times.
+    pub octets: &'a str,
+    pub want: &'a str,
+}
+
+/// The row that a text spells: a line of its name, one of its type's number, its order, its offset and its root, one of
+/// its octets, and what is wanted.
+pub fn row_of(text: &str) -> Row {
+    let mut parts = text.splitn(4, '\n');
+    let name = parts.next().unwrap_or("");
+    let mut place = parts.next().unwrap_or("").split(' ');
+    Row {
+        name,
+        of: TypeId(u32::from_str_radix(place.next().unwrap_or(""), 10).unwrap_or(0)),
+        order: order_of(place.next().unwrap_or("")),
+        offset: u64::from_str_radix(place.next().unwrap_or(""), 10).unwrap_or(0),
+        root: if place.next() == Some("header") {
+            Root::Header
+        } else {
+            Root::Body
+        },
+        octets: parts.next().unwrap_or(""),
+        want: parts.next().unwrap_or(""),
+    }
+}
+
+/// The order of a word.
+pub fn order_of(word: &str) -> Order {
+    if word == "little" {
+        Order::Little
+    } else {
+        Order::Big
+    }
+}
