@@ -2,12 +2,10 @@
 
 ghost use Rattle.giop_stream.specs.Holding.{AreOf};
 
-use super::console::{Lines, dump, status};
 use super::fakes::{FailingReader, FailingWriter};
-use super::fault::{ProgramFault, RunFault};
 use super::plain_rows::{CLOSE_CONNECTION, COMPLETED, ROWS, Row};
-use super::running::Report;
 use super::tests::{built_in, octets, text};
+use giop_run::{Lines, ProgramFault, Report, RunFault, dump, status};
 use giop_sig::{Catalogue, Requests};
 use std::cell::{Cell, RefCell};
 use std::io;

@@ -1,8 +1,7 @@
 //! What the program says of what it refuses or can't read, and how much it reads of a file.
 
 use super::fakes::{EndlessReader, FailingReader};
-use super::fault::{ProgramFault, RunFault};
-use super::files::{front, unreadable};
+use giop_run::{ProgramFault, RunFault, front, unreadable};
 use giop_sig::{ListFault, ListFaultKind, SigFault, SigFaultKind};
 use std::cell::Cell;
 use std::io;

@@ -1,12 +1,9 @@
 //! The program's steps on files: its lines, what it says, and its status.
 
-use super::arguments::Arguments;
-use super::console::status;
 use super::fakes::FailingWriter;
-use super::fault::ProgramFault;
-use super::program::performed;
-use super::running::Report;
 use super::tests::{octets, text};
+use giop_program::{Arguments, performed};
+use giop_run::{ProgramFault, Report, status};
 use std::alloc::Global;
 use std::cell::RefCell;
 use std::fs;

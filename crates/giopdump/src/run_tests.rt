@@ -1,13 +1,10 @@
 //! Runs: whole, in pieces, and over sources and outs that fail at each call in turn.
 
 use super::fakes::{FailingReader, FailingWriter};
-use super::fault::RunFault;
-use super::piecewise::Piecewise;
 use super::plain_rows::{CLOSE_CONNECTION, COMPLETED, ROWS, Row};
-use super::reading::Reading;
-use super::running::{Ending, run};
 use super::tests::{built_in, octets, text};
 use giop_print::{Sheet, Written};
+use giop_run::{Ending, Piecewise, Reading, RunFault, run};
 use giop_stream::{Engine, Status, Stop, Totals};
 use std::cell::{Cell, RefCell};
 use std::process::Abort;

@@ -1,7 +1,7 @@
 //! The program's words.
 
-use super::arguments::Arguments;
 use clap::error::ErrorKind as WordsKind;
+use giop_program::Arguments;
 use std::alloc::{AllocError, Global};
 use std::process::Abort;
 use std::test::Fail;

@@ -11,12 +11,9 @@ mod padding;
 mod replies;
 mod strings;
 
-use super::console::status;
-use super::fault::ProgramFault;
-use super::piecewise::Piecewise;
-use super::running::{Ending, run};
 use super::tests::{octets, text};
 use giop_print::Sheet;
+use giop_run::{Ending, Piecewise, ProgramFault, run, status};
 use giop_sig::{Catalogue, Requests, SigFault};
 use giop_stream::Engine;
 use std::alloc::Global;

@@ -1,0 +1,8 @@
+//! The program behind its `main`: its words, and the steps from what they ask for to a status.
+#![tactic(auto)]
+
+mod arguments;
+mod steps;
+
+pub use arguments::Arguments;
+pub use steps::{performed, program};

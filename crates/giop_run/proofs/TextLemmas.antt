@@ -1,0 +1,54 @@
+-- What octets add to a stream's text, piece by piece, and what an engine's status says of the stream.
+use Rattle.std.proofs.Common.{◌≡◌, List, ℕ, [], ◌++◌, Option, Some, None, refl, append-nil, IsSome}
+use Rattle.std.proofs.Math.Seq.{drop-length}
+use Rattle.giop_print.specs.Output.{OutLog, Wrote}
+use Rattle.giop_message.specs.Reading.{Reading}
+use Rattle.giop_stream.specs.Framing.{cut, fault_of}
+use Rattle.giop_stream.specs.Stream.{text}
+use Rattle.giop_stream.specs.Holding.{added, status_of, reading_of}
+use Rattle.giop_stream.specs.declared.fault.StreamFault.{StreamFault}
+use Rattle.giop_stream.specs.declared.status.Status.TheVariants.{Running, Stopped}
+use Rattle.giop_stream.specs.Remembering.{EngineMemory}
+use Rattle.giop_stream.proofs.StreamLaws.{added_both}
+use Rattle.giop_print.proofs.Writing.{wrote-nil}
+use Rattle.giop_run.specs.Running.{IsStopped}
+use Rattle.giop_run.specs.Turns.{IsRunning}
+
+pub added-nil : (R : Reading) (p : List ℕ) → added R p [] ≡ []
+unfolding added
+added-nil R p = rw append-nil (drop-length (text R p))
+
+-- what octets add to the text of a stream, and then others
+abbrev pub AddsUp : Reading → Type 0
+AddsUp R = (p s t : List ℕ) → added R p (s ++ t) ≡ added R p s ++ added R (p ++ s) t
+
+pub adds_up : (e : EngineMemory) → AddsUp (reading_of e)
+adds_up e p s t = added_both e.table e.listed p s t
+
+-- nothing is due where nothing was read
+pub wrote-none : (R : Reading) (a : OutLog) (p : List ℕ) → Wrote a a (added R p [])
+wrote-none R a p = rw added-nil (wrote-nil a)
+
+running_fault : (o : Option (ℕ × StreamFault)) → Running ≡ status_of (fault_of o) → o ≡ None
+running_fault None e = refl
+running_fault (Some o) e = cc
+
+stopped_fault : (o : Option (ℕ × StreamFault)) (f : _) → Stopped f ≡ status_of (fault_of o) → IsSome o
+stopped_fault None f e = cc
+stopped_fault (Some o) f e = refl
+
+-- an engine that answers Running holds a stream with no fault
+pub is_running : (p : List ℕ) → Running ≡ status_of (fault_of (cut p).stop) → IsRunning p
+is_running p e = running_fault (cut p).stop e
+
+-- an engine that answers Stopped holds a stream with a fault
+pub is_stopped : (p : List ℕ) (f : _) → Stopped f ≡ status_of (fault_of (cut p).stop) → IsStopped p
+is_stopped p f e = stopped_fault (cut p).stop f e
+
+not_both : (o : Option (ℕ × StreamFault)) → o ≡ None → IsSome o → ⊥
+not_both None n s = cc
+not_both (Some o) n s = cc
+
+-- no stream goes on and is stopped
+pub runs_or_stops : (p : List ℕ) → IsRunning p → IsStopped p → ⊥
+runs_or_stops p r s = not_both (cut p).stop r s

@@ -1,0 +1,66 @@
+-- Each way out of a run, by the turns before it.
+use Rattle.std.proofs.Common.{◌+◌, [], ◌++◌, arith}
+use Rattle.std.proofs.lemmas.Result.{err_from_is_err_and}
+use Rattle.giop_run.proofs.TextLemmas.{adds_up}
+use Rattle.giop_run.proofs.ReadLemmas.{one_more_read}
+use Rattle.giop_run.proofs.TurnLemmas.{going_start, going_more, ran_err, ran_turns, ran_over, ran_stopped, ran_first}
+use Rattle.giop_run.proofs.running.run.Goals as goal
+
+pub returns-in_err-feed-clause-ran : goal.returns-in_err-feed-clause-ran
+returns-in_err-feed-clause-ran g c =
+    λ p h.
+    let r = err_from_is_err_and c.from_residual.result c.from_residual.ensures.1 in
+    ([], rw (r.1, r.2) (ran_first _ c.in_err-feed.field-0.0 p _ _ _ _ (c.in_err-feed.ensures.fed p h)))
+
+pub returns-then-not-branch-clause-ran : goal.returns-then-not-branch-clause-ran
+returns-then-not-branch-clause-ran g c =
+    λ p h.
+    let f = rw c.if-not-branch.true at (c.in_ok-feed.ensures.fed p h) in
+    ([], ran_stopped _ c.close.result p _ _ _ _ _ f (c.close.ensures.closed (p ++ []) f.0.holds))
+
+pub loop-turn-init : goal.loop-turn-init
+loop-turn-init g c =
+    record {
+      going = λ p h. ([], going_start _ p _ _ _ _ (rw c.if-not-branch.false at (c.in_ok-feed.ensures.fed p h)));
+      sound = c.in_ok-feed.ensures.leaves;
+      reads = omega arith;
+    }
+
+pub returns-in_err-turn-clause-ran : goal.returns-in_err-turn-clause-ran
+returns-in_err-turn-clause-ran g c =
+    λ p h.
+    let s = c.loop-turn.invariant.going p h in
+    let t = c.in_err-turn.ensures.turned (p ++ s.0) s.1.took.holds in
+    let r = err_from_is_err_and c.from_residual-in_err-turn.result c.from_residual-in_err-turn.ensures.1 in
+    (s.0 ++ t.0, rw (r.1, r.2) (ran_err _ (adds_up c.args.engine) c.in_err-turn.field-0.0 p s.0 t.0 _ _ c.loop-turn._turn _ _ _ _ _ _ s.1 t.1 (omega (arith, c.loop-turn-test.true))))
+
+pub returns-then-not-branch-2-clause-ran : goal.returns-then-not-branch-2-clause-ran
+returns-then-not-branch-2-clause-ran g c =
+    λ p h.
+    let s = c.loop-turn.invariant.going p h in
+    let t = c.in_ok-turn.ensures.turned (p ++ s.0) s.1.took.holds in
+    let u = rw c.if-not-branch-2.true at t.1 in
+    (s.0 ++ t.0, ran_over _ (adds_up c.args.engine) c.close-then-not-branch-2.result p s.0 t.0 _ _ c.loop-turn._turn _ _ _ _ _ _ _ s.1 u (omega (arith, c.loop-turn-test.true)) (c.close-then-not-branch-2.ensures.closed ((p ++ s.0) ++ t.0) u.3.holds))
+
+pub returns-in_err-turn-clause-reads : goal.returns-in_err-turn-clause-reads
+returns-in_err-turn-clause-reads g c =
+    one_more_read _ _ _ _ _ c.loop-turn.invariant.reads c.in_err-turn.ensures.reads (omega (arith, c.loop-turn-test.true))
+
+pub returns-then-not-branch-2-clause-reads : goal.returns-then-not-branch-2-clause-reads
+returns-then-not-branch-2-clause-reads g c =
+    one_more_read _ _ _ _ _ c.loop-turn.invariant.reads c.in_ok-turn.ensures.reads (omega (arith, c.loop-turn-test.true))
+
+pub loop-turn-preserved : goal.loop-turn-preserved
+loop-turn-preserved g c =
+    record {
+      going = λ p h.
+          let s = c.loop-turn.invariant.going p h in
+          let t = c.in_ok-turn.ensures.turned (p ++ s.0) s.1.took.holds in
+          (s.0 ++ t.0, going_more _ (adds_up c.args.engine) p s.0 t.0 _ _ c.loop-turn._turn _ _ _ _ _ _ s.1 (rw c.if-not-branch-2.false at t.1));
+      sound = c.in_ok-turn.ensures.leaves c.loop-turn.invariant.sound;
+      reads = one_more_read _ _ _ _ (c.loop-turn._turn + 1) c.loop-turn.invariant.reads c.in_ok-turn.ensures.reads (omega arith);
+    }
+
+pub returns-clause-ran : goal.returns-clause-ran
+returns-clause-ran g c =
+    λ p h. let s = c.loop-turn.invariant.going p h in (s.0, ran_turns _ p s.0 _ c.loop-turn._turn _ _ _ _ s.1 (omega (arith, c.loop-turn-test, c.loop-turn.auto)))

@@ -1,0 +1,86 @@
+//! What can fail in a run and in the steps before it, as the program prints it.
+
+ghost use Rattle.std.specs.Prelude.{◌≡◌, ◌≢◌};
+ghost use Rattle.giop_run.specs.Console.{fault_status};
+
+use giop_sig::{ListFault, ListFaultKind, SigFault, SigFaultKind};
+use thiserror::Error;
+
+/// A read that failed. It gave nothing.
+#[derive(Clone, Copy, Debug, PartialEq, Eq, Error)]
+#[error("read failed")]
+pub struct SourceFault;
+
+/// Why a run came to no end. `Display` is what the program prints after its name.
+#[derive(Clone, Copy, Debug, PartialEq, Eq, Error)]
+pub enum RunFault {
+    /// The source failed.
+    #[error("read failed")]
+    Read = 1,
+    /// The source came to no end within the greatest number of reads.
+    #[error("too many reads")]
+    Turns = 2,
+    /// The out failed.
+    #[error("write failed")]
+    Out = 3,
+    /// The engine was handed in failed.
+    #[error("engine failed")]
+    Failed = 4,
+}
+
+/// Why the program came to no end. `Display` is what it prints after its name (docs/FORMATS.md, The program).
+#[derive(Clone, Copy, Debug, Drop, PartialEq, Eq, Error)]
+pub enum ProgramFault<'a> {
+    /// The signature file is refused.
+    #[error("{name}:{}: {fault}", .fault.line)]
+    Signatures { name: &'a str, fault: SigFault },
+    /// The request list is refused.
+    #[error("{name}:{}: {fault}", .fault.line)]
+    Requests { name: &'a str, fault: ListFault },
+    /// A file can't be opened, or one that is read whole can't be read.
+    #[error("{name}: cannot read")]
+    Unreadable { name: &'a str },
+    /// The run failed.
+    #[error("{0}")]
+    Run(RunFault),
+    /// No memory was left.
+    #[error("out of memory")]
+    OutOfMemory,
+}
+
+impl<'a> ProgramFault<'a> {
+    /// What the refusal of the signature file of this name is to the program.
+    pub fn of_signatures(name: &'a str, fault: SigFault) -> ProgramFault<'a>
+        ensures memory { fault.kind ≡ SigFaultKind.OutOfMemory → result ≡ ProgramFault.OutOfMemory }
+        ensures refused { fault.kind ≢ SigFaultKind.OutOfMemory
+            → result ≡ ProgramFault.Signatures name.entry fault }
+    {
+        if fault.kind == SigFaultKind::OutOfMemory {
+            return ProgramFault::OutOfMemory;
+        }
+        ProgramFault::Signatures { name, fault }
+    }
+
+    /// What the refusal of the request list of this name is to the program.
+    pub fn of_requests(name: &'a str, fault: ListFault) -> ProgramFault<'a>
+        ensures memory { fault.kind ≡ ListFaultKind.OutOfMemory → result ≡ ProgramFault.OutOfMemory }
+        ensures refused { fault.kind ≢ ListFaultKind.OutOfMemory
+            → result ≡ ProgramFault.Requests name.entry fault }
+    {
+        if fault.kind == ListFaultKind::OutOfMemory {
+            return ProgramFault::OutOfMemory;
+        }
+        ProgramFault::Requests { name, fault }
+    }
+
+    /// The status that the program ends with.
+    pub fn status(&self) -> u8
+        ensures { result ≡ fault_status self.now }
+    {
+        match self {
+            ProgramFault::Signatures { .. } | ProgramFault::Requests { .. } => 3,
+            ProgramFault::Unreadable { .. } | ProgramFault::Run(_) => 4,
+            ProgramFault::OutOfMemory => 5,
+        }
+    }
+}

@@ -1,0 +1,148 @@
+//! The files that are read whole: the signature file and the request list (docs/FORMATS.md).
+
+ghost use Rattle.std.specs.Prelude.{◌≡◌, ◌≢◌, ◌⊎◌, ℕ, List, [], take, None, IfOk, IfErr, IfSome};
+ghost use Rattle.std.specs.IoError.{error_kind};
+ghost use Rattle.giop_print.specs.Output.{counted};
+ghost use Rattle.giop_sig.specs.Builtin.{builtin_table};
+ghost use Rattle.giop_sig.specs.Grammar.{Declaration};
+ghost use Rattle.giop_sig.specs.Scopes.{table};
+ghost use Rattle.giop_sig.specs.Validity.{AreValid, Spells, Refuses};
+ghost use Rattle.giop_sig.specs.Table.{operation_number};
+ghost use Rattle.giop_sig.specs.RequestList.{Entry, Lists, IsOf, IsRefusedAs};
+ghost use Rattle.giop_stream.specs.Holding.{AreOf};
+ghost use Rattle.giop_run.specs.Console.{run_fault};
+
+use super::fault::ProgramFault;
+use super::source::one_more;
+use giop_sig::{Catalogue, ListFault, Requests, SigFault};
+use std::alloc::Global;
+use std::fs::File;
+use std::io;
+use std::io::{ErrorKind, Read};
+
+/// The greatest number of octets of a signature file. A longer text is refused by its reader.
+const SIGNATURES_MOST: u64 = 1_048_576;
+
+/// The greatest number of octets of a request list. A longer text is refused by its reader.
+const REQUESTS_MOST: u64 = 16_777_216;
+
+/// What a reader gives up to its end, or the octets up to the first past the limit.
+pub fn front<R: Read + Drop>(alloc: Global, reader: R, most: u64) -> io::Result<Vec<u8>>
+    ensures { IfOk result (λ octets.
+        IfSome (R.remaining reader) (λ left. octets.items ≡ take (counted most) left)) }
+{
+    let mut octets = Vec::new(alloc);
+    let mut limited = reader.take(one_more(most));
+    limited.read_to_end(&mut octets)?;
+    Ok(octets)
+}
+
+/// Why a file of this name can't be read.
+pub fn unreadable<'a>(name: &'a str, error: &io::Error) -> ProgramFault<'a>
+    ensures memory { error_kind error.now ≡ ErrorKind.OutOfMemory → result ≡ ProgramFault.OutOfMemory }
+    ensures named { error_kind error.now ≢ ErrorKind.OutOfMemory
+        → result ≡ ProgramFault.Unreadable name.entry }
+{
+    if error.kind() == ErrorKind::OutOfMemory {
+        ProgramFault::OutOfMemory
+    } else {
+        ProgramFault::Unreadable { name }
+    }
+}
+
+/// What a file has, up to the first octet past the limit.
+fn contents<'a>(rt: &HostRuntime, name: &'a str, most: u64) -> Result<Vec<u8>, ProgramFault<'a>>
+    ensures { IfErr result (λ fault.
+        (fault ≡ ProgramFault.OutOfMemory) ⊎ (fault ≡ ProgramFault.Unreadable name.entry)) }
+{
+    let read = match File::open(rt, name) {
+        Ok(file) => front(rt.alloc(), file, most),
+        Err(error) => Err(error),
+    };
+    match read {
+        Ok(octets) => Ok(octets),
+        Err(error) => Err(unreadable(name, &error)),
+    }
+}
+
+/// The catalogue of a signature file that has this text.
+fn catalogue_of<'a>(
+    alloc: Global,
+    name: &'a str,
+    text: &[u8],
+) -> Result<Catalogue, ProgramFault<'a>>
+    // The text spells some valid declarations, and this is their table.
+    ensures ok { IfOk result (λ catalogue.
+        (ds : List Declaration) × Spells text.now ds × AreValid ds × (catalogue ≡ table ds)) }
+    // The refusal has the file's name, and is that of the text.
+    ensures err { IfErr result (λ fault. (fault ≡ ProgramFault.OutOfMemory)
+        ⊎ ((why : SigFault) × (fault ≡ ProgramFault.Signatures name.entry why)
+        × ((ds : List Declaration) → Spells text.now ds → Refuses why.kind ds))) }
+{
+    match Catalogue::parse(alloc, text) {
+        Ok(catalogue) => Ok(catalogue),
+        Err(fault) => Err(ProgramFault::of_signatures(name, fault)),
+    }
+}
+
+/// The catalogue of a signature file, or without one the built-in types.
+pub fn catalogue<'a>(rt: &HostRuntime, name: Option<&'a str>) -> Result<Catalogue, ProgramFault<'a>>
+    ensures valid { IfOk result (λ catalogue.
+        (ds : List Declaration) × AreValid ds × (catalogue ≡ table ds)) }
+    ensures builtin { name.entry ≡ None → IfOk result (λ catalogue. catalogue ≡ builtin_table) }
+    ensures memory { name.entry ≡ None → IfErr result (λ fault. fault ≡ ProgramFault.OutOfMemory) }
+    ensures file { IfErr result (λ fault. run_fault fault ≡ None) }
+{
+    let alloc = rt.alloc();
+    let Some(name) = name else {
+        return match Catalogue::builtin(alloc) {
+            Ok(catalogue) => Ok(catalogue),
+            Err(_) => Err(ProgramFault::OutOfMemory),
+        };
+    };
+    let text = contents(rt, name, SIGNATURES_MOST)?;
+    catalogue_of(alloc, name, &text)
+}
+
+/// The list of a file that has this text.
+fn requests_of<'a>(
+    alloc: Global,
+    name: &'a str,
+    text: &[u8],
+    catalogue: &Catalogue,
+) -> Result<Requests, ProgramFault<'a>>
+    // The text is some list, and this is kept of it.
+    ensures ok { IfOk result (λ kept. (entries : List Entry)
+        × Lists text.now entries × IsOf (operation_number catalogue.now) entries kept) }
+    // The refusal has the file's name, and is that of the text.
+    ensures err { IfErr result (λ fault. (fault ≡ ProgramFault.OutOfMemory)
+        ⊎ ((why : ListFault) × (fault ≡ ProgramFault.Requests name.entry why)
+        × IsRefusedAs text.now why.line why.kind)) }
+{
+    match Requests::parse(alloc, text, catalogue) {
+        Ok(requests) => Ok(requests),
+        Err(fault) => Err(ProgramFault::of_requests(name, fault)),
+    }
+}
+
+/// The list of a file, or without one the empty list.
+pub fn requests<'a>(
+    rt: &HostRuntime,
+    name: Option<&'a str>,
+    catalogue: &Catalogue,
+) -> Result<Requests, ProgramFault<'a>>
+    ensures of { IfOk result (λ kept. AreOf catalogue.now kept) }
+    ensures empty { name.entry ≡ None → IfOk result (λ kept. kept ≡ []) }
+    ensures memory { name.entry ≡ None → IfErr result (λ fault. fault ≡ ProgramFault.OutOfMemory) }
+    ensures file { IfErr result (λ fault. run_fault fault ≡ None) }
+{
+    let alloc = rt.alloc();
+    let Some(name) = name else {
+        return match Requests::parse(alloc, &[], catalogue) {
+            Ok(requests) => Ok(requests),
+            Err(_) => Err(ProgramFault::OutOfMemory),
+        };
+    };
+    let text = contents(rt, name, REQUESTS_MOST)?;
+    requests_of(alloc, name, &text, catalogue)
+}

@@ -1,0 +1,18 @@
+//! Runs: octets from a source through an engine to an out, with the files that say how they are read.
+#![tactic(auto)]
+
+mod console;
+mod fault;
+mod files;
+mod piecewise;
+mod reading;
+mod running;
+mod source;
+
+pub use console::{Lines, Tied, dump, status};
+pub use fault::{ProgramFault, RunFault, SourceFault};
+pub use files::{catalogue, front, requests, unreadable};
+pub use piecewise::Piecewise;
+pub use reading::Reading;
+pub use running::{Ending, Report, run};
+pub use source::Source;

@@ -1,0 +1,70 @@
+//! Octets in memory as a source, which gives a few at a time.
+
+ghost use Rattle.std.specs.Prelude.{◌≡◌, ◌≤◌, MatchResult, Ok, Some, length, min, take};
+ghost use Rattle.giop_run.specs.SourceLog.{Gave, ReadFailed};
+
+use super::fault::SourceFault;
+use super::source::{Source, one_more};
+
+/// A slice that is read from its front, at most `step` octets a read.
+#[derive(Drop)]
+pub struct Piecewise<'a> {
+    left: &'a [u8],
+    step: usize,
+    reads: u64,
+    ends: u64,
+}
+
+impl<'a> Piecewise<'a> {
+    ghost use Rattle.giop_run.specs.Piecewise.{piecewise_log, piecewise_step};
+
+    /// A source of the octets, of which nothing was read.
+    pub fn new(octets: &'a [u8], step: usize) -> Piecewise<'a>
+        requires { 1 ≤ step }
+        ensures log { piecewise_log result
+            ≡ record { left = Some octets.now; reads = 0; failures = 0; ends = 0 } }
+        ensures step { piecewise_step result ≡ step }
+    {
+        Piecewise {
+            left: octets,
+            step,
+            reads: 0,
+            ends: 0,
+        }
+    }
+}
+
+impl<'a> Source for Piecewise<'a> {
+    ghost use Rattle.giop_run.specs.Piecewise.{piecewise_log, piecewise_left, piecewise_step};
+
+    ghost log = { piecewise_log };
+
+    fn read(&mut self, into: &mut [u8]) -> Result<usize, SourceFault>
+        ensures read { MatchResult result
+            (λ given. Gave (piecewise_log self.old) (piecewise_log self.new) into.new given)
+            (λ _. ReadFailed (piecewise_log self.old) (piecewise_log self.new)) }
+        // It never fails, and gives as many octets as the rest, the step and the room allow.
+        ensures given { result ≡ Ok (min
+            (min (length (piecewise_left self.old)) (piecewise_step self.old))
+            (length into.old)) }
+        ensures kept { piecewise_step self.new ≡ piecewise_step self.old }
+    {
+        self.reads = one_more(self.reads);
+        let given = self.left.len().min(self.step).min(into.len());
+        let (octets, left) = self.left.split_at(given);
+        copy_front(into, octets);
+        self.left = left;
+        if given == 0 && !into.is_empty() {
+            self.ends = one_more(self.ends);
+        }
+        Ok(given)
+    }
+}
+
+/// Copies the octets to the front of a slice.
+fn copy_front(into: &mut [u8], octets: &[u8])
+    requires { length octets.now ≤ length into.old }
+    ensures { take (length octets.now) into.new ≡ octets.now }
+{
+    into[..octets.len()].copy_from_slice(octets);
+}

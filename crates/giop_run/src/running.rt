@@ -1,0 +1,133 @@
+//! A run: octets from a source go through an engine to an out, up to the stream's end.
+
+ghost use Rattle.std.specs.Prelude.{◌≡◌, ◌+◌, ◌^◌, ◌≤◌, Err, true, false, List, ℕ, MatchResult, OnOk};
+ghost use Rattle.giop_print.specs.Output.{counted};
+ghost use Rattle.giop_cdr.specs.Numbers.{AreOctets};
+ghost use Rattle.giop_stream.specs.Holding.{Holds, reading_of};
+ghost use Rattle.giop_run.specs.SourceLog.{Gave, ReadFailed};
+ghost use Rattle.giop_run.specs.Running.{Ran, Refused};
+ghost use Rattle.giop_run.specs.Turns.{Fed, Turned, Closed};
+
+use super::fault::{RunFault, SourceFault};
+use super::source::Source;
+use giop_print::Out;
+use giop_stream::{Engine, Status, Stop, Totals};
+
+/// The greatest number of reads: 2^40.
+const TURNS: u64 = 1 << 40;
+
+/// How many octets a read may give.
+const ROOM: usize = 4096;
+
+/// What a run does at the stream's end.
+#[derive(Clone, Copy, Debug, PartialEq, Eq)]
+pub enum Ending {
+    /// It writes the closing lines.
+    Finish,
+}
+
+/// What a run did.
+#[derive(Clone, Copy, Debug, PartialEq, Eq)]
+pub struct Report {
+    /// The totals of the stream.
+    pub totals: Totals,
+    /// How many octets of a checkpoint were saved: none by `Ending::Finish`.
+    pub saved: usize,
+}
+
+/// Reads the source to its end or to a stream fault, writes the lines of what it gave, and ends the stream.
+///
+/// A stream that has a fault already is ended with no read. After a fault of the run what was written stays: the lines
+/// of all that was read, or after a failed put a front of them.
+pub fn run<S: Source, O: Out>(
+    source: &mut S,
+    out: &mut O,
+    engine: Engine,
+    ending: Ending,
+) -> Result<Report, RunFault>
+    ensures ran { (p : List ℕ) → Holds engine.entry p → (s : List ℕ)
+        × Ran (reading_of engine.entry) result p s (S.log source.old) (S.log source.new) (O.log out.old) (O.log out.new) }
+    ensures failed { engine.entry.failed ≡ true
+        → Refused result (S.log source.old) (S.log source.new) (O.log out.old) (O.log out.new) }
+    // Of every engine, also of one that holds no stream.
+    ensures sound { result ≡ Err RunFault.Failed → engine.entry.failed ≡ true }
+    ensures reads { (S.log source.new).reads ≤ (S.log source.old).reads + 2 ^ 40 }
+{
+    let Ending::Finish = ending;
+    let mut engine = engine;
+    if !feed(&mut engine, &[], out)? {
+        return close(engine, out);
+    }
+    let mut buffer = [0; ROOM];
+    for _turn in 0..TURNS {
+        if !turn(source, out, &mut engine, &mut buffer)? {
+            return close(engine, out);
+        }
+    }
+    Err(RunFault::Turns)
+}
+
+/// One read, and the feed of what it gave: whether the stream goes on.
+fn turn<S: Source, O: Out>(
+    source: &mut S,
+    out: &mut O,
+    engine: &mut Engine,
+    buffer: &mut [u8; ROOM],
+) -> Result<bool, RunFault>
+    ensures turned { (p : List ℕ) → Holds engine.old p → (s : List ℕ)
+        × Turned (reading_of engine.old) result p s engine.new (S.log source.old) (S.log source.new) (O.log out.old) (O.log out.new) }
+    ensures leaves { engine.old.failed ≡ false → OnOk result (engine.new.failed ≡ false) }
+    ensures sound { result ≡ Err RunFault.Failed → engine.old.failed ≡ true }
+    ensures reads { (S.log source.new).reads ≡ counted (S.log source.old).reads }
+{
+    let Ok(given) = read(source, buffer) else {
+        return Err(RunFault::Read);
+    };
+    let ended = given == 0;
+    if ended {
+        return Ok(false);
+    }
+    feed(engine, &buffer[..given], out)
+}
+
+/// One read, with what the type of the buffer says of its octets.
+fn read<S: Source>(source: &mut S, buffer: &mut [u8]) -> Result<usize, SourceFault>
+    ensures gave { MatchResult result
+        (λ given. Gave (S.log source.old) (S.log source.new) buffer.new given)
+        (λ _. ReadFailed (S.log source.old) (S.log source.new)) }
+    ensures octets { AreOctets buffer.new }
+{
+    source.read(buffer)
+}
+
+/// Feeds a piece: whether the stream goes on.
+fn feed<O: Out>(engine: &mut Engine, piece: &[u8], out: &mut O) -> Result<bool, RunFault>
+    ensures fed { (p : List ℕ) → Holds engine.old p
+        → Fed (reading_of engine.old) result p piece.now engine.new (O.log out.old) (O.log out.new) }
+    ensures failed { engine.old.failed ≡ true
+        → (result ≡ Err RunFault.Failed) × (O.log out.new ≡ O.log out.old) }
+    ensures leaves { OnOk result (engine.new.failed ≡ false) }
+    ensures sound { result ≡ Err RunFault.Failed → engine.old.failed ≡ true }
+{
+    match engine.feed(piece, out) {
+        Ok(Status::Running) => Ok(true),
+        Ok(Status::Stopped(_)) => Ok(false),
+        Err(Stop::Out(_)) => Err(RunFault::Out),
+        Err(Stop::Failed) => Err(RunFault::Failed),
+    }
+}
+
+/// Ends the stream, and reports its totals.
+fn close<O: Out>(engine: Engine, out: &mut O) -> Result<Report, RunFault>
+    ensures closed { (p : List ℕ) → Holds engine.entry p
+        → Closed (reading_of engine.entry) result p (O.log out.old) (O.log out.new) }
+    ensures failed { engine.entry.failed ≡ true
+        → (result ≡ Err RunFault.Failed) × (O.log out.new ≡ O.log out.old) }
+    ensures sound { result ≡ Err RunFault.Failed → engine.entry.failed ≡ true }
+{
+    match engine.finish(out) {
+        Ok(totals) => Ok(Report { totals, saved: 0 }),
+        Err(Stop::Out(_)) => Err(RunFault::Out),
+        Err(Stop::Failed) => Err(RunFault::Failed),
+    }
+}

@@ -1,8 +1,0 @@
--- What a reader tells as a source (state).
-use Rattle.std.specs.Prelude.{ℕ, List, Option}
-use Rattle.giopdump.specs.declared.reading.Reading.{Reading}
-use Rattle.giopdump.specs.SourceLog.{SourceLog}
-
--- `remaining` is what the reader tells of the octets that it has left
-abbrev pub reading_log : {R : Type 0} → (R → Option (List ℕ)) → Reading R → SourceLog
-reading_log remaining r = record { left = remaining r.reader; reads = r.reads; failures = r.failures; ends = r.ends }
