@@ -1,0 +1,77 @@
+//! What differs between the lines and the status that a row tells, and those of a dump.
+
+use std::fmt;
+
+/// The first thing that differs.
+#[derive(Clone, Copy)]
+pub enum Difference<'w, 'g> {
+    /// A line, counted from 1. An empty one stands for none.
+    Line {
+        number: usize,
+        wanted: &'w str,
+        got: &'g str,
+    },
+    /// The status.
+    Status {
+        wanted: u8,
+        got: u8,
+    },
+}
+
+impl fmt::Display for Difference<'_, '_> {
+    fn fmt<W: fmt::Write>(&self, f: &mut fmt::Formatter<W>) -> fmt::Result {
+        match self {
+            Difference::Line {
+                number,
+                wanted,
+                got,
+            } => write!(f, "line {number}\n  wanted: {wanted}\n  got: {got}"),
+            Difference::Status { wanted, got } => {
+                write!(f, "status\n  wanted: {wanted}\n  got: {got}")
+            }
+        }
+    }
+}
+
+/// Compares the lines that are wanted, the last one's end left out, and the status, with what was written and the status
+/// of a dump.
+pub fn compare<'w, 'g>(
+    wanted: &'w str,
+    wanted_status: u8,
+    written: &'g [u8],
+    status: u8,
+) -> Option<Difference<'w, 'g>> {
+    let got = str::from_utf8(written).unwrap_or("octets that are no text");
+    if got.strip_suffix('\n') != Some(wanted) {
+        return Some(first_line(wanted, got));
+    }
+    if status != wanted_status {
+        return Some(Difference::Status {
+            wanted: wanted_status,
+            got: status,
+        });
+    }
+    None
+}
+
+/// The first line in which two texts differ, or the first behind the end of one of them.
+fn first_line<'w, 'g>(wanted: &'w str, got: &'g str) -> Difference<'w, 'g> {
+    let mut number = 1usize;
+    let mut left = got.split('\n');
+    for wanted in wanted.split('\n') {
+        let got = left.next().unwrap_or("");
+        if wanted != got {
+            return Difference::Line {
+                number,
+                wanted,
+                got,
+            };
+        }
+        number = number.saturating_add(1);
+    }
+    Difference::Line {
+        number,
+        wanted: "",
+        got: left.next().unwrap_or(""),
+    }
+}

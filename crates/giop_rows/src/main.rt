@@ -1,0 +1,39 @@
+//! Dumps streams whose lines are known, each in every way, and names those whose lines or status are others.
+//!
+//! `stdin` has sets of rows, and between two sets a line `=`. The parts of a set stand between empty lines. Its first
+//! part is the files of its rows: a signature file, or none, a line `requests` and a request list, in which `I..J NAME`
+//! stands for a line for each id from I to J. Each other part is a row: its name, `status` with 0 or 1, the octets of
+//! its stream in hexadecimal text, in any number of lines, a line `lines`, and the lines of its dump.
+//!
+//! `stdout` has a line for each row, and at its end how many there were and how many differ. The status is 0 where
+//! there are rows and none differs.
+#![tactic(auto)]
+
+mod difference;
+mod row;
+mod tally;
+mod telling;
+mod way;
+
+use giop_run::front;
+use std::process::ExitCode;
+use tally::Tally;
+use telling::tell;
+
+/// The greatest number of octets of the rows.
+const MOST: u64 = 16_777_216;
+
+fn main(rt: HostRuntime) -> ExitCode {
+    let Ok(octets) = front(rt.alloc(), rt.stdin(), MOST) else {
+        return ExitCode::from(4);
+    };
+    let Ok(text) = str::from_utf8(&octets) else {
+        return ExitCode::from(3);
+    };
+    let mut tally = Tally::new();
+    match tell(&rt, text, &mut tally) {
+        Ok(()) if tally.is_clean() => ExitCode::from(0),
+        Ok(()) => ExitCode::from(1),
+        Err(_) => ExitCode::from(4),
+    }
+}

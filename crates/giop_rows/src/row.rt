@@ -1,0 +1,79 @@
+//! The rows, as their text spells them.
+
+use std::alloc::Global;
+
+/// A row: its name, the status of the program, the octets in hexadecimal text, and the lines, the last one's end left out.
+#[derive(Clone, Copy)]
+pub struct Row<'a> {
+    pub name: &'a str,
+    pub status: u8,
+    pub stream: &'a str,
+    pub lines: &'a str,
+}
+
+impl<'a> Row<'a> {
+    /// The row that a text spells.
+    pub fn read(text: &'a str) -> Option<Row<'a>> {
+        let (head, lines) = text.split_once("\nlines\n")?;
+        let mut parts = head.splitn(3, '\n');
+        Some(Row {
+            name: parts.next()?,
+            status: status_of(parts.next()?)?,
+            stream: parts.next().unwrap_or(""),
+            lines,
+        })
+    }
+}
+
+fn status_of(text: &str) -> Option<u8> {
+    match text {
+        "status 0" => Some(0),
+        "status 1" => Some(1),
+        _ => None,
+    }
+}
+
+/// The octets of hexadecimal text, in which spaces and line ends stand anywhere. None where it is no such text, and for
+/// want of memory.
+pub fn octets(alloc: Global, text: &str) -> Option<Vec<u8>> {
+    let mut octets = Vec::new(alloc);
+    let mut high = None;
+    for digit in text.chars().filter(|c| *c != ' ' && *c != '\n') {
+        let digit = digit.to_digit(16)?;
+        match high.take() {
+            None => high = Some(digit),
+            // A digit is below 16: the remainders tell that to the check.
+            Some(first) => octets.push((first % 16 * 16 + digit % 16) as u8).ok()?,
+        }
+    }
+    if high.is_some() {
+        return None;
+    }
+    Some(octets)
+}
+
+/// The request list of a text in which `I..J NAME` stands for a line for each id from I to J.
+pub fn list(alloc: Global, text: &str) -> Option<String> {
+    let mut list = String::new(alloc);
+    for line in text.lines() {
+        entry(&mut list, line)?;
+    }
+    Some(list)
+}
+
+fn entry(list: &mut String, line: &str) -> Option<()> {
+    match line.split_once("..") {
+        None => writeln!(list, "{line}").ok(),
+        Some((first, rest)) => entries(list, first, rest),
+    }
+}
+
+fn entries(list: &mut String, first: &str, rest: &str) -> Option<()> {
+    let (last, name) = rest.split_once(' ')?;
+    let first = first.parse::<u32>().ok()?;
+    let last = last.parse::<u32>().ok()?;
+    for id in first..=last {
+        writeln!(list, "{id} {name}").ok()?;
+    }
+    Some(())
+}

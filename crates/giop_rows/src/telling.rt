@@ -1,0 +1,199 @@
+//! Each row, dumped in every way.
+
+ghost use Rattle.giop_stream.specs.Holding.{AreOf};
+
+use super::difference::{Difference, compare};
+use super::row::{Row, list, octets};
+use super::tally::Tally;
+use super::way::Way;
+use giop_print::Sheet;
+use giop_run::{ProgramFault, status};
+use giop_sig::{Catalogue, Requests, SigFault};
+use giop_stream::Engine;
+use std::alloc::Global;
+use std::io;
+
+/// Tells of each row whether it is dumped as it says, and at the end how many there were.
+pub fn tell(rt: &HostRuntime, text: &str, tally: &mut Tally) -> io::Result<()> {
+    for set in text.strip_suffix('\n').unwrap_or("").split("\n=\n") {
+        tell_set(rt, set, tally)?;
+    }
+    println!(rt; "{} rows, {} differ", tally.rows, tally.differ)
+}
+
+fn tell_set(rt: &HostRuntime, set: &str, tally: &mut Tally) -> io::Result<()> {
+    let Some((files, rows)) = set.split_once("\n\n") else {
+        return unread(rt, "MALFORMED set", set, tally);
+    };
+    let Some((signatures, requests)) = files.split_once("requests") else {
+        return unread(rt, "MALFORMED files", files, tally);
+    };
+    match catalogue_of(rt.alloc(), signatures) {
+        Ok(catalogue) => tell_typed(rt, &catalogue, requests, rows, tally),
+        Err(_) => unread(rt, "REFUSED signature file", signatures, tally),
+    }
+}
+
+/// Tells of a text that can't be read, and counts it.
+fn unread(rt: &HostRuntime, why: &str, text: &str, tally: &mut Tally) -> io::Result<()> {
+    tally.count(false);
+    println!(rt; "{why}:\n{text}")
+}
+
+/// The catalogue of a signature file; of the built-in types alone where there is none.
+fn catalogue_of(alloc: Global, text: &str) -> Result<Catalogue, SigFault> {
+    if text.is_empty() {
+        return Catalogue::builtin(alloc);
+    }
+    Catalogue::parse(alloc, text.as_bytes())
+}
+
+fn tell_typed(
+    rt: &HostRuntime,
+    catalogue: &Catalogue,
+    requests: &str,
+    rows: &str,
+    tally: &mut Tally,
+) -> io::Result<()> {
+    let lines = requests.strip_prefix('\n').unwrap_or(requests);
+    match list(rt.alloc(), lines) {
+        Some(list) => tell_listed(rt, catalogue, &list, rows, tally),
+        None => unread(rt, "MALFORMED request list", requests, tally),
+    }
+}
+
+fn tell_listed(
+    rt: &HostRuntime,
+    catalogue: &Catalogue,
+    list: &str,
+    rows: &str,
+    tally: &mut Tally,
+) -> io::Result<()> {
+    match Requests::parse(rt.alloc(), list.as_bytes(), catalogue) {
+        Ok(requests) => tell_rows(rt, catalogue, &requests, rows, tally),
+        Err(_) => unread(rt, "REFUSED request list", list, tally),
+    }
+}
+
+fn tell_rows(
+    rt: &HostRuntime,
+    catalogue: &Catalogue,
+    requests: &Requests,
+    rows: &str,
+    tally: &mut Tally,
+) -> io::Result<()>
+    requires of { AreOf catalogue.now requests.now }
+{
+    for text in rows.split("\n\n") {
+        match Row::read(text) {
+            Some(row) => tell_row(rt, catalogue, requests, &row, tally)?,
+            None => unread(rt, "MALFORMED row", text, tally)?,
+        }
+    }
+    Ok(())
+}
+
+fn tell_row(
+    rt: &HostRuntime,
+    catalogue: &Catalogue,
+    requests: &Requests,
+    row: &Row,
+    tally: &mut Tally,
+) -> io::Result<()>
+    requires of { AreOf catalogue.now requests.now }
+{
+    match octets(rt.alloc(), row.stream) {
+        Some(stream) => {
+            let is_as_told = is_dumped_each_way(rt, catalogue, requests, row, &stream)?;
+            tally.count(is_as_told);
+            told(rt, row.name, is_as_told)
+        }
+        None => unread(rt, "MALFORMED octets", row.stream, tally),
+    }
+}
+
+/// Tells of a row that is as told; one that isn't was told already.
+fn told(rt: &HostRuntime, name: &str, is_as_told: bool) -> io::Result<()> {
+    if is_as_told {
+        println!(rt; "ok {name}")?;
+    }
+    Ok(())
+}
+
+/// Dumps a row in every way, up to the first in which it differs.
+fn is_dumped_each_way(
+    rt: &HostRuntime,
+    catalogue: &Catalogue,
+    requests: &Requests,
+    row: &Row,
+    stream: &[u8],
+) -> io::Result<bool>
+    requires of { AreOf catalogue.now requests.now }
+{
+    let engine = Engine::new(catalogue, requests);
+    if !is_dumped(rt, engine, row, stream, Way::Whole)? {
+        return Ok(false);
+    }
+    for at in 0..stream.len() + 1 {
+        if !is_dumped_at(rt, catalogue, requests, row, stream, at)? {
+            return Ok(false);
+        }
+    }
+    Ok(true)
+}
+
+/// Dumps a row in each way that has a place.
+fn is_dumped_at(
+    rt: &HostRuntime,
+    catalogue: &Catalogue,
+    requests: &Requests,
+    row: &Row,
+    stream: &[u8],
+    at: usize,
+) -> io::Result<bool>
+    requires of { AreOf catalogue.now requests.now }
+{
+    for way in Way::at(at) {
+        let engine = Engine::new(catalogue, requests);
+        if !is_dumped(rt, engine, row, stream, way)? {
+            return Ok(false);
+        }
+    }
+    Ok(true)
+}
+
+/// Dumps a row in one way.
+fn is_dumped(
+    rt: &HostRuntime,
+    engine: Engine,
+    row: &Row,
+    stream: &[u8],
+    way: Way,
+) -> io::Result<bool> {
+    let mut room = [0; 16_384];
+    let mut sheet = Sheet::new(&mut room);
+    let ended = match way.dump(engine, stream, &mut sheet) {
+        Ok(report) => Ok(report),
+        Err(fault) => Err(ProgramFault::Run(fault)),
+    };
+    is_as_told(rt, row, way, sheet.held(), status(&ended))
+}
+
+/// Whether these are the lines and the status of the row.
+fn is_as_told(
+    rt: &HostRuntime,
+    row: &Row,
+    way: Way,
+    written: &[u8],
+    status: u8,
+) -> io::Result<bool> {
+    match compare(row.lines, row.status, written, status) {
+        None => Ok(true),
+        Some(found) => differs(rt, row.name, way, &found),
+    }
+}
+
+fn differs(rt: &HostRuntime, name: &str, way: Way, found: &Difference) -> io::Result<bool> {
+    println!(rt; "DIFFERS {name}, {way}, {found}")?;
+    Ok(false)
+}
