@@ -46,4 +46,6 @@ mod Paying
 mod Running
 mod Closing
 mod Runs
+mod InPieces
+mod Stopped
 pub mod StreamLaws

@@ -16,3 +16,4 @@ pub mod Remembering
 pub mod Shown
 pub mod Steps
 pub mod Holding
+pub mod Pieces

@@ -1,12 +1,14 @@
 //! The engine: one direction of a connection in, its lines out.
 
 ghost use Rattle.std.specs.Prelude.{◌≡◌, ◌++◌, ◌+◌, Err, ℕ, List, [], true, false, length, drop, IfOk, OnOk};
+ghost use Rattle.std.specs.List.{concat};
 ghost use Rattle.giop_sig.specs.Table.{Table};
 ghost use Rattle.giop_message.specs.Signatures.{Kept as Listed};
 ghost use Rattle.giop_message.specs.MessageReading.{message_reading};
 ghost use Rattle.giop_stream.specs.Framing.{cut, fault_of};
 ghost use Rattle.giop_stream.specs.Stream.{text, closing, final};
-ghost use Rattle.giop_stream.specs.Holding.{AreOf, Holds, StopWrites, Leaves, reading_of, status_of};
+ghost use Rattle.giop_stream.specs.Holding.{AreOf, Holds, StopWrites, Leaves, added, reading_of, status_of};
+ghost use Rattle.giop_stream.specs.Pieces.{fed};
 
 use crate::fault::Stop;
 use crate::framing::Framing;
@@ -130,4 +132,14 @@ impl<'a> Engine<'a> {
 pub fn text_begins()
     ensures { (C : Table) (l : Listed) (p q : List ℕ) → (more : List ℕ)
         × (text (message_reading C l) (p ++ q) ≡ text (message_reading C l) p ++ more) }
+{}
+
+/// However a stream is cut into pieces, the same is written of it.
+pub fn any_pieces()
+    // What is written of pieces, one behind the other, is what all their octets add,
+    ensures whole { (C : Table) (l : Listed) (p : List ℕ) (pieces : List (List ℕ)) →
+        fed (message_reading C l) p pieces ≡ added (message_reading C l) p (concat pieces) }
+    // so that any two ways to cut the same octets write the same.
+    ensures same { (C : Table) (l : Listed) (p : List ℕ) (pieces others : List (List ℕ)) → concat pieces ≡ concat others →
+        fed (message_reading C l) p pieces ≡ fed (message_reading C l) p others }
 {}

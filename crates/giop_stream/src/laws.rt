@@ -2,6 +2,7 @@
 
 ghost use Rattle.std.specs.Prelude.{◌≡◌, ◌≤◌, ◌<◌, ℕ, suc, List, [], ◌∷◌, ◌++◌, length, true, Some, None, slice_get, slice_set};
 ghost use Rattle.std.specs.List.{remove};
+ghost use Rattle.giop_stream.specs.declared.fault.StreamFault.{StreamFault};
 ghost use Rattle.giop_stream.specs.Headers.{wrong};
 ghost use Rattle.giop_message.specs.Reading.{Reading, IsCausal, IsEnding, IsInTurn};
 ghost use Rattle.giop_stream.specs.Framing.{Message, limit, cut, messages};
@@ -113,4 +114,12 @@ pub fn each_joined()
 /// There is room for the open messages.
 pub fn open_messages()
     ensures { (p : List ℕ) → length (open_after p) ≤ most_open }
+{}
+
+/// Behind a stream fault no octet adds a line, and none is counted.
+pub fn behind_a_stop()
+    ensures text { (R : Reading) → IsCausal R → (p q : List ℕ) (found : ℕ × StreamFault) → (cut p).stop ≡ Some found →
+        text R (p ++ q) ≡ text R p }
+    ensures totals { (R : Reading) → IsCausal R → (p q : List ℕ) (found : ℕ × StreamFault) → (cut p).stop ≡ Some found →
+        tally R (p ++ q) ≡ tally R p }
 {}
