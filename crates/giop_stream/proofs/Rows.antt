@@ -1,5 +1,6 @@
 -- The definitions run: what is written of streams with fragments, and at their end. Each row holds by computation, over a
--- small reading: the request id, and at the close the octets behind it.
+-- small reading that only says the request id, and at the close the octets behind it. `giop_stream_rows` has streams over
+-- the reading of messages itself.
 use Rattle.std.proofs.Common.{◌≡◌, ℕ, ◌+◌, ◌-◌, ◌*◌, List, [], ◌∷◌, ◌++◌, length, take, drop, refl, codes}
 use Rattle.std.specs.Prelude.{nat_le, nat_lt, ◌==◌, if◌then◌else◌, ◌&&◌}
 use Rattle.std.specs.Fmt.{decimal, digits}

@@ -1,0 +1,70 @@
+-- The streams, computed.
+use Rattle.std.proofs.Common.{ℕ, refl}
+use Rattle.std.specs.Fmt.{digits}
+use Rattle.giop_cdr.specs.Alignment.{padding}
+use Rattle.giop_cdr.specs.Numbers.{num, twos_complement}
+use Rattle.giop_print.specs.Text.{hex, hex_number, escaped}
+use Rattle.giop_print.specs.Lines.{type_word, continues_line, cancelled_line, fault_line, stream_fault_line, unfinished_line, total_line}
+use Rattle.giop_print.specs.Lines as print
+use Rattle.giop_sig.specs.Trees.{trees_after, type_in}
+use Rattle.giop_sig.specs.Builtin.{builtin_types}
+use Rattle.giop_decode.specs.Pieces.{block, number}
+use Rattle.giop_decode.specs.Spelling.{path_text}
+use Rattle.giop_message.specs.Headers.{minor, kind, order, has_more, size, may_be_fragmented, is_opener, is_fragment, is_cancel}
+use Rattle.giop_message.specs.Text.{said_line, value_said, call_text, rest_text}
+use Rattle.giop_message.specs.Signatures.{said_by}
+use Rattle.giop_message.specs.Messages as one
+use Rattle.giop_message.specs.Messages.{tell, is_shown, call_of, calls, with_front, passes, rest_in, rest, typed, option_typed, members_of, after_exception, body, type_if, request_body, result_body, reply_body, is_request, body_of, has_body, padded, after_header, of_header, message, may_lack, close, told_of, stage_of}
+use Rattle.giop_message.specs.MessageReading.{saying_of, text_of, reading_by}
+use Rattle.giop_stream.specs.Headers.{fronts, wrong, first_wrong, offence}
+use Rattle.giop_stream.specs.Framing.{with_first, cut_from, limit, limited, cut, messages, read_of}
+use Rattle.giop_stream.specs.Kinds.{may_be_cancelled, refused}
+use Rattle.giop_stream.specs.Events.{place, own, about, id, opener_of, has_named, goes_past, at_header, at_octet, opens, continues, cancels, at_id, at_end, happens, events_of, changed, opened, events_from, events, open_after, octet, joined}
+use Rattle.giop_stream.specs.Lines.{classes, line, tells, told, by_class, in_order, is_last_of, standing, said, stop_line, lines}
+use Rattle.giop_stream.specs.Text.{start_line, lines_text}
+use Rattle.giop_stream.specs.Stream.{text, start_count, fault_count, tally, is_inside, is_truncated, is_over, heads, unfinished, final, closing}
+use Rattle.giop_stream_rows.specs.Worked.{digit, octets, stream, written, reading, called, table_of, builtin, puts, bigs, late, asks, kept}
+use Rattle.giop_stream_rows.specs.Streams.{CloseConnection, LittleRequest, Interleaved, OpenTwice, Cancelled, Replied, Raised}
+
+-- what one message is read with
+one_message : ℕ
+unfolding digits num twos_complement padding block number path_text hex hex_number escaped type_in trees_after builtin_types minor kind order value_said call_text rest_text said_by tell is_shown call_of calls one.tells with_front passes rest_in rest typed option_typed members_of after_exception body type_if request_body result_body reply_body is_request body_of has_body padded after_header of_header message may_lack close told_of stage_of saying_of text_of reading_by
+one_message = 0
+
+-- what a stream is cut and written with
+a_stream : ℕ
+unfolding type_word print.start_line continues_line cancelled_line fault_line stream_fault_line unfinished_line total_line fronts wrong first_wrong offence has_more size with_first cut_from limit limited cut messages read_of start_line said_line is_inside is_truncated may_be_fragmented is_opener is_fragment is_cancel may_be_cancelled refused place own about id opener_of has_named goes_past at_header at_octet opens continues cancels at_id at_end happens events_of changed opened events_from events open_after octet joined classes line tells told by_class in_order is_last_of standing said stop_line lines lines_text text start_count fault_count tally is_over heads unfinished final closing
+a_stream = 0
+
+-- what the rows are told with
+told_with : ℕ
+unfolding digit octets stream written reading called table_of builtin puts bigs late asks kept
+told_with = 0
+
+pub close_connection : CloseConnection
+unfolding one_message a_stream told_with
+close_connection = record { text = refl; closing = refl }
+
+pub little_request : LittleRequest
+unfolding one_message a_stream told_with
+little_request = record { text = refl; closing = refl }
+
+pub interleaved : Interleaved
+unfolding one_message a_stream told_with
+interleaved = record { text = refl; closing = refl }
+
+pub open_twice : OpenTwice
+unfolding one_message a_stream told_with
+open_twice = record { text = refl; closing = refl }
+
+pub cancelled : Cancelled
+unfolding one_message a_stream told_with
+cancelled = record { text = refl; closing = refl }
+
+pub replied : Replied
+unfolding one_message a_stream told_with
+replied = record { text = refl; closing = refl }
+
+pub raised : Raised
+unfolding one_message a_stream told_with
+raised = record { text = refl; closing = refl }

@@ -1,0 +1,15 @@
+use Rattle.giop_stream_rows.proofs.Computing.{close_connection, little_request, interleaved, open_twice, cancelled, replied, raised}
+use Rattle.giop_stream_rows.proofs.Listed.{listed}
+use Rattle.giop_stream_rows.proofs.worked_streams.Goals as goal
+
+pub returns : goal.returns
+returns c = record {
+  close_connection = close_connection;
+  little_request = little_request;
+  interleaved = interleaved;
+  open_twice = open_twice;
+  cancelled = cancelled;
+  replied = replied;
+  raised = raised;
+  listed = listed;
+}

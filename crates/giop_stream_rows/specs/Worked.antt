@@ -1,0 +1,93 @@
+-- Meaning. How a worked stream is told: its octets in hexadecimal digits, its lines, and the types and requests that it
+-- is read by.
+use Rattle.std.specs.Prelude.{◌≡◌, ℕ, ◌+◌, ◌-◌, ◌*◌, ◌==◌, nat_lt, if◌then◌else◌, List, [], ◌∷◌, ◌++◌, Some, None, codes}
+use Rattle.giop_sig.specs.Table.{Node, members, Operation, Exception, Table, op_id, operation_number}
+use Rattle.giop_sig.specs.Builtin.{builtin_types, member}
+use Rattle.giop_sig.specs.RequestList.{Entry, IsOf}
+use Rattle.giop_message.specs.Reading.{Reading}
+use Rattle.giop_message.specs.Signatures.{Kept}
+use Rattle.giop_message.specs.MessageReading.{message_reading}
+use Rattle.giop_stream.specs.Stream.{text, closing}
+
+-- ---- The octets and the lines.
+
+unfoldable pub digit : ℕ → ℕ
+digit c = if nat_lt c 58 then c - 48 else c - 87
+
+-- hexadecimal digits with spaces between octets
+unfoldable pub octets : List ℕ → List ℕ
+octets [] = []
+octets (a ∷ []) = []
+octets (a ∷ (b ∷ more)) = if a == 32 then octets (b ∷ more) else (16 * digit a + digit b) ∷ octets more
+
+unfoldable pub stream : List (List ℕ) → List ℕ
+stream [] = []
+stream (part ∷ parts) = octets part ++ stream parts
+
+-- lines, each with its line feed
+unfoldable pub written : List (List ℕ) → List ℕ
+written [] = []
+written (line ∷ lines) = line ++ 10 ∷ written lines
+
+-- What is written of this stream, and at its end.
+pub record Row (R : Reading) (p : List ℕ) (lines end : List (List ℕ)) : Type 0 where
+  pub text : text R p ≡ written lines
+  pub closing : closing R p ≡ written end
+
+-- ---- What the streams are read by.
+
+unfoldable pub reading : Table → Kept → Reading
+reading table kept = message_reading table kept
+
+-- an operation by the structs of its parameters and of its results, which stand one behind the other
+unfoldable pub called : List ℕ → ℕ → Operation
+called name request = record { name = name; request = request; reply = request + 1 }
+
+-- the built-in types and then these, with these operations and exceptions
+unfoldable pub table_of : List Node → List Operation → List Exception → Table
+table_of types operations exceptions = record { types = builtin_types ++ types; operations = operations; exceptions = exceptions; declared = 0 }
+
+-- no declarations
+unfoldable pub builtin : Table
+builtin = table_of [] [] []
+
+-- operation void put(in double d);
+unfoldable pub puts : Table
+puts = table_of (members (member (codes "d") 10 ∷ []) ∷ members [] ∷ []) (called (codes "put") 37 ∷ []) []
+
+-- operation void big(in ulonglong n); operation void nop();
+unfoldable pub bigs : Table
+bigs = table_of
+    (members (member (codes "n") 8 ∷ []) ∷ members [] ∷ members [] ∷ members [] ∷ [])
+    (called (codes "big") 37 ∷ called (codes "nop") 39 ∷ [])
+    []
+
+unfoldable pub late : Exception
+late = record { repository = codes "IDL:Late:1.0"; members = 37 }
+
+-- exception Late "IDL:Late:1.0" { ushort by; }; operation long ask(in long a, out octet b); operation void nop();
+unfoldable pub asks : Table
+asks = table_of
+    (members (member (codes "by") 4 ∷ [])
+    ∷ members (member (codes "a") 5 ∷ [])
+    ∷ members (member (codes "return") 5 ∷ member (codes "b") 0 ∷ [])
+    ∷ members []
+    ∷ members []
+    ∷ [])
+    (called (codes "ask") 38 ∷ called (codes "nop") 40 ∷ [])
+    (late ∷ [])
+
+unfoldable pub entry : ℕ → List ℕ → Entry
+entry id name = record { id = id; name = name }
+
+-- 1 ask, 1 ask, 2 nop, 2 ask
+unfoldable pub entries : List Entry
+entries = entry 1 (codes "ask") ∷ entry 1 (codes "ask") ∷ entry 2 (codes "nop") ∷ entry 2 (codes "ask") ∷ []
+
+-- what is kept of these: the one operation of the first id, and none of the second
+unfoldable pub kept : Kept
+kept = (1, Some (op_id 0)) ∷ (2, None) ∷ []
+
+-- it answers as the list does, for these declarations
+abbrev pub AreOfTheirList : Type 0
+AreOfTheirList = IsOf (operation_number asks) entries kept

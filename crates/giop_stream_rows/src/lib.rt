@@ -1,0 +1,25 @@
+//! Streams worked by hand: what an engine writes of them and at their end holds by computation.
+#![tactic(auto)]
+
+ghost use Rattle.giop_stream_rows.specs.Worked.{AreOfTheirList};
+ghost use Rattle.giop_stream_rows.specs.Streams.{CloseConnection, LittleRequest, Interleaved, OpenTwice, Cancelled, Replied, Raised};
+
+/// The text and the closing of these streams, by the declarations and the requests of each. It has no body, and is called
+/// for its contract.
+pub fn worked_streams()
+    // A message without a header type ends at its own header.
+    ensures close_connection { CloseConnection }
+    // A Request of 1.2 and little order, whose body is aligned to 8.
+    ensures little_request { LittleRequest }
+    // Two Requests in fragments, which come by turns.
+    ensures interleaved { Interleaved }
+    // Two messages of one request id.
+    ensures open_twice { OpenTwice }
+    // A CancelRequest, and a Fragment of the message that it cancelled.
+    ensures cancelled { Cancelled }
+    // A Reply with the results of its request's operation, and one with an exception.
+    ensures replied { Replied }
+    ensures raised { Raised }
+    // What is kept of the request list of these two answers as the list does.
+    ensures listed { AreOfTheirList }
+{}
