@@ -108,15 +108,15 @@ named_accepted h n = elim (or_cases (is_opener h || is_fragment h) (is_cancel h)
 
 -- ---- Octet by octet.
 
-not_past : (m : Message) → length m.payload ≤ 4 → goes_past m ≡ false
+pub not_past : (m : Message) → length m.payload ≤ 4 → goes_past m ≡ false
 unfolding goes_past
 not_past m h = and_right (is_fragment m.header) (nat_lt 4 (length m.payload)) (le-ltb 4 (length m.payload) h)
 
-early_octet : (live : List Open) (m : Message) → 0 < length m.payload → length m.payload < 4 → length m.payload < size m.header → happens live m ≡ at_octet live m
+pub early_octet : (live : List Open) (m : Message) → 0 < length m.payload → length m.payload < 4 → length m.payload < size m.header → happens live m ≡ at_octet live m
 unfolding happens
 early_octet live m some few lacks = rw (happens, ne_eqb (length m.payload) 0 (λ e. omega arith), ne_eqb (length m.payload) 4 (λ e. omega arith), ne_eqb (length m.payload) (size m.header) (λ e. omega arith)) (append-nil (at_octet live m))
 
-first_octet : (live : List Open) (m : Message) → length m.payload ≡ 0 → 0 < size m.header → happens live m ≡ at_header m
+pub first_octet : (live : List Open) (m : Message) → length m.payload ≡ 0 → 0 < size m.header → happens live m ≡ at_header m
 unfolding happens
 first_octet live m none some = rw (happens, eq-eqb (length m.payload) 0 none, ne_eqb (length m.payload) 4 (λ e. omega arith), ne_eqb (length m.payload) (size m.header) (λ e. omega arith)) (append-nil (at_header m))
 
@@ -154,11 +154,11 @@ alive_header R causal laws p x st cur room w eleven name some =
     none_current : (c : Cut) → c.current ≡ None → length (messages c) ≡ length c.whole
     none_current c e = unfold messages in rw e (ap length (append-nil c.whole))
 
-record Settled (whole : List Message) (m m' : Message) : Type 0 where
-  same : m' ≡ m
-  lacks : length m.payload < size m.header
+pub record Settled (whole : List Message) (m m' : Message) : Type 0 where
+  pub same : m' ≡ m
+  pub lacks : length m.payload < size m.header
 
-settled_is : (whole : List Message) (m m' : Message) → (settle whole m).current ≡ Some m' → Settled whole m m'
+pub settled_is : (whole : List Message) (m m' : Message) → (settle whole m).current ≡ Some m' → Settled whole m m'
 unfolding settle
 settled_is whole m m' h = go (nat_lt (length m.payload) (size m.header)) refl h
   where
@@ -221,7 +221,7 @@ alive_by R causal laws p x alive None None cur st false e st' m cur' name few =
     let grown : cut (p ++ x ∷ []) ≡ header_case 1 (suc (length p)) (cut p).whole (held ++ x ∷ []) (wrong (held ++ x ∷ [])) (length (held ++ x ∷ []) == 12) = cut_grows p x ∙ (ap (next (length p) x) (parts_by (cut p) None None cur st) ∙ next_front (cut p).whole held (length p) x e) in
     alive_front R causal laws p x st cur (free_room (length p) e) (wrong (held ++ x ∷ [])) (length (held ++ x ∷ []) == 12) refl refl grown st' m cur' name few
 
-alive_start : (R : Reading) → IsAlive R []
+pub alive_start : (R : Reading) → IsAlive R []
 unfolding of_parts
 alive_start R st m cur name few = absurd (let no : None ≡ Some m = sym (ap (λ (c : Cut). c.current) cut_nothing) ∙ cur in cc)
 

@@ -121,7 +121,7 @@ live_nothing : AreSound []
 unfolding IsFew AreOpeners
 live_nothing = record { few = omega arith; differ = tt; openers = tt }
 
-sound_start : (R : Reading) → IsSound R []
+pub sound_start : (R : Reading) → IsSound R []
 unfolding of_parts messages start_count
 sound_start R = record {
   places = rw events_nothing tt;

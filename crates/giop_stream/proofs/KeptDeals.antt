@@ -62,7 +62,7 @@ all_open : (live : List Open) → Each (λ o. is_open live o.opener.number ≡ t
 all_open [] = tt
 all_open (o ∷ live) = (open_first o live, each_weaker (λ a. is_open live a.opener.number ≡ true) (λ a. is_open (o ∷ live) a.opener.number ≡ true) (λ a h. open_more o live a.opener.number h) live (all_open live))
 
-kept_all : (K : Kept) (live : List Open) (number : ℕ) (own : Option (List ℕ)) → Each (λ o. kept (slots_of K live) number own o.opener.number ≡ K o.opener.number) live
+pub kept_all : (K : Kept) (live : List Open) (number : ℕ) (own : Option (List ℕ)) → Each (λ o. kept (slots_of K live) number own o.opener.number ≡ K o.opener.number) live
 kept_all K live number own = each_weaker (λ o. is_open live o.opener.number ≡ true) (λ o. kept (slots_of K live) number own o.opener.number ≡ K o.opener.number) (λ o h. kept_found K live number own o.opener.number h) live (all_open live)
 
 -- A deal, by what is kept of each message.

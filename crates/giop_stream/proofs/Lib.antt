@@ -49,3 +49,9 @@ mod Runs
 mod InPieces
 mod Stopped
 pub mod StreamLaws
+mod EngineRows
+mod Acts
+mod OneOctet
+mod EngineStep
+mod EngineLaws
+mod EngineAlive

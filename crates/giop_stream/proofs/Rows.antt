@@ -25,27 +25,27 @@ use Rattle.giop_stream.specs.Stream.{text, start_count, fault_count, tally, is_o
 -- ---- The reading, and streams in hexadecimal digits with spaces.
 
 -- a request id, as it is said
-unfoldable id_text : ℕ → List ℕ
+unfoldable pub id_text : ℕ → List ℕ
 id_text id = print_text.joined (codes "header.request_id ulong " ∷ decimal id ∷ [])
 
 -- A message that begins with its request id; one of fewer octets than these is short.
-named_reads : List ℕ → List ℕ → List Remark
+unfoldable pub named_reads : List ℕ → List ℕ → List Remark
 named_reads header xs = if has_name header && nat_le 4 (length xs) then record { at = 4; saying = Value; text = id_text (num (order header) (take 4 xs)) } ∷ [] else []
 
-behind : List ℕ → List (Saying × List ℕ)
+unfoldable pub behind : List ℕ → List (Saying × List ℕ)
 behind [] = []
 behind (x ∷ xs) = (Rest, rest_text 0 (x ∷ xs)) ∷ []
 
-named_closes : ℕ → List ℕ → List ℕ → List (Saying × List ℕ)
+unfoldable pub named_closes : ℕ → List ℕ → List ℕ → List (Saying × List ℕ)
 named_closes least header xs = if nat_lt (length xs) least then (Fault, codes "short") ∷ [] else behind (drop 4 xs) ++ (End, codes "end") ∷ []
 
-small : ℕ → Reading
+unfoldable pub small : ℕ → Reading
 small least = record { reads = named_reads; closes = named_closes least }
 
-digit : ℕ → ℕ
+unfoldable pub digit : ℕ → ℕ
 digit c = if nat_lt c 58 then c - 48 else c - 87
 
-octets : List ℕ → List ℕ
+unfoldable pub octets : List ℕ → List ℕ
 octets [] = []
 octets (a ∷ []) = []
 octets (a ∷ (b ∷ more)) = if a == 32 then octets (b ∷ more) else (16 * digit a + digit b) ∷ octets more
@@ -55,14 +55,14 @@ record Writes (R : Reading) (p lines end : List ℕ) : Type 0 where
   closing : closing R p ≡ end
 
 -- names what the rows compute with
-rows : ℕ
+unfoldable pub rows : ℕ
 unfolding named_reads behind named_closes small digit octets digits num hex type_word print.start_line continues_line cancelled_line fault_line stream_fault_line unfinished_line total_line fronts wrong first_wrong offence minor kind order has_more size with_first cut_from limit limited cut messages read_of start_line said_line id_text rest_text is_inside is_truncated may_be_fragmented is_opener is_fragment is_cancel may_be_cancelled refused place own about id opener_of has_named goes_past at_header at_octet opens continues cancels at_id at_end happens events_of changed opened events_from events open_after octet joined classes line tells told by_class in_order is_last_of standing said stop_line lines lines_text text start_count fault_count tally is_over heads unfinished final closing
 rows = 0
 
 -- ---- The rows.
 
 -- two messages in fragments, which come by turns
-interleaved : List ℕ
+unfoldable pub interleaved : List ℕ
 interleaved = octets (codes "47494f50 0102 02 00 00000028 00000005 03 000000 0000 0000 00000001 41 000000 00000004 626967 00 00000000 00000000 01020304 47494f50 0102 02 00 00000024 00000006 03 000000 0000 0000 00000001 41 000000 00000004 6e6f70 00 00000000 00000000 47494f50 0102 02 07 00000006 00000005 0506 47494f50 0102 00 07 00000004 00000006 47494f50 0102 00 07 00000006 00000005 0708")
 
 interleaved_row : Writes (small 0) interleaved
@@ -72,7 +72,7 @@ unfolding rows interleaved
 interleaved_row = record { text = refl; closing = refl }
 
 -- a message of which the first part has its request id alone
-id_alone : List ℕ
+unfoldable pub id_alone : List ℕ
 id_alone = octets (codes "47494f50 0102 02 00 00000004 00000008 47494f50 0102 00 07 00000020 00000008 03 000000 0000 0000 00000001 41 000000 00000004 6e6f70 00 00000000")
 
 id_alone_row : Writes (small 0) id_alone
@@ -82,7 +82,7 @@ unfolding rows id_alone
 id_alone_row = record { text = refl; closing = refl }
 
 -- the end of a joined message comes too early, in a Fragment without an octet for it
-too_short : List ℕ
+unfoldable pub too_short : List ℕ
 too_short = octets (codes "47494f50 0102 02 00 0000002c 00000009 03 000000 0000 0000 00000001 41 000000 00000004 736179 00 00000000 00000000 00000006 61626364 47494f50 0102 00 07 00000004 00000009")
 
 too_short_row : Writes (small 46) too_short
@@ -92,7 +92,7 @@ unfolding rows too_short
 too_short_row = record { text = refl; closing = refl }
 
 -- a Fragment of no open message
-not_open : List ℕ
+unfoldable pub not_open : List ℕ
 not_open = octets (codes "47494f50 0102 00 07 00000006 00000003 abcd")
 
 not_open_row : Writes (small 0) not_open
@@ -102,7 +102,7 @@ unfolding rows not_open
 not_open_row = record { text = refl; closing = refl }
 
 -- two messages of one request id
-twice : List ℕ
+unfoldable pub twice : List ℕ
 twice = octets (codes "47494f50 0102 02 00 00000004 00000001 47494f50 0102 02 00 00000004 00000001")
 
 twice_row : Writes (small 0) twice
@@ -112,7 +112,7 @@ unfolding rows twice
 twice_row = record { text = refl; closing = refl }
 
 -- one message more than may be open, and a Fragment of it
-too_many : List ℕ
+unfoldable pub too_many : List ℕ
 too_many = octets (codes "47494f50 0102 02 00 00000004 00000001 47494f50 0102 02 00 00000004 00000002 47494f50 0102 02 00 00000004 00000003 47494f50 0102 02 00 00000004 00000004 47494f50 0102 02 00 00000004 00000005 47494f50 0102 02 00 00000004 00000006 47494f50 0102 02 00 00000004 00000007 47494f50 0102 02 00 00000004 00000008 47494f50 0102 02 00 00000004 00000009 47494f50 0102 02 00 00000004 0000000a 47494f50 0102 02 00 00000004 0000000b 47494f50 0102 02 00 00000004 0000000c 47494f50 0102 02 00 00000004 0000000d 47494f50 0102 02 00 00000004 0000000e 47494f50 0102 02 00 00000004 0000000f 47494f50 0102 02 00 00000004 00000010 47494f50 0102 02 00 00000004 00000011 47494f50 0102 00 07 00000004 00000011")
 
 too_many_row : Writes (small 0) too_many
@@ -122,7 +122,7 @@ unfolding rows too_many
 too_many_row = record { text = refl; closing = refl }
 
 -- a CancelRequest closes an open message
-cancelled : List ℕ
+unfoldable pub cancelled : List ℕ
 cancelled = octets (codes "47494f50 0102 02 00 00000004 00000004 47494f50 0102 00 02 00000004 00000004 47494f50 0102 00 07 00000004 00000004")
 
 cancelled_row : Writes (small 0) cancelled
@@ -132,7 +132,7 @@ unfolding rows cancelled
 cancelled_row = record { text = refl; closing = refl }
 
 -- a message of 1.1 that has fragments
-old_fragment : List ℕ
+unfoldable pub old_fragment : List ℕ
 old_fragment = octets (codes "47494f50 0101 02 00 00000000")
 
 old_fragment_row : Writes (small 0) old_fragment
@@ -142,7 +142,7 @@ unfolding rows old_fragment
 old_fragment_row = record { text = refl; closing = refl }
 
 -- a Fragment of 1.0
-early_fragment : List ℕ
+unfoldable pub early_fragment : List ℕ
 early_fragment = octets (codes "47494f50 0100 00 07 00000000")
 
 early_fragment_row : Writes (small 0) early_fragment
@@ -152,7 +152,7 @@ unfolding rows early_fragment
 early_fragment_row = record { text = refl; closing = refl }
 
 -- a type above those of the standard
-unknown_type : List ℕ
+unfoldable pub unknown_type : List ℕ
 unknown_type = octets (codes "47494f50 0102 00 09 00000000")
 
 unknown_type_row : Writes (small 0) unknown_type
@@ -162,7 +162,7 @@ unfolding rows unknown_type
 unknown_type_row = record { text = refl; closing = refl }
 
 -- a message that has fragments, without room for its request id
-no_room : List ℕ
+unfoldable pub no_room : List ℕ
 no_room = octets (codes "47494f50 0102 02 00 00000002 0000")
 
 no_room_row : Writes (small 0) no_room
@@ -172,7 +172,7 @@ unfolding rows no_room
 no_room_row = record { text = refl; closing = refl }
 
 -- a Fragment of the other byte order, and one more
-other_order : List ℕ
+unfoldable pub other_order : List ℕ
 other_order = octets (codes "47494f50 0102 02 00 00000004 00000005 47494f50 0102 03 07 04000000 05000000 47494f50 0102 00 07 00000004 00000005")
 
 other_order_row : Writes (small 0) other_order
@@ -182,7 +182,7 @@ unfolding rows other_order
 other_order_row = record { text = refl; closing = refl }
 
 -- where the byte order is wrong at the close, the rest and the end fall away
-order_at_close : List ℕ
+unfoldable pub order_at_close : List ℕ
 order_at_close = octets (codes "47494f50 0102 02 00 00000006 00000001 00ab 47494f50 0102 01 07 04000000 01000000")
 
 order_at_close_row : Writes (small 0) order_at_close
@@ -192,7 +192,7 @@ unfolding rows order_at_close
 order_at_close_row = record { text = refl; closing = refl }
 
 -- a last Fragment of the wrong byte order closes all the same
-order_then_close : List ℕ
+unfoldable pub order_then_close : List ℕ
 order_then_close = octets (codes "47494f5001020200000000040000000147494f50010201070600000001000000abcd47494f50010200070000000400000001")
 
 order_then_close_row : Writes (small 0) order_then_close
@@ -202,7 +202,7 @@ unfolding rows order_then_close
 order_then_close_row = record { text = refl; closing = refl }
 
 -- a CancelRequest closes at its request id, not at its own end
-cancelled_early : List ℕ
+unfoldable pub cancelled_early : List ℕ
 cancelled_early = octets (codes "47494f5001020200000000040000000147494f50010200020000000600000001")
 
 cancelled_early_row : Writes (small 0) cancelled_early
@@ -212,7 +212,7 @@ unfolding rows cancelled_early
 cancelled_early_row = record { text = refl; closing = refl }
 
 -- a Fragment without room for its request id closes nothing
-short_fragment : List ℕ
+unfoldable pub short_fragment : List ℕ
 short_fragment = octets (codes "47494f5001020200000000040000000147494f50010200070000000300000047494f50010200070000000400000001")
 
 short_fragment_row : Writes (small 5) short_fragment

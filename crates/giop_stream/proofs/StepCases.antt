@@ -25,7 +25,7 @@ use Rattle.giop_stream.proofs.Dealt.{make, state_is, settled_messages, before_de
 use Rattle.giop_stream.proofs.Soundness.{Fits, IsSound, IsStep, dealt_sound, events_on, events_begin}
 
 -- The cases of a step.
-quiet_sound : (R : Reading) → (p p' : List ℕ) → length p' ≡ suc (length p) → messages (cut p') ≡ messages (cut p) → events p' ≡ events p → said R p' ≡ said R p → start_count (lines R p') ≡ start_count (lines R p) → ((cut p').stop ≡ None → Fits (suc (length p)) (cut p')) → ((cut p').stop ≡ None → IfSome (cut p').current (λ m. length m.payload < 4 → Below m.number (open_after p')))
+pub quiet_sound : (R : Reading) → (p p' : List ℕ) → length p' ≡ suc (length p) → messages (cut p') ≡ messages (cut p) → events p' ≡ events p → said R p' ≡ said R p → start_count (lines R p') ≡ start_count (lines R p) → ((cut p').stop ≡ None → Fits (suc (length p)) (cut p')) → ((cut p').stop ≡ None → IfSome (cut p').current (λ m. length m.payload < 4 → Below m.number (open_after p')))
     → ((cut p').stop ≡ None → IfSome (cut p').current (λ m. length m.payload ≤ 4 → joined m.number (events p') ≡ m.payload)) → IsSound R p → IsSound R p'
 quiet_sound R p p' len ms ev sd sc fits early begun sound = record {
   places = rw (ev, len) (each_weaker (λ e. e.place ≤ length p) (λ e. e.place ≤ suc (length p)) (λ e h. omega arith) (events p) sound.places);
@@ -65,7 +65,7 @@ same_step R causal p p' c found len ec ec' st sound =
       sound = quiet_sound R p p' len (rw (ec', ec) refl) ev sd (ap start_count ln) (λ free. absurd (let no : Some found ≡ None = sym st ∙ rw ec' at free in cc)) (λ free. absurd (let no : Some found ≡ None = sym st ∙ rw ec' at free in cc)) (λ free. absurd (let no : Some found ≡ None = sym st ∙ rw ec' at free in cc)) sound;
     }
 
-stop_starts : (found : ℕ × StreamFault) → start_count (stop_line (Some found)) ≡ 0
+pub stop_starts : (found : ℕ × StreamFault) → start_count (stop_line (Some found)) ≡ 0
 unfolding start_count stop_line
 stop_starts found = refl
 
@@ -137,7 +137,7 @@ unfolding goes_past
 not_past_short m h = and_right (is_fragment m.header) (nat_lt 4 (length m.payload)) (le-ltb 4 (length m.payload) h)
 
 -- nothing has come to a message of which nothing is known
-none_known : (R : Reading) (p : List ℕ) (i : ℕ) → octets_of R p i ≡ Some [] → joined i (events p) ≡ []
+pub none_known : (R : Reading) (p : List ℕ) (i : ℕ) → octets_of R p i ≡ Some [] → joined i (events p) ≡ []
 unfolding octets_of
 none_known R p i h = go (is_over R p i) h
   where
@@ -210,7 +210,7 @@ pub in_header_full : (R : Reading) (s : State) (front : List ℕ) → wrong fron
 unfolding in_header
 in_header_full R s front e k = rw (e, k) refl
 
-not_twelve : (n : ℕ) → (n == 12) ≡ false → n ≤ 12 → n < 12
+pub not_twelve : (n : ℕ) → (n == 12) ≡ false → n ≤ 12 → n < 12
 not_twelve n h k = elim (cases_eq n 12) [ inl e ↦ absurd (let t : (n == 12) ≡ true = eq-eqb n 12 e in cc) | inr other ↦ omega arith ]
 
 pub front_step : (R : Reading) → IsCausal R → (p p' : List ℕ) (whole : List Message) (held : List ℕ) (x : ℕ) → length p' ≡ suc (length p)

@@ -17,3 +17,7 @@ pub mod Shown
 pub mod Steps
 pub mod Holding
 pub mod Pieces
+pub mod Octet
+pub mod Engine
+pub mod Step
+pub mod Showing

@@ -15,6 +15,8 @@ ghost use Rattle.giop_stream.specs.Stream.{text, tally, final, closing};
 ghost use Rattle.giop_stream.specs.State.{State, octets_of, state_of};
 ghost use Rattle.giop_stream.specs.Machine.{fresh, first_message, step, run, run_state, totals_of, final_totals, finish};
 ghost use Rattle.giop_stream.specs.Plays.{Scene, plays, scene_at, octets_then, stays, goes, IsNotOpen, slots_at, scene_of, ends_with, with_octet, reading_on, beginning, stage};
+ghost use Rattle.giop_stream.specs.Engine as engine;
+ghost use Rattle.giop_stream.specs.Step as one;
 
 // The functions here have no body, and are called for their contracts.
 
@@ -122,4 +124,21 @@ pub fn behind_a_stop()
         text R (p ++ q) ≡ text R p }
     ensures totals { (R : Reading) → IsCausal R → (p q : List ℕ) (found : ℕ × StreamFault) → (cut p).stop ≡ Some found →
         tally R (p ++ q) ≡ tally R p }
+{}
+
+/// What an engine holds of a stream goes by one step for each octet.
+pub fn each_step()
+    ensures start { (R : Reading) → engine.state_of R [] ≡ one.fresh }
+    ensures state { (R : Reading) → IsCausal R → IsInTurn R → (p : List ℕ) (x : ℕ) →
+        engine.state_of R (p ++ x ∷ []) ≡ (one.step R (engine.state_of R p) x).state }
+    ensures lines { (R : Reading) → IsCausal R → IsInTurn R → (p : List ℕ) (x : ℕ) →
+        lines R (p ++ x ∷ []) ≡ lines R p ++ (one.step R (engine.state_of R p) x).lines }
+    ensures text { (R : Reading) → IsCausal R → IsInTurn R → (p q : List ℕ) →
+        text R (p ++ q) ≡ text R p ++ lines_text (one.run R (engine.state_of R p) q) }
+    ensures rest { (R : Reading) → IsCausal R → IsInTurn R → (p q : List ℕ) →
+        engine.state_of R (p ++ q) ≡ one.run_state R (engine.state_of R p) q }
+    ensures closing { (R : Reading) → IsCausal R → IsInTurn R → IsEnding R → (p : List ℕ) →
+        closing R p ≡ one.finish (engine.state_of R p) }
+    ensures totals { (R : Reading) → IsCausal R → IsInTurn R → (p : List ℕ) →
+        final R p ≡ one.final_totals (engine.state_of R p) }
 {}

@@ -18,7 +18,7 @@ mod status;
 pub use engine::{Engine, any_pieces, text_begins};
 pub use fault::{ImposedFault, Stop, StreamFault};
 pub use laws::{
-    behind_a_stop, each_event, each_finish, each_joined, each_octet, each_slot, each_stream,
-    open_messages,
+    behind_a_stop, each_event, each_finish, each_joined, each_octet, each_slot, each_step,
+    each_stream, open_messages,
 };
 pub use status::{Status, Totals};
