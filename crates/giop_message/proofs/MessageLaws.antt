@@ -1,15 +1,20 @@
 -- What the crate above may use of the reading of a message, beside its contracts: lemmas on the public definitions, each
 -- proved in the file that it names. No other file of this crate's proofs can be cited from outside.
 use Rattle.std.specs.List.{list_any}
-use Rattle.std.proofs.Common.{◌≡◌, ℕ, suc, ◌+◌, true, false, List, [], ◌∷◌, ◌++◌, length}
+use Rattle.std.proofs.Common.{◌≡◌, ℕ, suc, ◌+◌, true, false, List, Some, [], ◌∷◌, ◌++◌, length}
+use Rattle.std.specs.Prelude.{IfSome}
+use Rattle.giop_cdr.specs.Numbers.{num}
+use Rattle.giop_sig.specs.Types.{Ty}
 use Rattle.giop_sig.specs.Table.{Table}
+use Rattle.giop_sig.specs.Headers.{BeginsWithId, header_type}
 use Rattle.giop_message.specs.declared.message.Message.{Message as MessageValue}
+use Rattle.giop_message.specs.Headers.{minor, kind, order, has_name}
 use Rattle.giop_message.specs.Reading.{IsCausal, IsEnding, IsNamed, IsOrdered, IsClosing, is_fault}
 use Rattle.giop_message.specs.Reading as said
 use Rattle.giop_message.specs.Text.{said_text}
 use Rattle.giop_message.specs.Signatures.{Signatures, Kept, said_by}
 use Rattle.giop_message.specs.Messages.{message, told_of, stage_of, close}
-use Rattle.giop_message.specs.MessageReading.{message_reading, reading_by, is_over, is_wrong}
+use Rattle.giop_message.specs.MessageReading.{message_reading, reading_by, id_said, is_over, is_wrong}
 use Rattle.giop_message.specs.Holding.{Follows, due, due_text, closing_text, closes_text, is_short}
 use Rattle.giop_message.proofs.Causal as causal
 use Rattle.giop_message.proofs.Named as named
@@ -33,6 +38,16 @@ is_closing S = closes.is_closing S
 
 pub is_ending : (S : Signatures) → IsEnding (reading_by S)
 is_ending S = named.is_ending S
+
+-- A message that goes by its request id begins with it, and its first four octets say it.
+
+pub begins_with_id : (header : List ℕ) → has_name header ≡ true → IfSome (header_type (minor header) (kind header)) BeginsWithId
+begins_with_id header by = named.begins_with_id header by
+
+pub id_is_said : (S : Signatures) (header : List ℕ) (T : Ty) → S.header (minor header) (kind header) ≡ Some T → BeginsWithId T →
+    (a b c d : ℕ) (xs : List ℕ) →
+    id_said (told_of (message S header (a ∷ b ∷ c ∷ d ∷ xs))) ≡ Some (num (order header) (a ∷ b ∷ c ∷ d ∷ []))
+id_is_said S header T found begins a b c d xs = named.id_is_said S header T found begins a b c d xs
 
 pub is_named : (C : Table) (kept : Kept) → IsNamed (message_reading C kept)
 is_named C kept = named.is_named (said_by C kept) (named.has_ids C kept)

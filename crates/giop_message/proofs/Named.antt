@@ -10,7 +10,7 @@ use Rattle.giop_cdr.specs.declared.prim.Primitive.TheVariants as prims
 use Rattle.giop_print.specs.declared.path.Root.TheVariants as roots
 use Rattle.giop_sig.specs.Types.{Ty, Plain, Single, Struct}
 use Rattle.giop_sig.specs.Table.{Table}
-use Rattle.giop_sig.specs.Headers.{BeginsWithId, IdStandsFirst}
+use Rattle.giop_sig.specs.Headers.{BeginsWithId, IdStandsFirst, header_type}
 use Rattle.giop_sig.proofs.HeaderLaws.{id_first}
 use Rattle.giop_decode.specs.Spine as spine
 use Rattle.giop_decode.specs.Spine.{Seg, Name, Line, Number, line, Place, Leaf, Part, Read, Done, Short, followed, within}
@@ -190,6 +190,9 @@ goes_first header by = go (first_by (minor header == 2) (has_more header) (may_b
     go (inl e) = inl (eqb-true (minor header) 2 e)
     go (inr e) = inr (eqb-true (kind header) 2 e)
 
+pub begins_with_id : (header : List ℕ) → has_name header ≡ true → IfSome (header_type (minor header) (kind header)) BeginsWithId
+begins_with_id header by = id_first (minor header) (kind header) (goes_first header by)
+
 pub has_ids : (C : Table) (kept : Kept) → HasIds (said_by C kept)
 unfolding said_by
-has_ids C kept = record { begins = λ header by. id_first (minor header) (kind header) (goes_first header by) }
+has_ids C kept = record { begins = λ header by. begins_with_id header by }

@@ -44,7 +44,7 @@ pub settled_ready : (C : Table) (m : Memory) (n : ℕ) → AreReady C (m.totals.
 unfolding steps.settle
 settled_ready C m n h = go (m.come == n)
   where
-    go : (b : Bool) → (let m' : Memory = if b then record m { header = []; come = 0; first = [] } else m in AreReady C (m'.totals.octets + 1) m'.slots)
+    go : (b : Bool) → (let m' : Memory = if b then record m { header = []; come = 0 } else m in AreReady C (m'.totals.octets + 1) m'.slots)
     go true = h
     go false = h
 
@@ -94,10 +94,6 @@ module _ (C : Table) (l : Listed) (m : Memory) (p : List ℕ) (x : ℕ) (h : Rem
   come_was : b.come ≡ m.come
   unfolding held_on read_on
   come_was = ap (λ (n : Memory). n.come) e
-
-  first_was : b.first ≡ m.first
-  unfolding held_on read_on
-  first_was = ap (λ (n : Memory). n.first) e
 
   slots_was : b.slots ≡ m.slots
   unfolding held_on read_on
@@ -153,9 +149,6 @@ module _ (C : Table) (l : Listed) (m : Memory) (p : List ℕ) (x : ℕ) (h : Rem
   none_come : b.come ≡ 0
   none_come = come_was ∙ (h.come ∙ ap (λ (o : Option Message). length (payload_by o)) cur)
 
-  no_first : b.first ≡ []
-  no_first = first_was ∙ (h.first ∙ ap (λ (o : Option Message). take 4 (payload_by o)) cur)
-
   -- what the code knows of it
   pub is_first : (now : Current) → now.number ≡ b.totals.messages + 1 → now.header ≡ b.header → now.place ≡ b.totals.octets → now.come ≡ b.come → IsFirst C l b.slots (stage (message_reading C l) p) (whose_in (open_after p) (cut p).current) first now
   is_first now number header at come =
@@ -206,8 +199,8 @@ module _ (C : Table) (l : Listed) (m : Memory) (p : List ℕ) (x : ℕ) (h : Rem
       go : (k : ℕ) → n ≡ k → Remembers C l (steps.settle (dealt (begun b) faults slots) n) (p ++ x ∷ [])
       go zero z =
           let over : cut (p ++ x ∷ []) ≡ record { whole = (cut p).whole ++ first ∷ []; current = None; held = []; stop = None } = grown ∙ rw (sized, z) refl in
-          rw (eq-eqb b.come n (none_come ∙ sym z)) (remembers_by C l _ (p ++ x ∷ []) _ over octets_now (totals_are faults slots f) free refl refl refl knows)
+          rw (eq-eqb b.come n (none_come ∙ sym z)) (remembers_by C l _ (p ++ x ∷ []) _ over octets_now (totals_are faults slots f) free refl refl knows)
       go (suc k) z =
           let more : 0 < size first.header = omega (arith, sized, z) in
           let comes : cut (p ++ x ∷ []) ≡ record { whole = (cut p).whole; current = Some first; held = []; stop = None } = grown ∙ rw (lt-ltb 0 (size first.header) more) refl in
-          rw (ne_eqb b.come n (λ same. omega (arith, none_come, z, same))) (remembers_by C l _ (p ++ x ∷ []) _ comes octets_now (totals_are faults slots f) free header_now none_come no_first knows)
+          rw (ne_eqb b.come n (λ same. omega (arith, none_come, z, same))) (remembers_by C l _ (p ++ x ∷ []) _ comes octets_now (totals_are faults slots f) free header_now none_come knows)

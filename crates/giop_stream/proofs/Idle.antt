@@ -130,14 +130,13 @@ none_stops (Some found) e = absurd cc
 
 -- by the stream's cut
 pub remembers_by : (C : Table) (l : Listed) (m : Memory) (q : List ℕ) (c : Cut) → cut q ≡ c → AreOctets q → m.totals ≡ tally (message_reading C l) q → m.stopped ≡ fault_of c.stop → m.header ≡ header_by c.current c.held → m.come ≡ length (payload_by c.current)
-    → m.first ≡ take 4 (payload_by c.current) → Knows C l m.slots q → Remembers C l m q
-remembers_by C l m q c e octets totals stopped header come first slots = record {
+    → Knows C l m.slots q → Remembers C l m q
+remembers_by C l m q c e octets totals stopped header come slots = record {
   octets = octets;
   totals = totals;
   stopped = stopped ∙ ap (λ (d : Cut). fault_of d.stop) (sym e);
   header = header ∙ ap (λ (d : Cut). header_by d.current d.held) (sym e);
   come = come ∙ ap (λ (d : Cut). length (payload_by d.current)) (sym e);
-  first = first ∙ ap (λ (d : Cut). take 4 (payload_by d.current)) (sym e);
   slots = slots;
 }
 
@@ -173,11 +172,10 @@ module _ (C : Table) (l : Listed) (m : Memory) (p : List ℕ) (h : Remembers C l
   held_is free few = h.header ∙ ap (λ (o : Option Message). header_by o (cut p).held) (no_current free few)
 
   idle_by : (x : ℕ) (m' : Memory) (c : Cut) → x < 256 → cut (p ++ x ∷ []) ≡ c → events (p ++ x ∷ []) ≡ events p → c.current ≡ (cut p).current → m'.totals ≡ tally (message_reading C l) (p ++ x ∷ []) → m'.stopped ≡ fault_of c.stop
-      → m'.header ≡ header_by c.current c.held → m'.come ≡ m.come → m'.first ≡ m.first → m'.slots ≡ m.slots → Remembers C l m' (p ++ x ∷ [])
-  idle_by x m' c octet e ev cur totals stopped header come first slots =
+      → m'.header ≡ header_by c.current c.held → m'.come ≡ m.come → m'.slots ≡ m.slots → Remembers C l m' (p ++ x ∷ [])
+  idle_by x m' c octet e ev cur totals stopped header come slots =
       remembers_by C l m' (p ++ x ∷ []) c e (All-push (λ y. y < 256) p x h.octets octet) totals stopped header
       (come ∙ (h.come ∙ ap (λ (o : Option Message). length (payload_by o)) (sym cur)))
-      (first ∙ (h.first ∙ ap (λ (o : Option Message). take 4 (payload_by o)) (sym cur)))
       (subst (λ (s : Slots). Knows C l s (p ++ x ∷ [])) (sym slots) (knows_idle C l m.slots p x ev (ap (λ (d : Cut). d.current) e ∙ cur) h.slots))
 
   -- an octet behind a stream's fault
@@ -201,7 +199,7 @@ module _ (C : Table) (l : Listed) (m : Memory) (p : List ℕ) (h : Remembers C l
         let found = has_stopped.0 in
         let st = has_stopped.1 in
         idle_by x m (of_parts (cut p).whole (cut p).current (cut p).held (Some found)) octet (cut_stopped p x found st) (events_stopped p x found st) refl (tally_reads R causal p x m.totals _ steps_on (sym (h.totals ∙ tally_is R causal p)))
-        (h.stopped ∙ ap fault_of st) h.header refl refl refl
+        (h.stopped ∙ ap fault_of st) h.header refl refl
 
     pub stopped_adds : added (message_reading C l) p (x ∷ []) ≡ []
     stopped_adds = text_reads (message_reading C l) (is_causal (said_by C l)) p x _ steps_on refl
@@ -222,7 +220,7 @@ module _ (C : Table) (l : Listed) (m : Memory) (p : List ℕ) (h : Remembers C l
         let causal = is_causal (said_by C l) in
         idle_by x (stop m StreamLimit place) (of_parts (cut p).whole (cut p).current [] (Some (suc (length p), StreamLimit))) octet (cut_limit p x (runs free) past) (events_limit p x (runs free) past) refl
         ((λ j. record { messages = m.totals.messages; faults = suc m.totals.faults; octets = is j }) ∙ tally_stops R causal p x StreamLimit m.totals steps_limit h.totals)
-        refl (header_left (cut p).current refl) refl refl refl
+        refl (header_left (cut p).current refl) refl refl
       where
         header_left : (o : Option Message) → (cut p).current ≡ o → (if nat_lt (length m.header) 12 then [] else m.header) ≡ header_by o []
         header_left None e =
@@ -264,7 +262,7 @@ module _ (C : Table) (l : Listed) (m : Memory) (p : List ℕ) (h : Remembers C l
         let causal = is_causal (said_by C l) in
         idle_by x (stop m fault place) (of_parts (cut p).whole None [] (Some (suc (length p), fault))) octet (front_is ∙ rw w refl) (front_events (Some fault) _ w refl (λ e b. absurd cc)) (sym (no_current free few))
         ((λ j. record { messages = m.totals.messages; faults = suc m.totals.faults; octets = is j }) ∙ tally_stops R causal p x fault m.totals (steps_front ∙ in_header_stop R _ (m.header ++ x ∷ []) fault w) h.totals)
-        refl (rw (lt-ltb (length m.header) 12 few) refl) refl refl refl
+        refl (rw (lt-ltb (length m.header) 12 few) refl) refl refl
 
     pub wrong_adds : (fault : StreamFault) (place : ℕ) → wrong (m.header ++ x ∷ []) ≡ Some fault → place ≡ suc m.totals.octets → added (message_reading C l) p (x ∷ []) ≡ stop_text fault place
     wrong_adds fault place w is =
@@ -284,7 +282,7 @@ module _ (C : Table) (l : Listed) (m : Memory) (p : List ℕ) (h : Remembers C l
           let was = h.totals ∙ tally_is R causal p in
           idle_by x (held_on m x) (of_parts (cut p).whole None (m.header ++ x ∷ []) None) octet (front_is ∙ rw (w, not_twelve) refl) (front_events None false w not_twelve (λ e b. false≢true b)) (sym (no_current free few))
           (tally_reads R causal p x (held_on m x).totals _ (steps_front ∙ in_header_held R _ (m.header ++ x ∷ []) w not_twelve) (λ j. record { messages = (sym was j).messages; faults = (sym was j).faults; octets = suc (sym was j).octets }))
-          free refl refl refl refl
+          free refl refl refl
 
       pub held_adds : added (message_reading C l) p (x ∷ []) ≡ []
       held_adds = let R = message_reading C l in text_reads R (is_causal (said_by C l)) p x _ (steps_front ∙ in_header_held R _ (m.header ++ x ∷ []) w not_twelve) refl
@@ -296,9 +294,9 @@ module _ (C : Table) (l : Listed) (m : Memory) where
   unfolding slots_of
   bare_keeps s c who bare e f = record { slots = rw (bare.no_slots, e) tt; payload = rw (bare.nobody, f) bare.no_own }
 
-  pub nothing_remembered : m.totals ≡ record { messages = 0; faults = 0; octets = 0 } → m.stopped ≡ None → m.header ≡ [] → m.come ≡ 0 → m.first ≡ [] → IsBare m.slots → Remembers C l m []
+  pub nothing_remembered : m.totals ≡ record { messages = 0; faults = 0; octets = 0 } → m.stopped ≡ None → m.header ≡ [] → m.come ≡ 0 → IsBare m.slots → Remembers C l m []
   unfolding of_parts fresh stage
-  nothing_remembered totals stopped header come first bare =
+  nothing_remembered totals stopped header come bare =
       let R = message_reading C l in
-      remembers_by C l m [] _ cut_nothing (All-nil (λ y. y < 256)) (totals ∙ sym (tally_is R (is_causal (said_by C l)) [] ∙ ap totals_of (holds_start R))) stopped header come first
+      remembers_by C l m [] _ cut_nothing (All-nil (λ y. y < 256)) (totals ∙ sym (tally_is R (is_causal (said_by C l)) [] ∙ ap totals_of (holds_start R))) stopped header come
       (bare_keeps m.slots (stage R []) _ bare open_nothing (ap (λ (d : Cut). whose_in (open_after []) d.current) cut_nothing))

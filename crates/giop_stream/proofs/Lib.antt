@@ -55,3 +55,4 @@ mod OneOctet
 mod EngineStep
 mod EngineLaws
 mod EngineAlive
+mod RequestIds

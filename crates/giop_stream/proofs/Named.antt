@@ -128,22 +128,22 @@ whose_other live m f = rw f refl
 module _ (C : Table) (l : Listed) (s : Slots) (c : Scene) (m : Message) (now : Current) (i : ℕ) (h : IsNamed C l s c m now i) where
   -- ---- The search.
 
-  opener_is : opener_of c.live m ≡ find (λ o. o.id == i) c.live
+  opener_is : has_name m.header ≡ true → opener_of c.live m ≡ find (λ o. o.id == i) c.live
   unfolding opener_of
-  opener_is = ap (λ (n : ℕ). find (λ (o : Open). o.id == n) c.live) h.id_is
+  opener_is name = ap (λ (n : ℕ). find (λ (o : Open). o.id == n) c.live) (h.id_is name)
 
-  pub misses : (r : Option ℕ) → r ≡ position_from (λ slot. slot.id == i) 0 s.slots.items → is_some r ≡ false → opener_of c.live m ≡ None
-  misses None e n = opener_is ∙ none_open C l s.slots.items c i h.keeps.slots (sym e)
-  misses (Some k) e n = absurd cc
+  pub misses : has_name m.header ≡ true → (r : Option ℕ) → r ≡ position_from (λ slot. slot.id == i) 0 s.slots.items → is_some r ≡ false → opener_of c.live m ≡ None
+  misses name None e n = opener_is name ∙ none_open C l s.slots.items c i h.keeps.slots (sym e)
+  misses name (Some k) e n = absurd cc
 
-  pub finds : (k : ℕ) → Some k ≡ position_from (λ slot. slot.id == i) 0 s.slots.items → IsFound c m k
-  finds k e =
+  pub finds : has_name m.header ≡ true → (k : ℕ) → Some k ≡ position_from (λ slot. slot.id == i) 0 s.slots.items → IsFound c m k
+  finds name k e =
       let f = one_open C l s.slots.items c i k h.keeps.slots (sym e) in
-      record { o = f.o; here = f.here; is = opener_is ∙ f.is }
+      record { o = f.o; here = f.here; is = opener_is name ∙ f.is }
 
-  pub hits : (r : Option ℕ) → r ≡ position_from (λ slot. slot.id == i) 0 s.slots.items → is_some r ≡ true → (o : Open) × (opener_of c.live m ≡ Some o)
-  hits None e n = absurd cc
-  hits (Some k) e n = let f = finds k e in (f.o, f.is)
+  pub hits : has_name m.header ≡ true → (r : Option ℕ) → r ≡ position_from (λ slot. slot.id == i) 0 s.slots.items → is_some r ≡ true → (o : Open) × (opener_of c.live m ≡ Some o)
+  hits name None e n = absurd cc
+  hits name (Some k) e n = let f = finds name k e in (f.o, f.is)
 
   pub as_many : length s.slots.items ≡ length c.live
   as_many = are_as_many C l s.slots.items (slots_of c.known c.live) h.keeps.slots ∙ slots_many c.known c.live
@@ -152,21 +152,21 @@ module _ (C : Table) (l : Listed) (s : Slots) (c : Scene) (m : Message) (now : C
 
   pub twice : (r : Option ℕ) → r ≡ position_from (λ slot. slot.id == i) 0 s.slots.items → is_some r ≡ true → is_fragment m.header ≡ false → is_opener m.header ≡ true
       → plays (message_reading C l) c (at_id c.live m) ≡ one_play (message_reading C l) c now.place (title m) (Imposed IdOpen)
-  twice r e n f g = let o = hits r e n in opener_twice (message_reading C l) c c.live m o.0 f g o.1 ∙ rw h.current.place refl
+  twice r e n f g = let o = hits (opener_named m.header g) r e n in opener_twice (message_reading C l) c c.live m o.0 f g o.1 ∙ rw h.current.place refl
 
   pub no_room : (r : Option ℕ) → r ≡ position_from (λ slot. slot.id == i) 0 s.slots.items → is_some r ≡ false → length s.slots.items ≡ 16 → is_fragment m.header ≡ false → is_opener m.header ≡ true
       → plays (message_reading C l) c (at_id c.live m) ≡ one_play (message_reading C l) c now.place (title m) (Imposed TooManyOpen)
   no_room r e n full f g =
       let many = as_many in
       let room : most_open ≤ length c.live = omega (arith, many, full) in
-      opener_no_room (message_reading C l) c c.live m f g (misses r e n) room ∙ rw h.current.place refl
+      opener_no_room (message_reading C l) c c.live m f g (misses (opener_named m.header g) r e n) room ∙ rw h.current.place refl
 
   pub opens_one : (r : Option ℕ) → r ≡ position_from (λ slot. slot.id == i) 0 s.slots.items → is_some r ≡ false → length s.slots.items < 16 → is_fragment m.header ≡ false → is_opener m.header ≡ true
       → plays (message_reading C l) c (at_id c.live m) ≡ one_play (message_reading C l) c now.place (title m) (Opens i)
   opens_one r e n few f g =
       let many = as_many in
       let room : length c.live < most_open = omega (arith, many, few) in
-      opener_opens (message_reading C l) c c.live m f g (misses r e n) room ∙ rw (h.current.place, h.id_is) refl
+      opener_opens (message_reading C l) c c.live m f g (misses (opener_named m.header g) r e n) room ∙ rw (h.current.place, h.id_is (opener_named m.header g)) refl
 
   -- ---- A Fragment.
 
@@ -210,7 +210,7 @@ module _ (C : Table) (l : Listed) (s : Slots) (c : Scene) (m : Message) (now : C
   -- ---- A CancelRequest.
 
   pub misses_all : (r : Option ℕ) → r ≡ position_from (λ slot. slot.id == i) 0 s.slots.items → is_some r ≡ false → is_fragment m.header ≡ false → is_opener m.header ≡ false → is_cancel m.header ≡ true → plays (message_reading C l) c (at_id c.live m) ≡ no_play c
-  misses_all r e n f g b = cancel_misses (message_reading C l) c c.live m f g b (misses r e n)
+  misses_all r e n f g b = cancel_misses (message_reading C l) c c.live m f g b (misses (cancel_named m.header b) r e n)
 
   -- the header of the open message that is found
   pub header_may : (o : Open) (x : Kept_slot) (k : ℕ) (r : Bool) → slice_get c.live k ≡ Some o → slice_get s.slots.items k ≡ Some x → may_be_cancelled x.header ≡ r → may_be_cancelled o.opener.header ≡ r

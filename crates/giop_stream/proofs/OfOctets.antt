@@ -1,4 +1,4 @@
--- The header of the current message is of octets, and spells a size of 32 bits.
+-- The header of the current message is of octets and right, and spells a size of 32 bits.
 use Rattle.std.proofs.Common.{inl, inr, ◌≡◌, ℕ, zero, suc, ◌+◌, ◌^◌, ◌<◌, Bool, true, false, List, length, take, drop, refl, Option, Some, None, arith, length-drop}
 use Rattle.std.specs.Prelude.{nat_lt, IfSome}
 use Rattle.std.proofs.lemmas.Bool.{cases_lt}
@@ -11,9 +11,9 @@ use Rattle.giop_stream.specs.Headers.{offence}
 use Rattle.giop_stream.specs.Framing.{Cut, with_first, cut_from, limit, stop_or_limit, limited, cut}
 use Rattle.giop_stream.proofs.Cutting.{cut_wrong, cut_short, cut_open, cut_more}
 
--- the header of the current message is of octets
+-- the header of the current message is of octets, none of which is wrong
 abbrev pub HeaderOctets : Cut → Type 0
-HeaderOctets c = IfSome c.current (λ m. AreOctets m.header)
+HeaderOctets c = IfSome c.current (λ m. AreOctets m.header × (offence m.header ≡ None))
 
 from_by : (fuel number before : ℕ) (xs : List ℕ) → AreOctets xs → ((number before : ℕ) (ys : List ℕ) → AreOctets ys → HeaderOctets (cut_from fuel number before ys))
     → (o : Option (ℕ × StreamFault)) → offence (take 12 xs) ≡ o → HeaderOctets (cut_from (suc fuel) number before xs)
@@ -22,7 +22,7 @@ from_by fuel number before xs h ih (Some found) e = rw (cut_wrong fuel number be
 from_by fuel number before xs h ih None e = elim (cases_lt (length xs) 12) [
   | inl short ↦ rw (cut_short fuel number before xs e short) tt
   | inr long ↦ elim (cases_lt (length (drop 12 xs)) (size (take 12 xs))) [
-    | inl lacks ↦ rw (cut_open fuel number before xs e long lacks) (All-take (λ x. x < 256) 12 xs h)
+    | inl lacks ↦ rw (cut_open fuel number before xs e long lacks) (All-take (λ x. x < 256) 12 xs h, e)
     | inr full ↦
         let header = take 12 xs in
         rw (cut_more fuel number before xs e long full)

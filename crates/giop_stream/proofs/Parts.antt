@@ -190,9 +190,9 @@ module _ (C : Table) (l : Listed) (s : Slots) (c : Scene) (m : Message) (now : C
         rising = rw live h.rising;
         current = h.current;
         come = omega (arith, length_push m.payload x, h.come);
-        id_is = λ four. h.id_is (omega (arith, length_push m.payload x, four));
         newest = λ four. rw live (h.newest (omega (arith, length_push m.payload x, four)));
-        alive = λ four name. (m.payload ++ x ∷ [], known_is (omega (arith, length_push m.payload x, four)) name);
+        alive = λ name four. known_is (omega (arith, length_push m.payload x, four)) name;
+        says = h.says;
       }
 
   pub come_is : length (m.payload ++ x ∷ []) ≡ now.come

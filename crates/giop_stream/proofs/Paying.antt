@@ -1,12 +1,12 @@
 -- An octet of a payload: what is remembered with it, and what it adds to the text.
-use Rattle.std.proofs.Common.{inl, inr, ◌≡◌, ℕ, suc, ◌+◌, ◌^◌, ◌<◌, ◌≤◌, Bool, true, false, List, [], ◌∷◌, ◌++◌, length, take, refl, sym, ap, subst, ◌∙◌, Option, Some, None, arith}
+use Rattle.std.proofs.Common.{inl, inr, ◌≡◌, ℕ, suc, ◌+◌, ◌^◌, ◌<◌, ◌≤◌, Bool, true, false, List, [], ◌∷◌, ◌++◌, length, refl, sym, ap, subst, ◌∙◌, Option, Some, None, arith}
 use Rattle.std.specs.Prelude.{is_some, nat_lt, ◌==◌, if◌then◌else◌}
 use Rattle.std.proofs.lemmas.Bool.{cases_lt, lt-ltb, le-ltb, eq-eqb, ne_eqb}
-use Rattle.std.proofs.lemmas.List.{length_push, take_all, take-append-le, length-take-le}
+use Rattle.std.proofs.lemmas.List.{length_push}
 use Rattle.std.proofs.lemmas.List.Elements.{All-push}
-use Rattle.giop_cdr.specs.Numbers.{AreOctets, num}
+use Rattle.giop_cdr.specs.Numbers.{AreOctets}
 use Rattle.giop_sig.specs.Table.{Table}
-use Rattle.giop_message.specs.Headers.{order, size}
+use Rattle.giop_message.specs.Headers.{size}
 use Rattle.giop_message.specs.Signatures.{Kept as Listed, said_by}
 use Rattle.giop_message.specs.MessageReading.{message_reading}
 use Rattle.giop_message.proofs.MessageLaws.{is_causal}
@@ -14,8 +14,9 @@ use Rattle.giop_stream.specs.declared.fault.StreamFault.{StreamFault}
 use Rattle.giop_stream.specs.declared.status.Totals.{Totals}
 use Rattle.giop_stream.specs.declared.slots.Slots.{Slots}
 use Rattle.giop_stream.specs.declared.dispatch.Current.{Current}
+use Rattle.giop_stream.specs.Headers.{offence}
 use Rattle.giop_stream.specs.Framing.{Message, Cut, limit, cut, messages, read_of, fault_of}
-use Rattle.giop_stream.specs.Events.{id, happens, open_after}
+use Rattle.giop_stream.specs.Events.{happens, open_after}
 use Rattle.giop_stream.specs.Lines.{lines}
 use Rattle.giop_stream.specs.Text.{lines_text}
 use Rattle.giop_stream.specs.Stream.{start_count, fault_count, tally}
@@ -40,6 +41,7 @@ use Rattle.giop_stream.proofs.Staged.{next_is, knows_octet}
 use Rattle.giop_stream.proofs.Adding.{added_by}
 use Rattle.giop_stream.proofs.Idle.{within_limit, below_limit, runs, octets_are}
 use Rattle.giop_stream.proofs.OfOctets.{header_octets, size_fits}
+use Rattle.giop_stream.proofs.RequestIds.{says_id}
 
 pub none_by : (o : Option StreamFault) → is_some o ≡ false → o ≡ None
 none_by None e = refl
@@ -56,7 +58,7 @@ settled_on : (m : Memory) (n : ℕ) → (m.come ≡ n → ⊥) → settled m n �
 unfolding settled
 settled_on m n other = rw (ne_eqb m.come n other) refl
 
-settled_off : (m : Memory) (n : ℕ) → m.come ≡ n → settled m n ≡ record m { header = []; come = 0; first = [] }
+settled_off : (m : Memory) (n : ℕ) → m.come ≡ n → settled m n ≡ record m { header = []; come = 0 }
 unfolding settled
 settled_off m n same = rw (eq-eqb m.come n same) refl
 
@@ -73,43 +75,24 @@ pub ready_settled : (C : Table) (m m' : Memory) (n place : ℕ) → m' ≡ settl
 unfolding settled
 ready_settled C m m' n place e is h = rw e (go (m.come == n))
   where
-    go : (b : Bool) → (let m : Memory = if b then record m { header = []; come = 0; first = [] } else m in AreReady C (m.totals.octets + 1) m.slots)
+    go : (b : Bool) → (let m : Memory = if b then record m { header = []; come = 0 } else m in AreReady C (m.totals.octets + 1) m.slots)
     go true = rw (← is) h
     go false = rw (← is) h
 
 -- ---- What is remembered with an octet that has come.
 
-pub came_on : (m : Memory) (x octets come : ℕ) (first : List ℕ) → octets ≡ suc m.totals.octets → come ≡ suc m.come → first ≡ (if nat_lt (length m.first) 4 then m.first ++ x ∷ [] else m.first)
-    → record { totals = record { messages = m.totals.messages; faults = m.totals.faults; octets = octets }; stopped = m.stopped; header = m.header; come = come; first = first; slots = m.slots } ≡ come_on m x
-unfolding come_on read_on
-came_on m x octets come first e f k = λ j. record { totals = record { messages = m.totals.messages; faults = m.totals.faults; octets = e j }; stopped = m.stopped; header = m.header; come = f j; first = k j; slots = m.slots }
+-- an octet more is read, and so many have come
+abbrev pub coming : Memory → ℕ → ℕ → Memory
+coming m octets come = record m { totals = record m.totals { octets = octets }; come = come }
 
-pub came_header : (m m' : Memory) (x : ℕ) → m' ≡ come_on m x → m'.header ≡ m.header
+pub came_on : (m : Memory) (octets come : ℕ) → octets ≡ suc m.totals.octets → come ≡ suc m.come → coming m octets come ≡ come_on m
 unfolding come_on read_on
-came_header m m' x e = ap (λ (n : Memory). n.header) e
+came_on m octets come e f = λ j. coming m (e j) (f j)
 
 -- and once it is dealt with
 pub settled_as : (m m' m'' : Memory) (faults : ℕ) (slots : Slots) (n : ℕ) → m' ≡ m → m'' ≡ settled (record m' { totals = record m'.totals { faults = m'.totals.faults + faults }; slots = slots }) n → m'' ≡ settled (dealt m faults slots) n
 unfolding dealt
 settled_as m m' m'' faults slots n same e = e ∙ ap (λ (k : Memory). settled (dealt k faults slots) n) same
-
-pub four_more : (first : List ℕ) (x : ℕ) → length first < 4 → first ++ x ∷ [] ≡ (if nat_lt (length first) 4 then first ++ x ∷ [] else first)
-four_more first x few = rw (lt-ltb (length first) 4 few) refl
-
-pub four_whole : (first : List ℕ) (x : ℕ) → 4 ≤ length first → first ≡ (if nat_lt (length first) 4 then first ++ x ∷ [] else first)
-four_whole first x four = rw (le-ltb (length first) 4 four) refl
-
--- the first four octets, with one more
-four_by : (xs first : List ℕ) (x : ℕ) → first ≡ take 4 xs → (if nat_lt (length first) 4 then first ++ x ∷ [] else first) ≡ take 4 (xs ++ x ∷ [])
-four_by xs first x e = elim (cases_lt (length xs) 4) [
-  | inl less ↦
-      let all : first ≡ xs = e ∙ take_all 4 xs (omega (arith, less)) in
-      let whole : take 4 (xs ++ x ∷ []) ≡ xs ++ x ∷ [] = take_all 4 (xs ++ x ∷ []) (omega (arith, less, length_push xs x)) in
-      rw (all, lt-ltb (length xs) 4 less, whole) refl
-  | inr more ↦
-      let four : length first ≡ 4 = ap length e ∙ length-take-le 4 xs more in
-      rw (le-ltb (length first) 4 (omega (arith, four)), take-append-le 4 xs (x ∷ []) more) e
-]
 
 module _ (C : Table) (l : Listed) (m : Memory) (p : List ℕ) (h : Remembers C l m p) (free : m.stopped ≡ None) (room : m.totals.octets < 2 ^ 48) where
   -- ---- The current message.
@@ -142,9 +125,6 @@ module _ (C : Table) (l : Listed) (m : Memory) (p : List ℕ) (h : Remembers C l
     come_is : m.come ≡ length c.payload
     come_is = h.come ∙ ap (λ (o : Option Message). length (payload_by o)) cur
 
-    first_is : m.first ≡ take 4 c.payload
-    first_is = h.first ∙ ap (λ (o : Option Message). take 4 (payload_by o)) cur
-
     counted_to : m.totals.messages ≡ length (messages (cut p))
     unfolding tally
     counted_to = ap (λ (t : Totals). t.messages) h.totals ∙ starts_are (message_reading C l) (is_causal (said_by C l)) p
@@ -156,18 +136,20 @@ module _ (C : Table) (l : Listed) (m : Memory) (p : List ℕ) (h : Remembers C l
     number_is : c.number ≡ m.totals.messages
     number_is = omega (arith, at_hand.number_is, counted_to, all_messages)
 
+    right : AreOctets c.header × (offence c.header ≡ None)
+    right = if_some (λ c. AreOctets c.header × (offence c.header ≡ None)) (cut p).current c cur (header_octets p h.octets)
+
     -- there is room to count the octet
     pub come_fits : m.come + 1 < 2 ^ 32
     come_fits =
-        let octets = if_some (λ c. AreOctets c.header) (cut p).current c cur (header_octets p h.octets) in
-        omega (arith, come_is, at_hand.lacks, size_fits c.header octets at_hand.twelve)
+        omega (arith, come_is, at_hand.lacks, size_fits c.header right.0 at_hand.twelve)
 
     -- ---- What the code asks for.
 
-    pub pays_next : (now : Current) → now.number ≡ m.totals.messages → now.header ≡ m.header → now.place ≡ suc m.totals.octets → now.come ≡ suc m.come → (m.come ≡ 3 → now.id ≡ num (order m.header) (m.first ++ x ∷ []))
+    pub pays_next : (now : Current) → now.number ≡ m.totals.messages → now.header ≡ m.header → now.place ≡ suc m.totals.octets → now.come ≡ suc m.come
         → IsNext C l m.slots (stage (message_reading C l) p) c now x
-    unfolding id stage
-    pays_next now number header place come id_is =
+    unfolding stage
+    pays_next now number header place come =
         next_is C l m.slots p c now x st cur (subst (λ (o : Option Message). Keeps C l m.slots (stage (message_reading C l) p) (whose_in (open_after p) o)) cur h.slots)
         (record {
           number = number_is ∙ sym number;
@@ -175,25 +157,14 @@ module _ (C : Table) (l : Listed) (m : Memory) (p : List ℕ) (h : Remembers C l
           place = place_more c x (length p) at_hand.place_is ∙ (ap suc (sym (octets_are C l m p h free)) ∙ sym place);
         })
         (omega (arith, come, come_is))
-        (λ three.
-        let all : m.first ≡ c.payload = first_is ∙ take_all 4 c.payload (omega (arith, three)) in
-        let four : take 4 (c.payload ++ x ∷ []) ≡ c.payload ++ x ∷ [] = take_all 4 (c.payload ++ x ∷ []) (omega (arith, three, length_push c.payload x)) in
-        sym (id_is (come_is ∙ three) ∙ ((λ j. num (order (header_is j)) (all j ++ x ∷ [])) ∙ ap (num (order c.header)) (sym four))))
+        (λ name. says_id c.header at_hand.twelve right.1 name)
 
     -- and what it asks for, said of what it remembers then
-    pub asks_next : (m' : Memory) → m' ≡ come_on m x → (now : Current) → now.number ≡ m'.totals.messages → now.header ≡ m'.header → now.place ≡ m'.totals.octets → now.come ≡ m'.come
-        → (m'.come ≡ 4 → length m'.first ≡ 4 → now.id ≡ num (order m'.header) m'.first) → IsNext C l m'.slots (stage (message_reading C l) p) c now x
+    pub asks_next : (m' : Memory) → m' ≡ come_on m → (now : Current) → now.number ≡ m'.totals.messages → now.header ≡ m'.header → now.place ≡ m'.totals.octets → now.come ≡ m'.come → IsNext C l m'.slots (stage (message_reading C l) p) c now x
     unfolding come_on read_on
-    asks_next m' same now number header place come id_is =
-        let header_too = ap (λ (n : Memory). n.header) same in
+    asks_next m' same now number header place come =
         subst (λ (s : Slots). IsNext C l s (stage (message_reading C l) p) c now x) (sym (ap (λ (n : Memory). n.slots) same))
-        (pays_next now (number ∙ ap (λ (n : Memory). n.totals.messages) same) (header ∙ header_too) (place ∙ ap (λ (n : Memory). n.totals.octets) same) (come ∙ ap (λ (n : Memory). n.come) same)
-        (λ three.
-        let all : m.first ≡ c.payload = first_is ∙ take_all 4 c.payload (omega (arith, come_is, three)) in
-        let short : length m.first ≡ 3 = ap length all ∙ (sym come_is ∙ three) in
-        let more : m'.first ≡ m.first ++ x ∷ [] = ap (λ (n : Memory). n.first) same ∙ sym (four_more m.first x (omega (arith, short))) in
-        let four : length m'.first ≡ 4 = ap length more ∙ omega (arith, short, length_push m.first x) in
-        id_is (ap (λ (n : Memory). n.come) same ∙ ap suc three) four ∙ (λ j. num (order (header_too j)) (more j))))
+        (pays_next now (number ∙ ap (λ (n : Memory). n.totals.messages) same) (header ∙ ap (λ (n : Memory). n.header) same) (place ∙ ap (λ (n : Memory). n.totals.octets) same) (come ∙ ap (λ (n : Memory). n.come) same))
 
     -- what the octet does
     abbrev pub play : Play
@@ -242,28 +213,27 @@ module _ (C : Table) (l : Listed) (m : Memory) (p : List ℕ) (h : Remembers C l
       knows = knows_octet C l slots p x c st cur below kept
 
       by_cut : (m' : Memory) (d : Cut) → cut (p ++ x ∷ []) ≡ d → m'.totals ≡ record { messages = m.totals.messages; faults = m.totals.faults + faults; octets = suc m.totals.octets } → m'.stopped ≡ fault_of d.stop → m'.header ≡ header_by d.current d.held
-          → m'.come ≡ length (payload_by d.current) → m'.first ≡ take 4 (payload_by d.current) → m'.slots ≡ slots → Remembers C l m' (p ++ x ∷ [])
-      by_cut m' d e totals stopped header come first same = record {
+          → m'.come ≡ length (payload_by d.current) → m'.slots ≡ slots → Remembers C l m' (p ++ x ∷ [])
+      by_cut m' d e totals stopped header come same = record {
         octets = All-push (λ y. y < 256) p x h.octets octet;
         totals = totals ∙ counts_are faults counted;
         stopped = stopped ∙ ap (λ (d : Cut). fault_of d.stop) (sym e);
         header = header ∙ ap (λ (d : Cut). header_by d.current d.held) (sym e);
         come = come ∙ ap (λ (d : Cut). length (payload_by d.current)) (sym e);
-        first = first ∙ ap (λ (d : Cut). take 4 (payload_by d.current)) (sym e);
         slots = subst (λ (s : Slots). Knows C l s (p ++ x ∷ [])) (sym same) knows;
       }
 
-      pub pays_remembers : (n : ℕ) → n ≡ size m.header → Remembers C l (settled (dealt (come_on m x) faults slots) n) (p ++ x ∷ [])
+      pub pays_remembers : (n : ℕ) → n ≡ size m.header → Remembers C l (settled (dealt (come_on m) faults slots) n) (p ++ x ∷ [])
       unfolding of_parts come_on read_on dealt
       pays_remembers n e =
           let come : suc m.come ≡ length (c.payload ++ x ∷ []) = omega (arith, come_is, length_push c.payload x) in
           let whole : n ≡ size c.header = e ∙ ap size header_is in
           elim (cases_lt (length (c.payload ++ x ∷ [])) (size c.header)) [
             | inl less ↦
-                rw (settled_on (dealt (come_on m x) faults slots) n (λ same. omega (arith, same, come, whole, less)))
-                (by_cut (dealt (come_on m x) faults slots) (of_parts (cut p).whole (Some (with_octet c x)) [] None) (grown ∙ goes_on (cut p).whole (with_octet c x) less) refl free header_is come (four_by c.payload m.first x first_is) refl)
+                rw (settled_on (dealt (come_on m) faults slots) n (λ same. omega (arith, same, come, whole, less)))
+                (by_cut (dealt (come_on m) faults slots) (of_parts (cut p).whole (Some (with_octet c x)) [] None) (grown ∙ goes_on (cut p).whole (with_octet c x) less) refl free header_is come refl)
             | inr more ↦
                 let last : suc m.come ≡ n = omega (arith, come, whole, more, at_hand.lacks, length_push c.payload x) in
-                rw (settled_off (dealt (come_on m x) faults slots) n last)
-                (by_cut _ (of_parts ((cut p).whole ++ with_octet c x ∷ []) None [] None) (grown ∙ goes_off (cut p).whole (with_octet c x) more) refl free refl refl refl refl)
+                rw (settled_off (dealt (come_on m) faults slots) n last)
+                (by_cut _ (of_parts ((cut p).whole ++ with_octet c x ∷ []) None [] None) (grown ∙ goes_off (cut p).whole (with_octet c x) more) refl free refl refl refl)
           ]

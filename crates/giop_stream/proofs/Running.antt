@@ -1,9 +1,9 @@
 -- Octets that are of a message's contents alone, all at once: what is known of the stream with them, what they add to its
 -- text, and what is remembered then.
-use Rattle.std.proofs.Common.{◌≡◌, ℕ, suc, ◌+◌, ◌-◌, ◌^◌, ◌<◌, ◌≤◌, List, [], ◌∷◌, ◌++◌, length, take, get_or, refl, sym, ap, subst, ◌∙◌, append_assoc, append-nil, length-append, Option, Some, None, Result, Ok, Err, arith}
+use Rattle.std.proofs.Common.{◌≡◌, ℕ, suc, ◌+◌, ◌-◌, ◌^◌, ◌<◌, ◌≤◌, List, [], ◌∷◌, ◌++◌, length, get_or, refl, sym, ap, subst, ◌∙◌, append_assoc, append-nil, length-append, Option, Some, None, Result, Ok, Err, arith}
 use Rattle.std.specs.Result.{OkIff, result_unwrap_or}
 use Rattle.std.proofs.lemmas.Bool.{le-ltb, ne_eqb}
-use Rattle.std.proofs.lemmas.List.{length_push, get_or_push, take-append-le}
+use Rattle.std.proofs.lemmas.List.{length_push, get_or_push}
 use Rattle.std.proofs.lemmas.List.Elements.{All-append}
 use Rattle.giop_cdr.specs.Numbers.{AreOctets}
 use Rattle.giop_sig.specs.Table.{Table}
@@ -14,6 +14,7 @@ use Rattle.giop_message.specs.Reading.{Reading, IsCausal}
 use Rattle.giop_message.proofs.MessageLaws.{is_causal}
 use Rattle.giop_stream.specs.declared.status.Totals.{Totals}
 use Rattle.giop_stream.specs.declared.slots.Slots.{Slots}
+use Rattle.giop_stream.specs.Headers.{offence}
 use Rattle.giop_stream.specs.Framing.{Message, Cut, with_payload, limit, cut, messages, read_of, fault_of}
 use Rattle.giop_stream.specs.Events.{Takes, Title, Open, Rising, happens, at_octet, changed, open_after}
 use Rattle.giop_stream.specs.Lines.{Line, lines}
@@ -190,8 +191,8 @@ module _ (C : Table) (l : Listed) (m : Memory) (p q : List ℕ) (h : Remembers C
   pub run_fits : m.come + length q < 2 ^ 32
   run_fits =
       let at_hand = if_some (CurrentFits (length p) (cut p)) (cut p).current c current ((sound (message_reading C l) (is_causal (said_by C l)) p).fits begins.free).current in
-      let octets = if_some (λ c. AreOctets c.header) (cut p).current c current (header_octets p h.octets) in
-      omega (arith, before_last, ap size header_is, size_fits c.header octets at_hand.twelve)
+      let right = if_some (λ c. AreOctets c.header × (offence c.header ≡ None)) (cut p).current c current (header_octets p h.octets) in
+      omega (arith, before_last, ap size header_is, size_fits c.header right.0 at_hand.twelve)
 
   run : IsRun C l p c q
   run = run_is C l q p c begins
@@ -245,18 +246,16 @@ module _ (C : Table) (l : Listed) (m : Memory) (p q : List ℕ) (h : Remembers C
       subst (Keeps C l slots (stage R (p ++ q))) who (subst (λ (s : Scene). Keeps C l slots s (whose (open_after p) c)) scene k)
 
   pub run_remembers : (faults come : ℕ) (slots : Slots) → AreOctets q → faults ≡ m.totals.faults + fault_count run_text → come ≡ m.come + length q → Keeps C l slots run_stage (whose (open_after p) c)
-      → Remembers C l (record { totals = record { messages = m.totals.messages; faults = faults; octets = m.totals.octets + length q }; stopped = m.stopped; header = m.header; come = come; first = m.first; slots = slots }) (p ++ q)
+      → Remembers C l (record { totals = record { messages = m.totals.messages; faults = faults; octets = m.totals.octets + length q }; stopped = m.stopped; header = m.header; come = come; slots = slots }) (p ++ q)
   unfolding tally
   run_remembers faults come slots octets faulted comes k =
       let then = run.within.current in
       let longer : come ≡ length (c.payload ++ q) = omega (arith, comes, come_is, length-append c.payload q) in
-      let first : m.first ≡ take 4 c.payload = h.first ∙ ap (λ (o : Option Message). take 4 (payload_by o)) current in
       record {
         octets = All-append (λ x. x < 256) p q h.octets octets;
         totals = λ j. record { messages = counted_so j; faults = faulted_so faults faulted j; octets = read_so j };
         stopped = free ∙ ap fault_of (sym run.within.free);
         header = header_is ∙ ap (λ (o : Option Message). header_by o (cut (p ++ q)).held) (sym then);
         come = longer ∙ ap (λ (o : Option Message). length (payload_by o)) (sym then);
-        first = first ∙ (sym (take-append-le 4 c.payload q begins.named) ∙ ap (λ (o : Option Message). take 4 (payload_by o)) (sym then));
         slots = knows_so slots k;
       }

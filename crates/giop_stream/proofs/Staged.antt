@@ -7,7 +7,7 @@ use Rattle.giop_sig.specs.Table.{Table}
 use Rattle.giop_message.specs.Signatures.{Kept as Listed, said_by}
 use Rattle.giop_message.specs.MessageReading.{message_reading}
 use Rattle.giop_message.specs.Reading.{Reading, IsCausal}
-use Rattle.giop_message.specs.Headers.{size}
+use Rattle.giop_message.specs.Headers.{size, has_name}
 use Rattle.giop_message.proofs.MessageLaws.{is_causal}
 use Rattle.giop_stream.specs.declared.fault.StreamFault.{StreamFault}
 use Rattle.giop_stream.specs.declared.fault.StreamFault.TheVariants.{StreamLimit}
@@ -15,10 +15,10 @@ use Rattle.giop_stream.specs.declared.slots.Slots.{Slots}
 use Rattle.giop_stream.specs.declared.dispatch.Current.{Current}
 use Rattle.giop_stream.specs.Headers.{wrong}
 use Rattle.giop_stream.specs.Framing.{Message, Cut, limit, cut, messages}
-use Rattle.giop_stream.specs.Events.{Title, Open, id, happens, events, open_after}
+use Rattle.giop_stream.specs.Events.{Title, Open, happens, events, open_after}
 use Rattle.giop_stream.specs.Plays.{Scene, plays, stage, with_octet}
 use Rattle.giop_stream.specs.Keeping.{Keeps}
-use Rattle.giop_stream.specs.Whose.{IsCurrent, IsNext, IsFirst, IsNewest, Knows, whose, whose_in, whose_after}
+use Rattle.giop_stream.specs.Whose.{IsCurrent, IsNext, IsFirst, IsNewest, SaysId, Knows, whose, whose_in, whose_after}
 use Rattle.giop_stream.proofs.Lists.{each_weaker}
 use Rattle.giop_stream.proofs.Cutting.{settle, header_case, next, of_parts, cut_grows}
 use Rattle.giop_stream.proofs.Grown.{said_idle, octets_idle, open_idle}
@@ -79,9 +79,9 @@ events_front p x st cur room w b e f not_last = go w b not_last grown
 
 module _ (C : Table) (l : Listed) (s : Slots) (p : List ℕ) (m : Message) (now : Current) where
   pub next_is : (x : ℕ) → (cut p).stop ≡ None → (cut p).current ≡ Some m → Keeps C l s (stage (message_reading C l) p) (whose (open_after p) m) → IsCurrent now (with_octet m x) → length m.payload + 1 ≡ now.come
-      → (length m.payload ≡ 3 → id (with_octet m x) ≡ now.id) → IsNext C l s (stage (message_reading C l) p) m now x
+      → (has_name m.header ≡ true → SaysId m.header) → IsNext C l s (stage (message_reading C l) p) m now x
   unfolding stage
-  next_is x st cur keeps current come id_is =
+  next_is x st cur keeps current come says =
       let R = message_reading C l in
       let causal = is_causal (said_by C l) in
       record {
@@ -89,9 +89,9 @@ module _ (C : Table) (l : Listed) (s : Slots) (p : List ℕ) (m : Message) (now 
         rising = rising_open p;
         current = current;
         come = come;
-        id_is = id_is;
         newest = if_some (λ m. length m.payload < 4 → IsNewest m.number (open_after p)) (cut p).current m cur ((sound R causal p).early st);
         alive = λ name few. alive R causal (in_turn C l) p st m cur name few;
+        says = says;
       }
 
   pub first_is : (header : List ℕ) (who : Option Title) → (cut p).current ≡ None → m ≡ beginner p header → Keeps C l s (stage (message_reading C l) p) who → IsCurrent now m → now.come ≡ 0

@@ -1,20 +1,23 @@
 -- What the code does at an octet once the message whose it is has it: at the request id, and at the end.
-use Rattle.std.proofs.Common.{inl, inr, ◌≡◌, ℕ, ◌<◌, ◌≤◌, Bool, true, false, List, length, refl, sym, ap, ◌∙◌, Option, Some, None, arith}
+use Rattle.std.proofs.Common.{inl, inr, ◌≡◌, ℕ, ◌<◌, ◌≤◌, Bool, true, false, List, length, refl, sym, ap, subst, ◌∙◌, Option, Some, None, arith}
 use Rattle.std.specs.Prelude.{◌==◌, ◌&&◌, nat_lt, nat_le, if◌then◌else◌}
 use Rattle.std.proofs.lemmas.Bool.{eq-eqb, eqb-true, lt-leb, le-leb, lt-ltb, le-ltb, cases_lt, false≢true}
+use Rattle.std.specs.List.{AllByRecursion as Each}
 use Rattle.giop_sig.specs.Table.{Table}
-use Rattle.giop_message.specs.Signatures.{Kept as Listed}
-use Rattle.giop_message.specs.MessageReading.{message_reading}
+use Rattle.giop_message.specs.Signatures.{Kept as Listed, said_by}
+use Rattle.giop_message.specs.Messages.{message, told_of}
+use Rattle.giop_message.specs.MessageReading.{message_reading, id_said}
 use Rattle.giop_message.specs.Headers.{size, is_fragment}
 use Rattle.giop_stream.specs.declared.slots.Slots.{Slots}
 use Rattle.giop_stream.specs.declared.slots.Payload.{Payload}
 use Rattle.giop_stream.specs.declared.slots.Payload.TheVariants as payload
 use Rattle.giop_stream.specs.declared.dispatch.Current.{Current}
 use Rattle.giop_stream.specs.Framing.{Message}
-use Rattle.giop_stream.specs.Events.{Title, Open, title, opener_of, has_named, goes_past, at_id, at_end}
+use Rattle.giop_stream.specs.Events.{Title, Open, id, title, opener_of, has_named, goes_past, at_id, at_end}
 use Rattle.giop_stream.specs.Plays.{Scene, plays, no_play}
-use Rattle.giop_stream.specs.Keeping.{IsWhose, Keeps}
+use Rattle.giop_stream.specs.Keeping.{IsKept, IsWhose, Keeps}
 use Rattle.giop_stream.specs.Whose.{IsNamed, IsTaken, IsAt, IsNewest, opener_title, whose, whose_named, whose_octet, whose_after, id_events, end_events}
+use Rattle.giop_stream.proofs.RequestIds.{id_is_id}
 use Rattle.giop_stream.proofs.InPlace.{at_index}
 use Rattle.giop_stream.proofs.Turns.{not_past}
 use Rattle.giop_stream.proofs.Cases.{plays_none}
@@ -73,8 +76,9 @@ module _ (C : Table) (l : Listed) (s : Slots) (c : Scene) (m : Message) (now : C
   unfolding id_events
   no_id e = rw (h.come, e) (plays_none (message_reading C l) c)
 
-  pub named_here : (now.come == 4) ≡ true → IsNamed C l s c m now now.id
-  named_here e =
+  -- the request id that the message's own octets say
+  pub named_here : (i : ℕ) → ((w : Title) (xs : List ℕ) (j : ℕ) → IsKept C l s.own w (Some xs) → id_said (told_of (message (said_by C l) w.header xs)) ≡ Some j → i ≡ j) → (now.come == 4) ≡ true → IsNamed C l s c m now i
+  named_here i f e =
       let four = four_is e in
       let few : length m.payload ≤ 4 = omega (arith, four) in
       let keeps : Keeps C l s c (Some (title m)) = rw (whose_own c.live m few) at h.keeps in
@@ -82,10 +86,16 @@ module _ (C : Table) (l : Listed) (s : Slots) (c : Scene) (m : Message) (now : C
         keeps = keeps;
         rising = h.rising;
         current = h.current;
-        id_is = h.id_is four;
-        own_comes = λ named. own_by C l s c (title m) (h.newest four) keeps;
-        alive = h.alive four;
+        id_is = λ name. sym (f (title m) m.payload (id m) (kept keeps (h.alive name four) (own_by C l s c (title m) (h.newest four) keeps)) (id_is_id C l m four (h.says name)));
+        own_comes = λ name. own_by C l s c (title m) (h.newest four) keeps;
+        alive = λ name. (m.payload, h.alive name four);
       }
+    where
+      kept : Keeps C l s c (Some (title m)) → c.known m.number ≡ Some m.payload → s.payload ≡ payload.Own → IsKept C l s.own (title m) (Some m.payload)
+      kept keeps known own = let parts = whole keeps own in subst (IsKept C l s.own (title m)) known parts.1
+        where
+          whole : Keeps C l s c (Some (title m)) → s.payload ≡ payload.Own → Each (λ o. o.opener.number ≡ m.number → ⊥) c.live × IsKept C l s.own (title m) (c.known m.number)
+          whole keeps own = rw own at keeps.payload
 
   pub whose_then : (now.come == 4) ≡ true → whose c.live m ≡ whose_named c.live m
   whose_then e = whose_at_id c.live m (four_is e)

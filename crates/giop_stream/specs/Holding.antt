@@ -1,5 +1,5 @@
 -- Which streams an engine holds: each of its fields is said from the whole stream.
-use Rattle.std.specs.Prelude.{◌≡◌, ℕ, List, [], length, take, drop, ◌++◌, true, false, Option, Some, None, Result, Ok, Err}
+use Rattle.std.specs.Prelude.{◌≡◌, ℕ, List, [], length, drop, ◌++◌, true, false, Option, Some, None, Result, Ok, Err}
 use Rattle.giop_cdr.specs.Numbers.{AreOctets}
 use Rattle.giop_print.specs.Output.{OutLog, Wrote, WroteFront}
 use Rattle.giop_sig.specs.Table.{Table}
@@ -46,7 +46,6 @@ pub record Remembers (C : Table) (l : Listed) (m : Memory) (p : List ℕ) : Type
   pub stopped : m.stopped ≡ fault_of (cut p).stop
   pub header : m.header ≡ header_by (cut p).current (cut p).held
   pub come : m.come ≡ length (payload_by (cut p).current)
-  pub first : m.first ≡ take 4 (payload_by (cut p).current)
   pub slots : Knows C l m.slots p
 
 -- The engine holds the stream p.

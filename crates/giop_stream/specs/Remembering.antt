@@ -12,7 +12,6 @@ pub record Memory : Type 0 where
   pub stopped : Option StreamFault
   pub header : List ℕ  -- the header octets held; all 12 within a payload
   pub come : ℕ  -- the payload octets that have come
-  pub first : List ℕ  -- the first four of them
   pub slots : Slots  -- the messages that have begun and not ended
 
 -- of an engine, with what it reads by: the types of its catalogue, and what it knows of requests

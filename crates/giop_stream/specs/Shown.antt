@@ -8,6 +8,5 @@ shown f = record {
   stopped = f.stopped;
   header = f.header.items;
   come = f.come;
-  first = f.first;
   slots = f.slots;
 }

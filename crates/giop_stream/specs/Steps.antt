@@ -15,8 +15,8 @@ unfoldable pub held_on : Memory → ℕ → Memory
 held_on m x = record (read_on m) { header = m.header ++ x ∷ [] }
 
 -- and counted, where it is of a payload
-unfoldable pub come_on : Memory → ℕ → Memory
-come_on m x = record (read_on m) { come = suc m.come; first = if nat_lt (length m.first) 4 then m.first ++ x ∷ [] else m.first }
+unfoldable pub come_on : Memory → Memory
+come_on m = record (read_on m) { come = suc m.come }
 
 -- the reading ends with a fault at this place
 unfoldable pub stop : Memory → StreamFault → ℕ → Memory
@@ -36,7 +36,7 @@ dealt m faults slots = record m { totals = record m.totals { faults = m.totals.f
 
 -- behind a message's last octet the next header comes
 unfoldable pub settle : Memory → ℕ → Memory
-settle m size = if m.come == size then record m { header = []; come = 0; first = [] } else m
+settle m size = if m.come == size then record m { header = []; come = 0 } else m
 
 -- ---- The finish.
 

@@ -1,10 +1,12 @@
 -- Whose the octets of a message's payload are, and what the code knows of that message at one of them.
 use Rattle.std.specs.Prelude.{◌≡◌, ◌==◌, ◌<◌, ◌+◌, ℕ, true, List, [], length, Option, Some, None, if◌then◌else◌}
 use Rattle.std.specs.List.{AllByRecursion as Each}
+use Rattle.giop_sig.specs.Types.{Ty}
 use Rattle.giop_sig.specs.Table.{Table}
+use Rattle.giop_sig.specs.Headers.{BeginsWithId, header_type}
 use Rattle.giop_message.specs.Signatures.{Kept as Listed}
 use Rattle.giop_message.specs.MessageReading.{message_reading}
-use Rattle.giop_message.specs.Headers.{size, is_fragment, has_name}
+use Rattle.giop_message.specs.Headers.{minor, kind, size, is_fragment, has_name}
 use Rattle.giop_stream.specs.declared.slots.Slots.{Slots}
 use Rattle.giop_stream.specs.declared.slots.Payload.TheVariants.{Own}
 use Rattle.giop_stream.specs.declared.dispatch.Current.{Current}
@@ -32,12 +34,16 @@ pub record IsCurrent (now : Current) (m : Message) : Type 0 where
   pub header : m.header ≡ now.header
   pub place : place m ≡ now.place
 
+-- A message of this header begins with its request id.
+abbrev pub SaysId : List ℕ → Type 0
+SaysId header = (T : Ty) × (header_type (minor header) (kind header) ≡ Some T) × BeginsWithId T
+
 -- The request id of a message is complete: its own octets came, and the message isn't over where it begins with that id.
 pub record IsNamed (C : Table) (l : Listed) (s : Slots) (c : Scene) (m : Message) (now : Current) (i : ℕ) : Type 0 where
   pub keeps : Keeps C l s c (Some (title m))
   pub rising : Rising c.live
   pub current : IsCurrent now m
-  pub id_is : id m ≡ i
+  pub id_is : has_name m.header ≡ true → id m ≡ i
   pub own_comes : has_name m.header ≡ true → s.payload ≡ Own
   pub alive : has_name m.header ≡ true → (xs : List ℕ) × (c.known m.number ≡ Some xs)
 
@@ -72,9 +78,9 @@ pub record IsTaken (C : Table) (l : Listed) (s : Slots) (c : Scene) (m : Message
   pub rising : Rising c.live
   pub current : IsCurrent now m
   pub come : length m.payload ≡ now.come
-  pub id_is : length m.payload ≡ 4 → id m ≡ now.id
   pub newest : length m.payload ≡ 4 → IsNewest m.number c.live
-  pub alive : length m.payload ≡ 4 → has_name m.header ≡ true → (xs : List ℕ) × (c.known m.number ≡ Some xs)
+  pub alive : has_name m.header ≡ true → length m.payload ≡ 4 → c.known m.number ≡ Some m.payload
+  pub says : has_name m.header ≡ true → SaysId m.header
 
 -- The slots keep this scene before this octet of a message comes.
 pub record IsNext (C : Table) (l : Listed) (s : Slots) (c : Scene) (m : Message) (now : Current) (x : ℕ) : Type 0 where
@@ -82,9 +88,9 @@ pub record IsNext (C : Table) (l : Listed) (s : Slots) (c : Scene) (m : Message)
   pub rising : Rising c.live
   pub current : IsCurrent now (with_octet m x)
   pub come : length m.payload + 1 ≡ now.come
-  pub id_is : length m.payload ≡ 3 → id (with_octet m x) ≡ now.id
   pub newest : length m.payload < 4 → IsNewest m.number c.live
   pub alive : has_name m.header ≡ true → length m.payload < 4 → c.known m.number ≡ Some m.payload
+  pub says : has_name m.header ≡ true → SaysId m.header
 
 -- The slots keep this scene before the message begins, whose header is complete.
 pub record IsFirst (C : Table) (l : Listed) (s : Slots) (c : Scene) (who : Option Title) (m : Message) (now : Current) : Type 0 where

@@ -35,8 +35,6 @@ pub struct Current {
     pub place: u64,
     /// The octets of the payload up to and with this one.
     pub come: u32,
-    /// The number that the first four octets of the payload spell, once they have come.
-    pub id: u32,
 }
 
 /// At the request id of a message that opens.
@@ -201,7 +199,8 @@ fn names<O: Out>(slots: &mut Slots, now: Current, out: &mut O) -> Result<bool, O
     ensures ready { (C : Table) (n : ℕ) → AreReady C n slots.old → AreReady C n slots.new }
 {
     if now.come == 4 {
-        return named(slots, now, now.id, out);
+        let id = slots.request_id();
+        return named(slots, now, id, out);
     }
     Ok(false)
 }

@@ -6,13 +6,11 @@ ghost use Rattle.arrayvec.specs.ArrayVec.{array_vec_len};
 use crate::dispatch;
 use crate::dispatch::Current;
 use crate::fault::StreamFault;
-use crate::header::{size_of, unsigned_long, wrong_in};
+use crate::header::{size_of, wrong_in};
 use crate::lines::stream_fault_line;
 use crate::slots::Slots;
 use crate::status::Totals;
 use arrayvec::ArrayVec;
-use giop_cdr::Carry;
-use giop_message::order_of;
 use giop_print::{Out, OutFault};
 use giop_sig::{Catalogue, Requests};
 
@@ -28,8 +26,6 @@ pub struct Framing {
     pub header: ArrayVec<u8, 12>,
     /// The payload octets that have come.
     pub come: u32,
-    /// The first four of them.
-    pub first: Carry,
     pub slots: Slots,
     ghost read: { totals.octets ≤ 2 ^ 48 + 1 },
     ghost running: { stopped ≡ None → totals.octets ≤ 2 ^ 48 },
@@ -39,12 +35,11 @@ pub struct Framing {
 }
 
 impl Framing {
-    ghost use Rattle.giop_cdr.specs.Numbers.{num};
     ghost use Rattle.giop_print.specs.Output.{Writes};
     ghost use Rattle.giop_sig.specs.Table.{Table};
     ghost use Rattle.giop_message.specs.Signatures.{Kept as Listed};
     ghost use Rattle.giop_message.specs.MessageReading.{message_reading};
-    ghost use Rattle.giop_message.specs.Headers.{order, size};
+    ghost use Rattle.giop_message.specs.Headers.{size};
     ghost use Rattle.giop_stream.specs.Headers.{wrong};
     ghost use Rattle.giop_stream.specs.Text.{stop_text};
     ghost use Rattle.giop_stream.specs.Keeping.{AreReady, IsBare};
@@ -76,7 +71,6 @@ impl Framing {
         ensures stopped { result.stopped ≡ stopped }
         ensures header { result.header.items ≡ [] }
         ensures come { result.come ≡ 0 }
-        ensures first { result.first ≡ [] }
         ensures slots { IsBare result.slots }
         ensures ready { (C : Table) → AreReady C (result.totals.octets + 1) result.slots }
     {
@@ -85,7 +79,6 @@ impl Framing {
             stopped,
             header: ArrayVec::new(),
             come: 0,
-            first: Carry::new(),
             slots: Slots::new(),
         }
     }
@@ -116,7 +109,6 @@ impl Framing {
         if self.come == size {
             self.header.clear();
             self.come = 0;
-            self.first.clear();
         }
     }
 
@@ -127,22 +119,14 @@ impl Framing {
         ensures header { result.header ≡ self.now.header.items }
         ensures place { result.place ≡ self.now.totals.octets }
         ensures come { result.come ≡ self.now.come }
-        ensures id { self.now.come ≡ 4 → length self.now.first ≡ 4 →
-            result.id ≡ num (order self.now.header.items) self.now.first }
     {
         let mut header = [0; 12];
         header.copy_from_slice(self.header.as_slice());
-        let id = if self.come == 4 && self.first.len() == 4 {
-            unsigned_long(order_of(&header), &self.first)
-        } else {
-            0
-        };
         Current {
             number: self.totals.messages,
             header,
             place: self.totals.octets,
             come: self.come,
-            id,
         }
     }
 
@@ -220,9 +204,6 @@ impl Framing {
     {
         self.totals.octets += 1;
         self.come = self.come.saturating_add(1);
-        if self.first.len() < 4 {
-            self.first.push(octet);
-        }
         let now = self.current();
         let faults = dispatch::octet(&mut self.slots, catalogue, requests, octet, now, out)?;
         self.totals.faults += u64::from(faults);

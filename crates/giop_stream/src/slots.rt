@@ -47,12 +47,15 @@ pub struct Slots {
 }
 
 impl Slots {
-    ghost use Rattle.std.specs.Prelude.{◌<◌, ◌==◌, IfSome, flat_map, slice_get};
+    ghost use Rattle.std.specs.Prelude.{◌<◌, ◌==◌, List, IfSome, flat_map, slice_get};
     ghost use Rattle.std.specs.List.{AllByRecursion as Each, position_from};
     ghost use Rattle.giop_print.specs.Lines.{unfinished_line};
     ghost use Rattle.giop_stream.specs.declared.slots.Payload.TheVariants as Payload;
     ghost use Rattle.giop_stream.specs.Events.{Open, Opens, Cancelled, Rising};
-    ghost use Rattle.giop_stream.specs.Keeping.{Keeps, AreReady, IsBare, scene_to, lines_to};
+    ghost use Rattle.giop_message.specs.Signatures.{said_by};
+    ghost use Rattle.giop_message.specs.Messages.{message, told_of};
+    ghost use Rattle.giop_message.specs.MessageReading.{id_said};
+    ghost use Rattle.giop_stream.specs.Keeping.{IsKept, Keeps, AreReady, IsBare, scene_to, lines_to};
     ghost use Rattle.giop_stream.specs.Machine.{left_open};
     ghost use Rattle.giop_stream.specs.Plays.{slots_at};
     ghost use Rattle.giop_stream.specs.Runs.{run_scene, run_lines};
@@ -243,6 +246,17 @@ impl Slots {
     {
         self.own = Some(Message::start(catalogue, number, header));
         self.payload = Payload::Own;
+    }
+
+    /// The request id of the message whose payload comes, once its own octets have brought it.
+    pub fn request_id(&self) -> u32
+        ensures { (C : Table) (l : Listed) (w : Title) (xs : List ℕ) (i : ℕ) → IsKept C l self.now.own w (Some xs) →
+            id_said (told_of (message (said_by C l) w.header xs)) ≡ Some i → result ≡ i }
+    {
+        match &self.own {
+            Some(message) => message.request_id().unwrap_or(0),
+            None => 0,
+        }
     }
 
     /// Where the open message with this request id is.
