@@ -196,6 +196,13 @@ impl Message {
         rest_line(out, self.number, self.offset, self.held.as_slice())
     }
 
+    /// The octets of its header.
+    pub fn header(&self) -> [u8; 12]
+        ensures { result ≡ self.now.header }
+    {
+        self.header
+    }
+
     /// The request id of its header, once that has come.
     pub fn request_id(&self) -> Option<u32>
         ensures { (C : Table) (kept : Kept) (number : ℕ) (header s : List ℕ) →

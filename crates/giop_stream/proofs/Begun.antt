@@ -24,7 +24,8 @@ use Rattle.giop_stream.specs.Plays.{Play, plays, stage}
 use Rattle.giop_stream.specs.Keeping.{Keeps, AreReady}
 use Rattle.giop_stream.specs.Whose.{IsFirst, Knows, whose_in, whose_after}
 use Rattle.giop_stream.specs.Remembering.{Memory}
-use Rattle.giop_stream.specs.Holding.{Remembers, added, payload_by}
+use Rattle.giop_stream.specs.Holding.{Remembers, added}
+use Rattle.giop_stream.specs.Octet.{come_of}
 use Rattle.giop_stream.specs.Steps.{read_on, held_on, begun, dealt}
 use Rattle.giop_stream.specs.Steps as steps
 use Rattle.giop_stream.proofs.Cutting.{settle, header_case}
@@ -37,7 +38,7 @@ use Rattle.giop_stream.proofs.Growing.{Grows, beginner, header_grows}
 use Rattle.giop_stream.proofs.Parts.{in_turn}
 use Rattle.giop_stream.proofs.Staged.{first_is, knows_header}
 use Rattle.giop_stream.proofs.Adding.{added_by}
-use Rattle.giop_stream.proofs.Idle.{below_limit, within_limit, cut_front, runs, octets_are, no_current, held_is, remembers_by}
+use Rattle.giop_stream.proofs.Idle.{below_limit, within_limit, cut_front, runs, octets_are, come_at, knows_at, no_current, held_is, remembers_by}
 
 -- what is ready stays ready behind a message's last octet
 pub settled_ready : (C : Table) (m : Memory) (n : ℕ) → AreReady C (m.totals.octets + 1) m.slots → AreReady C ((steps.settle m n).totals.octets + 1) (steps.settle m n).slots
@@ -147,13 +148,13 @@ module _ (C : Table) (l : Listed) (m : Memory) (p : List ℕ) (x : ℕ) (h : Rem
   count = ap (λ (t : Totals). t.messages) h.totals ∙ (starts_are R causal p ∙ rw cur (ap length (append-nil (cut p).whole)))
 
   none_come : b.come ≡ 0
-  none_come = come_was ∙ (h.come ∙ ap (λ (o : Option Message). length (payload_by o)) cur)
+  none_come = come_was ∙ (come_at C l m p h ran ∙ ap come_of cur)
 
   -- what the code knows of it
   pub is_first : (now : Current) → now.number ≡ b.totals.messages + 1 → now.header ≡ b.header → now.place ≡ b.totals.octets → now.come ≡ b.come → IsFirst C l b.slots (stage (message_reading C l) p) (whose_in (open_after p) (cut p).current) first now
   is_first now number header at come =
       let within : Fits (length p) (cut p) = (sound R causal p).fits st in
-      first_is C l b.slots p first now ((cut p).held ++ x ∷ []) (whose_in (open_after p) (cut p).current) cur refl (subst (λ (s : Slots). Keeps C l s (stage R p) (whose_in (open_after p) (cut p).current)) (sym slots_was) h.slots)
+      first_is C l b.slots p first now ((cut p).held ++ x ∷ []) (whose_in (open_after p) (cut p).current) cur refl (subst (λ (s : Slots). Keeps C l s (stage R p) (whose_in (open_after p) (cut p).current)) (sym slots_was) (knows_at C l m p h ran))
       (record {
         number = omega (arith, number, messages_was, count);
         header = sym header_now ∙ sym header;
@@ -199,8 +200,8 @@ module _ (C : Table) (l : Listed) (m : Memory) (p : List ℕ) (x : ℕ) (h : Rem
       go : (k : ℕ) → n ≡ k → Remembers C l (steps.settle (dealt (begun b) faults slots) n) (p ++ x ∷ [])
       go zero z =
           let over : cut (p ++ x ∷ []) ≡ record { whole = (cut p).whole ++ first ∷ []; current = None; held = []; stop = None } = grown ∙ rw (sized, z) refl in
-          rw (eq-eqb b.come n (none_come ∙ sym z)) (remembers_by C l _ (p ++ x ∷ []) _ over octets_now (totals_are faults slots f) free refl refl knows)
+          rw (eq-eqb b.come n (none_come ∙ sym z)) (remembers_by C l _ (p ++ x ∷ []) _ over refl octets_now (totals_are faults slots f) free refl refl knows)
       go (suc k) z =
           let more : 0 < size first.header = omega (arith, sized, z) in
           let comes : cut (p ++ x ∷ []) ≡ record { whole = (cut p).whole; current = Some first; held = []; stop = None } = grown ∙ rw (lt-ltb 0 (size first.header) more) refl in
-          rw (ne_eqb b.come n (λ same. omega (arith, none_come, z, same))) (remembers_by C l _ (p ++ x ∷ []) _ comes octets_now (totals_are faults slots f) free header_now none_come knows)
+          rw (ne_eqb b.come n (λ same. omega (arith, none_come, z, same))) (remembers_by C l _ (p ++ x ∷ []) _ comes refl octets_now (totals_are faults slots f) free header_now none_come knows)

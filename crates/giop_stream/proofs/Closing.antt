@@ -1,6 +1,6 @@
 -- The finish, by what is remembered of a stream.
 use Rattle.std.proofs.Common.{inl, inr, ◌≡◌, ℕ, zero, suc, ◌+◌, ◌<◌, Bool, true, false, List, [], ◌∷◌, ◌++◌, length, get_or, take, drop, flat_map, refl, sym, ap, ◌∙◌, Option, Some, None, arith, append-nil}
-use Rattle.std.specs.Prelude.{◌==◌, ◌&&◌, option_to_list, nat_lt, is_some, is_none, IfSome, if◌then◌else◌, slice_get}
+use Rattle.std.specs.Prelude.{◌==◌, ◌&&◌, ◌||◌, option_map, not, option_to_list, nat_lt, is_some, is_none, IfSome, if◌then◌else◌, slice_get}
 use Rattle.std.specs.List.{AllByRecursion as Each}
 use Rattle.std.proofs.lemmas.Bool.{cases_lt, eq-eqb, ne_eqb, or_right}
 use Rattle.std.proofs.lemmas.List.{length-take-le, length_push}
@@ -22,16 +22,21 @@ use Rattle.giop_stream.specs.Framing.{Message, Cut, with_first, cut_from, limit,
 use Rattle.giop_stream.specs.Events.{Title, Open, title, has_named, open_after}
 use Rattle.giop_stream.specs.Text.{truncated_line}
 use Rattle.giop_stream.specs.Stream.{tally, is_inside, is_truncated, with_truncated, final, closing}
-use Rattle.giop_stream.specs.State.{Slot, is_open, octets_of, own_of, state_of}
+use Rattle.giop_stream.specs.State.{Slot, is_open, octets_of, slots_of, own_of, state_of}
 use Rattle.giop_stream.specs.Machine.{left_by, left_open, left_own, left_over}
 use Rattle.giop_stream.specs.Plays.{Scene, stage, slots_at}
 use Rattle.giop_stream.specs.Keeping.{IsKept, IsSlot, AreSlots, IsWhose, Keeps}
 use Rattle.giop_stream.specs.Whose.{whose, whose_in}
 use Rattle.giop_stream.specs.Remembering.{Memory}
-use Rattle.giop_stream.specs.Holding.{Remembers, header_by}
+use Rattle.giop_stream.specs.Holding.{Remembers}
+use Rattle.giop_stream.specs.Octet.{now_of, header_of}
+use Rattle.giop_stream.specs.Engine.{Own, unless, is_named, own_for, own_in}
+use Rattle.giop_stream.specs.Step.{left_own as own_left}
+use Rattle.giop_stream.specs.Showing.{IsOwn}
 use Rattle.giop_stream.specs.Steps.{is_cut_short, final_totals}
 use Rattle.giop_stream.proofs.Cutting.{cut_wrong, cut_short, cut_open, cut_more}
 use Rattle.giop_stream.proofs.Bridge.{starts_are}
+use Rattle.giop_stream.proofs.EngineLaws.{own_left_same}
 use Rattle.giop_stream.proofs.Finishing.{no_name, or_none, left_is, read_by, truncated_by}
 
 -- ---- What is held of a header is short, and the header of the current message is whole.
@@ -81,24 +86,13 @@ cut_shape p = shaped_limited (nat_lt limit (length p)) (cut_from (suc (length p)
 
 -- ---- The stream ends inside a message or a header where octets of a header are held.
 
-inside_by : (n : ℕ) (stop : Option (ℕ × StreamFault)) (current : Option Message) (held : List ℕ) → IfSome current (IsLater n) → (is_none (fault_of stop) && nat_lt 0 (length (header_by current held))) ≡ is_inside current held stop
+inside_by : (n : ℕ) (stop : Option (ℕ × StreamFault)) (current : Option Message) (held : List ℕ) → IfSome current (IsLater n) → (is_none (fault_of stop) && nat_lt 0 (length (unless stop [] (header_of current held)))) ≡ is_inside current held stop
 unfolding is_inside
 inside_by n (Some found) current held later = refl
 inside_by n None None held later = refl
 inside_by n None (Some a) held later = rw later.0 refl
 
 -- ---- The messages that are open have slots.
-
-not_open : (live : List Open) (n : ℕ) → Each (λ o. o.opener.number ≡ n → ⊥) live → is_open live n ≡ false
-unfolding is_open
-not_open [] n h = refl
-not_open (o ∷ live) n h = rw (ne_eqb o.opener.number n h.0) (not_open live n h.1)
-
-open_at : (live : List Open) (k : ℕ) (o : Open) → slice_get live k ≡ Some o → is_open live o.opener.number ≡ true
-unfolding is_open
-open_at [] k o e = absurd cc
-open_at (a ∷ live) zero o e = let same : a ≡ o = cc in rw (same, eq-eqb o.opener.number o.opener.number refl) refl
-open_at (a ∷ live) (suc k) o e = or_right (a.opener.number == o.opener.number) _ (open_at live k o e)
 
 -- the line of a slot at the finish
 unfoldable pub slot_text : Kept_slot → List ℕ
@@ -113,12 +107,6 @@ unfolding slot_text
 slot_silent ks i slot is e = rw (← is, e) refl
 
 module _ (C : Table) (l : Listed) where
-  left_kept : (own : Option Kept_message) (w : Title) (o : Option (List ℕ)) → IsKept C l own w o → left_by w.number o ≡ (if is_some own then w.number ∷ [] else [])
-  left_kept None w None k = refl
-  left_kept None w (Some xs) k = absurd k
-  left_kept (Some m) w None k = absurd k
-  left_kept (Some m) w (Some xs) k = refl
-
   line_kept : (n : ℕ) (own : Option Kept_message) (w : Title) (o : Option (List ℕ)) → n ≡ w.number → IsKept C l own w o → flat_map unfinished_line (left_by w.number o) ≡ (if is_some own then unfinished_line n else [])
   line_kept n None w None e k = refl
   line_kept n None w (Some xs) e k = absurd k
@@ -136,14 +124,29 @@ module _ (C : Table) (l : Listed) where
   slots_left (k ∷ ks) [] h = absurd h
   slots_left (k ∷ ks) (s ∷ ss) h = flat_map-append unfinished_line (left_open s) (flat_map left_open ss) ∙ rw (slot_left k s h.0, slots_left ks ss h.1) refl
 
-  -- what is left of the message whose payload comes, by whose that is
-  own_kept : (of : Payload) (own : Option Kept_message) (c : Scene) (w : Title) → IsWhose C l of own c (Some w) → left_by w.number (if is_open c.live w.number then None else c.known w.number) ≡ (if is_some own then w.number ∷ [] else [])
-  own_kept payload.Own own c w h = rw (not_open c.live w.number h.0) (left_kept own w (c.known w.number) h.1)
-  own_kept (payload.Open k) own c w h =
-      let number : h.1.0.opener.number ≡ w.number = ap (λ (t : Title). t.number) h.1.2 in
-      let there : is_open c.live w.number ≡ true = rw number at (open_at c.live k h.1.0 h.1.1) in
-      rw (there, h.0) refl
-  own_kept payload.Nobody own c w h = absurd h
+  -- what is left of the message whose payload comes
+  pub is_left : Option Kept_message → Bool
+  is_left None = false
+  is_left (Some m) = not (is_fragment m.header)
+
+  pub left_some : (own : Option Kept_message) (m : Kept_message) (b : Bool) → own ≡ Some m → b ≡ is_fragment m.header → is_left own ≡ not b
+  unfolding is_left
+  left_some own m b e f = rw (e, f) refl
+
+  pub left_none : (own : Option Kept_message) → own ≡ None → is_left own ≡ false
+  unfolding is_left
+  left_none own e = rw e refl
+
+  left_of : (own : Option Kept_message) (o : Option Own) (number : ℕ) → IsOwn C l own o → IfSome o (λ o. o.title.number ≡ number) → own_left o ≡ (if is_left own then number ∷ [] else [])
+  unfolding is_left
+  left_of None None number k n = refl
+  left_of None (Some o) number k n = absurd k
+  left_of (Some m) None number k n = absurd k
+  left_of (Some m) (Some o) number k n = rw (k.same_header, n) (go (is_fragment o.title.header))
+    where
+      go : (b : Bool) → (if b then [] else number ∷ []) ≡ (if not b then number ∷ [] else [])
+      go true = refl
+      go false = refl
 
 -- the totals of a stream that isn't truncated
 pub no_more : (t : Totals) → with_truncated false t ≡ t
@@ -164,50 +167,38 @@ module _ (C : Table) (l : Listed) (m : Memory) (p : List ℕ) (h : Remembers C l
 
   -- ---- What is left of the message whose payload comes.
 
-  -- none does,
-  pub no_header : (length m.header ≡ 12 → ⊥) → left_own (cut p).current (state_of (message_reading C l) p).own ≡ []
-  unfolding state_of left_own
-  no_header short = go (cut p).current h.header (cut_shape p).current
-    where
-      go : (o : Option Message) → m.header ≡ header_by o (cut p).held → IfSome o (IsLater (1 + length (cut p).whole)) → left_own o (own_of (octets_of (message_reading C l) p) (open_after p) o) ≡ []
-      go None e s = refl
-      go (Some a) e s = absurd (short (ap length e ∙ s.0))
-
-  -- a Fragment's,
-  pub of_fragment : is_fragment m.header ≡ true → left_own (cut p).current (state_of (message_reading C l) p).own ≡ []
-  unfolding state_of left_own
-  of_fragment f = go (cut p).current h.header
-    where
-      go : (o : Option Message) → m.header ≡ header_by o (cut p).held → left_own o (own_of (octets_of (message_reading C l) p) (open_after p) o) ≡ []
-      go None e = refl
-      go (Some a) e = let g : is_fragment a.header ≡ true = ap is_fragment (sym e) ∙ f in rw g refl
-
   started : m.totals.messages ≡ length (messages (cut p))
   unfolding tally
   started = ap (λ (t : Totals). t.messages) h.totals ∙ starts_are (message_reading C l) (is_causal (said_by C l)) p
 
-  -- or another message's
-  pub of_head : length m.header ≡ 12 → is_fragment m.header ≡ false → left_own (cut p).current (state_of (message_reading C l) p).own ≡ (if is_some m.slots.own then m.totals.messages ∷ [] else [])
-  unfolding state_of left_own own_of stage whose messages
-  of_head twelve f = go (cut p).current h.header (cut_shape p).current started h.slots
+  numbered : (current : Option Message) → m.totals.messages ≡ length ((cut p).whole ++ option_to_list current) → IfSome current (IsLater (1 + length (cut p).whole)) → IfSome (own_in (octets_of (message_reading C l) p) (open_after p) current) (λ o. o.title.number ≡ m.totals.messages)
+  unfolding own_for now_of
+  numbered None n s = tt
+  numbered (Some a) n s = go (is_open (open_after p) a.number || is_named (now_of a)) (octets_of (message_reading C l) p a.number)
     where
-      go : (o : Option Message) → m.header ≡ header_by o (cut p).held → IfSome o (IsLater (1 + length (cut p).whole)) → m.totals.messages ≡ length ((cut p).whole ++ option_to_list o) → Keeps C l m.slots (stage (message_reading C l) p) (whose_in (open_after p) o)
-          → left_own o (own_of (octets_of (message_reading C l) p) (open_after p) o) ≡ (if is_some m.slots.own then m.totals.messages ∷ [] else [])
-      go None e s n k = absurd (let short = (cut_shape p).held in omega (arith, short, ap length e, twelve))
-      go (Some a) e s n k =
-          let g : is_fragment a.header ≡ false = ap is_fragment (sym e) ∙ f in
-          let unnamed : has_named a ≡ false = no_name a g in
-          let who : whose (open_after p) a ≡ Some (title a) = rw unnamed refl in
-          let keeps : Keeps C l m.slots (stage (message_reading C l) p) (Some (title a)) = rw who at k in
-          let number : m.totals.messages ≡ a.number = omega (arith, n, s.1, length_push (cut p).whole a) in
-          rw (g, unnamed, or_none (is_open (open_after p) a.number), number) (own_kept C l m.slots.payload m.slots.own (stage (message_reading C l) p) (title a) keeps.payload)
+      number : a.number ≡ m.totals.messages
+      number = omega (arith, n, s.1, length_push (cut p).whole a)
+
+      held : Option (List ℕ) → Option Own
+      held o = option_map (λ xs. record { title = (now_of a).whom; octets = xs }) o
+
+      go : (b : Bool) (o : Option (List ℕ)) → IfSome (if b then None else held o) (λ o. o.title.number ≡ m.totals.messages)
+      go true o = tt
+      go false None = tt
+      go false (Some xs) = unfold now_of in number
+
+  pub own_is_left : left_own (cut p).current (state_of (message_reading C l) p).own ≡ (if is_left C l m.slots.own then m.totals.messages ∷ [] else [])
+  unfolding state_of messages
+  own_is_left =
+      let R = message_reading C l in
+      own_left_same (octets_of R p) (open_after p) (cut p).current ∙ left_of C l m.slots.own (own_in (octets_of R p) (open_after p) (cut p).current) m.totals.messages h.own (numbered (cut p).current started (cut_shape p).current)
 
   -- ---- The text.
 
   pub left_text : flat_map unfinished_line (left_over (state_of (message_reading C l) p))
-      ≡ flat_map unfinished_line (flat_map left_open (slots_at (stage (message_reading C l) p))) ++ flat_map unfinished_line (left_own (cut p).current (state_of (message_reading C l) p).own)
-  unfolding left_over state_of stage
-  left_text = flat_map-append unfinished_line (flat_map left_open (slots_at (stage (message_reading C l) p))) (left_own (cut p).current (own_of (octets_of (message_reading C l) p) (open_after p) (cut p).current))
+      ≡ flat_map unfinished_line (flat_map left_open (slots_of (octets_of (message_reading C l) p) (open_after p))) ++ flat_map unfinished_line (left_own (cut p).current (state_of (message_reading C l) p).own)
+  unfolding left_over state_of
+  left_text = flat_map-append unfinished_line (flat_map left_open (slots_of (octets_of (message_reading C l) p) (open_after p))) (left_own (cut p).current (own_of (octets_of (message_reading C l) p) (open_after p) (cut p).current))
 
   pub closing_is : closing (message_reading C l) p
       ≡ (if is_truncated (cut p) then truncated_line (length p) else [])

@@ -23,10 +23,13 @@ use Rattle.giop_stream.specs.Stream.{fault_count, tally}
 use Rattle.giop_stream.specs.State.{State, slots_of, state_of}
 use Rattle.giop_stream.specs.Machine.{Step, writes, stops, in_header, step_on, step, totals_of, fresh}
 use Rattle.giop_stream.specs.Plays.{Scene, stage, reading_on}
-use Rattle.giop_stream.specs.Keeping.{IsBare, AreReady, Keeps}
+use Rattle.giop_stream.specs.Keeping.{IsBare, AreReady, AreSlots, IsWhose, Keeps}
 use Rattle.giop_stream.specs.Whose.{Knows, whose_in}
 use Rattle.giop_stream.specs.Remembering.{Memory}
-use Rattle.giop_stream.specs.Holding.{Remembers, added, header_by, payload_by}
+use Rattle.giop_stream.specs.Holding.{Remembers, added}
+use Rattle.giop_stream.specs.Octet.{header_of, come_of}
+use Rattle.giop_stream.specs.Engine.{unless, own_in}
+use Rattle.giop_stream.specs.Showing.{IsOwn}
 use Rattle.giop_stream.specs.Steps.{read_on, held_on, stop}
 use Rattle.giop_stream.proofs.Cutting.{header_case, next, of_parts, cut_grows}
 use Rattle.giop_stream.proofs.Soundness.{CurrentFits}
@@ -34,7 +37,8 @@ use Rattle.giop_stream.proofs.StepCases.{in_header_stop, in_header_held}
 use Rattle.giop_stream.proofs.Bridge.{next_stopped, next_limit, next_front, step_holds, tally_is, sound, cut_nothing, open_nothing, holds_start}
 use Rattle.giop_stream.proofs.Dealing.{if_some}
 use Rattle.giop_stream.proofs.Beginning.{parts_by}
-use Rattle.giop_stream.proofs.Staged.{events_stopped, events_limit, events_front, knows_idle}
+use Rattle.giop_stream.proofs.Staged.{stage_idle, events_stopped, events_limit, events_front}
+use Rattle.giop_stream.proofs.Owning.{own_known}
 use Rattle.giop_stream.proofs.Adding.{added_octet}
 
 -- ---- The limit.
@@ -72,13 +76,10 @@ pushed_is m x header e =
     let one : m.totals.octets + 1 ≡ suc m.totals.octets = omega arith in
     λ j. record m { totals = record { messages = m.totals.messages; faults = m.totals.faults; octets = one j }; header = e j }
 
--- the reading ends within a header, whose octets are forgotten
-pub cleared_stop : (m : Memory) (header : List ℕ) (octets place : ℕ) (fault : StreamFault) → length m.header < 12 → header ≡ [] → stop (record m { totals = record m.totals { octets = octets }; header = header }) fault place ≡ stop m fault place
+-- the reading ends, whatever octets are held
+pub stopped_same : (m : Memory) (header : List ℕ) (octets place : ℕ) (fault : StreamFault) → stop (record m { totals = record m.totals { octets = octets }; header = header }) fault place ≡ stop m fault place
 unfolding stop
-cleared_stop m header octets place fault few none =
-    let now : (if nat_lt (length header) 12 then [] else header) ≡ [] = rw none refl in
-    let before : (if nat_lt (length m.header) 12 then [] else m.header) ≡ [] = rw (lt-ltb (length m.header) 12 few) refl in
-    λ j. record m { totals = record { messages = m.totals.messages; faults = suc m.totals.faults; octets = place }; stopped = Some fault; header = (now ∙ sym before) j }
+stopped_same m header octets place fault = refl
 
 -- what is ready stays ready
 pub stop_ready : (C : Table) (m : Memory) (fault : StreamFault) (place : ℕ) → AreReady C (place + 1) m.slots → AreReady C ((stop m fault place).totals.octets + 1) (stop m fault place).slots
@@ -128,17 +129,25 @@ none_stops : (o : Option (ℕ × StreamFault)) → fault_of o ≡ None → o ≡
 none_stops None e = refl
 none_stops (Some found) e = absurd cc
 
--- by the stream's cut
-pub remembers_by : (C : Table) (l : Listed) (m : Memory) (q : List ℕ) (c : Cut) → cut q ≡ c → AreOctets q → m.totals ≡ tally (message_reading C l) q → m.stopped ≡ fault_of c.stop → m.header ≡ header_by c.current c.held → m.come ≡ length (payload_by c.current)
+-- by the stream's cut, where the reading goes on
+pub remembers_by : (C : Table) (l : Listed) (m : Memory) (q : List ℕ) (c : Cut) → cut q ≡ c → c.stop ≡ None → AreOctets q → m.totals ≡ tally (message_reading C l) q → m.stopped ≡ None → m.header ≡ header_of c.current c.held → m.come ≡ come_of c.current
     → Knows C l m.slots q → Remembers C l m q
-remembers_by C l m q c e octets totals stopped header come slots = record {
-  octets = octets;
-  totals = totals;
-  stopped = stopped ∙ ap (λ (d : Cut). fault_of d.stop) (sym e);
-  header = header ∙ ap (λ (d : Cut). header_by d.current d.held) (sym e);
-  come = come ∙ ap (λ (d : Cut). length (payload_by d.current)) (sym e);
-  slots = slots;
-}
+unfolding stage
+remembers_by C l m q c e st octets totals stopped header come knows =
+    let R = message_reading C l in
+    let goes_on : (cut q).stop ≡ None = ap (λ (d : Cut). d.stop) e ∙ st in
+    let same : unless (cut q).stop [] (header_of (cut q).current (cut q).held) ≡ header_of c.current c.held = rw (e, st) refl in
+    let many : unless (cut q).stop 0 (come_of (cut q).current) ≡ come_of c.current = rw (e, st) refl in
+    record {
+      octets = octets;
+      totals = totals;
+      stopped = stopped ∙ ap fault_of (sym goes_on);
+      header = header ∙ sym same;
+      come = come ∙ sym many;
+      slots = knows.slots;
+      own = own_known C l (stage R q) m.slots.own m.slots.payload (cut q).current knows.payload;
+      whose = λ free. knows.payload;
+    }
 
 all_read : (R : Reading) (p : List ℕ) → (cut p).stop ≡ None → (state_of R p).read ≡ length p
 unfolding state_of read_of
@@ -148,6 +157,16 @@ module _ (C : Table) (l : Listed) (m : Memory) (p : List ℕ) (h : Remembers C l
   -- the stream has no fault
   pub runs : m.stopped ≡ None → (cut p).stop ≡ None
   runs free = none_stops (cut p).stop (sym h.stopped ∙ free)
+
+  pub header_at : m.stopped ≡ None → m.header ≡ header_of (cut p).current (cut p).held
+  header_at free = h.header ∙ rw (runs free) refl
+
+  pub come_at : m.stopped ≡ None → m.come ≡ come_of (cut p).current
+  come_at free = h.come ∙ rw (runs free) refl
+
+  pub knows_at : m.stopped ≡ None → Knows C l m.slots p
+  unfolding stage
+  knows_at free = record { slots = h.slots; payload = h.whose (runs free) }
 
   octets_read : m.totals.octets ≡ (state_of (message_reading C l) p).read
   octets_read = ap (λ (t : Totals). t.octets) (h.totals ∙ tally_is (message_reading C l) (is_causal (said_by C l)) p)
@@ -164,19 +183,31 @@ module _ (C : Table) (l : Listed) (m : Memory) (p : List ℕ) (h : Remembers C l
       go None e = refl
       go (Some c) e =
           let fit = if_some (CurrentFits (length p) (cut p)) (cut p).current c e ((sound (message_reading C l) (is_causal (said_by C l)) p).fits (runs free)).current in
-          let same : m.header ≡ c.header = h.header ∙ ap (λ (o : Option Message). header_by o (cut p).held) e in
+          let same : m.header ≡ c.header = header_at free ∙ ap (λ (o : Option Message). header_of o (cut p).held) e in
           let whole : length m.header ≡ 12 = ap length same ∙ fit.twelve in
           absurd (omega (arith, few, whole))
 
   pub held_is : m.stopped ≡ None → length m.header < 12 → m.header ≡ (cut p).held
-  held_is free few = h.header ∙ ap (λ (o : Option Message). header_by o (cut p).held) (no_current free few)
+  held_is free few = header_at free ∙ ap (λ (o : Option Message). header_of o (cut p).held) (no_current free few)
 
-  idle_by : (x : ℕ) (m' : Memory) (c : Cut) → x < 256 → cut (p ++ x ∷ []) ≡ c → events (p ++ x ∷ []) ≡ events p → c.current ≡ (cut p).current → m'.totals ≡ tally (message_reading C l) (p ++ x ∷ []) → m'.stopped ≡ fault_of c.stop
-      → m'.header ≡ header_by c.current c.held → m'.come ≡ m.come → m'.slots ≡ m.slots → Remembers C l m' (p ++ x ∷ [])
-  idle_by x m' c octet e ev cur totals stopped header come slots =
-      remembers_by C l m' (p ++ x ∷ []) c e (All-push (λ y. y < 256) p x h.octets octet) totals stopped header
-      (come ∙ (h.come ∙ ap (λ (o : Option Message). length (payload_by o)) (sym cur)))
-      (subst (λ (s : Slots). Knows C l s (p ++ x ∷ [])) (sym slots) (knows_idle C l m.slots p x ev (ap (λ (d : Cut). d.current) e ∙ cur) h.slots))
+  idle_by : (x : ℕ) (m' : Memory) (c : Cut) → x < 256 → cut (p ++ x ∷ []) ≡ c → events (p ++ x ∷ []) ≡ events p → c.current ≡ (cut p).current → (c.stop ≡ None → (cut p).stop ≡ None) → m'.totals ≡ tally (message_reading C l) (p ++ x ∷ [])
+      → m'.stopped ≡ fault_of c.stop → m'.header ≡ unless c.stop [] (header_of c.current c.held) → m'.come ≡ unless c.stop 0 (come_of c.current) → m'.slots ≡ m.slots → Remembers C l m' (p ++ x ∷ [])
+  unfolding stage
+  idle_by x m' c octet e ev cur runs totals stopped header come slots =
+      let R = message_reading C l in
+      let p' = p ++ x ∷ [] in
+      let scene : stage R p' ≡ stage R p = stage_idle R (is_causal (said_by C l)) p x ev in
+      let now : (cut p').current ≡ (cut p).current = ap (λ (d : Cut). d.current) e ∙ cur in
+      record {
+        octets = All-push (λ y. y < 256) p x h.octets octet;
+        totals = totals;
+        stopped = stopped ∙ ap (λ (d : Cut). fault_of d.stop) (sym e);
+        header = header ∙ ap (λ (d : Cut). unless d.stop [] (header_of d.current d.held)) (sym e);
+        come = come ∙ ap (λ (d : Cut). unless d.stop 0 (come_of d.current)) (sym e);
+        slots = rw slots (subst (λ (c : Scene). AreSlots C l m.slots.slots.items (slots_of c.known c.live)) (sym scene) h.slots);
+        own = rw (slots, now) (subst (λ (c : Scene). IsOwn C l m.slots.own (own_in c.known c.live (cut p).current)) (sym scene) h.own);
+        whose = λ free. rw (slots, now) (subst (λ (c : Scene). IsWhose C l m.slots.payload m.slots.own c (whose_in c.live (cut p).current)) (sym scene) (h.whose (runs (ap (λ (d : Cut). d.stop) (sym e) ∙ free))));
+      }
 
   -- an octet behind a stream's fault
   module _ (x : ℕ) (over : is_some m.stopped ≡ true) where
@@ -198,8 +229,8 @@ module _ (C : Table) (l : Listed) (m : Memory) (p : List ℕ) (h : Remembers C l
         let causal = is_causal (said_by C l) in
         let found = has_stopped.0 in
         let st = has_stopped.1 in
-        idle_by x m (of_parts (cut p).whole (cut p).current (cut p).held (Some found)) octet (cut_stopped p x found st) (events_stopped p x found st) refl (tally_reads R causal p x m.totals _ steps_on (sym (h.totals ∙ tally_is R causal p)))
-        (h.stopped ∙ ap fault_of st) h.header refl refl
+        idle_by x m (of_parts (cut p).whole (cut p).current (cut p).held (Some found)) octet (cut_stopped p x found st) (events_stopped p x found st) refl (λ no. absurd cc) (tally_reads R causal p x m.totals _ steps_on (sym (h.totals ∙ tally_is R causal p)))
+        (h.stopped ∙ ap fault_of st) (h.header ∙ rw st refl) (h.come ∙ rw st refl) refl
 
     pub stopped_adds : added (message_reading C l) p (x ∷ []) ≡ []
     stopped_adds = text_reads (message_reading C l) (is_causal (said_by C l)) p x _ steps_on refl
@@ -218,19 +249,9 @@ module _ (C : Table) (l : Listed) (m : Memory) (p : List ℕ) (h : Remembers C l
     limit_remembers place is octet =
         let R = message_reading C l in
         let causal = is_causal (said_by C l) in
-        idle_by x (stop m StreamLimit place) (of_parts (cut p).whole (cut p).current [] (Some (suc (length p), StreamLimit))) octet (cut_limit p x (runs free) past) (events_limit p x (runs free) past) refl
+        idle_by x (stop m StreamLimit place) (of_parts (cut p).whole (cut p).current [] (Some (suc (length p), StreamLimit))) octet (cut_limit p x (runs free) past) (events_limit p x (runs free) past) refl (λ no. absurd cc)
         ((λ j. record { messages = m.totals.messages; faults = suc m.totals.faults; octets = is j }) ∙ tally_stops R causal p x StreamLimit m.totals steps_limit h.totals)
-        refl (header_left (cut p).current refl) refl refl
-      where
-        header_left : (o : Option Message) → (cut p).current ≡ o → (if nat_lt (length m.header) 12 then [] else m.header) ≡ header_by o []
-        header_left None e =
-            let same : m.header ≡ (cut p).held = h.header ∙ ap (λ (o : Option Message). header_by o (cut p).held) e in
-            let short : length m.header < 12 = omega (arith, ap length same, ((sound (message_reading C l) (is_causal (said_by C l)) p).fits (runs free)).short) in
-            rw (lt-ltb (length m.header) 12 short) refl
-        header_left (Some c) e =
-            let fit = if_some (CurrentFits (length p) (cut p)) (cut p).current c e ((sound (message_reading C l) (is_causal (said_by C l)) p).fits (runs free)).current in
-            let same : m.header ≡ c.header = h.header ∙ ap (λ (o : Option Message). header_by o (cut p).held) e in
-            rw (le-ltb (length m.header) 12 (omega (arith, ap length same, fit.twelve))) same
+        refl refl refl refl
 
     pub limit_adds : (place : ℕ) → place ≡ suc m.totals.octets → added (message_reading C l) p (x ∷ []) ≡ stop_text StreamLimit place
     limit_adds place is = text_stops (message_reading C l) (is_causal (said_by C l)) p x StreamLimit steps_limit ∙ ap (stop_text StreamLimit) (ap suc (sym octets_read) ∙ sym is)
@@ -260,9 +281,9 @@ module _ (C : Table) (l : Listed) (m : Memory) (p : List ℕ) (h : Remembers C l
     wrong_remembers fault place w is octet =
         let R = message_reading C l in
         let causal = is_causal (said_by C l) in
-        idle_by x (stop m fault place) (of_parts (cut p).whole None [] (Some (suc (length p), fault))) octet (front_is ∙ rw w refl) (front_events (Some fault) _ w refl (λ e b. absurd cc)) (sym (no_current free few))
+        idle_by x (stop m fault place) (of_parts (cut p).whole None [] (Some (suc (length p), fault))) octet (front_is ∙ rw w refl) (front_events (Some fault) _ w refl (λ e b. absurd cc)) (sym (no_current free few)) (λ no. absurd cc)
         ((λ j. record { messages = m.totals.messages; faults = suc m.totals.faults; octets = is j }) ∙ tally_stops R causal p x fault m.totals (steps_front ∙ in_header_stop R _ (m.header ++ x ∷ []) fault w) h.totals)
-        refl (rw (lt-ltb (length m.header) 12 few) refl) refl refl
+        refl refl refl refl
 
     pub wrong_adds : (fault : StreamFault) (place : ℕ) → wrong (m.header ++ x ∷ []) ≡ Some fault → place ≡ suc m.totals.octets → added (message_reading C l) p (x ∷ []) ≡ stop_text fault place
     wrong_adds fault place w is =
@@ -280,9 +301,9 @@ module _ (C : Table) (l : Listed) (m : Memory) (p : List ℕ) (h : Remembers C l
           let R = message_reading C l in
           let causal = is_causal (said_by C l) in
           let was = h.totals ∙ tally_is R causal p in
-          idle_by x (held_on m x) (of_parts (cut p).whole None (m.header ++ x ∷ []) None) octet (front_is ∙ rw (w, not_twelve) refl) (front_events None false w not_twelve (λ e b. false≢true b)) (sym (no_current free few))
+          idle_by x (held_on m x) (of_parts (cut p).whole None (m.header ++ x ∷ []) None) octet (front_is ∙ rw (w, not_twelve) refl) (front_events None false w not_twelve (λ e b. false≢true b)) (sym (no_current free few)) (λ no. runs free)
           (tally_reads R causal p x (held_on m x).totals _ (steps_front ∙ in_header_held R _ (m.header ++ x ∷ []) w not_twelve) (λ j. record { messages = (sym was j).messages; faults = (sym was j).faults; octets = suc (sym was j).octets }))
-          free refl refl refl
+          free refl (come_at free ∙ ap come_of (no_current free few)) refl
 
       pub held_adds : added (message_reading C l) p (x ∷ []) ≡ []
       held_adds = let R = message_reading C l in text_reads R (is_causal (said_by C l)) p x _ (steps_front ∙ in_header_held R _ (m.header ++ x ∷ []) w not_twelve) refl
@@ -298,5 +319,5 @@ module _ (C : Table) (l : Listed) (m : Memory) where
   unfolding of_parts fresh stage
   nothing_remembered totals stopped header come bare =
       let R = message_reading C l in
-      remembers_by C l m [] _ cut_nothing (All-nil (λ y. y < 256)) (totals ∙ sym (tally_is R (is_causal (said_by C l)) [] ∙ ap totals_of (holds_start R))) stopped header come
+      remembers_by C l m [] _ cut_nothing refl (All-nil (λ y. y < 256)) (totals ∙ sym (tally_is R (is_causal (said_by C l)) [] ∙ ap totals_of (holds_start R))) stopped header come
       (bare_keeps m.slots (stage R []) _ bare open_nothing (ap (λ (d : Cut). whose_in (open_after []) d.current) cut_nothing))

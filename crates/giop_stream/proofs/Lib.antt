@@ -56,3 +56,4 @@ mod EngineStep
 mod EngineLaws
 mod EngineAlive
 mod RequestIds
+mod Owning

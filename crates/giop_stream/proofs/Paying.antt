@@ -24,7 +24,8 @@ use Rattle.giop_stream.specs.Plays.{Play, plays, stage, with_octet}
 use Rattle.giop_stream.specs.Keeping.{Keeps, AreReady}
 use Rattle.giop_stream.specs.Whose.{IsNext, Knows, whose_in, whose_after}
 use Rattle.giop_stream.specs.Remembering.{Memory}
-use Rattle.giop_stream.specs.Holding.{Remembers, added, header_by, payload_by}
+use Rattle.giop_stream.specs.Holding.{Remembers, added}
+use Rattle.giop_stream.specs.Octet.{header_of, come_of}
 use Rattle.giop_stream.specs.Steps.{read_on, come_on, stop, dealt, settle as settled}
 use Rattle.giop_stream.proofs.Cutting.{settle, next, of_parts, cut_grows}
 use Rattle.giop_stream.proofs.Grown.{count_append}
@@ -39,7 +40,7 @@ use Rattle.giop_stream.proofs.Headed.{ready_later}
 use Rattle.giop_stream.proofs.Parts.{in_turn}
 use Rattle.giop_stream.proofs.Staged.{next_is, knows_octet}
 use Rattle.giop_stream.proofs.Adding.{added_by}
-use Rattle.giop_stream.proofs.Idle.{within_limit, below_limit, runs, octets_are}
+use Rattle.giop_stream.proofs.Idle.{within_limit, below_limit, runs, octets_are, header_at, come_at, knows_at, remembers_by}
 use Rattle.giop_stream.proofs.OfOctets.{header_octets, size_fits}
 use Rattle.giop_stream.proofs.RequestIds.{says_id}
 
@@ -112,7 +113,7 @@ module _ (C : Table) (l : Listed) (m : Memory) (p : List ℕ) (h : Remembers C l
       go : (o : Option Message) → (cut p).current ≡ o → (c : Message) × ((cut p).current ≡ Some c)
       go (Some c) e = (c, e)
       go None e =
-          let same : m.header ≡ (cut p).held = h.header ∙ ap (λ (o : Option Message). header_by o (cut p).held) e in
+          let same : m.header ≡ (cut p).held = header_at C l m p h free ∙ ap (λ (o : Option Message). header_of o (cut p).held) e in
           absurd (omega (arith, full, ap length same, fits.short))
 
   module _ (x : ℕ) (c : Message) (cur : (cut p).current ≡ Some c) where
@@ -120,10 +121,10 @@ module _ (C : Table) (l : Listed) (m : Memory) (p : List ℕ) (h : Remembers C l
     at_hand = if_some (CurrentFits (length p) (cut p)) (cut p).current c cur fits.current
 
     header_is : m.header ≡ c.header
-    header_is = h.header ∙ ap (λ (o : Option Message). header_by o (cut p).held) cur
+    header_is = header_at C l m p h free ∙ ap (λ (o : Option Message). header_of o (cut p).held) cur
 
     come_is : m.come ≡ length c.payload
-    come_is = h.come ∙ ap (λ (o : Option Message). length (payload_by o)) cur
+    come_is = come_at C l m p h free ∙ ap come_of cur
 
     counted_to : m.totals.messages ≡ length (messages (cut p))
     unfolding tally
@@ -150,7 +151,7 @@ module _ (C : Table) (l : Listed) (m : Memory) (p : List ℕ) (h : Remembers C l
         → IsNext C l m.slots (stage (message_reading C l) p) c now x
     unfolding stage
     pays_next now number header place come =
-        next_is C l m.slots p c now x st cur (subst (λ (o : Option Message). Keeps C l m.slots (stage (message_reading C l) p) (whose_in (open_after p) o)) cur h.slots)
+        next_is C l m.slots p c now x st cur (subst (λ (o : Option Message). Keeps C l m.slots (stage (message_reading C l) p) (whose_in (open_after p) o)) cur (knows_at C l m p h free))
         (record {
           number = number_is ∙ sym number;
           header = sym (header ∙ header_is);
@@ -212,16 +213,9 @@ module _ (C : Table) (l : Listed) (m : Memory) (p : List ℕ) (h : Remembers C l
       unfolding stage
       knows = knows_octet C l slots p x c st cur below kept
 
-      by_cut : (m' : Memory) (d : Cut) → cut (p ++ x ∷ []) ≡ d → m'.totals ≡ record { messages = m.totals.messages; faults = m.totals.faults + faults; octets = suc m.totals.octets } → m'.stopped ≡ fault_of d.stop → m'.header ≡ header_by d.current d.held
-          → m'.come ≡ length (payload_by d.current) → m'.slots ≡ slots → Remembers C l m' (p ++ x ∷ [])
-      by_cut m' d e totals stopped header come same = record {
-        octets = All-push (λ y. y < 256) p x h.octets octet;
-        totals = totals ∙ counts_are faults counted;
-        stopped = stopped ∙ ap (λ (d : Cut). fault_of d.stop) (sym e);
-        header = header ∙ ap (λ (d : Cut). header_by d.current d.held) (sym e);
-        come = come ∙ ap (λ (d : Cut). length (payload_by d.current)) (sym e);
-        slots = subst (λ (s : Slots). Knows C l s (p ++ x ∷ [])) (sym same) knows;
-      }
+      by_cut : (m' : Memory) (d : Cut) → cut (p ++ x ∷ []) ≡ d → d.stop ≡ None → m'.totals ≡ record { messages = m.totals.messages; faults = m.totals.faults + faults; octets = suc m.totals.octets } → m'.stopped ≡ None → m'.header ≡ header_of d.current d.held
+          → m'.come ≡ come_of d.current → m'.slots ≡ slots → Remembers C l m' (p ++ x ∷ [])
+      by_cut m' d e st totals stopped header come same = remembers_by C l m' (p ++ x ∷ []) d e st (All-push (λ y. y < 256) p x h.octets octet) (totals ∙ counts_are faults counted) stopped header come (subst (λ (s : Slots). Knows C l s (p ++ x ∷ [])) (sym same) knows)
 
       pub pays_remembers : (n : ℕ) → n ≡ size m.header → Remembers C l (settled (dealt (come_on m) faults slots) n) (p ++ x ∷ [])
       unfolding of_parts come_on read_on dealt
@@ -231,9 +225,9 @@ module _ (C : Table) (l : Listed) (m : Memory) (p : List ℕ) (h : Remembers C l
           elim (cases_lt (length (c.payload ++ x ∷ [])) (size c.header)) [
             | inl less ↦
                 rw (settled_on (dealt (come_on m) faults slots) n (λ same. omega (arith, same, come, whole, less)))
-                (by_cut (dealt (come_on m) faults slots) (of_parts (cut p).whole (Some (with_octet c x)) [] None) (grown ∙ goes_on (cut p).whole (with_octet c x) less) refl free header_is come refl)
+                (by_cut (dealt (come_on m) faults slots) (of_parts (cut p).whole (Some (with_octet c x)) [] None) (grown ∙ goes_on (cut p).whole (with_octet c x) less) refl refl free header_is come refl)
             | inr more ↦
                 let last : suc m.come ≡ n = omega (arith, come, whole, more, at_hand.lacks, length_push c.payload x) in
                 rw (settled_off (dealt (come_on m) faults slots) n last)
-                (by_cut _ (of_parts ((cut p).whole ++ with_octet c x ∷ []) None [] None) (grown ∙ goes_off (cut p).whole (with_octet c x) more) refl free refl refl refl)
+                (by_cut _ (of_parts ((cut p).whole ++ with_octet c x ∷ []) None [] None) (grown ∙ goes_off (cut p).whole (with_octet c x) more) refl refl free refl refl refl)
           ]

@@ -25,7 +25,8 @@ use Rattle.giop_stream.specs.Keeping.{Keeps, scene_to, lines_to}
 use Rattle.giop_stream.specs.Runs.{run_scene, run_lines}
 use Rattle.giop_stream.specs.Whose.{Knows, whose, whose_in}
 use Rattle.giop_stream.specs.Remembering.{Memory}
-use Rattle.giop_stream.specs.Holding.{Remembers, added, header_by, payload_by}
+use Rattle.giop_stream.specs.Holding.{Remembers, added}
+use Rattle.giop_stream.specs.Octet.{header_of, come_of}
 use Rattle.giop_stream.proofs.Cutting.{next, of_parts, cut_grows}
 use Rattle.giop_stream.proofs.Grown.{count_append}
 use Rattle.giop_stream.proofs.Soundness.{CurrentFits}
@@ -38,7 +39,7 @@ use Rattle.giop_stream.proofs.Ending.{DoesTo}
 use Rattle.giop_stream.proofs.Taken.{whose_elsewhere}
 use Rattle.giop_stream.proofs.Parts.{in_turn, octet_does, whose_next}
 use Rattle.giop_stream.proofs.Adding.{added_by}
-use Rattle.giop_stream.proofs.Idle.{runs, octets_are}
+use Rattle.giop_stream.proofs.Idle.{runs, octets_are, header_at, come_at, knows_at, remembers_by}
 use Rattle.giop_stream.proofs.OfOctets.{header_octets, size_fits}
 use Rattle.giop_stream.proofs.Paying.{goes_on}
 
@@ -169,10 +170,10 @@ started_last R causal p m free current =
 
 module _ (C : Table) (l : Listed) (m : Memory) (p q : List ℕ) (h : Remembers C l m p) (c : Message) (current : (cut p).current ≡ Some c) (free : m.stopped ≡ None) (named : 4 ≤ m.come) (before_last : m.come + length q < size m.header) (room : m.totals.octets + length q ≤ 2 ^ 48) where
   come_is : m.come ≡ length c.payload
-  come_is = h.come ∙ ap (λ (o : Option Message). length (payload_by o)) current
+  come_is = come_at C l m p h free ∙ ap come_of current
 
   header_is : m.header ≡ c.header
-  header_is = h.header ∙ ap (λ (o : Option Message). header_by o (cut p).held) current
+  header_is = header_at C l m p h free ∙ ap (λ (o : Option Message). header_of o (cut p).held) current
 
   all_read : m.totals.octets ≡ length p
   all_read = octets_are C l m p h free
@@ -209,7 +210,7 @@ module _ (C : Table) (l : Listed) (m : Memory) (p q : List ℕ) (h : Remembers C
 
   -- what the slots keep before them
   pub run_keeps : Keeps C l m.slots (stage (message_reading C l) p) (whose (open_after p) c)
-  run_keeps = subst (λ (o : Option Message). Keeps C l m.slots (stage (message_reading C l) p) (whose_in (open_after p) o)) current h.slots
+  run_keeps = subst (λ (o : Option Message). Keeps C l m.slots (stage (message_reading C l) p) (whose_in (open_after p) o)) current (knows_at C l m p h free)
 
   pub run_rises : Rising (stage (message_reading C l) p).live
   unfolding stage
@@ -251,11 +252,5 @@ module _ (C : Table) (l : Listed) (m : Memory) (p q : List ℕ) (h : Remembers C
   run_remembers faults come slots octets faulted comes k =
       let then = run.within.current in
       let longer : come ≡ length (c.payload ++ q) = omega (arith, comes, come_is, length-append c.payload q) in
-      record {
-        octets = All-append (λ x. x < 256) p q h.octets octets;
-        totals = λ j. record { messages = counted_so j; faults = faulted_so faults faulted j; octets = read_so j };
-        stopped = free ∙ ap fault_of (sym run.within.free);
-        header = header_is ∙ ap (λ (o : Option Message). header_by o (cut (p ++ q)).held) (sym then);
-        come = longer ∙ ap (λ (o : Option Message). length (payload_by o)) (sym then);
-        slots = knows_so slots k;
-      }
+      remembers_by C l _ (p ++ q) (cut (p ++ q)) refl run.within.free (All-append (λ x. x < 256) p q h.octets octets) (λ j. record { messages = counted_so j; faults = faulted_so faults faulted j; octets = read_so j }) free
+      (header_is ∙ ap (λ (o : Option Message). header_of o (cut (p ++ q)).held) (sym then)) (longer ∙ ap come_of (sym then)) (knows_so slots k)

@@ -122,10 +122,6 @@ whose_settled live whole m fits = elim (cases_lt (length m.payload) (size m.head
 ]
 
 module _ (C : Table) (l : Listed) (s : Slots) (p : List ℕ) (x : ℕ) where
-  -- where the octet does nothing
-  pub knows_idle : events (p ++ x ∷ []) ≡ events p → (cut (p ++ x ∷ [])).current ≡ (cut p).current → Knows C l s p → Knows C l s (p ++ x ∷ [])
-  knows_idle ev cur k = rw (stage_idle (message_reading C l) (is_causal (said_by C l)) p x ev, open_idle p (p ++ x ∷ []) ev, cur) k
-
   -- where it is of a payload
   pub knows_octet : (m : Message) → (cut p).stop ≡ None → (cut p).current ≡ Some m → length p < limit
       → (let play = plays (message_reading C l) (stage (message_reading C l) p) (happens (open_after p) (with_octet m x)) in Keeps C l s play.scene (whose_after play.scene.live (with_octet m x))) → Knows C l s (p ++ x ∷ [])

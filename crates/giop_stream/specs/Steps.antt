@@ -23,7 +23,8 @@ unfoldable pub stop : Memory → StreamFault → ℕ → Memory
 stop m fault place = record m {
   totals = record { messages = m.totals.messages; faults = suc m.totals.faults; octets = place };
   stopped = Some fault;
-  header = if nat_lt (length m.header) 12 then [] else m.header;
+  header = [];
+  come = 0;
 }
 
 -- a message begins

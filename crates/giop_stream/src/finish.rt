@@ -66,12 +66,16 @@ impl Framing {
         Ok(())
     }
 
-    /// Whether the message whose payload comes is unfinished: its own octets come, and it is no Fragment.
+    /// Whether the message whose payload comes, or came at the stream's fault, is unfinished: its own octets are kept, and
+    /// it is no Fragment.
     fn own_is_unfinished(&self) -> bool
         ensures { (C : Table) (l : Listed) (p : List ℕ) → Remembers C l (shown self.now) p →
             left_own (cut p).current (state_of (message_reading C l) p).own ≡ (if result then self.now.totals.messages ∷ [] else []) }
     {
-        self.header.len() == 12 && !is_fragment(self.header.as_slice()) && self.slots.own.is_some()
+        match &self.slots.own {
+            Some(message) => !is_fragment(&message.header()),
+            None => false,
+        }
     }
 
     /// The messages that have neither ended nor been faulted, by number.

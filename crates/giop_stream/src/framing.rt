@@ -83,7 +83,7 @@ impl Framing {
         }
     }
 
-    /// The end of the reading, by the octet at this place.
+    /// The end of the reading, by the octet at this place: no header is held then, and no payload comes.
     #[tactic(auto, unfolding(crate::specs::Steps::stop))]
     fn stop<O: Out>(&mut self, fault: StreamFault, place: u64, out: &mut O) -> Result<(), OutFault>
         requires place { self.old.totals.octets ≤ place }
@@ -95,9 +95,8 @@ impl Framing {
         self.totals.octets = place;
         self.totals.faults += 1;
         self.stopped = Some(fault);
-        if self.header.len() < 12 {
-            self.header.clear();
-        }
+        self.header.clear();
+        self.come = 0;
         stream_fault_line(out, fault, place)
     }
 
@@ -174,7 +173,6 @@ impl Framing {
         self.totals.octets += 1;
         self.header.push(octet);
         if let Some(fault) = wrong_in(self.header.as_slice()) {
-            self.header.clear();
             return self.stop(fault, self.totals.octets, out);
         }
         if self.header.len() == 12 {

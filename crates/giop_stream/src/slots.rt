@@ -55,9 +55,9 @@ impl Slots {
     ghost use Rattle.giop_message.specs.Signatures.{said_by};
     ghost use Rattle.giop_message.specs.Messages.{message, told_of};
     ghost use Rattle.giop_message.specs.MessageReading.{id_said};
-    ghost use Rattle.giop_stream.specs.Keeping.{IsKept, Keeps, AreReady, IsBare, scene_to, lines_to};
+    ghost use Rattle.giop_stream.specs.Keeping.{AreSlots, IsKept, Keeps, AreReady, IsBare, scene_to, lines_to};
     ghost use Rattle.giop_stream.specs.Machine.{left_open};
-    ghost use Rattle.giop_stream.specs.Plays.{slots_at};
+    ghost use Rattle.giop_stream.specs.State.{Slot as Held};
     ghost use Rattle.giop_stream.specs.Runs.{run_scene, run_lines};
 
     /// No message.
@@ -74,8 +74,8 @@ impl Slots {
 
     /// The open messages that have neither ended nor been faulted, by number.
     pub fn unfinished<O: Out>(&self, out: &mut O) -> Result<(), OutFault>
-        ensures { (C : Table) (l : Listed) (c : Scene) (whose : Option Title) → Keeps C l self.now c whose →
-            Writes result (O.log out.old) (O.log out.new) (flat_map unfinished_line (flat_map left_open (slots_at c))) }
+        ensures { (C : Table) (l : Listed) (slots : List Held) → AreSlots C l self.now.slots.items slots →
+            Writes result (O.log out.old) (O.log out.new) (flat_map unfinished_line (flat_map left_open slots)) }
     {
         for slot in self.slots.as_slice() {
             if slot.message.is_some() {

@@ -7,7 +7,7 @@ use Rattle.giop_stream.specs.Remembering.{Memory}
 use Rattle.giop_stream.specs.Shown.{shown}
 use Rattle.giop_stream.specs.Holding.{Remembers}
 use Rattle.giop_stream.proofs.Headed.{ready_later}
-use Rattle.giop_stream.proofs.Idle.{pushed_is, cleared_stop, stop_ready, wrong_remembers, wrong_adds, held_remembers, held_adds}
+use Rattle.giop_stream.proofs.Idle.{pushed_is, stopped_same, stop_ready, wrong_remembers, wrong_adds, held_remembers, held_adds}
 use Rattle.giop_stream.proofs.framing.Framing.head.Goals as goal
 
 pub returns-in-Some-clause-remembers : goal.returns-in-Some-clause-remembers
@@ -17,7 +17,7 @@ returns-in-Some-clause-remembers g c =
     let m = shown c.args.self.now in
     let w = ap wrong (sym (c.as_slice.ensures.value ∙ c.push.ensures.items)) ∙ (sym c.wrong_in.ensures ∙ c.in-Some.is) in
     let place = m.totals.octets + 1 in
-    let same = cleared_stop m c.clear.new.self.items place place c.in-Some.fault c.requires.held c.clear.ensures in
+    let same = stopped_same m c.push.new.self.items place place c.in-Some.fault in
     on_ok_weaker c.stop.result (λ e. subst (λ (n : Memory). Remembers C l n (p ++ c.args.octet ∷ [])) (sym (e ∙ same)) (wrong_remembers C l m p h c.args.octet c.requires.running c.requires.limit c.requires.held c.in-Some.fault place w (omega arith) c.ranges.octet.fits)) c.stop.ensures.state
 
 pub returns-in-Some-clause-text : goal.returns-in-Some-clause-text

@@ -6,14 +6,14 @@ use Rattle.giop_stream.proofs.slots.Slots.unfinished.Goals as goal
 use Rattle.giop_stream.proofs.slots.Slots.unfinished.Goals.{then-is_some+in_ok-unfinished_line, else-is_some}
 
 pub returns-in_err-unfinished_line : goal.returns-in_err-unfinished_line
-returns-in_err-unfinished_line g c = λ C l c' whose h.
+returns-in_err-unfinished_line g c = λ C l slots h.
     let items = c.args.self.now.slots.items in
     let i = c.loop-slot.slot-index in
     let slot = c.slot-item.result in
     let below : i < length items = rw c.as_slice-slot-items.ensures.value at c.loop-slot-test.true in
     let is : slot ≡ get_or items i slot = rw c.as_slice-slot-items.ensures.value at c.slot-item.is in
     let text = slot_says items i slot is (sym c.is_some.ensures ∙ c.if-is_some.true) in
-    rw (slots_left C l items _ h.slots) (writes_front _ _ _ _ c.from_residual.ensures.0 (front-parts slot_text _ _ _ items i slot below c.loop-slot.invariant (rw text c.in_err-unfinished_line.ensures)))
+    rw (slots_left C l items slots h) (writes_front _ _ _ _ c.from_residual.ensures.0 (front-parts slot_text _ _ _ items i slot below c.loop-slot.invariant (rw text c.in_err-unfinished_line.ensures)))
 
 pub loop-slot-preserved : goal.loop-slot-preserved
 loop-slot-preserved g c =
@@ -30,7 +30,7 @@ loop-slot-preserved g c =
     ]
 
 pub returns : goal.returns
-returns g c = λ C l c' whose h.
+returns g c = λ C l slots h.
     let items = c.args.self.now.slots.items in
     let end = rw c.as_slice-slot-items.ensures.value at c.loop-slot-test.false in
-    rw (slots_left C l items _ h.slots) (rw (take_all c.loop-slot.slot-index items end) at c.loop-slot.invariant)
+    rw (slots_left C l items slots h) (rw (take_all c.loop-slot.slot-index items end) at c.loop-slot.invariant)
