@@ -1,0 +1,37 @@
+# shellcheck shell=bash
+# What the scripts of this folder need: programs of other packages, which are installed where they are missing, and the
+# built dumper. Read by them from the top of the repository.
+
+# need_program PROGRAM PACKAGE
+need_program() {
+    command -v "$1" > /dev/null || install_package "$2"
+    command -v "$1" > /dev/null || { echo "$0: $1 is missing: install $2" >&2; exit 1; }
+}
+
+# need_file FILE PACKAGE
+need_file() {
+    [ -e "$1" ] || install_package "$2"
+    [ -e "$1" ] || { echo "$0: $1 is missing: install $2" >&2; exit 1; }
+}
+
+install_package() {
+    local as_root=()
+    if [ "$(id -u)" != 0 ]; then
+        command -v sudo > /dev/null || return 0
+        as_root=(sudo)
+    fi
+    command -v apt-get > /dev/null || return 0
+    echo "installing $1"
+    export DEBIAN_FRONTEND=noninteractive
+    "${as_root[@]}" apt-get install -y --no-install-recommends "$1" > /dev/null 2>&1 && return 0
+    "${as_root[@]}" apt-get update > /dev/null 2>&1 || true
+    "${as_root[@]}" apt-get install -y --no-install-recommends "$1" > /dev/null || true
+}
+
+# The built program, as $giopdump.
+need_giopdump() {
+    giopdump=$PWD/crates/giopdump/out/giopdump
+    [ -x "$giopdump" ] && return 0
+    echo "$0: $giopdump is missing: build it with: cd crates/giopdump && rt run -- --version" >&2
+    exit 1
+}

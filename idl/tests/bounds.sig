@@ -1,0 +1,15 @@
+signatures 1;
+
+// Written by giopdump_signatures from bounds.idl.
+
+// Every object
+operation boolean _is_a(in string logical_type_id);
+operation boolean _non_existent();
+
+// B::Bounded (bounds.idl:10)
+operation sequence<string<16>, 4> cut(
+  in string<1> letter,
+  in sequence<sequence<sequence<double>, 2>, 4294967295> down,
+  in sequence<octet, 64> lock,
+  out string<16> tail
+);

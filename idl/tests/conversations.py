@@ -1,0 +1,188 @@
+"""Conversations encoded by hand over three of the IDL texts, with the lines of their bodies."""
+
+from __future__ import annotations
+
+from typing import List, NamedTuple
+
+from octets import reply, request
+
+
+class Conversation(NamedTuple):
+    """Messages of both directions over the operations of one IDL text; the request list of the replies; and the lines
+    behind the headers."""
+
+    idl: str
+    messages: List[bytes]
+    requests: str
+    lines: str
+
+
+UNIONS = Conversation(
+    "unions",
+    [
+        request(
+            1, "take",
+            ("ulong", 0), ("long", -5),
+            ("char", '"'), ("short", 1), ("short", -2),
+            ("boolean", True), ("double", 1.5),
+            ("short", 32767), ("boolean", False),
+            ("ushort", 7), ("octet", 9),
+            ("long", 5), ("string", "five"),
+            ("ulong", 4294967295), ("ushort", 65535),
+            ("longlong", -9223372036854775807), ("boolean", False), ("long", 3),
+            ("ulonglong", 18446744073709551615), ("ulong", 1), ("ulong", 2),
+            ("ulong", 0), ("octet", 1),
+            ("ulong", 2), ("long", 8),
+        ),
+        request(2, "give", ("boolean", False), ("long", -1), big=False),
+        reply(2, ("char", "q"), ("string", "zz"), ("boolean", True), ("double", -2.0), big=False),
+    ],
+    "2 give\n",
+    """\
+m1 call 1 take
+m1 body.a.switch enum red
+m1 body.a.a long -5
+m1 body.b.switch char "\\x22"
+m1 body.b.y[0] short 1
+m1 body.b.y[1] short -2
+m1 body.c.switch boolean true
+m1 body.c.yes double 3ff8000000000000
+m1 body.d.switch short 32767
+m1 body.d.high boolean false
+m1 body.e.switch ushort 7
+m1 body.e.o octet 9
+m1 body.f.switch long 5
+m1 body.f.s string @0 "five"
+m1 body.g.switch ulong 4294967295
+m1 body.g.u ushort 65535
+m1 body.h.switch longlong -9223372036854775807
+m1 body.h.inner.switch boolean false
+m1 body.h.inner.no long 3
+m1 body.i.switch ulonglong 18446744073709551615
+m1 body.i.few count 1
+m1 body.i.few[0] enum blue
+m1 body.j.switch enum plain
+m1 body.j.rest octet 1
+m1 body.k.switch enum blue
+m1 body.k.other long 8
+m1 end
+m2 call 2 give
+m2 body.flag.switch boolean false
+m2 body.flag.no long -1
+m2 end
+m3 body.return.switch char "q"
+m3 body.return.z string @0 "zz"
+m3 body.flag.switch boolean true
+m3 body.flag.yes double c000000000000000
+m3 end
+""",
+)
+
+ARRAYS = Conversation(
+    "arrays",
+    [
+        request(7, "all", *[("long", n) for n in (1, 2, 3, 11, 12, 13, 21, 22, 23)]),
+        reply(7, *[("long", n) for n in (-1, -2, -3, -4, -5, -6, 31, 32, 33, 41, 42, 43)]),
+        request(8, "flat", ("ulong", 1), *[("long", n) for n in (1, 2, 3, 4, 5, 6)]),
+        reply(8, ("ulong", 2), *[("long", n) for n in (1, 2, 3, 4, 5, 6)]),
+        reply(9, ("string", "IDL:A/Off:1.0"), *[("long", n) for n in (6, 5, 4, 3, 2, 1)], status=1),
+        reply(10, *[("octet", n) for n in range(16)]),
+    ],
+    "7 all\n8 flat\n10 _get_check\n",
+    """\
+m1 call 7 all
+m1 body.one[0] long 1
+m1 body.one[1] long 2
+m1 body.one[2] long 3
+m1 body.two[0].v[0] long 11
+m1 body.two[0].v[1] long 12
+m1 body.two[0].v[2] long 13
+m1 body.two[1].v[0] long 21
+m1 body.two[1].v[1] long 22
+m1 body.two[1].v[2] long 23
+m1 end
+m2 body.return.v[0].v[0] long -1
+m2 body.return.v[0].v[1] long -2
+m2 body.return.v[0].v[2] long -3
+m2 body.return.v[1].v[0] long -4
+m2 body.return.v[1].v[1] long -5
+m2 body.return.v[1].v[2] long -6
+m2 body.two[0].v[0] long 31
+m2 body.two[0].v[1] long 32
+m2 body.two[0].v[2] long 33
+m2 body.two[1].v[0] long 41
+m2 body.two[1].v[1] long 42
+m2 body.two[1].v[2] long 43
+m2 end
+m3 call 8 flat
+m3 body.many count 1
+m3 body.many[0].v[0].v[0] long 1
+m3 body.many[0].v[0].v[1] long 2
+m3 body.many[0].v[0].v[2] long 3
+m3 body.many[0].v[1].v[0] long 4
+m3 body.many[0].v[1].v[1] long 5
+m3 body.many[0].v[1].v[2] long 6
+m3 end
+m4 body.return count 2
+m4 body.return[0].v[0] long 1
+m4 body.return[0].v[1] long 2
+m4 body.return[0].v[2] long 3
+m4 body.return[1].v[0] long 4
+m4 body.return[1].v[1] long 5
+m4 body.return[1].v[2] long 6
+m4 end
+m5 exception string @0 "IDL:A/Off:1.0"
+m5 body.by[0].v[0] long 6
+m5 body.by[0].v[1] long 5
+m5 body.by[0].v[2] long 4
+m5 body.by[1].v[0] long 3
+m5 body.by[1].v[1] long 2
+m5 body.by[1].v[2] long 1
+m5 end
+"""
+    + "".join(f"m6 body.return.v[{n}] octet {n}\n" for n in range(16))
+    + "m6 end\n",
+)
+
+ATTRIBUTES = Conversation(
+    "attributes",
+    [
+        request(1, "_set_name", ("string", "bench")),
+        request(2, "_get_key"),
+        reply(1),
+        reply(2, ("octets", bytes([1, 2, 255]))),
+        request(3, "where", ("char", "x"), ("ulong", 2), ("string", "USER"), ("string", "ada"), big=False),
+        reply(3, ("string", "here"), big=False),
+        request(4, "scale", ("float", 1.0), ("short", -7)),
+        reply(4, ("double", 3.0), ("short", 7), ("ulonglong", 49)),
+    ],
+    "1 _set_name\n2 _get_key\n3 where\n4 scale\n",
+    """\
+m1 call 1 _set_name
+m1 body.value string @0 "bench"
+m1 end
+m2 call 2 _get_key
+m2 end
+m3 end
+m4 body.return octets @0 0102ff
+m4 end
+m5 call 3 where
+m5 body.mark char "x"
+m5 body.context count 2
+m5 body.context[0] string @0 "USER"
+m5 body.context[1] string @0 "ada"
+m5 end
+m6 body.return string @0 "here"
+m6 end
+m7 call 4 scale
+m7 body.by float 3f800000
+m7 body.step short -7
+m7 end
+m8 body.return double 4008000000000000
+m8 body.step short 7
+m8 body.squares ulonglong 49
+m8 end
+""",
+)
+
+CONVERSATIONS = [UNIONS, ARRAYS, ATTRIBUTES]

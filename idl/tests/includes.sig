@@ -1,0 +1,14 @@
+signatures 1;
+
+// Written by giopdump_signatures from includes.idl.
+
+// Every object
+operation boolean _is_a(in string logical_type_id);
+operation boolean _non_existent();
+
+// Common::Clock (included.inc:4)
+struct Stamp { ulonglong ticks; };
+operation Stamp now();
+
+// Main::Watch (includes.idl:3)
+operation void wind(in Stamp until);

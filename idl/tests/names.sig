@@ -1,0 +1,29 @@
+signatures 1;
+
+// Written by giopdump_signatures from names.idl.
+
+// Every object
+operation boolean _is_a(in string logical_type_id);
+operation boolean _non_existent();
+
+// Shop::Till (names.idl:6)
+exception Shop_Refused "IDL:Shop/Refused:1.0" { string why; };
+enum State { open, closed, operation_ };
+struct Shop_Item { string ulong_; State now; long sequence_; };
+operation void sell(in Shop_Item thing, in State return_);
+
+// Store::Shelf (names.idl:11)
+struct Store_Item { string label; };
+exception Store_Refused "IDL:Store/Refused:1.0" { Store_Item what; };
+operation Store_Item take(in long operation_);
+
+// Store::Back::Room (names.idl:14)
+struct encapsulation_ { octet signatures_; };
+operation encapsulation_ look(in Shop_Item one, in Store_Item two);
+
+// Store::Attic (names.idl:19)
+struct ANameOfSixtySevenOctetsWhichIsThreeMoreThanASignatureFileMayHa_1 {
+  long AMemberOfSixtySevenOctetsThatDiffersFromTheNextInItsLastLetter_1;
+  long AMemberOfSixtySevenOctetsThatDiffersFromTheNextInItsLastLetter_2;
+};
+operation void keep(in ANameOfSixtySevenOctetsWhichIsThreeMoreThanASignatureFileMayHa_1 it);

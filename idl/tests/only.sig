@@ -1,0 +1,15 @@
+signatures 1;
+
+// Written by giopdump_signatures from only.idl, of it O::Wanted.
+
+// Every object
+operation boolean _is_a(in string logical_type_id);
+operation boolean _non_existent();
+
+// O::Base (only.idl:7)
+exception Bad "IDL:O/Bad:1.0" { };
+struct S { long n; };
+operation void lower(in S one);
+
+// O::Wanted (only.idl:8)
+operation void take();

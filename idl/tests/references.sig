@@ -1,0 +1,17 @@
+signatures 1;
+
+// Written by giopdump_signatures from references.idl.
+
+// Every object
+operation boolean _is_a(in string logical_type_id);
+operation boolean _non_existent();
+
+// R::Sooner (references.idl:7)
+struct Ahead { Object who; Object any_one; };
+operation Object next(in sequence<Object> many, in Ahead one);
+
+// R::Later (references.idl:8)
+operation Object back();
+
+// R::Last (references.idl:10)
+operation void hold(in Object one);

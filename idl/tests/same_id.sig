@@ -1,0 +1,15 @@
+signatures 1;
+
+// Written by giopdump_signatures from same_id.idl.
+
+// Every object
+operation boolean _is_a(in string logical_type_id);
+operation boolean _non_existent();
+
+// S::I (same_id.idl:13)
+exception A "IDL:S/Twice:1.0" { long n; };
+// left out: exception S::C (same_id.idl:5): unequal members under one repository id: S::D (same_id.idl:6)
+operation void f();
+
+// Exceptions that no interface above declares or raises
+// left out: exception S::Quoted (same_id.idl:11): its repository id 'LOCAL:with a space' can't be written

@@ -1,0 +1,238 @@
+"""Tests of the converter: run by checks/idl.sh, or as python3 idl/tests/test_signatures.py from the repository."""
+
+from __future__ import annotations
+
+import os
+import re
+import subprocess
+import sys
+import tempfile
+import unittest
+from pathlib import Path
+from typing import Callable, Dict, List
+
+HERE = Path(__file__).resolve().parent
+REPOSITORY = HERE.parent.parent
+GIOPDUMP = REPOSITORY / "crates/giopdump/out/giopdump"
+IDL = Path("/usr/share/idl/omniORB")
+sys.path.insert(0, str(HERE))
+
+from conversations import CONVERSATIONS  # noqa: E402
+
+ARGUMENTS: Dict[str, List[str]] = {"only": ["-Wbonly=O::Wanted"]}
+
+
+def omniidl(*words: str, cwd: Path = HERE) -> subprocess.CompletedProcess[str]:
+    """Runs omniidl with the back end."""
+    backend = ["-p", str(HERE.parent), "-bgiopdump_signatures"]
+    command = ["omniidl", f"-I{IDL}", f"-I{IDL}/COS", *backend, *words]
+    environment = dict(os.environ, PYTHONDONTWRITEBYTECODE="1")
+    return subprocess.run(command, cwd=cwd, env=environment, capture_output=True, text=True, timeout=120)
+
+
+def dump(*words: str) -> subprocess.CompletedProcess[str]:
+    """Runs the dumper."""
+    return subprocess.run([str(GIOPDUMP), *words], capture_output=True, text=True, timeout=120)
+
+
+def with_files(contents: Dict[str, bytes], folder: str) -> Dict[str, str]:
+    """Writes files to a folder; gives their paths."""
+    paths = {name: os.path.join(folder, name) for name in contents}
+    for name, content in contents.items():
+        Path(paths[name]).write_bytes(content)
+    return paths
+
+
+def refusal_of(signatures: str) -> str:
+    """What the dumper says against a signature file; nothing where it takes it."""
+    with tempfile.TemporaryDirectory() as folder:
+        path = with_files({"f.sig": signatures.encode()}, folder)["f.sig"]
+        done = dump("--signatures", path, "/dev/null")
+        return done.stderr if done.returncode else ""
+
+
+class Texts(unittest.TestCase):
+    """Each small IDL text gives the signature file beside it, which the dumper takes."""
+
+    def test_each_text(self) -> None:
+        texts = sorted(HERE.glob("*.idl"))
+        self.assertGreaterEqual(len(texts), 13)
+        for text in texts:
+            with self.subTest(text.name):
+                done = omniidl(*ARGUMENTS.get(text.stem, []), text.name)
+                self.assertEqual(done.returncode, 0, done.stderr)
+                self.assertEqual(done.stdout, text.with_suffix(".sig").read_text())
+                self.assertEqual(refusal_of(done.stdout), "")
+
+    def test_names_in_comments_are_single_lines(self) -> None:
+        done = omniidl("left_out.idl")
+        for line in done.stdout.splitlines():
+            self.assertTrue(line == "" or line.startswith(("//", "signatures", "operation", "exception")), line)
+
+
+class Errors(unittest.TestCase):
+    """Standard error ends with a summary; what can't be done has a message and no output."""
+
+    def test_summary(self) -> None:
+        self.assertEqual(
+            omniidl("left_out.idl").stderr.splitlines()[-2:],
+            [
+                "giopdump_signatures: written: 4 operations, 1 exception, 0 types",
+                "giopdump_signatures: left out: 13 operations, 1 exception (1 for TypeCode, 1 for abstract interface, "
+                "5 for any, 1 for fixed, 1 for long double, 1 for type within itself, 2 for value type, 1 for wchar, "
+                "1 for wstring)",
+            ],
+        )
+
+    def test_refused(self) -> None:
+        rows = [
+            (["-Wbonly=O::Nobody", "only.idl"], "there is no interface O::Nobody"),
+            (["-Wbonly=", "only.idl"], "unknown argument only="),
+            (["-Wball", "only.idl"], "unknown argument all"),
+            (["no_such_file.idl"], "does not exist"),
+        ]
+        for words, message in rows:
+            with self.subTest(words):
+                done = omniidl(*words)
+                self.assertEqual((done.returncode, done.stdout), (1, ""))
+                self.assertIn(message, done.stderr)
+
+    def test_two_files(self) -> None:
+        done = omniidl("only.idl", "bounds.idl")
+        self.assertEqual(done.returncode, 1)
+        self.assertIn("give one IDL file", done.stderr)
+
+    def test_broken_idl(self) -> None:
+        with tempfile.TemporaryDirectory() as folder:
+            path = with_files({"broken.idl": b"interface {"}, folder)["broken.idl"]
+            done = omniidl(path)
+        self.assertEqual((done.returncode, done.stdout), (1, ""))
+
+
+def numbered(template: str, count: int, between: str = " ") -> str:
+    """A template for each number from 0."""
+    return between.join(template.format(n) for n in range(count))
+
+
+TAKES_T = "interface I { void o(in T x); };"
+
+
+class Limits(unittest.TestCase):
+    """What a signature file may have at most is written, and one more is left out."""
+
+    def converted(self, idl: str) -> str:
+        with tempfile.TemporaryDirectory() as folder:
+            path = with_files({"limits.idl": idl.encode()}, folder)["limits.idl"]
+            done = omniidl(path)
+        self.assertEqual(done.returncode, 0, done.stderr)
+        self.assertEqual(refusal_of(done.stdout), "")
+        return done.stdout
+
+    def assert_limit(self, most: int, make: Callable[[int], str]) -> None:
+        """`make` gives an IDL text with an operation `o` that needs so many of something."""
+        self.assertRegex(self.converted(make(most)), r"(?m)^operation .*\bo\(")
+        over = self.converted(make(most + 1))
+        self.assertNotRegex(over, r"(?m)^operation .*\bo\(")
+        self.assertIn(f"{most} at most", over)
+
+    def test_members(self) -> None:
+        self.assert_limit(256, lambda n: f"struct T {{ {numbered('long m{};', n)} }}; {TAKES_T}")
+
+    def test_parameters(self) -> None:
+        self.assert_limit(255, lambda n: f"interface I {{ long o({numbered('inout long p{}', n, ', ')}); }};")
+
+    def test_enumerators(self) -> None:
+        self.assert_limit(1024, lambda n: f"enum T {{ {numbered('e{}', n, ', ')} }}; {TAKES_T}")
+
+    def test_cases(self) -> None:
+        self.assert_limit(
+            256, lambda n: f"union T switch (long) {{ {numbered('case {0}: long c{0};', n)} }}; {TAKES_T}"
+        )
+
+    def test_labels(self) -> None:
+        self.assert_limit(
+            1024, lambda n: f"union T switch (long) {{ {numbered('case {}:', n)} long c; }}; {TAKES_T}"
+        )
+
+    def test_an_operations_name(self) -> None:
+        for length, there in ((128, True), (129, False)):
+            name = "n" * length
+            self.assertEqual(f" {name}(" in self.converted(f"interface I {{ void {name}(); }};"), there)
+
+    def test_operations(self) -> None:
+        text = self.converted("interface I { " + numbered("void o{}();", 4095) + " };")
+        self.assertEqual(len(re.findall(r"(?m)^operation ", text)), 4096)
+        self.assertEqual(len(re.findall(r"(?m)^// left out: I::o409[45] .*4096 at most$", text)), 1)
+
+    def test_a_file_that_is_too_long(self) -> None:
+        parameters = numbered("in unsigned long " + "p" * 58 + "{:06}", 250, ", ")
+        idl = "interface I { " + " ".join(f"void o{n}({parameters});" for n in range(60)) + " };"
+        with tempfile.TemporaryDirectory() as folder:
+            done = omniidl(with_files({"long.idl": idl.encode()}, folder)["long.idl"])
+        self.assertEqual((done.returncode, done.stdout), (1, ""))
+        self.assertIn("1048576 at most: choose interfaces with -Wbonly", done.stderr)
+
+
+class Conversations(unittest.TestCase):
+    """Messages that were encoded apart from the converter are read by the files that it writes."""
+
+    def test_each(self) -> None:
+        for conversation in CONVERSATIONS:
+            with self.subTest(conversation.idl), tempfile.TemporaryDirectory() as folder:
+                done = omniidl(f"{conversation.idl}.idl")
+                paths = with_files(
+                    {
+                        "sig": done.stdout.encode(),
+                        "req": conversation.requests.encode(),
+                        "giop": b"".join(conversation.messages),
+                    },
+                    folder,
+                )
+                dumped = dump("--signatures", paths["sig"], "--requests", paths["req"], paths["giop"])
+                self.assertEqual(dumped.returncode, 0, dumped.stderr)
+                lines = [line for line in dumped.stdout.splitlines() if not re.match(r"m\d+ (start|header)|total", line)]
+                self.assertEqual("\n".join(lines) + "\n", conversation.lines)
+
+
+class CosFiles(unittest.TestCase):
+    """The services' IDL files that omniORB ships: each that omniidl takes is written, and the dumper takes that."""
+
+    maxDiff = None
+
+    def row(self, path: Path) -> str:
+        """The counts of a file, or that omniidl itself refuses it."""
+        plain = subprocess.run(
+            ["omniidl", f"-I{IDL}", f"-I{IDL}/COS", path.name], cwd=path.parent, capture_output=True, timeout=120
+        )
+        if plain.returncode:
+            return f"{path.name}: refused by omniidl"
+        done = omniidl(path.name, cwd=path.parent)
+        self.assertEqual(done.returncode, 0, done.stderr)
+        self.assertEqual(refusal_of(done.stdout), "")
+        counts = [line.split(": ", 1)[1] for line in done.stderr.splitlines() if line.startswith("giopdump_signatures")]
+        return f"{path.name}: {'; '.join(counts)}"
+
+    def test_each(self) -> None:
+        rows = [self.row(path) for path in sorted((IDL / "COS").glob("*.idl"))]
+        table = "\n".join(rows) + "\n"
+        figures = re.findall(r"written: (\d+) op.*left out: (\d+) op", table)
+        print(f"{len(rows)} COS files: {len(figures)} written and taken by giopdump, "
+              f"{len(rows) - len(figures)} refused by omniidl itself; operations written "
+              f"{sum(int(each[0]) for each in figures)}, left out {sum(int(each[1]) for each in figures)}")
+        self.assertEqual(table, (HERE / "cos.txt").read_text())
+
+
+class Examples(unittest.TestCase):
+    """The signature files in examples/ are what the converter writes."""
+
+    def test_each(self) -> None:
+        for idl, example in (
+            ("CosNaming", "naming"), ("CosEventComm", "event"), ("CosNotifyChannelAdmin", "notification")
+        ):
+            with self.subTest(idl):
+                done = omniidl(f"{idl}.idl", cwd=IDL / "COS")
+                self.assertEqual(done.stdout, (REPOSITORY / f"examples/{example}.sig").read_text())
+
+
+if __name__ == "__main__":
+    unittest.main(verbosity=1)
