@@ -190,7 +190,8 @@ class Conversations(unittest.TestCase):
                 )
                 dumped = dump("--signatures", paths["sig"], "--requests", paths["req"], paths["giop"])
                 self.assertEqual(dumped.returncode, 0, dumped.stderr)
-                lines = [line for line in dumped.stdout.splitlines() if not re.match(r"m\d+ (start|header)|total", line)]
+                told = dumped.stdout.splitlines()
+                lines = [line for line in told if not re.match(r"m\d+ (start|header)|total", line)]
                 self.assertEqual("\n".join(lines) + "\n", conversation.lines)
 
 

@@ -1,0 +1,56 @@
+"""Runs the commands of README.md that have their output beside them, and looks for the files that it links to."""
+
+from __future__ import annotations
+
+import difflib
+import os
+import re
+import subprocess
+import sys
+from pathlib import Path
+from typing import Iterator, List, Tuple
+
+TOP = Path(__file__).resolve().parent.parent
+PROGRAMS = [TOP / "crates/giopdump/out", TOP / "scripts"]
+
+
+def commands(text: str) -> Iterator[Tuple[str, List[str]]]:
+    """Each command behind a `$` in an indented block, with the lines up to the next one."""
+    for block in re.findall(r"(?m)(?:^    .*\n)+", text):
+        lines = [line[4:] for line in block.splitlines()]
+        starts = [place for place, line in enumerate(lines) if line.startswith("$ ")] + [len(lines)]
+        for start, end in zip(starts, starts[1:]):
+            yield lines[start][2:], lines[start + 1 : end]
+
+
+def runs_as_written(command: str, wanted: List[str]) -> bool:
+    """Whether a command prints what stands beside it; shows the difference where it doesn't."""
+    path = os.pathsep.join([*map(str, PROGRAMS), os.environ["PATH"]])
+    environment = dict(os.environ, PATH=path)
+    words = ["bash", "-c", command]
+    done = subprocess.run(words, cwd=TOP, env=environment, capture_output=True, text=True, timeout=120)
+    printed = done.stdout.splitlines() + done.stderr.splitlines()
+    for line in difflib.unified_diff(wanted, printed, "README.md", command, lineterm=""):
+        print(line)
+    return printed == wanted
+
+
+def broken_links(page: Path) -> List[str]:
+    """The files that a page links to and that aren't there."""
+    targets = re.findall(r"\]\(([^)#:]+)[^)]*\)", page.read_text())
+    return [f"{page.relative_to(TOP)}: {target}" for target in targets if not (page.parent / target).exists()]
+
+
+def main() -> int:
+    """Prints figures; 1 where something differs."""
+    listed = list(commands((TOP / "README.md").read_text()))
+    wrong = sum(not runs_as_written(command, wanted) for command, wanted in listed)
+    broken = [each for page in [TOP / "README.md", *TOP.glob("docs/*.md")] for each in broken_links(page)]
+    print(f"README.md: {len(listed)} commands with {sum(len(each) for _, each in listed)} lines, {wrong} differ")
+    for each in broken:
+        print(f"broken link in {each}")
+    return 1 if wrong or broken or not listed else 0
+
+
+if __name__ == "__main__":
+    sys.exit(main())
