@@ -630,6 +630,7 @@ class Selection:
         self.left_out: Counter[str] = Counter()
         self._placed: Set[Declared] = set()
         self._exceptions: Dict[str, Either[Raised, Unsayable]] = {}
+        self._named: List[idlast.Exception] = []
         parts = self._parts(tree, only)
         self._settle(parts)
         for part in parts:
@@ -684,10 +685,12 @@ class Selection:
         """Adds a section's entries: exceptions and operations, each behind the types that it needs."""
         entries: List[Entry] = []
         for decl in part.exceptions:
+            title = f"exception {spelled(decl.scopedName())} ({Place.of(decl)})"
             if decl.repoId() in self._exceptions:
-                outcome = self._exceptions.pop(decl.repoId())
-                title = f"exception {spelled(decl.scopedName())} ({Place.of(decl)})"
-                self._add(entries, "exception", title, outcome)
+                self._add(entries, "exception", title, self._exceptions.pop(decl.repoId()))
+            elif decl not in self._named:
+                entries.append(f"{title} has the repository id of one above")
+            self._named.append(decl)
         for call in part.calls:
             if call.written_by:
                 entries.append(f"{call.name} ({call.place}) travels like {call.written_by.title}")

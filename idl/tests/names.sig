@@ -17,11 +17,12 @@ struct Store_Item { string label; };
 exception Store_Refused "IDL:Store/Refused:1.0" { Store_Item what; };
 operation Store_Item take(in long operation_);
 
-// Store::Back::Room (names.idl:14)
+// Store::Back::Room (names.idl:15)
+union Fate switch (State) { case operation_: long string_; default: octet signatures_; };
 struct encapsulation_ { octet signatures_; };
-operation encapsulation_ look(in Shop_Item one, in Store_Item two);
+operation encapsulation_ look(in Shop_Item one, in Store_Item two, in Fate three);
 
-// Store::Attic (names.idl:19)
+// Store::Attic (names.idl:20)
 struct ANameOfSixtySevenOctetsWhichIsThreeMoreThanASignatureFileMayHa_1 {
   long AMemberOfSixtySevenOctetsThatDiffersFromTheNextInItsLastLetter_1;
   long AMemberOfSixtySevenOctetsThatDiffersFromTheNextInItsLastLetter_2;

@@ -8,7 +8,9 @@ operation boolean _non_existent();
 
 // S::I (same_id.idl:13)
 exception A "IDL:S/Twice:1.0" { long n; };
+// exception S::B (same_id.idl:4) has the repository id of one above
 // left out: exception S::C (same_id.idl:5): unequal members under one repository id: S::D (same_id.idl:6)
+// exception S::D (same_id.idl:6) has the repository id of one above
 operation void f();
 
 // Exceptions that no interface above declares or raises

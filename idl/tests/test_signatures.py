@@ -154,6 +154,22 @@ class Limits(unittest.TestCase):
             1024, lambda n: f"union T switch (long) {{ {numbered('case {}:', n)} long c; }}; {TAKES_T}"
         )
 
+    def test_levels(self) -> None:
+        leaves = [
+            ("long v", "long v", 22), ("string<3> v", "string<3> v", 22), ("Object v", "Object v", 19),
+            ("sequence<octet> v", "sequence<octet> v", 22), ("sequence<long> v", "sequence<long> v", 21),
+            ("long v[2]", "long v[2]", 21), ("octet v[2]", "octet v[2]", 21),
+        ]  # fmt: skip
+        for idl, signature, most in leaves:
+            with self.subTest(idl):
+                for count in (most, most + 1):
+                    inner = "struct S0 { %s; }; "
+                    nested = " ".join(f"struct S{n} {{ S{n - 1} v; }};" for n in range(1, count))
+                    text = self.converted(inner % idl + nested + f" interface I {{ void o(in S{count - 1} x); }};")
+                    by_hand = inner % signature + nested + f" operation void o(in S{count - 1} x);"
+                    self.assertEqual(bool(re.search(r"(?m)^operation void o", text)), count == most)
+                    self.assertEqual(refusal_of("signatures 1; " + by_hand).strip().endswith(": depth"), count != most)
+
     def test_an_operations_name(self) -> None:
         for length, there in ((128, True), (129, False)):
             name = "n" * length
