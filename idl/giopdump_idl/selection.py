@@ -1,0 +1,269 @@
+"""Decides which operations and exceptions are written, and why others aren't."""
+
+from __future__ import annotations
+
+import sys
+from collections import Counter
+from dataclasses import dataclass, replace
+from typing import Callable, Dict, Iterable, Iterator, List, Optional, Sequence, Set, Tuple, Union as Either
+
+from omniidl import idlast
+
+from .model import (
+    MOST_DECLARATIONS, Array, Declared, Item, Operation, Parameter, Place, Raised, Scalar, Series, Text, Type,
+    Unsayable, at_most, spelled,
+)  # fmt: skip
+from .translator import Translator
+
+UNEQUAL = "equal names, unequal parameters"
+UNEQUAL_IDS = "equal repository ids, unequal members"
+
+
+@dataclass
+class Call:
+    """An operation that an interface declares, with what became of it: a refusal where it can't be written."""
+
+    owner: str
+    name: str
+    place: Optional[Place]
+    outcome: Either[Operation, Unsayable]
+    written_by: Optional[Call] = None
+
+    @property
+    def title(self) -> str:
+        """Its scoped name, and where it stands."""
+        return f"{self.owner}::{self.name}" + (f" ({self.place})" if self.place else "")
+
+
+@dataclass
+class Section:
+    """An interface with its calls, and the exceptions that it declares or raises, each with its outcome."""
+
+    title: str
+    calls: List[Call]
+    exceptions: List[idlast.Exception]
+
+
+Entry = Either[Declared, Operation, str]  # a str is a comment
+
+EVERY_OBJECT = Section(
+    "Every object",
+    [
+        Call("Object", "_is_a", None, Operation(
+            "_is_a", Scalar("boolean"), (Parameter("in", Item("logical_type_id", Text(0))),))),
+        Call("Object", "_non_existent", None, Operation("_non_existent", Scalar("boolean"), ())),
+    ],
+    [],
+)
+
+
+def members_of(decl: idlast.Decl) -> Sequence[idlast.Decl]:
+    """The declarations within a declaration."""
+    if isinstance(decl, idlast.Module):
+        return decl.definitions()
+    if isinstance(decl, (idlast.Interface, idlast.Value, idlast.ValueAbs)):
+        return decl.contents()
+    return ()
+
+
+def walk(declarations: Iterable[idlast.Decl]) -> Iterator[idlast.Decl]:
+    """Each declaration, above those within it."""
+    for decl in declarations:
+        yield decl
+        yield from walk(members_of(decl))
+
+
+def with_bases(interface: idlast.Interface, seen: List[idlast.Interface]) -> List[idlast.Interface]:
+    """The interfaces that it inherits, then itself, without those that were seen."""
+    for base in interface.inherits():
+        if isinstance(base.fullDecl(), idlast.Interface):
+            with_bases(base.fullDecl(), seen)
+    if interface not in seen:
+        seen.append(interface)
+    return seen
+
+
+def calls_of(interface: idlast.Interface, translator: Translator) -> Iterator[Call]:
+    """The operations and attributes that an interface declares itself, as they travel."""
+    owner = spelled(interface.scopedName())
+    for decl in interface.callables():
+        place = Place.of(decl)
+        if isinstance(decl, idlast.Operation):
+            yield attempt(owner, decl.identifier(), place, lambda: translator.operation(decl))
+            continue
+        for name in decl.identifiers():
+            yield attempt(owner, f"_get_{name}", place, lambda: translator.getter(name, decl.attrType()))
+            if not decl.readonly():
+                yield attempt(owner, f"_set_{name}", place, lambda: translator.setter(name, decl.attrType()))
+
+
+def attempt(owner: str, name: str, place: Place, make: Callable[[], Operation]) -> Call:
+    """A call with the operation, or with why there is none."""
+    try:
+        return Call(owner, name, place, make())
+    except Unsayable as refusal:
+        return Call(owner, name, place, refusal)
+
+
+def settle(calls: Sequence[Call]) -> None:
+    """Of calls of one name, which a message can't tell apart: lets the first be written where all travel alike."""
+    first = calls[0]
+    refused = [call for call in calls if isinstance(call.outcome, Unsayable)]
+    unequal = [call for call in calls if not refused and not call.outcome.travels_like(first.outcome)]
+    for call in calls:
+        if refused and call not in refused:
+            call.outcome = Unsayable(refused[0].outcome.cause, f"{refused[0].title} has this name and is left out")
+        elif unequal:
+            others = ", ".join(other.title for other in calls if other is not call)
+            call.outcome = Unsayable(UNEQUAL, f"unequal parameters: {others}")
+        elif not refused and call is not first:
+            call.written_by = first
+
+
+class Selection:
+    """Decides what is written, in order: sections of entries, and the counts of what is left out."""
+
+    def __init__(self, tree: idlast.AST, only: Sequence[str]) -> None:
+        self.translator = Translator()
+        self.sections: List[Tuple[str, List[Entry]]] = []
+        self.causes: Counter[str] = Counter()
+        self.written: Counter[str] = Counter()
+        self.left_out: Counter[str] = Counter()
+        self._placed: Set[Declared] = set()
+        self._exceptions: Dict[str, Either[Raised, Unsayable]] = {}
+        self._named: List[idlast.Exception] = []
+        parts = self._parts(tree, only)
+        self._settle(parts)
+        for part in parts:
+            self._place(part)
+        refused = self._refusals()
+        if refused:
+            self.sections.append(("Types that can't be said, or that need one", refused))
+
+    def _parts(self, tree: idlast.AST, only: Sequence[str]) -> List[Section]:
+        """The sections as the IDL has them: every object's, the interfaces', and other exceptions'."""
+        every = list(walk(tree.declarations()))
+        interfaces = chosen([each for each in every if isinstance(each, idlast.Interface)], only)
+        parts = [Section(EVERY_OBJECT.title, [replace(call) for call in EVERY_OBJECT.calls], [])]
+        for interface in interfaces:
+            calls = list(calls_of(interface, self.translator))
+            title = f"{spelled(interface.scopedName())} ({Place.of(interface)})"
+            parts.append(Section(title, calls, exceptions_of(interface)))
+        if not only:
+            others = [each for each in every if isinstance(each, idlast.Exception)]
+            parts.append(Section("Exceptions that no interface above declares or raises", [], others))
+        return parts
+
+    def _settle(self, parts: Sequence[Section]) -> None:
+        """Settles calls of one name, and exceptions of one repository id."""
+        by_name: Dict[str, List[Call]] = {}
+        for part in parts:
+            for call in part.calls:
+                by_name.setdefault(call.name, []).append(call)
+        for calls in by_name.values():
+            settle(calls)
+        by_id: Dict[str, List[idlast.Exception]] = {}
+        for part in parts:
+            for decl in part.exceptions:
+                alike = by_id.setdefault(decl.repoId(), [])
+                if decl not in alike:
+                    alike.append(decl)
+        for repository_id, alike in by_id.items():
+            self._exceptions[repository_id] = self._outcome(alike)
+
+    def _outcome(self, alike: Sequence[idlast.Exception]) -> Either[Raised, Unsayable]:
+        """The one exception that declarations of one repository id make, or why there is none."""
+        try:
+            made = [self.translator.raised(decl) for decl in alike]
+        except Unsayable as refusal:
+            return refusal
+        if any(other.parts != made[0].parts for other in made):
+            others = ", ".join(f"{spelled(other.scoped)} ({other.place})" for other in made[1:])
+            return Unsayable(UNEQUAL_IDS, f"unequal members under one repository id: {others}")
+        return made[0]
+
+    def _place(self, part: Section) -> None:
+        """Adds a section's entries: exceptions and operations, each behind the types that it needs."""
+        entries: List[Entry] = []
+        for decl in part.exceptions:
+            title = f"exception {spelled(decl.scopedName())} ({Place.of(decl)})"
+            if decl.repoId() in self._exceptions:
+                self._add(entries, "exception", title, self._exceptions.pop(decl.repoId()))
+            elif decl not in self._named:
+                entries.append(f"{title} has the repository id of one above")
+            self._named.append(decl)
+        for call in part.calls:
+            if call.written_by:
+                entries.append(f"{call.name} ({call.place}) travels like {call.written_by.title}")
+            else:
+                self._add(entries, "operation", call.title, call.outcome)
+        if entries:
+            self.sections.append((part.title, entries))
+
+    def _add(
+        self, entries: List[Entry], kind: str, title: str, outcome: Either[Operation, Raised, Unsayable]
+    ) -> None:
+        """Adds an operation or an exception, or a comment on why it is left out."""
+        if not isinstance(outcome, Unsayable):
+            outcome = self._within_limits(kind, outcome)
+        if isinstance(outcome, Unsayable):
+            entries.append(f"left out: {title}: {outcome.text}")
+            self.left_out[kind] += 1
+            self.causes[outcome.cause] += 1
+            return
+        for declared in self._new_types(outcome):
+            self._placed.add(declared)
+            entries.append(declared)
+            self.written["type"] += 1
+        entries.append(outcome)
+        self.written[kind] += 1
+
+    def _within_limits(self, kind: str, made: Either[Operation, Raised]) -> Either[Operation, Raised, Unsayable]:
+        """What is to be added, where there is room for it and the types that it needs."""
+        try:
+            at_most(self.written[kind] + 1, MOST_DECLARATIONS, f"{kind}s")
+            at_most(self.written["type"] + len(self._new_types(made)), MOST_DECLARATIONS, "types")
+        except Unsayable as refusal:
+            return refusal
+        return made
+
+    def _refusals(self) -> List[Entry]:
+        """Comments on the types that were refused."""
+        refused = self.translator.refused.items()
+        return [f"left out: {spelled(scoped)} ({place}): {why.text}" for scoped, (place, why) in refused]
+
+    def _new_types(self, made: Either[Operation, Raised]) -> List[Declared]:
+        """The declarations that something needs and that aren't there yet, each behind those that it needs."""
+        found: Dict[Declared, None] = {}
+
+        def visit(each: Type) -> None:
+            if isinstance(each, (Series, Array)):
+                visit(each.element)
+            elif isinstance(each, Declared) and each not in self._placed and each not in found:
+                for part in each.parts:
+                    visit(part)
+                found[each] = None
+
+        for part in made.parts if isinstance(made, Raised) else made.request + made.reply:
+            visit(part)
+        return list(found)
+
+
+def chosen(interfaces: Sequence[idlast.Interface], only: Sequence[str]) -> List[idlast.Interface]:
+    """The interfaces whose operations travel: those that are named and what they inherit, or all; none is local."""
+    picked: List[idlast.Interface] = []
+    by_name = {spelled(each.scopedName()): each for each in interfaces}
+    for name in only:
+        if name.lstrip(":") not in by_name:
+            sys.exit(f"giopdump_signatures: there is no interface {name}")
+        with_bases(by_name[name.lstrip(":")], picked)
+    return [each for each in (picked if only else interfaces) if not each.local()]
+
+
+def exceptions_of(interface: idlast.Interface) -> List[idlast.Exception]:
+    """The exceptions that an interface declares, then those that its operations raise."""
+    found = [each for each in interface.declarations() if isinstance(each, idlast.Exception)]
+    for decl in interface.callables():
+        if isinstance(decl, idlast.Operation):
+            found.extend(each for each in decl.raises() if each not in found)
+    return found

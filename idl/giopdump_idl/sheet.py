@@ -1,0 +1,78 @@
+"""Prints a selection as a signature file."""
+
+from __future__ import annotations
+
+import os
+from typing import Sequence, Tuple
+
+from .model import Array, Declared, Enum, Item, Operation, Raised, Reference, Scalar, Series, Text, Type, Union
+from .names import names_for
+from .selection import Entry
+
+
+class Sheet:
+    """Prints sections: gives each declaration a name, and writes it out."""
+
+    WIDTH = 110
+
+    def __init__(self, sections: Sequence[Tuple[str, Sequence[Entry]]]) -> None:
+        self._sections = sections
+        self._names = names_for([each for _, entries in sections for each in entries if isinstance(each, Declared)])
+
+    def text(self, source: str, only: Sequence[str]) -> str:
+        """The whole signature file."""
+        wanted = f", of it {' and '.join(only)}" if only else ""
+        origin = f"Written by giopdump_signatures from {os.path.basename(source)}{wanted}."
+        lines = ["signatures 1;", "", comment(origin)]
+        for title, entries in self._sections:
+            lines += ["", comment(title)] + [self._entry(entry) for entry in entries]
+        return "\n".join(lines) + "\n"
+
+    def _entry(self, entry: Entry) -> str:
+        """One entry, on a line or, where that is long, on several."""
+        if isinstance(entry, str):
+            return comment(entry)
+        if isinstance(entry, Operation):
+            result = "void" if entry.result is None else self._type(entry.result)
+            parameters = [f"{each.direction} {self._item(each.item)}" for each in entry.parameters]
+            return self._laid_out(f"operation {result} {entry.name}(", parameters, ", ", ");", "")
+        name = self._names[entry]
+        if isinstance(entry, Enum):
+            return self._laid_out(f"enum {name} {{", entry.names, ", ", "};", " ")
+        if isinstance(entry, Union):
+            cases = [" ".join(case.labels) + f" {self._item(case.item)};" for case in entry.cases]
+            return self._laid_out(f"union {name} switch ({self._type(entry.switch)}) {{", cases, " ", "};", " ")
+        members = [f"{self._item(member)};" for member in entry.members]
+        kind = f'exception {name} "{entry.repository_id}"' if isinstance(entry, Raised) else f"struct {name}"
+        return self._laid_out(f"{kind} {{", members, " ", "};", " ")
+
+    def _laid_out(self, head: str, parts: Sequence[str], between: str, tail: str, space: str) -> str:
+        """Head, parts and tail on one line, or a part a line."""
+        line = head + space + between.join(parts) + (space if parts else "") + tail
+        if len(line) <= self.WIDTH:
+            return line
+        return head + "\n  " + (between.rstrip() + "\n  ").join(parts) + "\n" + tail
+
+    def _item(self, item: Item) -> str:
+        """A type and a name; an array has its length behind the name."""
+        if isinstance(item.type, Array):
+            return f"{self._type(item.type.element)} {item.name}[{item.type.length}]"
+        return f"{self._type(item.type)} {item.name}"
+
+    def _type(self, made: Type) -> str:
+        """A type as it stands in a declaration."""
+        if isinstance(made, Scalar):
+            return made.word
+        if isinstance(made, Text):
+            return f"string<{made.bound}>" if made.bound else "string"
+        if isinstance(made, Reference):
+            return "Object"
+        if isinstance(made, Series):
+            return f"sequence<{self._type(made.element)}" + (f", {made.bound}>" if made.bound else ">")
+        return self._names[made]
+
+
+def comment(text: str) -> str:
+    """A comment of one line, in octets that any terminal shows."""
+    plain = text.encode("ascii", "backslashreplace").decode()
+    return "// " + "".join(each if " " <= each <= "~" else "?" for each in plain)

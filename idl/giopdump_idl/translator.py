@@ -1,0 +1,254 @@
+"""Turns omniidl's types and declarations into those of a signature file, or refuses them."""
+
+from __future__ import annotations
+
+from typing import Callable, Dict, Iterable, Optional, Sequence, Set, Tuple
+
+from omniidl import idlast, idltype
+
+from .model import (
+    MOST_ENUMERATORS, MOST_LABELS, MOST_MEMBERS, MOST_OPERATION_NAME, MOST_PARAMETERS, Array, Case, Enum, Item,
+    Operation, Parameter, Place, Raised, Reference, Scalar, Series, Struct, Text, Type, Union, Unsayable, at_most,
+    checked_depth, spelled,
+)  # fmt: skip
+from .names import fresh_names
+
+SCALARS: Dict[int, str] = {
+    idltype.tk_octet: "octet",
+    idltype.tk_char: "char",
+    idltype.tk_boolean: "boolean",
+    idltype.tk_short: "short",
+    idltype.tk_ushort: "ushort",
+    idltype.tk_long: "long",
+    idltype.tk_ulong: "ulong",
+    idltype.tk_longlong: "longlong",
+    idltype.tk_ulonglong: "ulonglong",
+    idltype.tk_float: "float",
+    idltype.tk_double: "double",
+}
+
+# What the signature language has no form for, in IDL's words.
+FORMLESS: Dict[int, str] = {
+    idltype.tk_any: "any",
+    idltype.tk_TypeCode: "TypeCode",
+    idltype.tk_Principal: "Principal",
+    idltype.tk_longdouble: "long double",
+    idltype.tk_wchar: "wchar",
+    idltype.tk_wstring: "wstring",
+    idltype.tk_fixed: "fixed",
+    idltype.tk_value: "value type",
+    idltype.tk_value_box: "value type",
+    idltype.tk_native: "native",
+    idltype.tk_abstract_interface: "abstract interface",
+    idltype.tk_local_interface: "local interface",
+}
+
+DISCRIMINATORS = frozenset("char boolean short ushort long ulong longlong ulonglong".split())
+
+DIRECTIONS = ("in", "out", "inout")  # by omniidl's numbers
+
+
+class Translator:
+    """Turns omniidl's types and declarations into ours, each declaration once."""
+
+    def __init__(self) -> None:
+        self.refused: Dict[Tuple[str, ...], Tuple[Place, Unsayable]] = {}
+        self._made: Dict[Tuple[str, ...], Type] = {}
+        self._begun: Set[Tuple[str, ...]] = set()
+        self._around: Dict[Array, Struct] = {}
+
+    def type_of(self, idl: idltype.Type) -> Type:
+        """The type that an IDL type is, behind all its typedefs."""
+        kind = idl.kind()
+        if kind in SCALARS:
+            return Scalar(SCALARS[kind])
+        if kind in FORMLESS:
+            raise Unsayable(FORMLESS[kind])
+        if kind == idltype.tk_string:
+            return Text(unsigned(idl.bound()))
+        if kind == idltype.tk_objref:
+            return Reference()
+        if kind == idltype.tk_sequence:
+            return Series(self.element_of(self.type_of(idl.seqType())), unsigned(idl.bound()))
+        if kind == idltype.tk_alias:
+            declarator = idl.decl()
+            return self.array_of(self.type_of(declarator.alias().aliasType()), declarator.sizes())
+        return self.declared(idl.decl(), idl.scopedName())
+
+    def array_of(self, element: Type, sizes: Sequence[int]) -> Type:
+        """The type of a declarator with these sizes, the outermost first."""
+        made = element
+        for length in reversed(sizes or []):
+            made = Array(self.element_of(made), unsigned(length))
+        return made
+
+    def element_of(self, made: Type) -> Type:
+        """The same octets in a form that may stand anywhere: an array gets a struct of one member around it."""
+        if not isinstance(made, Array):
+            return made
+        if made not in self._around:
+            name = f"{word_of(made.element)}_x{made.length}"
+            self._around[made] = Struct((name,), Place("", 0), (Item("v", made),))
+        return self._around[made]
+
+    def declared(self, decl: idlast.Decl, scoped_name: Sequence[str]) -> Type:
+        """The type that a declaration makes; a refusal is kept, and told as what is needed."""
+        scoped = tuple(scoped_name)
+        if scoped in self._made:
+            return self._made[scoped]
+        if scoped in self._begun:
+            raise Unsayable("type within itself", f"{spelled(scoped)} within itself")
+        if scoped not in self.refused:
+            self._begun.add(scoped)
+            try:
+                self._made[scoped] = self.made(decl.fullDecl())
+                return self._made[scoped]
+            except Unsayable as refusal:
+                self.refused[scoped] = (Place.of(decl.fullDecl() or decl), refusal)
+            finally:
+                self._begun.discard(scoped)
+        raise Unsayable(self.refused[scoped][1].cause, f"needs {spelled(scoped)}")
+
+    def made(self, decl: Optional[idlast.Decl]) -> Type:
+        """The type of an enum, a struct or a union."""
+        makers: Dict[type, Callable[..., Type]] = {
+            idlast.Enum: self.enum,
+            idlast.Struct: self.struct,
+            idlast.Union: self.union,
+        }
+        if type(decl) not in makers:
+            raise Unsayable("type without a declaration")
+        made = makers[type(decl)](decl)
+        checked_depth(made.depth)
+        return made
+
+    def enum(self, decl: idlast.Enum) -> Enum:
+        """An enum."""
+        wishes = [each.identifier() for each in sorted(decl.enumerators(), key=lambda each: each.value())]
+        at_most(len(wishes), MOST_ENUMERATORS, "enumerators")
+        return Enum(tuple(decl.scopedName()), Place.of(decl), tuple(fresh_names(wishes)))
+
+    def struct(self, decl: idlast.Struct) -> Struct:
+        """A struct."""
+        members = self.items(decl.members())
+        if not members:
+            raise Unsayable("struct without members")
+        return Struct(tuple(decl.scopedName()), Place.of(decl), members)
+
+    def items(self, members: Iterable[idlast.Member]) -> Tuple[Item, ...]:
+        """The members of a struct or an exception; a declarator is one of them."""
+        pairs = [(member.memberType(), each) for member in members for each in member.declarators()]
+        at_most(len(pairs), MOST_MEMBERS, "members")
+        names = fresh_names(each.identifier() for _, each in pairs)
+        return tuple(
+            self.item(name, f"member {each.identifier()}", idl, each.sizes())
+            for name, (idl, each) in zip(names, pairs)
+        )
+
+    def item(self, name: str, what: str, idl: idltype.Type, sizes: Sequence[int] = ()) -> Item:
+        """One member or parameter; a refusal names it."""
+        try:
+            return Item(name, self.array_of(self.type_of(idl), sizes))
+        except Unsayable as refusal:
+            raise refusal.within(what) from None
+
+    def union(self, decl: idlast.Union) -> Union:
+        """A union."""
+        try:
+            switch = self.type_of(decl.switchType())
+        except Unsayable as refusal:
+            raise refusal.within("discriminator") from None
+        if not isinstance(switch, Enum) and not (isinstance(switch, Scalar) and switch.word in DISCRIMINATORS):
+            raise Unsayable("discriminator of another type")
+        at_most(len(decl.cases()), MOST_MEMBERS, "cases")
+        at_most(sum(len(case.labels()) for case in decl.cases()), MOST_LABELS, "labels")
+        names = fresh_names(case.declarator().identifier() for case in decl.cases())
+        cases = tuple(self.case(name, switch, case) for name, case in zip(names, decl.cases()))
+        return Union(tuple(decl.scopedName()), Place.of(decl), switch, cases)
+
+    def case(self, name: str, switch: Type, case: idlast.UnionCase) -> Case:
+        """One case of a union."""
+        declarator = case.declarator()
+        what = f"member {declarator.identifier()}"
+        labels = tuple(label_text(switch, label) for label in case.labels())
+        return Case(labels, self.item(name, what, case.caseType(), declarator.sizes()))
+
+    def raised(self, decl: idlast.Exception) -> Raised:
+        """An exception."""
+        repository_id = decl.repoId()
+        octets_fit = all("!" <= each <= "~" and each != '"' for each in repository_id)
+        if not 1 <= len(repository_id) <= MOST_OPERATION_NAME or not octets_fit:
+            raise Unsayable("repository id", f"its repository id {repository_id!r} can't be written")
+        made = Raised(tuple(decl.scopedName()), Place.of(decl), repository_id, self.items(decl.members()))
+        checked_depth(made.depth)
+        return made
+
+    def operation(self, decl: idlast.Operation) -> Operation:
+        """An operation. Its context, where it has one, travels behind its parameters as pairs of strings."""
+        wishes = [each.identifier() for each in decl.parameters()] + (["context"] if decl.contexts() else [])
+        names = fresh_names(wishes)
+        parameters = [
+            Parameter(DIRECTIONS[each.direction()], self.item(name, f"parameter {each.identifier()}", each.paramType()))
+            for name, each in zip(names, decl.parameters())
+        ]
+        if decl.contexts():
+            parameters.append(Parameter("in", Item(names[-1], Series(Text(0), 0))))
+        return self.checked(Operation(decl.identifier(), self.result(decl.returnType()), tuple(parameters)))
+
+    def result(self, idl: idltype.Type) -> Optional[Type]:
+        """What an operation returns; nothing where that is void."""
+        if idl.kind() == idltype.tk_void:
+            return None
+        try:
+            return self.element_of(self.type_of(idl))
+        except Unsayable as refusal:
+            raise refusal.within("return value") from None
+
+    def getter(self, name: str, idl: idltype.Type) -> Operation:
+        """The operation that reads an attribute."""
+        return self.checked(Operation(f"_get_{name}", self.result(idl), ()))
+
+    def setter(self, name: str, idl: idltype.Type) -> Operation:
+        """The operation that writes an attribute."""
+        value = Parameter("in", self.item("value", "value", idl))
+        return self.checked(Operation(f"_set_{name}", None, (value,)))
+
+    @staticmethod
+    def checked(operation: Operation) -> Operation:
+        """The operation, where it keeps to the limits of a signature file."""
+        at_most(len(operation.name), MOST_OPERATION_NAME, "octets in an operation's name")
+        at_most(len(operation.parameters), MOST_PARAMETERS, "parameters")
+        checked_depth(operation.depth)
+        return operation
+
+
+def word_of(made: Type) -> str:
+    """A word for a type, which the name of a struct of ours begins with."""
+    if isinstance(made, Scalar):
+        return made.word
+    if isinstance(made, Text):
+        return "string"
+    if isinstance(made, Reference):
+        return "Object"
+    if isinstance(made, (Series, Array)):
+        return f"{word_of(made.element)}_sequence"
+    return made.scoped[-1]
+
+
+def label_text(switch: Type, label: idlast.CaseLabel) -> str:
+    """A label of a union as the signature language writes it: a char as its number."""
+    if label.default():
+        return "default:"
+    value = label.value()
+    if isinstance(switch, Enum):
+        return f"case {switch.names[value.value()]}:"
+    if switch == Scalar("boolean"):
+        return f"case {'true' if value else 'false'}:"
+    if switch == Scalar("char"):
+        return f"case {ord(value) & 255}:"
+    return f"case {value}:"
+
+
+def unsigned(number: int) -> int:
+    """A bound or a length, which omniidl gives as a signed number of 32 bits."""
+    return number & 0xFFFFFFFF
