@@ -22,16 +22,3 @@ pub use fault::{ListFault, ListFaultKind};
 pub use giop_tokens::{SigFault, SigFaultKind};
 pub use requests::{Requests, one_list};
 pub use types::{Counts, Fixed, OpId, Selected, Shape, TypeId};
-
-#[cfg(test)]
-mod accepted_rows;
-#[cfg(test)]
-mod example_tests;
-#[cfg(test)]
-mod list_tests;
-#[cfg(test)]
-mod parse_tests;
-#[cfg(test)]
-mod refused_rows;
-#[cfg(test)]
-mod tests;

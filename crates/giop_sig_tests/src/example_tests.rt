@@ -1,6 +1,6 @@
 //! The signature files of `examples/`, which are accepted as they stand there.
 
-use crate::Catalogue;
+use crate::rows::told_of_file;
 use std::test::Fail;
 
 static NAMING: &[u8] = b"signatures 1;\n\
@@ -70,15 +70,15 @@ static FEATURES: &[u8] = b"signatures 1;\n\
     operation void ping();\n";
 
 #[test]
-fn the_examples_are_accepted(rt: HostRuntime) -> Result<(), Fail> {
-    let table = [(NAMING, [4, 18, 6], 7), (FEATURES, [4, 7, 2], 7)];
-    for (text, counts, depth) in table {
-        let catalogue = Catalogue::parse(rt.alloc(), text)
-            .ok()
-            .ok_or("a catalogue")?;
-        let has = catalogue.counts();
-        assert_eq!(rt; [has.types, has.operations, has.exceptions], counts);
-        assert_eq!(rt; catalogue.depth(), depth);
-    }
+fn the_naming_service_is_accepted(rt: HostRuntime) -> Result<(), Fail> {
+    let told = told_of_file(rt.alloc(), NAMING)?;
+    assert!(rt; told.as_str() == "4 18 6 7", "{told}");
+    Ok(())
+}
+
+#[test]
+fn each_feature_is_accepted(rt: HostRuntime) -> Result<(), Fail> {
+    let told = told_of_file(rt.alloc(), FEATURES)?;
+    assert!(rt; told.as_str() == "4 7 2 7", "{told}");
     Ok(())
 }

@@ -1,0 +1,23 @@
+//! Tests of signatures: the built-in types, signature files and request lists.
+#![tactic(auto)]
+
+#[cfg(test)]
+mod builtin_tests;
+#[cfg(test)]
+mod example_tests;
+#[cfg(test)]
+mod file_rows;
+#[cfg(test)]
+mod file_tests;
+#[cfg(test)]
+mod limit_tests;
+#[cfg(test)]
+mod list_limit_tests;
+#[cfg(test)]
+mod list_rows;
+#[cfg(test)]
+mod list_tests;
+#[cfg(test)]
+mod rows;
+#[cfg(test)]
+mod shapes;

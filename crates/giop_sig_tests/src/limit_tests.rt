@@ -1,0 +1,69 @@
+//! Signature files of as much as they may have, and of one more.
+
+use crate::rows::told_of_file;
+use giop_sig::{Catalogue, OpId};
+use std::alloc::Global;
+use std::fmt::Write;
+use std::process::Abort;
+use std::test::Fail;
+
+fn expect_told(rt: &(impl Abort + AllocGlobal), text: &[u8], want: &str) -> Result<(), Fail> {
+    let told = told_of_file(rt.alloc(), text)?;
+    assert!(rt; told.as_str() == want, "{told}, not {want}");
+    Ok(())
+}
+
+#[test]
+fn a_file_has_at_most_1048576_octets(rt: HostRuntime) -> Result<(), Fail> {
+    let mut text = Vec::from_slice(rt.alloc(), b"signatures 1;")?;
+    add_spaces(1_048_576 - 13, &mut text)?;
+    expect_told(&rt, &text, "0 0 0 7")?;
+    text.push(b' ')?;
+    expect_told(&rt, &text, "1 limit")
+}
+
+fn add_spaces(count: usize, text: &mut Vec<u8>) -> Result<(), Fail> {
+    for _ in 0..count {
+        text.push(b' ')?;
+    }
+    Ok(())
+}
+
+/// A file of so many operations, each in a line, `op0` the first.
+fn operations(alloc: Global, count: u32) -> Result<String, Fail> {
+    let mut text = String::from_str(alloc, "signatures 1;\n")?;
+    for number in 0..count {
+        writeln!(text, "operation void op{number}();")?;
+    }
+    Ok(text)
+}
+
+#[test]
+fn a_file_has_at_most_4096_operations(rt: HostRuntime) -> Result<(), Fail> {
+    let text = operations(rt.alloc(), 4096)?;
+    expect_told(&rt, text.as_bytes(), "0 4096 0 7")
+}
+
+#[test]
+fn an_operation_more_is_refused_at_its_line(rt: HostRuntime) -> Result<(), Fail> {
+    let text = operations(rt.alloc(), 4097)?;
+    expect_told(&rt, text.as_bytes(), "4098 limit")
+}
+
+#[test]
+fn the_last_of_4096_operations_is_found(rt: HostRuntime) -> Result<(), Fail> {
+    let text = operations(rt.alloc(), 4096)?;
+    expect_last(&rt, text.as_bytes())
+}
+
+fn expect_last(rt: &(impl Abort + AllocGlobal), text: &[u8]) -> Result<(), Fail> {
+    let catalogue = Catalogue::parse(rt.alloc(), text)?;
+    assert!(rt; is_last(&catalogue));
+    Ok(())
+}
+
+/// Whether `op4095` is the last operation.
+fn is_last(catalogue: &Catalogue) -> bool {
+    let is_found = catalogue.operation(b"op4095") == Some(OpId(4095));
+    is_found && catalogue.operation(b"op4096").is_none()
+}

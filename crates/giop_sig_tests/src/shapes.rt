@@ -1,0 +1,129 @@
+//! How a type reads: its members or cases in order, each with the outermost form of its type.
+ghost use Rattle.std.specs.Prelude.{ℕ, ◌<◌, length};
+ghost use Rattle.giop_sig.specs.Types.{shape_in, HasMember, HasPlace};
+ghost use Rattle.giop_sig.specs.Trees.{tree};
+
+use giop_cdr::Prim;
+use giop_sig::{Catalogue, Shape, TypeId};
+use std::alloc::AllocError;
+use std::process::Abort;
+use std::test::Fail;
+
+/// The word of a primitive in a signature file.
+fn word_of(prim: Prim) -> &'static [u8] {
+    match prim {
+        Prim::Octet => b"octet",
+        Prim::Char => b"char",
+        Prim::Boolean => b"boolean",
+        Prim::Short => b"short",
+        Prim::UShort => b"ushort",
+        Prim::Long => b"long",
+        Prim::ULong => b"ulong",
+        Prim::LongLong => b"longlong",
+        Prim::ULongLong => b"ulonglong",
+        Prim::Float => b"float",
+        Prim::Double => b"double",
+    }
+}
+
+/// Adds the names of an enum.
+fn add_names(
+    catalogue: &Catalogue,
+    t: TypeId,
+    count: u32,
+    row: &mut Vec<u8>,
+) -> Result<(), AllocError>
+    requires { t.0 < length catalogue.now.types }
+{
+    row.extend_from_slice(b"enum")?;
+    for number in 0..count {
+        row.extend_from_slice(b" ")?;
+        row.extend_from_slice(catalogue.enum_name(t, number).unwrap_or(b"?"))?;
+    }
+    Ok(())
+}
+
+/// Adds how a type reads by its outermost form; an enum by its names.
+fn add_kind(catalogue: &Catalogue, t: TypeId, row: &mut Vec<u8>) -> Result<(), AllocError>
+    requires { t.0 < length catalogue.now.types }
+{
+    let word: &[u8] = match catalogue.shape(t) {
+        Shape::Enumeration(count) => return add_names(catalogue, t, count, row),
+        Shape::Prim(prim) => word_of(prim),
+        Shape::Text(_) => b"string",
+        Shape::Octets(_) => b"octets",
+        Shape::Members(_) => b"struct",
+        Shape::Union(_) => b"union",
+        Shape::Sequence(_) => b"sequence",
+        Shape::Array(3) => b"array of 3",
+        Shape::Array(_) => b"array",
+    };
+    row.extend_from_slice(word)
+}
+
+fn add_parts(
+    catalogue: &Catalogue,
+    t: TypeId,
+    count: u32,
+    row: &mut Vec<u8>,
+) -> Result<(), AllocError>
+    requires known { t.0 < length catalogue.now.types }
+    requires names { (i : ℕ) → i < count → HasMember (shape_in (tree catalogue.now t.0)) i }
+    requires parts { (i : ℕ) → i < count → HasPlace (shape_in (tree catalogue.now t.0)) i }
+{
+    for place in 0..count {
+        if place > 0 {
+            row.extend_from_slice(b", ")?;
+        }
+        row.extend_from_slice(catalogue.part_name(t, place))?;
+        row.extend_from_slice(b" ")?;
+        add_kind(catalogue, catalogue.part(t, place), row)?;
+    }
+    Ok(())
+}
+
+/// Adds the members or cases of a type.
+fn add_row(catalogue: &Catalogue, t: TypeId, row: &mut Vec<u8>) -> Result<(), AllocError>
+    requires { t.0 < length catalogue.now.types }
+{
+    match catalogue.shape(t) {
+        Shape::Members(count) => add_parts(catalogue, t, count, row),
+        Shape::Union(count) => add_parts(catalogue, t, count, row),
+        _ => add_kind(catalogue, t, row),
+    }
+}
+
+/// Whether a type has these members or cases.
+pub fn expect_row(
+    rt: &(impl Abort + AllocGlobal),
+    catalogue: &Catalogue,
+    t: TypeId,
+    want: &str,
+) -> Result<(), Fail>
+    requires { t.0 < length catalogue.now.types }
+{
+    let mut row = Vec::new(rt.alloc());
+    add_row(catalogue, t, &mut row)?;
+    assert!(rt; row.as_slice() == want.as_bytes(), "{want}");
+    Ok(())
+}
+
+/// The part at a place, where there is one.
+pub fn inner(rt: &impl Abort, catalogue: &Catalogue, t: TypeId, place: u32) -> TypeId
+    requires { t.0 < length catalogue.now.types }
+    ensures { result.0 < length catalogue.now.types }
+{
+    match catalogue.shape(t) {
+        Shape::Members(count) => {
+            assert!(rt; place < count);
+            catalogue.part(t, place)
+        }
+        Shape::Union(count) => {
+            assert!(rt; place < count);
+            catalogue.part(t, place)
+        }
+        Shape::Sequence(_) => catalogue.part(t, place),
+        Shape::Array(_) => catalogue.part(t, place),
+        _ => panic!(rt; "no parts"),
+    }
+}
