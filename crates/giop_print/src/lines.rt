@@ -86,7 +86,7 @@ fn kind_line<'a, O: Out>(
     )
 }
 
-/// The line of a piece, which stands at this offset in its content, and whether more comes.
+/// The line of a piece of at most 32 octets, which stands at this offset in its content, and whether more comes.
 pub fn piece_line<O: Out>(
     out: &mut O,
     message: u64,
@@ -143,7 +143,7 @@ fn content_line<'a, O: Out>(
     )
 }
 
-/// The line of octets that stand at this offset in the rest.
+/// The line of at most 32 octets that stand at this offset in the rest.
 #[tactic(auto, unfolding(crate::specs::Lines::rest_line))]
 pub fn rest_line<O: Out>(
     out: &mut O,
