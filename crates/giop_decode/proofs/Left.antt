@@ -14,13 +14,15 @@ use Rattle.giop_sig.specs.Types.{Plain, Enum, Ty, Text}
 use Rattle.giop_decode.proofs.WholeStrings.{read_strings}
 
 -- one line more at the front
-last_cons : (o x : Option ℕ) (xs : List ℕ) → last_or o (cons_option x xs) ≡ last_or (last_or o (cons_option x [])) xs
+last_cons : (o x : Option ℕ) (xs : List ℕ) →
+    last_or o (cons_option x xs) ≡ last_or (last_or o (cons_option x [])) xs
 last_cons o None xs = refl
 last_cons o (Some n) xs = refl
 
 -- ---- the last enum
 
-value_status : (is_id : Bool) (h : Heard) (value : Value) → (hear_value is_id h value).status ≡ last_or h.status (cons_option (enum_of value) [])
+value_status : (is_id : Bool) (h : Heard) (value : Value) →
+    (hear_value is_id h value).status ≡ last_or h.status (cons_option (enum_of value) [])
 value_status is_id h (Number (Plain p) n) = plain p
   where
     plain : (p : _) → (hear_value is_id h (Number (Plain p) n)).status ≡ h.status
@@ -31,7 +33,8 @@ value_status is_id h (Piece (Text bound) offset octets true) = refl
 value_status is_id h (Piece (Text bound) offset octets false) = refl
 value_status is_id h value = refl
 
-left_status : (is_header : Bool) (h : Heard) (lines : List Line) → (heard is_header h lines).status ≡ last_or h.status (enums lines)
+left_status : (is_header : Bool) (h : Heard) (lines : List Line) →
+    (heard is_header h lines).status ≡ last_or h.status (enums lines)
 left_status is_header h [] = refl
 left_status is_header h (l ∷ ls) =
     left_status is_header (hear is_header h l) ls
@@ -39,7 +42,8 @@ left_status is_header h (l ∷ ls) =
 
 -- ---- the request id
 
-value_id : (is_id : Bool) (h : Heard) (value : Value) → (hear_value is_id h value).request_id ≡ last_or h.request_id (cons_option (cond is_id (ulong_of value) None) [])
+value_id : (is_id : Bool) (h : Heard) (value : Value) →
+    (hear_value is_id h value).request_id ≡ last_or h.request_id (cons_option (cond is_id (ulong_of value) None) [])
 value_id true h (Number (Plain prims.ULong) n) = refl
 value_id false h (Number (Plain prims.ULong) n) = refl
 value_id true h (Number (Enum count names) n) = refl
@@ -51,7 +55,8 @@ value_id false h (Piece (Text bound) offset octets false) = refl
 value_id true h value = refl
 value_id false h value = refl
 
-left_id : (is_header : Bool) (h : Heard) (lines : List Line) → (heard is_header h lines).request_id ≡ last_or h.request_id (request_ids is_header lines)
+left_id : (is_header : Bool) (h : Heard) (lines : List Line) →
+    (heard is_header h lines).request_id ≡ last_or h.request_id (request_ids is_header lines)
 left_id is_header h [] = refl
 left_id is_header h (l ∷ ls) =
     left_id is_header (hear is_header h l) ls
@@ -71,7 +76,8 @@ value_name is_id h (Piece (Text bound) offset octets false) ps = refl
 value_name is_id h (Number (Plain prims.ULong) n) ps = refl
 value_name is_id h value ps = refl
 
-left_name : (is_header : Bool) (h : Heard) (lines : List Line) → (heard is_header h lines).name ≡ said h.name h.so_far (text_pieces lines)
+left_name : (is_header : Bool) (h : Heard) (lines : List Line) →
+    (heard is_header h lines).name ≡ said h.name h.so_far (text_pieces lines)
 left_name is_header h [] = refl
 left_name is_header h (l ∷ ls) =
     left_name is_header (hear is_header h l) ls ∙ value_name (is_header && is_member (codes "request_id") l.path) h l.value (text_pieces ls)
@@ -83,7 +89,8 @@ said_cut (suc full) offset content name so_far ps =
     said_cut full (offset + 32) (drop 32 content) None (so_far ++ take 32 content) ps
     ∙ ap (λ octets. said (name_if octets) [] ps) (append_assoc so_far (take 32 content) (drop 32 content) ∙ ap (λ octets. so_far ++ octets) (take-append-drop 32 content))
 
-said_all : (before : Option (List ℕ)) (contents : List (List ℕ)) → said (name_of before) [] (flat_map pieces_of contents) ≡ name_of (last_or before contents)
+said_all : (before : Option (List ℕ)) (contents : List (List ℕ)) →
+    said (name_of before) [] (flat_map pieces_of contents) ≡ name_of (last_or before contents)
 said_all before [] = refl
 said_all before (c ∷ contents) =
     said_cut (full_pieces (length c)) 0 c (name_of before) [] (flat_map pieces_of contents) ∙ said_all (Some c) contents

@@ -29,7 +29,8 @@ texts_append xs ys = filter_map-append (λ l. text_of l.value) xs ys
 no_strings : (r : Read) → text_pieces (lines_of r) ≡ [] → Strings r
 no_strings r e = record { contents = []; begun = []; lines = e; unended = tt; none = λ _. refl }
 
-whole_then : (front : List Line) (contents : List (List ℕ)) (r : Read) → text_pieces front ≡ flat_map pieces_of contents → Strings r → Strings (with_front front r)
+whole_then : (front : List Line) (contents : List (List ℕ)) (r : Read) →
+    text_pieces front ≡ flat_map pieces_of contents → Strings r → Strings (with_front front r)
 whole_then front contents r e h = record {
   contents = contents ++ h.contents;
   begun = h.begun;
@@ -39,10 +40,12 @@ whole_then front contents r e h = record {
 }
 
 -- lines in front, of which none is a string's
-then_strings : (front : List Line) (r : Read) → text_pieces front ≡ [] → Strings r → Strings (with_front front r)
+then_strings : (front : List Line) (r : Read) → text_pieces front ≡ [] → Strings r →
+    Strings (with_front front r)
 then_strings front r e h = whole_then front [] r e h
 
-followed_strings : (r : Read) (next : ℕ → List ℕ → Read) → Strings r → ((at : ℕ) (s : List ℕ) → Strings (next at s)) → Strings (followed r next)
+followed_strings : (r : Read) (next : ℕ → List ℕ → Read) → Strings r →
+    ((at : ℕ) (s : List ℕ) → Strings (next at s)) → Strings (followed r next)
 followed_strings (Done lines at rest) next h k =
     whole_then lines h.contents (next at rest) (h.lines ∙ (ap (λ begun. flat_map pieces_of h.contents ++ begun) (h.none refl) ∙ append-nil (flat_map pieces_of h.contents))) (k at rest)
 followed_strings (Short lines at outer leaf) next h k = h
@@ -57,11 +60,14 @@ unless_strings : (T : Ty) (why : Option Kind) (at : ℕ) (r : Read) → Strings 
 unless_strings T None at r h = h
 unless_strings T (Some kind) at r h = no_strings (Fault [] at kind T) refl
 
-headed_strings : (T : Ty) (after : List ℕ → ℕ → List ℕ → Read) → ((xs : List ℕ) (at : ℕ) (s : List ℕ) → Strings (after xs at s)) → (g : Grab) → Strings (headed T after g)
+headed_strings : (T : Ty) (after : List ℕ → ℕ → List ℕ → Read) →
+    ((xs : List ℕ) (at : ℕ) (s : List ℕ) → Strings (after xs at s)) → (g : Grab) →
+    Strings (headed T after g)
 headed_strings T after h (Waiting carry at) = no_strings (Short [] at [] _) refl
 headed_strings T after h (Got xs at rest) = h xs at rest
 
-parts_strings : (part : ℕ → ℕ → List ℕ → Read) → ((i at : ℕ) (s : List ℕ) → Strings (part i at s)) → (more i at : ℕ) (s : List ℕ) → Strings (parts_from part more i at s)
+parts_strings : (part : ℕ → ℕ → List ℕ → Read) → ((i at : ℕ) (s : List ℕ) → Strings (part i at s)) →
+    (more i at : ℕ) (s : List ℕ) → Strings (parts_from part more i at s)
 parts_strings part h zero i at s = no_strings (Done [] at s) refl
 parts_strings part h (suc more) i at s = followed_strings (part i at s) (parts_from part more (suc i)) (h i at s) (parts_strings part h more (suc i))
 
@@ -82,13 +88,15 @@ last_comes bound path total offset at s ahead = go (cases_lt (length s) (total -
     ended None xs rest at h = inl (take (total - offset) xs, let e = length-take-le (total - offset) xs h in omega arith, refl)
     ended (Some kind) xs rest at h = inr (refl, tt)
 
-    go : (length s < total - offset + 1) ⊎ (total - offset + 1 ≤ length s) → Comes total 0 offset (last_piece (Text bound) path total offset (block (total - offset + 1) at s))
+    go : (length s < total - offset + 1) ⊎ (total - offset + 1 ≤ length s) →
+        Comes total 0 offset (last_piece (Text bound) path total offset (block (total - offset + 1) at s))
     go (inl h) = rw (block_waits (total - offset + 1) at s h) (inr (refl, tt))
     go (inr h) =
         let e = length-take-le (total - offset + 1) s h in
         rw (block_got (total - offset + 1) at s h) (ended (ends (Text bound) (total - offset) (take (total - offset + 1) s)) (take (total - offset + 1) s) (drop (total - offset + 1) s) (at + (total - offset + 1)) (omega arith))
 
-cut_more : (full offset : ℕ) (xs ys : List ℕ) → length xs ≡ 32 → piece offset xs true ∷ cut_from full (offset + 32) ys ≡ cut_from (suc full) offset (xs ++ ys)
+cut_more : (full offset : ℕ) (xs ys : List ℕ) → length xs ≡ 32 →
+    piece offset xs true ∷ cut_from full (offset + 32) ys ≡ cut_from (suc full) offset (xs ++ ys)
 cut_more full offset xs ys h =
     let front : take 32 (xs ++ ys) ≡ xs = take_at xs ys 32 h in
     let behind : drop 32 (xs ++ ys) ≡ ys = ap (λ n. drop n (xs ++ ys)) (sym h) ∙ drop-append_seam xs ys in
@@ -101,7 +109,8 @@ full_comes bound path total full offset next xs rest at h (inl (ys, len, is)) =
 full_comes bound path total full offset next xs rest at h (inr (inside, each)) =
     inr (front_inside (line at path (Piece (Text bound) offset xs true) ∷ []) (next at rest) ∙ inside, rw (lines_front (line at path (Piece (Text bound) offset xs true) ∷ []) (next at rest)) (refl, each))
 
-content_comes : (bound : Option ℕ) (path : List Seg) (total full offset at : ℕ) (s : List ℕ) → offset + 32 * full ≤ total →
+content_comes : (bound : Option ℕ) (path : List Seg) (total full offset at : ℕ) (s : List ℕ) →
+    offset + 32 * full ≤ total →
     Comes total full offset (content (Text bound) path total full offset at s)
 content_comes bound path total zero offset at s ahead = last_comes bound path total offset at s (omega arith)
 content_comes bound path total (suc full) offset at s ahead =
@@ -110,7 +119,8 @@ content_comes bound path total (suc full) offset at s ahead =
     next : ℕ → List ℕ → Read
     next = content (Text bound) path total full (offset + 32)
 
-    go : (length s < 32) ⊎ (32 ≤ length s) → Comes total full (offset + 32) (next (at + 32) (drop 32 s)) → Comes total (suc full) offset (full_piece (Text bound) path total offset next (block 32 at s))
+    go : (length s < 32) ⊎ (32 ≤ length s) → Comes total full (offset + 32) (next (at + 32) (drop 32 s)) →
+        Comes total (suc full) offset (full_piece (Text bound) path total offset next (block 32 at s))
     go (inl h) k = rw (block_waits 32 at s h) (inr (refl, tt))
     go (inr h) k = rw (block_got 32 at s h) (full_comes bound path total full offset next (take 32 s) (drop 32 s) (at + 32) (length-take-le 32 s h) k)
 
@@ -138,7 +148,8 @@ text_strings bound path (suc n) at s =
 
 -- ---- octets are no string
 
-octets_last : (bound : Option ℕ) (path : List Seg) (total offset : ℕ) (g : Grab) → text_pieces (lines_of (last_piece (Octets bound) path total offset g)) ≡ []
+octets_last : (bound : Option ℕ) (path : List Seg) (total offset : ℕ) (g : Grab) →
+    text_pieces (lines_of (last_piece (Octets bound) path total offset g)) ≡ []
 octets_last bound path total offset (Waiting held at) = refl
 octets_last bound path total offset (Got xs at rest) = refl
 
@@ -147,27 +158,33 @@ octets_full : (bound : Option ℕ) (path : List Seg) (total offset : ℕ) (next 
 octets_full bound path total offset next (Waiting held at) h = refl
 octets_full bound path total offset next (Got xs at rest) h = rw (lines_front (line at path (Piece (Octets bound) offset xs true) ∷ []) (next at rest)) (h at rest)
 
-octets_none : (bound : Option ℕ) (path : List Seg) (total full offset at : ℕ) (s : List ℕ) → text_pieces (lines_of (content (Octets bound) path total full offset at s)) ≡ []
+octets_none : (bound : Option ℕ) (path : List Seg) (total full offset at : ℕ) (s : List ℕ) →
+    text_pieces (lines_of (content (Octets bound) path total full offset at s)) ≡ []
 octets_none bound path total zero offset at s = octets_last bound path total offset (block (total - offset + 0) at s)
 octets_none bound path total (suc full) offset at s =
     octets_full bound path total offset (content (Octets bound) path total full (offset + 32)) (block 32 at s) (octets_none bound path total full (offset + 32))
 
-octets_strings : (bound : Option ℕ) (path : List Seg) (n at : ℕ) (s : List ℕ) → Strings (octets bound path n at s)
+octets_strings : (bound : Option ℕ) (path : List Seg) (n at : ℕ) (s : List ℕ) →
+    Strings (octets bound path n at s)
 octets_strings bound path n at s =
     unless_strings (Octets bound) (over bound n) at (content (Octets bound) path n (full_pieces n) 0 at s) (no_strings _ (octets_none bound path n (full_pieces n) 0 at s))
 
 -- ---- any type
 
-single_strings : (path : List Seg) (scalar : Scalar) (n at : ℕ) (s : List ℕ) → Strings (single path scalar n at s)
+single_strings : (path : List Seg) (scalar : Scalar) (n at : ℕ) (s : List ℕ) →
+    Strings (single path scalar n at s)
 single_strings path scalar n at s = unless_strings (Single scalar) (wrong scalar n) at (Done (line at path (Number scalar n) ∷ []) at s) (no_strings _ refl)
 
-member_strings : (selected : Selected) (case : ℕ → ℕ → List ℕ → Read) → ((i at : ℕ) (s : List ℕ) → Strings (case i at s)) → (at : ℕ) (s : List ℕ) → Strings (member selected case at s)
+member_strings : (selected : Selected) (case : ℕ → ℕ → List ℕ → Read) →
+    ((i at : ℕ) (s : List ℕ) → Strings (case i at s)) → (at : ℕ) (s : List ℕ) →
+    Strings (member selected case at s)
 member_strings (Case i) case h at s = h i at s
 member_strings Nothing case h at s = no_strings (Done [] at s) refl
 member_strings Refused case h at s = no_strings (Done [] at s) refl
 
 -- The strings of any reading.
-pub read_strings : (order : Order) (path : List Seg) (T : Ty) (at : ℕ) (s : List ℕ) → Strings (read order path T at s)
+pub read_strings : (order : Order) (path : List Seg) (T : Ty) (at : ℕ) (s : List ℕ) →
+    Strings (read order path T at s)
 read_strings order path (Single scalar) at s =
     headed_strings (Single scalar) (λ xs at rest. single path scalar (num order xs) at rest) (λ xs at rest. single_strings path scalar (num order xs) at rest) (number (width scalar) at s)
 read_strings order path (Text bound) at s =

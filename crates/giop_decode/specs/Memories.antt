@@ -1,4 +1,5 @@
--- What a reading leaves in mind, said of its lines: the request id of a header, the last of the enums, the last of the whole strings.
+-- What a reading leaves in mind, said of its lines: the request id of a header, the last of the enums, and the last of the
+-- strings that are whole.
 use Rattle.std.specs.Prelude.{◌≡◌, ℕ, zero, suc, ◌+◌, ◌&&◌, Bool, true, false, cond, List, [], ◌∷◌, ◌++◌, length, take, drop, Option, Some, None, filter_map, flat_map, codes}
 use Rattle.std.specs.List.{AllByRecursion as Each, last_or}
 use Rattle.giop_cdr.specs.declared.prim.Primitive.TheVariants as prims
@@ -51,13 +52,15 @@ text_pieces lines = filter_map (λ l. text_of l.value) lines
 -- a content from an offset in it on, so many of whose pieces aren't the last: these have 32 octets
 abbrev pub cut_from : ℕ → ℕ → List ℕ → List TextPiece
 cut_from zero offset octets = piece offset octets false ∷ []
-cut_from (suc full) offset octets = piece offset (take 32 octets) true ∷ cut_from full (offset + 32) (drop 32 octets)
+cut_from (suc full) offset octets =
+    piece offset (take 32 octets) true ∷ cut_from full (offset + 32) (drop 32 octets)
 
 -- the pieces of a whole content
 abbrev pub pieces_of : List ℕ → List TextPiece
 pieces_of content = cut_from (full_pieces (length content)) 0 content
 
--- The strings of a reading, in their order: the contents of those that are whole, and the pieces of one that has begun.
+-- The strings of a reading, in their order: the contents of those that are whole, and the pieces of one that has
+-- begun and not ended.
 pub record Strings (r : Read) : Type 0 where
   pub contents : List (List ℕ)
   pub begun : List TextPiece
@@ -78,5 +81,6 @@ pub record IsLeft (is_header : Bool) (r : Read) (h : Heard) : Type 0 where
   -- the number of the last line that is an enum
   pub status : h.status ≡ last_or None (enums (lines_of r))
   pub strings : Strings r
-  -- the last whole string, of at most 128 octets; none between the last octet of a later one's length and its end
+  -- the last whole string, of at most 128 octets; none between the last octet of a later one's length and
+  -- its end
   pub name : h.name ≡ cond (in_string r) None (name_of (last_or None strings.contents))

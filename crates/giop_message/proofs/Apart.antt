@@ -41,12 +41,14 @@ values_leave : (sayings : List Saying) (stage : Stage) → Leaves (Value ∷ say
 values_leave sayings stage = (λ e. absurd cc, λ e. absurd cc)
 
 -- lines of a typed part are of values first
-tells_leave : (root : Root) (is : Bool) (h : Heard) (lines : List Line) (stage : Stage) → Leaves (Sayings (tells root is h lines)) stage
+tells_leave : (root : Root) (is : Bool) (h : Heard) (lines : List Line) (stage : Stage) →
+    Leaves (Sayings (tells root is h lines)) stage
 unfolding tells tell saying_of
 tells_leave root is h [] stage = (λ e. absurd cc, λ e. absurd cc)
 tells_leave root is h (l ∷ ls) stage = values_leave _ stage
 
-front_settles : (n : ℕ) (front : List Told) (m : Message) → ((stage : Stage) → Leaves (Sayings front) stage) → Silent n m → Settles (with_front front m)
+front_settles : (n : ℕ) (front : List Told) (m : Message) → ((stage : Stage) → Leaves (Sayings front) stage) →
+    Silent n m → Settles (with_front front m)
 unfolding with_front
 front_settles n front (Comes told at stage) h k = rw (k.0, append-nil front) (h stage)
 
@@ -58,18 +60,21 @@ module _ (root : Root) (is : Bool) (stage : Heard → List Place → Leaf → St
   passes_settles k (Short lines at outer leaf) h = tells_leave root is k lines (stage (heard (is_header_root root) k lines) outer leaf)
   passes_settles k (Faulted lines at why T) h = rw h.0 (λ e. absurd cc, λ e. refl)
 
-rest_settles : (offset : ℕ) (held : List ℕ) (n : ℕ) (test : Bool) → Settles (if test then Comes (tell n (Left offset held) ∷ []) n (In_rest (offset + 32) []) else Comes [] n (In_rest offset held))
+rest_settles : (offset : ℕ) (held : List ℕ) (n : ℕ) (test : Bool) →
+    Settles (if test then Comes (tell n (Left offset held) ∷ []) n (In_rest (offset + 32) []) else Comes [] n (In_rest offset held))
 unfolding tell saying_of
 rest_settles offset held n true = (λ e. (offset + 32, refl), λ e. absurd cc)
 rest_settles offset held n false = (λ e. absurd cc, λ e. absurd cc)
 
-step_settles : (S : Signatures) (header : List ℕ) (at : ℕ) (stage : Stage) (b : ℕ) → Settles (message_step S header at stage b)
+step_settles : (S : Signatures) (header : List ℕ) (at : ℕ) (stage : Stage) (b : ℕ) →
+    Settles (message_step S header at stage b)
 unfolding message_step rest_step
 step_settles S header at (In_header k outer leaf) b =
     passes_settles roots.Header (is_request header) In_header (after_header S header) (at + 1) (λ k. after_header_silent S header k (at + 1)) k (decoder.step (order header) [] outer leaf at b) (step_now (order header) [] outer leaf at b)
 step_settles S header at (In_padding t) b = go (nat_lt 1 (padding at 8))
   where
-    go : (test : Bool) → Settles (if test then Comes [] (at + 1) (In_padding t) else body S header t (at + 1) [])
+    go : (test : Bool) →
+        Settles (if test then Comes [] (at + 1) (In_padding t) else body S header t (at + 1) [])
     go true = (λ e. absurd cc, λ e. absurd cc)
     go false = silent_settles (at + 1) (body S header t (at + 1) []) (body_silent S header t (at + 1))
 step_settles S header at (In_exception k outer leaf) b =
@@ -80,11 +85,13 @@ step_settles S header at (In_rest offset held) b = rest_settles offset (held ++ 
 step_settles S header at Over b = (λ e. absurd cc, λ e. absurd cc)
 
 -- what an octet says, and where it leaves the message
-advance_settles : (S : Signatures) (header : List ℕ) (m : Message) (b : ℕ) → Leaves (Sayings (drop (length (told_of m)) (told_of (advance S header m b)))) (stage_of (advance S header m b))
+advance_settles : (S : Signatures) (header : List ℕ) (m : Message) (b : ℕ) →
+    Leaves (Sayings (drop (length (told_of m)) (told_of (advance S header m b)))) (stage_of (advance S header m b))
 unfolding advance with_front told_of stage_of
 advance_settles S header (Comes told at stage) b = go (message_step S header at stage b) (step_settles S header at stage b)
   where
-    go : (m : Message) → Settles m → Leaves (Sayings (drop (length told) (told_of (with_front told m)))) (stage_of (with_front told m))
+    go : (m : Message) → Settles m →
+        Leaves (Sayings (drop (length told) (told_of (with_front told m)))) (stage_of (with_front told m))
     go (Comes more at' stage') h = rw (drop-append_seam told more) h
 
 speaks : (told : List Told) → map (λ r. r.saying) (map remark_of told) ≡ Sayings told
@@ -102,7 +109,8 @@ octet_leaves S header xs x =
 abbrev Closings : Stage → List Saying
 Closings stage = map (λ l. l.0) (map closing_of (close stage))
 
-leaves_end : (sayings : List Saying) (stage : Stage) → Leaves sayings stage → (sayings ≡ Rest ∷ []) ⊎ (sayings ≡ Fault ∷ []) → Closings stage ≡ End ∷ []
+leaves_end : (sayings : List Saying) (stage : Stage) → Leaves sayings stage →
+    (sayings ≡ Rest ∷ []) ⊎ (sayings ≡ Fault ∷ []) → Closings stage ≡ End ∷ []
 unfolding close saying_of
 leaves_end sayings stage h (inl e) = let left = h.0 e in rw left.1 refl
 leaves_end sayings stage h (inr e) = rw (h.1 e) refl
@@ -111,7 +119,8 @@ other : (a b : Saying) → a ≢ b → AreApart (a ∷ b ∷ [])
 other a b h = ((h, tt), (tt, tt))
 
 -- one line and those of a close, which are of other kinds
-one_apart : (a : Saying) (sayings : List Saying) → AtClose sayings → a ≢ Fault → a ≢ End → a ≢ Rest → AreApart (a ∷ sayings)
+one_apart : (a : Saying) (sayings : List Saying) → AtClose sayings → a ≢ Fault → a ≢ End → a ≢ Rest →
+    AreApart (a ∷ sayings)
 one_apart a sayings (inl e) f g h = rw e (other a Fault f)
 one_apart a sayings (inr (inl e)) f g h = rw e (other a End g)
 one_apart a sayings (inr (inr e)) f g h = rw e ((h, (g, tt)), (((λ k. cc), tt), (tt, tt)))
@@ -126,7 +135,8 @@ call_apart sayings (inl e) = rw e (((λ k. cc), ((λ k. cc), tt)), other Call Fa
 call_apart sayings (inr (inl e)) = rw e (((λ k. cc), ((λ k. cc), tt)), other Call End (λ k. cc))
 call_apart sayings (inr (inr e)) = rw e (((λ k. cc), ((λ k. cc), ((λ k. cc), tt))), one_apart Call (Rest ∷ End ∷ []) (inr (inr refl)) (λ k. cc) (λ k. cc) (λ k. cc))
 
-turn_apart : (sayings : List Saying) (stage : Stage) → InTurn sayings → Leaves sayings stage → AreApart (sayings ++ Closings stage)
+turn_apart : (sayings : List Saying) (stage : Stage) → InTurn sayings → Leaves sayings stage →
+    AreApart (sayings ++ Closings stage)
 turn_apart sayings stage (inl e) h = rw e (close_apart (Closings stage) (closes_say stage))
 turn_apart sayings stage (inr (inl e)) h = rw e (one_apart Value (Closings stage) (closes_say stage) (λ k. cc) (λ k. cc) (λ k. cc))
 turn_apart sayings stage (inr (inr (inl e))) h = rw e (call_apart (Closings stage) (closes_say stage))
