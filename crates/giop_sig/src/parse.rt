@@ -1,7 +1,7 @@
 //! Reading a signature file (docs/FORMATS.md).
 ghost use Rattle.std.specs.Prelude.{◌≡◌, ◌<◌, ◌≤◌, ◌↔◌, List, length, IfOk, IfErr};
 ghost use Rattle.giop_sig.specs.Grammar.{Declaration};
-ghost use Rattle.giop_sig.specs.Scopes.{table};
+ghost use Rattle.giop_sig.specs.Scopes.{builtin_scope, table};
 ghost use Rattle.giop_sig.specs.Validity.{AreValid, Spells, Refuses};
 ghost use Rattle.giop_sig.specs.Outcomes.{Gives};
 ghost use Rattle.giop_sig.specs.FileReading.{declaration_at, declarations_run, version_at, file_at, text_too_long, IsFirstRefusal};
@@ -71,16 +71,24 @@ fn version_at(text: &[u8]) -> Result<&[u8], Stop>
     }
 }
 
-// The whole file.
+// The whole file, into a draft of no declarations.
 #[tactic(auto, unfolding(crate::specs::FileReading::file_at))]
-fn file_at(alloc: Global, text: &[u8]) -> Result<Draft, Stop>
-    ensures { Gives (λ x. x) result (file_at text.now) }
+fn file_at(alloc: Global, draft: &mut Draft, text: &[u8]) -> Result<(), Stop>
+    requires { draft.old ≡ builtin_scope }
+    ensures { Gives (λ x. draft.new) result (file_at text.now) }
 {
     let rest = keyword(text, b"signatures")?;
     let rest = version_at(rest)?;
     let rest = mark(rest, Mark::Semicolon)?;
+    declarations(alloc, draft, text.len(), rest)
+}
+
+// The draft of a file.
+fn draft_of(alloc: Global, text: &[u8]) -> Result<Draft, Stop>
+    ensures { Gives (λ x. x) result (file_at text.now) }
+{
     let mut draft = Draft::new(alloc)?;
-    declarations(alloc, &mut draft, text.len(), rest)?;
+    file_at(alloc, &mut draft, text)?;
     Ok(draft)
 }
 
@@ -105,7 +113,7 @@ impl Catalogue {
                 kind: SigFaultKind::Limit,
             });
         }
-        match file_at(alloc, text) {
+        match draft_of(alloc, text) {
             Ok(draft) => {
                 let catalogue = draft.into_catalogue();
                 catalogue.laws();
