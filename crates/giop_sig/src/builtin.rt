@@ -76,7 +76,7 @@ pub(crate) fn fixed_id(fixed: Fixed) -> TypeId
     }
 }
 
-// The built-in type of a number.
+/// The built-in type of a number.
 fn literal_of(number: u32) -> Literal
     requires { number < BUILTIN_LEN }
     ensures { literal_node result ≡ node_in builtin_types number }
@@ -90,7 +90,7 @@ fn literal_of(number: u32) -> Literal
     }
 }
 
-// The types without parts, but for enums.
+/// The types without parts, but for enums.
 #[tactic(auto, unfolding(crate::specs::Builtin::builtin_types))]
 fn leaf(number: u32) -> Literal
     requires { number < 13 }
@@ -114,7 +114,7 @@ fn leaf(number: u32) -> Literal
     }
 }
 
-// What headers and bodies are made of (a row of a name and a type's number for each member).
+/// What headers and bodies are made of (a row of a name and a type's number for each member).
 #[tactic(auto, unfolding(crate::specs::Builtin::builtin_types))]
 fn common(number: u32) -> Literal
     requires low { 13 ≤ number }
@@ -170,7 +170,7 @@ fn common(number: u32) -> Literal
     }
 }
 
-// The header types.
+/// The header types.
 #[tactic(auto, unfolding(crate::specs::Builtin::builtin_types))]
 fn header(number: u32) -> Literal
     requires low { 27 ≤ number }
@@ -222,6 +222,7 @@ fn header(number: u32) -> Literal
     }
 }
 
+/// The names of an enum.
 fn names_of(alloc: Global, names: &[&[u8]]) -> Result<Vec<Vec<u8>>, AllocError>
     ensures { IfOk result (λ v. map (λ n. n.items) v.items ≡ map (λ n. n.now) names.now) }
 {
@@ -232,6 +233,7 @@ fn names_of(alloc: Global, names: &[&[u8]]) -> Result<Vec<Vec<u8>>, AllocError>
     Ok(all)
 }
 
+/// The members of a struct.
 fn parts_of(alloc: Global, parts: &[Named]) -> Result<Vec<PartEntry>, AllocError>
     ensures { IfOk result (λ v. map part_view v.items ≡ map literal_part parts.now) }
 {
@@ -242,6 +244,7 @@ fn parts_of(alloc: Global, parts: &[Named]) -> Result<Vec<PartEntry>, AllocError
     Ok(all)
 }
 
+/// A case, with its one label.
 fn case_of(alloc: Global, case: &Labelled) -> Result<CaseEntry, AllocError>
     ensures { IfOk result (λ c. case_view c ≡ literal_case case.now) }
 {
@@ -250,6 +253,7 @@ fn case_of(alloc: Global, case: &Labelled) -> Result<CaseEntry, AllocError>
     Ok(CaseEntry { labels, part })
 }
 
+/// The cases of a union.
 fn cases_of(alloc: Global, cases: &[Labelled]) -> Result<Vec<CaseEntry>, AllocError>
     ensures { IfOk result (λ v. map case_view v.items ≡ map literal_case cases.now) }
 {
@@ -260,6 +264,7 @@ fn cases_of(alloc: Global, cases: &[Labelled]) -> Result<Vec<CaseEntry>, AllocEr
     Ok(all)
 }
 
+/// A member or a case.
 fn part_of(alloc: Global, name: &[u8], number: u32) -> Result<PartEntry, AllocError>
     ensures { IfOk result (λ p. part_view p ≡ record { name = name.now; type = number }) }
 {
@@ -269,6 +274,7 @@ fn part_of(alloc: Global, name: &[u8], number: u32) -> Result<PartEntry, AllocEr
     })
 }
 
+/// The entry of a built-in type.
 fn entry_of(alloc: Global, literal: Literal) -> Result<Entry, AllocError>
     ensures { IfOk result (λ e. node_view e ≡ literal_node literal) }
 {

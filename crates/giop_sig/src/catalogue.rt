@@ -329,7 +329,7 @@ impl Catalogue {
         Ok(())
     }
 
-    // What is kept of an operation.
+    /// What is kept of an operation.
     fn signature(&self, operation: OpId) -> Signature
         requires { operation.0 < length self.now.operations }
         ensures request { result.request.0 ≡ (operation_at self.now operation.0).request }
@@ -343,7 +343,7 @@ impl Catalogue {
     }
 }
 
-// The key of a name; None for one of more than 128 octets.
+/// The key of a name; None for one of more than 128 octets.
 fn key_of(name: &[u8]) -> Option<Name>
     ensures { MatchOption result (128 < length name.now) (λ key. key.items ≡ name.now) }
 {

@@ -161,7 +161,7 @@ impl Draft {
         self.catalogue.operation(name).is_some()
     }
 
-    // Adds a name that is new, perhaps a type's.
+    /// Adds a name that is new, perhaps a type's.
     fn add_name(&mut self, name: &[u8], t: Option<TypeId>) -> Result<(), Stop>
         requires short { length name.now ≤ 64 }
         requires new { lookup (bytes_eq name.now) self.old.names ≡ None }

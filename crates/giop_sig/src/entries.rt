@@ -132,14 +132,14 @@ impl Entry {
     }
 }
 
-// Whether the number is among the labels.
+/// Whether the number is among the labels.
 fn has_label(labels: &[Number], number: Number) -> bool
     ensures { result ≡ list_any (λ label. same_number label number) labels.now }
 {
     labels.contains(&number)
 }
 
-// The first case with the number among its labels.
+/// The first case with the number among its labels.
 fn case_of(cases: &[CaseEntry], number: Number) -> Option<u32>
     requires { length cases.now ≤ 256 }
     ensures { result ≡ case_with number (map case_view cases.now) }
@@ -251,7 +251,7 @@ impl Types {
         }
     }
 
-    // The depth of the deepest of an entry's first so many parts, 0 where there is none.
+    /// The depth of the deepest of an entry's first so many parts, 0 where there is none.
     fn deepest_part(&self, entry: &Entry, count: u32) -> u8
         requires place { (i : ℕ) → i < count → HasPlace (shape_of (node_view entry.now)) i }
         requires below { (i : ℕ) → i < count → type_of (part_at (node_view entry.now) i) < length self.now }

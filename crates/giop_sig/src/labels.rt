@@ -31,7 +31,7 @@ pub(crate) enum LabelValue<'a> {
     Enumerator(&'a [u8]),
 }
 
-// The value that a word is, the first of the text.
+/// The value that a word is, the first of the text.
 fn word_value<'a>(
     text: &[u8],
     name: &'a [u8],
@@ -68,7 +68,7 @@ pub(crate) fn value_at(text: &[u8]) -> Result<(LabelValue<'_>, &[u8]), Stop>
     }
 }
 
-// A number that is at most so much, as a signed one.
+/// A number that is at most so much, as a signed one.
 fn signed(most: u64, n: u64) -> Option<Number>
     requires { most < 2 ^ 63 }
     ensures { result ≡ if_at_most most n (Number.Signed (pos n)) }
@@ -80,6 +80,7 @@ fn signed(most: u64, n: u64) -> Option<Number>
     }
 }
 
+/// A number that is at most so much, as an unsigned one.
 fn unsigned(most: u64, n: u64) -> Option<Number>
     ensures { result ≡ if_at_most most n (Number.Unsigned n) }
 {
@@ -90,7 +91,7 @@ fn unsigned(most: u64, n: u64) -> Option<Number>
     }
 }
 
-// A number below zero, which without its sign is at most so much.
+/// A number below zero, which without its sign is at most so much.
 fn signed_below(most: u64, n: u64) -> Option<Number>
     requires { most ≤ 2 ^ 63 }
     ensures { result ≡ if_at_most most n (Number.Signed (below n)) }
@@ -104,7 +105,7 @@ fn signed_below(most: u64, n: u64) -> Option<Number>
     }
 }
 
-// The number of a primitive type that a number is.
+/// The number of a primitive type that a number is.
 fn plain_label(prim: Prim, n: u64) -> Option<Number>
     ensures { result ≡ label_number (prim_node prim) (Plain n) }
 {
@@ -126,7 +127,7 @@ fn plain_label(prim: Prim, n: u64) -> Option<Number>
     }
 }
 
-// The number of a primitive type that a number below zero is.
+/// The number of a primitive type that a number below zero is.
 fn below_label(prim: Prim, n: u64) -> Option<Number>
     ensures { result ≡ label_number (prim_node prim) (Below n) }
 {
@@ -138,7 +139,7 @@ fn below_label(prim: Prim, n: u64) -> Option<Number>
     }
 }
 
-// The number of a primitive type that a value names.
+/// The number of a primitive type that a value names.
 fn prim_label(prim: Prim, value: LabelValue<'_>) -> Option<Number>
     ensures { result ≡ label_number (prim_node prim) (value_view value.entry) }
 {
@@ -153,7 +154,7 @@ fn prim_label(prim: Prim, value: LabelValue<'_>) -> Option<Number>
     }
 }
 
-// The enumerator of a name.
+/// The enumerator of a name.
 fn enumerator(names: &[Vec<u8>], name: &[u8]) -> Option<Number>
     requires { length names.now ≤ 1024 }
     ensures { result ≡ numbered (position (bytes_eq name.now) (map (λ n. n.items) names.now)) }

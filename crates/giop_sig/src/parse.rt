@@ -23,7 +23,7 @@ const TEXT_MAX: usize = 1_048_576;
 /// The version of the format.
 const VERSION: u64 = 1;
 
-// A declaration: its first word tells which.
+/// A declaration: its first word tells which.
 #[tactic(auto, unfolding(crate::specs::FileReading::declaration_at))]
 fn declaration_at<'a>(alloc: Global, draft: &mut Draft, text: &'a [u8]) -> Result<&'a [u8], Stop>
     ensures { Gives (λ x. (draft.new, x.now)) result (declaration_at draft.old text.now) }
@@ -44,7 +44,7 @@ fn declaration_at<'a>(alloc: Global, draft: &mut Draft, text: &'a [u8]) -> Resul
     }
 }
 
-// Declarations up to the end of the text, in so many steps.
+/// Declarations up to the end of the text, in so many steps.
 fn declarations(alloc: Global, draft: &mut Draft, steps: usize, text: &[u8]) -> Result<(), Stop>
     ensures { Gives (λ x. draft.new) result (declarations_run steps draft.old text.now) }
 {
@@ -58,7 +58,7 @@ fn declarations(alloc: Global, draft: &mut Draft, steps: usize, text: &[u8]) -> 
     Err(Stop::Refused(misplaced(rest)))
 }
 
-// The version of the format.
+/// The version of the format.
 #[tactic(auto, unfolding(crate::specs::FileReading::version_at))]
 fn version_at(text: &[u8]) -> Result<&[u8], Stop>
     ensures { Gives (λ x. x.now) result (version_at text.now) }
@@ -71,7 +71,7 @@ fn version_at(text: &[u8]) -> Result<&[u8], Stop>
     }
 }
 
-// The whole file, into a draft of no declarations.
+/// The whole file, into a draft of no declarations.
 #[tactic(auto, unfolding(crate::specs::FileReading::file_at))]
 fn file_at(alloc: Global, draft: &mut Draft, text: &[u8]) -> Result<(), Stop>
     requires { draft.old ≡ builtin_scope }
@@ -83,7 +83,7 @@ fn file_at(alloc: Global, draft: &mut Draft, text: &[u8]) -> Result<(), Stop>
     declarations(alloc, draft, text.len(), rest)
 }
 
-// The draft of a file.
+/// The draft of a file.
 fn draft_of(alloc: Global, text: &[u8]) -> Result<Draft, Stop>
     ensures { Gives (λ x. x) result (file_at text.now) }
 {

@@ -29,7 +29,7 @@ pub(crate) enum Direction {
     Inout,
 }
 
-// What an operation returns, as a member of its replies.
+/// What an operation returns, as a member of its replies.
 #[tactic(auto, unfolding(crate::specs::CallReading::return_at))]
 fn return_at<'a>(
     alloc: Global,
@@ -48,7 +48,7 @@ fn return_at<'a>(
     Ok((returned, rest))
 }
 
-// The name of an operation, which is new.
+/// The name of an operation, which is new.
 #[tactic(auto, unfolding(crate::specs::CallReading::new_operation_at))]
 fn new_operation_at<'a>(draft: &Draft, text: &'a [u8]) -> Result<(&'a [u8], &'a [u8]), Stop>
     ensures { Gives (λ x. (x.0.now, x.1.now)) result (new_operation_at draft.now text.now) }
@@ -63,7 +63,7 @@ fn new_operation_at<'a>(draft: &Draft, text: &'a [u8]) -> Result<(&'a [u8], &'a 
     Ok((name, rest))
 }
 
-// The direction of a word.
+/// The direction of a word.
 fn direction_of(name: &[u8]) -> Option<Direction>
     ensures { result ≡ direction_of name.now }
 {
@@ -78,6 +78,7 @@ fn direction_of(name: &[u8]) -> Option<Direction>
     }
 }
 
+/// The direction of a parameter.
 #[tactic(auto, unfolding(crate::specs::CallReading::direction_at))]
 fn direction_at(text: &[u8]) -> Result<(Direction, &[u8]), Stop>
     ensures { Gives (λ x. (x.0, x.1.now)) result (direction_at text.now) }
@@ -89,7 +90,7 @@ fn direction_at(text: &[u8]) -> Result<(Direction, &[u8]), Stop>
     }
 }
 
-// Adds a parameter to the members of requests, where it is one.
+/// Adds a parameter to the members of requests, where it is one.
 fn to_request(
     alloc: Global,
     parts: &mut Vec<PartEntry>,
@@ -107,7 +108,7 @@ fn to_request(
     Ok(())
 }
 
-// Adds a parameter to the members of replies, where it is one.
+/// Adds a parameter to the members of replies, where it is one.
 fn to_reply(
     alloc: Global,
     parts: &mut Vec<PartEntry>,
@@ -133,7 +134,7 @@ struct Ways<'a> {
     reply: Vec<PartEntry>,
 }
 
-// Keeps a parameter.
+/// Keeps a parameter.
 fn keep_param<'a>(
     alloc: Global,
     ways: &mut Ways<'a>,
@@ -149,7 +150,7 @@ fn keep_param<'a>(
     to_reply(alloc, &mut ways.reply, direction, name, t)
 }
 
-// Reads a parameter and the mark behind it: whether it was the closing one, and what follows.
+/// Reads a parameter and the mark behind it: whether it was the closing one, and what follows.
 #[tactic(auto, unfolding(crate::specs::CallReading::param_step))]
 fn param_step<'a>(
     alloc: Global,
@@ -173,7 +174,7 @@ fn param_step<'a>(
     Ok((true, rest))
 }
 
-// Parameters up to the closing mark, behind what the operation returns.
+/// Parameters up to the closing mark, behind what the operation returns.
 #[tactic(auto, unfolding(crate::specs::CallReading::params_at))]
 fn params_at<'a>(
     alloc: Global,
@@ -190,7 +191,7 @@ fn params_at<'a>(
     params_run(alloc, draft, at, returned, text)
 }
 
-// One parameter or more, and the closing mark.
+/// One parameter or more, and the closing mark.
 fn params_run<'a>(
     alloc: Global,
     draft: &mut Draft,

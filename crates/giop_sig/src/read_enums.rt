@@ -16,14 +16,14 @@ use std::alloc::Global;
 /// The most names of an enum.
 const NAMES_MAX: usize = 1024;
 
-// Whether a name is one of these.
+/// Whether a name is one of these.
 fn is_among(names: &[Vec<u8>], name: &[u8]) -> bool
     ensures { result ≡ is_among (map (λ n. n.items) names.now) name.now }
 {
     names.iter().any(|one| one.as_slice() == name)
 }
 
-// Adds a name.
+/// Adds a name.
 fn add_name(alloc: Global, names: &mut Vec<Vec<u8>>, name: &[u8]) -> Result<(), Stop>
     ensures { Gives (λ x. map (λ n. n.items) names.new.items) result
         (Ok (map (λ n. n.items) names.old.items ++ name.now ∷ [])) }
@@ -32,7 +32,7 @@ fn add_name(alloc: Global, names: &mut Vec<Vec<u8>>, name: &[u8]) -> Result<(), 
     Ok(())
 }
 
-// An enumerator behind others; what follows it.
+/// An enumerator behind others; what follows it.
 #[tactic(auto, unfolding(crate::specs::EnumReading::enumerator_at))]
 fn enumerator<'a>(alloc: Global, names: &mut Vec<Vec<u8>>, text: &'a [u8]) -> Result<&'a [u8], Stop>
     ensures { Gives (λ x. (map (λ n. n.items) names.new.items, x.now)) result (enumerator_at (map (λ n. n.items) names.old.items) text.now) }
@@ -48,7 +48,7 @@ fn enumerator<'a>(alloc: Global, names: &mut Vec<Vec<u8>>, text: &'a [u8]) -> Re
     Ok(rest)
 }
 
-// An enumerator, and the mark behind it; whether that is the closing one.
+/// An enumerator, and the mark behind it; whether that is the closing one.
 #[tactic(auto, unfolding(crate::specs::EnumReading::names_step))]
 fn names_step<'a>(
     alloc: Global,
@@ -64,7 +64,7 @@ fn names_step<'a>(
     }
 }
 
-// The enumerators of an enum that isn't empty.
+/// The enumerators of an enum that isn't empty.
 fn some_names(alloc: Global, text: &[u8]) -> Result<(Vec<Vec<u8>>, &[u8]), Stop>
     ensures { Gives (λ x. (map (λ n. n.items) x.0.items, x.1.now)) result (in_steps names_step too_many_names 1025 ([], text.now)) }
 {
@@ -80,7 +80,7 @@ fn some_names(alloc: Global, text: &[u8]) -> Result<(Vec<Vec<u8>>, &[u8]), Stop>
     Err(Stop::Refused(refused(SigFaultKind::Limit, rest)))
 }
 
-// The enumerators of an enum, behind its opening mark.
+/// The enumerators of an enum, behind its opening mark.
 #[tactic(auto, unfolding(crate::specs::EnumReading::names_at))]
 fn names_at(alloc: Global, text: &[u8]) -> Result<(Vec<Vec<u8>>, &[u8]), Stop>
     ensures { Gives (λ x. (map (λ n. n.items) x.0.items, x.1.now)) result (names_at text.now) }

@@ -71,7 +71,7 @@ pub(crate) fn declared_at<'a>(
     Ok((name, rest))
 }
 
-// Adds an array of elements of a type, where there is a length.
+/// Adds an array of elements of a type, where there is a length.
 fn array_of(
     draft: &mut Draft,
     at: usize,
@@ -117,7 +117,7 @@ pub(crate) fn part_of(alloc: Global, name: &[u8], type_id: TypeId) -> Result<Par
     })
 }
 
-// Reads the closing mark, or one member more: whether it was the mark, and what follows.
+/// Reads the closing mark, or one member more: whether it was the mark, and what follows.
 #[tactic(auto, unfolding(crate::specs::ItemReading::member_step, crate::specs::ItemReading::member_at))]
 fn member_step<'a>(
     alloc: Global,
@@ -142,7 +142,7 @@ fn member_step<'a>(
     Ok((false, rest))
 }
 
-// Members up to the closing mark.
+/// Members up to the closing mark.
 fn members_at<'a>(
     alloc: Global,
     draft: &mut Draft,
@@ -164,7 +164,7 @@ fn members_at<'a>(
     Err(Stop::Refused(refused(SigFaultKind::Limit, rest)))
 }
 
-// A list that doesn't end at once.
+/// A list that doesn't end at once.
 #[tactic(auto, unfolding(crate::specs::ItemReading::filled_at))]
 pub(crate) fn filled_at(text: &[u8]) -> Result<&[u8], Stop>
     ensures { Gives (λ x. x.now) result (filled_at text.now) }
@@ -197,7 +197,7 @@ pub(crate) fn structure_at<'a>(
     Ok(rest)
 }
 
-// A repository id that is new, and not too long.
+/// A repository id that is new, and not too long.
 #[tactic(auto, unfolding(crate::specs::ItemReading::new_repository_at))]
 fn new_repository_at<'a>(draft: &Draft, text: &'a [u8]) -> Result<(&'a [u8], &'a [u8]), Stop>
     ensures { Gives (λ x. (x.0.now, x.1.now)) result (new_repository_at draft.now text.now) }

@@ -84,7 +84,7 @@ fn most_at(text: &[u8]) -> Result<(Option<u32>, &[u8]), Stop>
     }
 }
 
-// The primitive of a word.
+/// The primitive of a word.
 fn base_of(word: &[u8]) -> Option<TypeId>
     ensures { option_map (λ t. t.0) result ≡ base_of word.now }
 {
@@ -115,7 +115,7 @@ fn base_of(word: &[u8]) -> Option<TypeId>
     }
 }
 
-// A string, behind its word.
+/// A string, behind its word.
 #[tactic(auto, unfolding(crate::specs::TypeReading::text_at))]
 fn text_at<'a>(draft: &mut Draft, at: usize, text: &'a [u8]) -> Result<(TypeId, &'a [u8]), Stop>
     ensures { Gives (λ x. (draft.new, x.0.0, x.1.now)) result (text_at at draft.old text.now) }
@@ -127,7 +127,7 @@ fn text_at<'a>(draft: &mut Draft, at: usize, text: &'a [u8]) -> Result<(TypeId, 
     }
 }
 
-// A type by its name, the first word of the text.
+/// A type by its name, the first word of the text.
 #[tactic(auto, unfolding(crate::specs::TypeReading::named_type))]
 fn named_type<'a>(
     draft: &Draft,
@@ -149,7 +149,7 @@ fn named_type<'a>(
     }
 }
 
-// Adds a sequence of elements of a type: octets are of a kind of their own.
+/// Adds a sequence of elements of a type: octets are of a kind of their own.
 fn sequence_of(
     draft: &mut Draft,
     at: usize,
@@ -166,7 +166,7 @@ fn sequence_of(
     }
 }
 
-// What stands behind the element of a sequence: perhaps a bound, and the closing mark.
+/// What stands behind the element of a sequence: perhaps a bound, and the closing mark.
 fn behind_element<'a>(
     draft: &mut Draft,
     at: usize,

@@ -39,7 +39,7 @@ struct Cases<'a> {
     otherwise: Selected,
 }
 
-// The number of the discriminator's type that a value names.
+/// The number of the discriminator's type that a value names.
 fn number_in(draft: &Draft, switch: TypeId, value: LabelValue<'_>) -> Option<Number>
     ensures { result ≡ label_number (node_at draft.now.table switch.0) (value_view value.entry) }
 {
@@ -49,7 +49,7 @@ fn number_in(draft: &Draft, switch: TypeId, value: LabelValue<'_>) -> Option<Num
     }
 }
 
-// The number that the value of a label names.
+/// The number that the value of a label names.
 #[tactic(auto, unfolding(crate::specs::UnionReading::number_of_value))]
 fn number_of_value<'a>(
     draft: &Draft,
@@ -65,14 +65,14 @@ fn number_of_value<'a>(
     }
 }
 
-// Whether a label stands among others.
+/// Whether a label stands among others.
 fn is_seen(seen: &[Option<Number>], label: Option<Number>) -> bool
     ensures { result ≡ list_any (λ s. same_mark s label) seen.now }
 {
     seen.contains(&label)
 }
 
-// A label behind others of its union: its value or its word stands at the front of the text.
+/// A label behind others of its union: its value or its word stands at the front of the text.
 #[tactic(auto, unfolding(crate::specs::UnionReading::fresh))]
 fn fresh(
     seen: &[Option<Number>],
@@ -90,7 +90,7 @@ fn fresh(
     Ok(label)
 }
 
-// A label, with its colon.
+/// A label, with its colon.
 #[tactic(auto, unfolding(crate::specs::UnionReading::label_at))]
 fn label_at<'a>(
     draft: &Draft,
@@ -114,7 +114,7 @@ fn label_at<'a>(
     }
 }
 
-// Whether a label comes.
+/// Whether a label comes.
 #[tactic(auto, unfolding(crate::specs::UnionReading::begins_label))]
 fn begins_label(text: &[u8]) -> Result<bool, Stop>
     ensures { Gives (λ x. x) result (begins_label text.now) }
@@ -124,7 +124,7 @@ fn begins_label(text: &[u8]) -> Result<bool, Stop>
     Ok(value.is_some() || default.is_some())
 }
 
-// A label more, where one comes: whether there was none, whether the case has the default, and what follows.
+/// A label more, where one comes: whether there was none, whether the case has the default, and what follows.
 #[tactic(auto, unfolding(crate::specs::UnionReading::labels_step))]
 fn labels_step<'a>(
     draft: &Draft,
@@ -151,7 +151,7 @@ fn labels_step<'a>(
     }
 }
 
-// Labels, up to what is none: the numbers of them, and whether the default is among them.
+/// Labels, up to what is none: the numbers of them, and whether the default is among them.
 fn some_labels<'a>(
     alloc: Global,
     draft: &Draft,
@@ -176,7 +176,7 @@ fn some_labels<'a>(
     Err(Stop::Refused(refused(SigFaultKind::Limit, rest)))
 }
 
-// The labels of a case, one at least.
+/// The labels of a case, one at least.
 #[tactic(auto, unfolding(crate::specs::UnionReading::labels_at))]
 fn labels_at<'a>(
     alloc: Global,
@@ -193,7 +193,7 @@ fn labels_at<'a>(
     some_labels(alloc, draft, switch, seen, text)
 }
 
-// What is selected where no label is the number: the first case with the default.
+/// What is selected where no label is the number: the first case with the default.
 fn chosen(otherwise: Selected, default: bool, place: usize) -> Selected
     requires { place < 2 ^ 32 }
     ensures { result ≡ chosen otherwise default place }
@@ -204,7 +204,7 @@ fn chosen(otherwise: Selected, default: bool, place: usize) -> Selected
     }
 }
 
-// Whether values of a type can be a discriminator's.
+/// Whether values of a type can be a discriminator's.
 fn can_switch(draft: &Draft, t: TypeId) -> bool
     ensures { result ≡ can_switch (node_at draft.now.table t.0) }
 {
@@ -218,7 +218,7 @@ fn can_switch(draft: &Draft, t: TypeId) -> bool
     }
 }
 
-// The type of a discriminator.
+/// The type of a discriminator.
 #[tactic(auto, unfolding(crate::specs::UnionReading::switch_at))]
 fn switch_at<'a>(draft: &mut Draft, at: usize, text: &'a [u8]) -> Result<(TypeId, &'a [u8]), Stop>
     ensures { Gives (λ x. (draft.new, x.0.0, x.1.now)) result (switch_at at draft.old text.now) }
@@ -231,7 +231,7 @@ fn switch_at<'a>(draft: &mut Draft, at: usize, text: &'a [u8]) -> Result<(TypeId
     }
 }
 
-// Adds a case behind others: its labels, whether the default is among them, and its name and type.
+/// Adds a case behind others: its labels, whether the default is among them, and its name and type.
 fn add_case<'a>(
     alloc: Global,
     cases: &mut Cases<'a>,
@@ -252,7 +252,7 @@ fn add_case<'a>(
     Ok(())
 }
 
-// A case behind others, of a union in the declaration whose name is at this place; what follows it.
+/// A case behind others, of a union in the declaration whose name is at this place; what follows it.
 #[tactic(auto, unfolding(crate::specs::UnionReading::case_at))]
 fn case_at<'a>(
     alloc: Global,
@@ -273,7 +273,7 @@ fn case_at<'a>(
     Ok(rest)
 }
 
-// The closing mark, or a case more: whether it was the mark, and what follows.
+/// The closing mark, or a case more: whether it was the mark, and what follows.
 #[tactic(auto, unfolding(crate::specs::UnionReading::cases_step))]
 fn cases_step<'a>(
     alloc: Global,
@@ -293,7 +293,7 @@ fn cases_step<'a>(
     }
 }
 
-// Cases up to the closing mark.
+/// Cases up to the closing mark.
 fn some_cases<'a>(
     alloc: Global,
     draft: &mut Draft,
@@ -321,7 +321,7 @@ fn some_cases<'a>(
     Err(Stop::Refused(refused(SigFaultKind::Limit, rest)))
 }
 
-// Cases up to the closing mark, one at least.
+/// Cases up to the closing mark, one at least.
 #[tactic(auto, unfolding(crate::specs::UnionReading::cases_at, crate::specs::ItemReading::filled_at))]
 fn cases_at<'a>(
     alloc: Global,

@@ -19,7 +19,7 @@ const TEXT_MAX: usize = 16_777_216;
 /// The most entries of a list.
 const ENTRIES_MAX: u32 = 65_536;
 
-// The first line, and what follows it.
+/// The first line, and what follows it.
 fn first_line(text: &[u8]) -> Option<(&[u8], &[u8])>
     ensures lines { MatchOption result (text.now ≡ []) (λ x. lines text.now ≡ x.0.now ∷ lines x.1.now) }
     ensures shorter { IfSome result (λ x. length x.1.now < length text.now) }
@@ -33,7 +33,7 @@ fn first_line(text: &[u8]) -> Option<(&[u8], &[u8])>
     }
 }
 
-// The number below 2 ^ 32 whose decimal spelling this is.
+/// The number below 2 ^ 32 whose decimal spelling this is.
 fn number(digits: &[u8]) -> Option<u32>
     ensures { MatchOption result
         ((n : ℕ) → n < 2 ^ 32 → digits.now ≡ decimal n → ⊥)
@@ -55,13 +55,14 @@ fn number(digits: &[u8]) -> Option<u32>
     u32::try_from(n).ok()
 }
 
+/// Whether this can be an operation's name: 1 to 128 printed octets of ASCII, none of them a space.
 fn is_name(name: &[u8]) -> bool
     ensures { IsTrue result ↔ IsName name.now }
 {
     !name.is_empty() && name.len() <= NAME_MAX && name.iter().all(|b| *b >= 33 && *b <= 126)
 }
 
-// The id and the name of the entry that a line is.
+/// The id and the name of the entry that a line is.
 fn entry(line: &[u8]) -> Option<(u32, &[u8])>
     ensures { MatchOption result
         (¬ (IsEntryLine line.now))
@@ -78,7 +79,7 @@ fn entry(line: &[u8]) -> Option<(u32, &[u8])>
     }
 }
 
-// What an id is kept with, once one more of its entries has an operation found.
+/// What an id is kept with, once one more of its entries has an operation found.
 fn joined(kept: Option<&Option<OpId>>, found: Option<OpId>) -> Option<OpId>
     ensures { result ≡ joined (option_copied kept.entry) found }
 {
@@ -142,6 +143,7 @@ impl Requests {
     }
 }
 
+/// Reads a list, line by line.
 fn read(alloc: Global, text: &[u8], catalogue: &Catalogue) -> Result<Requests, ListFault>
     ensures ok { IfOk result (λ kept.
         (es : List Entry) × Lists text.now es × IsOf (operation_number catalogue.now) es kept) }

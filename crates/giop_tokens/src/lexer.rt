@@ -27,32 +27,35 @@ pub enum Token<'a> {
     Mark(Mark),
 }
 
+/// White space: space, tab, CR and LF.
 fn is_white(b: u8) -> bool
     ensures { result ≡ is_white b }
 {
     b == b' ' || b == b'\t' || b == b'\r' || b == b'\n'
 }
 
+/// An octet of a word: a letter, a digit or `_`.
 fn is_word(b: u8) -> bool
     ensures { result ≡ is_word b }
 {
     b.is_ascii_lowercase() || b.is_ascii_uppercase() || is_digit(b) || b == b'_'
 }
 
+/// An octet of a repository id: printed ASCII but for space and the quotation mark.
 fn is_id(b: u8) -> bool
     ensures { result ≡ is_id b }
 {
     b >= 0x21 && b <= 0x7e && b != b'"'
 }
 
-// The octet at a place, 0 past the end.
+/// The octet at a place, 0 past the end.
 fn octet_at(text: &[u8], i: usize) -> u8
     ensures { result ≡ slice_index text.now i }
 {
     if i < text.len() { text[i] } else { 0 }
 }
 
-// Whether a comment goes on after an octet, or nothing where a token begins there.
+/// Whether a comment goes on after an octet, or nothing where a token begins there.
 fn gap_step(comment: bool, octet: u8, after: u8) -> Option<bool>
     ensures { result ≡ gap_step comment octet after }
 {
@@ -65,7 +68,7 @@ fn gap_step(comment: bool, octet: u8, after: u8) -> Option<bool>
     if is_white(octet) { Some(false) } else { None }
 }
 
-// What follows white space and comments.
+/// What follows white space and comments.
 fn after_gap(text: &[u8]) -> &[u8]
     ensures { result.now ≡ gap false text.now }
 {
@@ -79,7 +82,7 @@ fn after_gap(text: &[u8]) -> &[u8]
     &text[text.len()..]
 }
 
-// How many of the first octets are a word's.
+/// How many of the first octets are a word's.
 fn word_len(text: &[u8]) -> usize
     ensures len { result ≡ prefix_len is_word text.now }
     ensures bound { result ≤ length text.now }
@@ -92,7 +95,7 @@ fn word_len(text: &[u8]) -> usize
     text.len()
 }
 
-// How many of the first octets are a repository id's.
+/// How many of the first octets are a repository id's.
 fn id_len(text: &[u8]) -> usize
     ensures len { result ≡ prefix_len is_id text.now }
     ensures bound { result ≤ length text.now }
@@ -105,6 +108,7 @@ fn id_len(text: &[u8]) -> usize
     text.len()
 }
 
+/// The token that a word is: a number where it begins with a digit.
 fn word_token(word: &[u8]) -> Option<Token<'_>>
     ensures { option_map token_view result ≡ word_token word.now }
 {
@@ -114,6 +118,7 @@ fn word_token(word: &[u8]) -> Option<Token<'_>>
     Some(Token::Word(word))
 }
 
+/// The number below zero that a word behind `-` is.
 fn negative_token(word: &[u8]) -> Option<Token<'_>>
     ensures { option_map token_view result ≡ below_zero (number_of word.now) }
 {
@@ -123,6 +128,7 @@ fn negative_token(word: &[u8]) -> Option<Token<'_>>
     }
 }
 
+/// The repository id before a quotation mark.
 fn repository_token<'a>(id: &'a [u8], after: &[u8]) -> Option<Token<'a>>
     ensures { option_map token_view result ≡ repository_token id.now after.now }
 {
@@ -133,7 +139,7 @@ fn repository_token<'a>(id: &'a [u8], after: &[u8]) -> Option<Token<'a>>
     }
 }
 
-// A token and what follows it; or no token, at this place.
+/// A token and what follows it; or no token, at this place.
 fn as_token<'a>(
     text: &[u8],
     token: Option<Token<'a>>,
@@ -153,6 +159,7 @@ fn as_token<'a>(
     }
 }
 
+/// The first token of a text that begins with no white space and no comment.
 #[tactic(auto, unfolding(crate::specs::Tokens::first))]
 fn first(text: &[u8]) -> Result<(Option<Token<'_>>, &[u8]), Refusal>
     ensures { Gives (λ x. (option_map token_view x.0, x.1.now)) result (first text.now) }
@@ -177,13 +184,14 @@ fn first(text: &[u8]) -> Result<(Option<Token<'_>>, &[u8]), Refusal>
     }
 }
 
+/// The mark that an octet writes.
 fn mark_token(octet: u8) -> Option<Token<'static>>
     ensures { option_map token_view result ≡ option_map mark (mark_of octet) }
 {
     Some(Token::Mark(mark_of(octet)?))
 }
 
-// What follows the first octet.
+/// What follows the first octet.
 fn past_mark(text: &[u8]) -> &[u8]
     ensures { result.now ≡ drop 1 text.now }
 {

@@ -4,7 +4,7 @@ ghost use Rattle.giop_tokens.specs.Lines.{line_at, fault_of};
 
 use crate::fault::{Refusal, SigFault, SigFaultKind};
 
-// How many line feeds there are.
+/// How many line feeds there are.
 fn line_feeds(text: &[u8]) -> usize
     ensures { result ≡ count_by (λ b. b == 10) text.now }
 {

@@ -13,7 +13,7 @@ const NAME_MAX: usize = 64;
 /// The most octets of an operation's name.
 const OPERATION_NAME_MAX: usize = 128;
 
-// Whether a word is one of these.
+/// Whether a word is one of these.
 fn is_one_of(word: &[u8], others: &[&[u8]]) -> bool
     ensures { result ≡ list_any (bytes_eq word.now) (map (λ o. o.now) others.now) }
 {
@@ -63,6 +63,7 @@ pub fn is_reserved(word: &[u8]) -> bool
     )
 }
 
+/// The refusal of the first token of a text, where it is too long a name.
 fn too_long(text: &[u8]) -> Refusal
     ensures { result ≡ too_long text.now }
 {

@@ -7,20 +7,21 @@ ghost use Rattle.giop_tokens.specs.Tokens.{is_digit, number_of};
 /// The most digits of a number.
 const DIGITS_MAX: usize = 20;
 
+/// Whether an octet is a decimal digit.
 pub fn is_digit(b: u8) -> bool
     ensures { result ≡ is_digit b }
 {
     b.is_ascii_digit()
 }
 
-// Whether each octet is a digit.
+/// Whether each octet is a digit.
 fn are_digits(word: &[u8]) -> bool
     ensures { result ≡ list_all is_digit word.now }
 {
     word.iter().all(|b| is_digit(*b))
 }
 
-// What at most 20 digits spell.
+/// What at most 20 digits spell.
 fn value_of(digits: &[u8]) -> u128
     requires some { list_all is_digit digits.now ≡ true }
     requires few { length digits.now ≤ 20 }

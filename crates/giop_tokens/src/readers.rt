@@ -19,6 +19,7 @@ pub fn misplaced(text: &[u8]) -> Refusal
     }
 }
 
+/// Whether a token is this mark.
 fn is_the_mark(token: Option<Token<'_>>, wanted: Mark) -> bool
     ensures { result ≡ passes (is_the_mark wanted) (option_map token_view token.entry) }
 {
@@ -28,6 +29,7 @@ fn is_the_mark(token: Option<Token<'_>>, wanted: Mark) -> bool
     }
 }
 
+/// Whether a token is this word.
 fn is_the_word(token: Option<Token<'_>>, wanted: &[u8]) -> bool
     ensures { result ≡ passes (is_the_word wanted.now) (option_map token_view token.entry) }
 {
