@@ -125,7 +125,7 @@ text_reads R causal p x one e h = added_octet R causal p x ∙ (ap (λ (o : Step
 
 -- ---- What is remembered.
 
-none_stops : (o : Option (ℕ × StreamFault)) → fault_of o ≡ None → o ≡ None
+pub none_stops : (o : Option (ℕ × StreamFault)) → fault_of o ≡ None → o ≡ None
 none_stops None e = refl
 none_stops (Some found) e = absurd cc
 

@@ -57,3 +57,5 @@ mod EngineLaws
 mod EngineAlive
 mod RequestIds
 mod Owning
+mod Titled
+mod Held

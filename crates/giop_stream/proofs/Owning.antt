@@ -21,12 +21,12 @@ use Rattle.giop_stream.proofs.Acts.{found_in}
 
 -- ---- The messages that are open.
 
-not_open : (live : List Open) (n : ℕ) → Each (λ o. o.opener.number ≡ n → ⊥) live → is_open live n ≡ false
+pub not_open : (live : List Open) (n : ℕ) → Each (λ o. o.opener.number ≡ n → ⊥) live → is_open live n ≡ false
 unfolding is_open
 not_open [] n h = refl
 not_open (o ∷ live) n h = rw (ne_eqb o.opener.number n h.0) (not_open live n h.1)
 
-open_at : (live : List Open) (k : ℕ) (o : Open) → slice_get live k ≡ Some o → is_open live o.opener.number ≡ true
+pub open_at : (live : List Open) (k : ℕ) (o : Open) → slice_get live k ≡ Some o → is_open live o.opener.number ≡ true
 unfolding is_open
 open_at [] k o e = absurd cc
 open_at (a ∷ live) zero o e = let same : a ≡ o = cc in rw (same, eq-eqb o.opener.number o.opener.number refl) refl
@@ -34,11 +34,11 @@ open_at (a ∷ live) (suc k) o e = or_right (a.opener.number == o.opener.number)
 
 -- ---- None is kept of an open message, or of a Fragment whose request id is complete.
 
-own_open : (K : Kept) (live : List Open) (now : Now) → is_open live now.whom.number ≡ true → own_for K live now ≡ None
+pub own_open : (K : Kept) (live : List Open) (now : Now) → is_open live now.whom.number ≡ true → own_for K live now ≡ None
 unfolding own_for
 own_open K live now e = rw e refl
 
-own_named : (K : Kept) (live : List Open) (now : Now) → is_named now ≡ true → own_for K live now ≡ None
+pub own_named : (K : Kept) (live : List Open) (now : Now) → is_named now ≡ true → own_for K live now ≡ None
 unfolding own_for
 own_named K live now e = rw e (go (is_open live now.whom.number))
   where
@@ -49,7 +49,7 @@ own_named K live now e = rw e (go (is_open live now.whom.number))
     go true = refl
     go false = refl
 
-own_else : (K : Kept) (live : List Open) (now : Now) → is_open live now.whom.number ≡ false → is_named now ≡ false → own_for K live now ≡ option_map (λ xs. record { title = now.whom; octets = xs }) (K now.whom.number)
+pub own_else : (K : Kept) (live : List Open) (now : Now) → is_open live now.whom.number ≡ false → is_named now ≡ false → own_for K live now ≡ option_map (λ xs. record { title = now.whom; octets = xs }) (K now.whom.number)
 unfolding own_for
 own_else K live now e f = rw (e, f) refl
 

@@ -20,8 +20,8 @@ use Rattle.giop_stream.specs.Plays.{stage}
 use Rattle.giop_stream.specs.Keeping.{AreSlots, IsWhose}
 use Rattle.giop_stream.specs.Whose.{whose_in}
 use Rattle.giop_stream.specs.Octet.{header_of, come_of}
-use Rattle.giop_stream.specs.Engine.{unless, own_in}
-use Rattle.giop_stream.specs.Showing.{IsOwn}
+use Rattle.giop_stream.specs.Engine.{unless, own_in, state_of}
+use Rattle.giop_stream.specs.Showing.{IsOwn, Shows}
 use Rattle.giop_stream.specs.Remembering.{Memory, EngineMemory}
 
 -- what is kept of a list of requests for the operations of this table
@@ -48,10 +48,11 @@ pub record Remembers (C : Table) (l : Listed) (m : Memory) (p : List ℕ) : Type
   pub whose : (cut p).stop ≡ None →
       IsWhose C l m.slots.payload m.slots.own (stage (message_reading C l) p) (whose_in (open_after p) (cut p).current)
 
--- The engine holds the stream p.
+-- The engine holds the stream p: its fields show what there is to hold of it.
 pub record Holds (e : EngineMemory) (p : List ℕ) : Type 0 where
   pub sound : e.failed ≡ false
-  pub remembers : Remembers e.table e.listed e.stream p
+  pub octets : AreOctets p
+  pub shows : Shows e.table e.listed e.stream (state_of (reading_of e) p)
 
 abbrev pub status_of : Option StreamFault → Status
 status_of None = Running

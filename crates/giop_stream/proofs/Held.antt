@@ -1,0 +1,301 @@
+-- What is remembered of a stream is what the fields show of its state.
+use Rattle.std.proofs.Common.{◌≡◌, ℕ, zero, suc, ◌-◌, ◌<◌, ◌≤◌, Bool, true, false, not, List, [], ◌∷◌, length, refl, sym, ap, subst, ◌∙◌, Option, Some, None, arith}
+use Rattle.std.specs.Prelude.{◌==◌, ◌&&◌, ◌||◌, nat_lt, nat_le, slice_get, is_some, option_map, IfSome, if◌then◌else◌}
+use Rattle.std.specs.List.{find, AllByRecursion as Each}
+use Rattle.std.proofs.lemmas.Bool.{lt-ltb, le-ltb, lt-leb, le-leb, eq-eqb, ne_eqb, false≢true}
+use Rattle.giop_cdr.specs.Numbers.{AreOctets}
+use Rattle.giop_sig.specs.Table.{Table}
+use Rattle.giop_message.specs.declared.message.Message.{Message as Kept_message}
+use Rattle.giop_message.specs.Headers.{size, is_fragment}
+use Rattle.giop_message.specs.Reading.{Reading}
+use Rattle.giop_message.specs.Signatures.{Kept as Listed, said_by}
+use Rattle.giop_message.specs.MessageReading.{message_reading}
+use Rattle.giop_message.proofs.MessageLaws.{is_causal}
+use Rattle.giop_stream.specs.declared.fault.StreamFault.{StreamFault}
+use Rattle.giop_stream.specs.declared.slots.Payload.{Payload}
+use Rattle.giop_stream.specs.declared.slots.Payload.TheVariants as payload
+use Rattle.giop_stream.specs.Framing.{Message, Cut, cut, fault_of}
+use Rattle.giop_stream.specs.Events.{Title, Open, Rising, title, id, opener_of, has_named, open_after}
+use Rattle.giop_stream.specs.Stream.{tally}
+use Rattle.giop_stream.specs.State.{Slot, Kept, is_open, octets_of, slots_of}
+use Rattle.giop_stream.specs.Plays.{Scene, stage}
+use Rattle.giop_stream.specs.Keeping.{IsKept, IsWhose}
+use Rattle.giop_stream.specs.Whose.{opener_title, whose, whose_in}
+use Rattle.giop_stream.specs.Octet.{Now, now_of, header_of, come_of}
+use Rattle.giop_stream.specs.Engine.{State, Own, unless, left_of, is_named, own_for, owner_for, own_in, owner_in, state_of}
+use Rattle.giop_stream.specs.Remembering.{Memory}
+use Rattle.giop_stream.specs.Holding.{Remembers}
+use Rattle.giop_stream.specs.Showing.{IsOwn, IsOwner, Shows, come_in, comes_itself}
+use Rattle.giop_stream.proofs.Lists.{each_weaker}
+use Rattle.giop_stream.proofs.InPlace.{at_index}
+use Rattle.giop_stream.proofs.Keepers.{slots_get}
+use Rattle.giop_stream.proofs.Parts.{in_turn}
+use Rattle.giop_stream.proofs.Soundness.{CurrentFits, IsSound}
+use Rattle.giop_stream.proofs.Acts.{found_in}
+use Rattle.giop_stream.proofs.Idle.{none_stops}
+use Rattle.giop_stream.proofs.Owning.{not_open, open_at, own_open, own_named, own_else}
+use Rattle.giop_stream.proofs.EngineLaws.{sound}
+use Rattle.giop_stream.proofs.Titled.{IsTitled, title_is}
+
+-- ---- The octets that have come, and whether the next are the current message's own.
+
+come_by : (stop : Option (ℕ × StreamFault)) (current : Option Message) (held : List ℕ) → (stop ≡ None → IfSome current (λ m. (length m.header ≡ 12) × (length m.payload < size m.header))) → (stop ≡ None → length held < 12)
+    → (if nat_lt (length (unless stop [] (header_of current held))) 12 then 0 else size (unless stop [] (header_of current held)) - unless stop 0 (left_of current)) ≡ unless stop 0 (come_of current)
+come_by (Some found) current held h k = refl
+come_by None None held h k = let short = k refl in rw (lt-ltb (length held) 12 short) refl
+come_by None (Some m) held h k = let fit = h refl in rw (le-ltb (length m.header) 12 (omega (arith, fit.0))) (omega (arith, fit.1))
+
+fits_of : (n : ℕ) (c : Cut) (o : Option Message) → IfSome o (CurrentFits n c) → IfSome o (λ m. (length m.header ≡ 12) × (length m.payload < size m.header))
+fits_of n c None h = tt
+fits_of n c (Some m) h = (h.twelve, h.lacks)
+
+-- the current message's own, by the message
+itself : Option Message → Bool
+itself None = false
+itself (Some m) = not (has_named m)
+
+itself_by : (stop : Option (ℕ × StreamFault)) → stop ≡ None → (current : Option Message) (held : List ℕ) (come : ℕ) → come ≡ come_of current → IfSome current (λ m. (length m.header ≡ 12) × (length m.payload < size m.header)) → length held < 12
+    → (nat_le 12 (length (unless stop [] (header_of current held))) && not (is_fragment (unless stop [] (header_of current held)) && nat_le 4 come)) ≡ itself current
+unfolding itself has_named
+itself_by (Some found) st current held come e h short = absurd cc
+itself_by None st None held come e h short = rw (lt-leb 12 (length held) short) refl
+itself_by None st (Some m) held come e h short = rw (e, le-leb 12 (length m.header) (omega (arith, h.0))) refl
+
+module _ (R : Reading) (p : List ℕ) (so : IsSound R p) where
+  come_state : come_in (state_of R p) ≡ unless (cut p).stop 0 (come_of (cut p).current)
+  unfolding come_in state_of
+  come_state = come_by (cut p).stop (cut p).current (cut p).held (λ st. fits_of (length p) (cut p) (cut p).current (so.fits st).current) (λ st. (so.fits st).short)
+
+  itself_state : (cut p).stop ≡ None → comes_itself (state_of R p) ≡ itself (cut p).current
+  unfolding comes_itself state_of
+  itself_state st =
+      let come : come_in (state_of R p) ≡ come_of (cut p).current = come_state ∙ rw st refl in
+      itself_by (cut p).stop st (cut p).current (cut p).held (come_in (state_of R p)) come (fits_of (length p) (cut p) (cut p).current (so.fits st).current) (so.fits st).short
+
+-- ---- Whose the next octets are, by number.
+
+owner_named : (K : Kept) (live : List Open) (now : Now) (other : Option Open) → is_named now ≡ true → owner_for K live now other ≡ option_map (λ o. o.opener.number) other
+unfolding owner_for
+owner_named K live now other e = rw e refl
+
+owner_open : (K : Kept) (live : List Open) (now : Now) (other : Option Open) → is_named now ≡ false → is_open live now.whom.number ≡ true → owner_for K live now other ≡ Some now.whom.number
+unfolding owner_for
+owner_open K live now other e f = rw (e, f) refl
+
+owner_kept : (K : Kept) (live : List Open) (now : Now) (other : Option Open) → is_named now ≡ false → is_open live now.whom.number ≡ false → owner_for K live now other ≡ option_map (λ o. o.title.number) (own_for K live now)
+unfolding owner_for own_for
+owner_kept K live now other e f = rw (e, f) (go (K now.whom.number))
+  where
+    own : Option (List ℕ) → Option Own
+    own o = option_map (λ xs. record { title = now.whom; octets = xs }) o
+
+    go : (o : Option (List ℕ)) → (if is_some o then Some now.whom.number else None) ≡ option_map (λ o. o.title.number) (own o)
+    go None = refl
+    go (Some xs) = refl
+
+owner_number : (K : Kept) (live : List Open) (now : Now) (other : Option Open) (n : ℕ) → is_named now ≡ false → owner_for K live now other ≡ Some n → n ≡ now.whom.number
+unfolding owner_for
+owner_number K live now other n e h = go (is_open live now.whom.number || is_some (K now.whom.number)) (rw e at h)
+  where
+    go : (b : Bool) → (if b then Some now.whom.number else None) ≡ Some n → n ≡ now.whom.number
+    go true h = cc
+    go false h = absurd cc
+
+-- ---- An open message in its place.
+
+-- numbers that rise are told apart
+unique_at : (live : List Open) (k : ℕ) (a : Open) → Rising live → slice_get live k ≡ Some a → Each (λ b. a.opener.number ≡ b.opener.number → a ≡ b) live
+unique_at [] k a h e = absurd cc
+unique_at (b ∷ live) zero a h e =
+    let same : b ≡ a = cc in
+    (λ n. sym same, each_weaker (λ c. b.opener.number < c.opener.number) (λ c. a.opener.number ≡ c.opener.number → a ≡ c) (λ c less n. let first : b.opener.number ≡ a.opener.number = ap (λ (o : Open). o.opener.number) same in absurd (omega (arith, less, n, first))) live h.0)
+unique_at (b ∷ live) (suc k) a h e =
+    let less : b.opener.number < a.opener.number = at_index (λ c. b.opener.number < c.opener.number) live k a e h.0 in
+    (λ n. absurd (omega (arith, less, n)), unique_at live k a h.1 e)
+
+record Opened (live : List Open) (k : ℕ) (slot : Slot) : Type 0 where
+  o : Open
+  here : slice_get live k ≡ Some o
+  is : slot.open_as ≡ o
+
+opened_at : (K : Kept) (live : List Open) (k : ℕ) (slot : Slot) → slice_get (slots_of K live) k ≡ Some slot → Opened live k slot
+unfolding slots_of
+opened_at K [] k slot e = absurd cc
+opened_at K (o ∷ live) zero slot e =
+    let same : record { open_as = o; octets = K o.opener.number } ≡ slot = cc in
+    record { o = o; here = refl; is = sym (ap (λ (s : Slot). s.open_as) same) }
+opened_at K (o ∷ live) (suc k) slot e = let more = opened_at K live k slot e in record { o = more.o; here = more.here; is = more.is }
+
+all_apart : (live : List Open) (n : ℕ) → is_open live n ≡ false → Each (λ o. o.opener.number ≡ n → ⊥) live
+unfolding is_open
+all_apart [] n h = tt
+all_apart (o ∷ live) n h = go (o.opener.number == n) refl h (λ k. all_apart live n k)
+  where
+    go : (b : Bool) → (o.opener.number == n) ≡ b → (b || is_open live n) ≡ false → (is_open live n ≡ false → Each (λ o. o.opener.number ≡ n → ⊥) live) → (o.opener.number ≡ n → ⊥) × Each (λ o. o.opener.number ≡ n → ⊥) live
+    go true e h ih = absurd cc
+    go false e h ih = (λ same. false≢true (sym e ∙ eq-eqb o.opener.number n same), ih h)
+
+none_own : (C : Table) (l : Listed) (own : Option Kept_message) (o : Option Own) → o ≡ None → IsOwn C l own o → own ≡ None
+none_own C l None o e h = refl
+none_own C l (Some m) None e h = absurd h
+none_own C l (Some m) (Some o) e h = absurd cc
+
+kept_own : (C : Table) (l : Listed) (own : Option Kept_message) (w : Title) (o : Option (List ℕ)) → IsOwn C l own (option_map (λ xs. record { title = w; octets = xs }) o) → IsKept C l own w o
+kept_own C l None w None h = tt
+kept_own C l None w (Some xs) h = absurd h
+kept_own C l (Some m) w None h = absurd h
+kept_own C l (Some m) w (Some xs) h = h
+
+-- ---- Whose the octets of the payload are, by number and by message.
+
+-- what a state tells of these messages
+record Tells (s : State) (c : Scene) (current : Option Message) : Type 0 where
+  slots : s.slots ≡ slots_of c.known c.live
+  own : s.own ≡ own_in c.known c.live current
+  owner : s.owner ≡ owner_in c.known c.live current
+  turn : comes_itself s ≡ itself current
+
+module _ (C : Table) (l : Listed) (s : State) (c : Scene) (own : Option Kept_message) where
+  slot_is : (current : Option Message) → Tells s c current → (k : ℕ) (o : Open) → slice_get c.live k ≡ Some o → slice_get s.slots k ≡ Some (record { open_as = o; octets = c.known o.opener.number })
+  slot_is current e k o here = rw e.slots (slots_get c k o here)
+
+  -- of no message
+  none_shown : (of : Payload) → Tells s c None → IsWhose C l of own c None → IsOwner of s
+  unfolding itself
+  none_shown payload.Own e h = absurd h
+  none_shown (payload.Open k) e h = absurd h
+  none_shown payload.Nobody e h = (e.turn, e.owner)
+
+  none_back : (of : Payload) → Tells s c None → IsOwn C l own s.own → IsOwner of s → IsWhose C l of own c None
+  unfolding itself
+  none_back payload.Own e k h = absurd (false≢true (sym e.turn ∙ h.0))
+  none_back (payload.Open i) e k h = absurd (let no : None ≡ Some h.1.0.open_as.opener.number = sym e.owner ∙ h.1.2 in cc)
+  none_back payload.Nobody e k h = none_own C l own s.own e.own k
+
+  -- of a Fragment whose request id is complete
+  module _ (m : Message) (e : Tells s c (Some m)) (named : has_named m ≡ true) where
+    named_too : is_named (now_of m) ≡ true
+    unfolding now_of has_named
+    named_too = named
+
+    other_turn : comes_itself s ≡ false
+    unfolding itself
+    other_turn = e.turn ∙ rw named refl
+
+    other_own : s.own ≡ None
+    other_own = e.own ∙ own_named c.known c.live (now_of m) named_too
+
+    other_number : s.owner ≡ option_map (λ o. o.opener.number) (opener_of c.live m)
+    other_number = e.owner ∙ owner_named c.known c.live (now_of m) (opener_of c.live m) named_too
+
+    other_shown : (of : Payload) (r : Option Open) → opener_of c.live m ≡ r → IsWhose C l of own c (opener_title r) → IsOwner of s
+    unfolding opener_of
+    other_shown payload.Own None f h = absurd h
+    other_shown (payload.Open k) None f h = absurd h
+    other_shown payload.Nobody None f h = (other_turn, other_number ∙ ap (option_map (λ (o : Open). o.opener.number)) f)
+    other_shown payload.Own (Some o) f h = absurd (found_in (λ a. a.opener.number ≡ o.opener.number → ⊥) (λ a. a.id == id m) c.live o h.0 f refl)
+    other_shown (payload.Open k) (Some o) f h =
+        let number : o.opener.number ≡ h.1.0.opener.number = sym (ap (λ (w : Title). w.number) h.1.2) in
+        (other_own, (_, slot_is (Some m) e k h.1.0 h.1.1, other_number ∙ (ap (option_map (λ (o : Open). o.opener.number)) f ∙ ap (λ (n : ℕ). Some n) number)))
+    other_shown payload.Nobody (Some o) f h = absurd h
+
+    other_back : Rising c.live → (of : Payload) (r : Option Open) → opener_of c.live m ≡ r → IsOwn C l own s.own → IsOwner of s → IsWhose C l of own c (opener_title r)
+    unfolding opener_of
+    other_back rising payload.Own r f k h = absurd (false≢true (sym other_turn ∙ h.0))
+    other_back rising (payload.Open i) None f k h = absurd (let no : None ≡ Some h.1.0.open_as.opener.number = sym (other_number ∙ ap (option_map (λ (o : Open). o.opener.number)) f) ∙ h.1.2 in cc)
+    other_back rising (payload.Open i) (Some o) f k h =
+        let at = opened_at c.known c.live i h.1.0 (rw e.slots at h.1.1) in
+        let both : Some o.opener.number ≡ Some h.1.0.open_as.opener.number = sym (other_number ∙ ap (option_map (λ (o : Open). o.opener.number)) f) ∙ h.1.2 in
+        let number : at.o.opener.number ≡ o.opener.number = ap (λ (a : Open). a.opener.number) (sym at.is) ∙ cc in
+        let same : at.o ≡ o = found_in (λ b. at.o.opener.number ≡ b.opener.number → at.o ≡ b) (λ a. a.id == id m) c.live o (unique_at c.live i at.o rising at.here) f number in
+        (none_own C l own s.own other_own k, (at.o, at.here, ap (λ (a : Open). a.opener) same))
+    other_back rising payload.Nobody None f k h = none_own C l own s.own other_own k
+    other_back rising payload.Nobody (Some o) f k h = absurd (let no : Some o.opener.number ≡ None = sym (other_number ∙ ap (option_map (λ (o : Open). o.opener.number)) f) ∙ h.1 in cc)
+
+  -- of the current message itself
+  module _ (m : Message) (e : Tells s c (Some m)) (unnamed : has_named m ≡ false) where
+    unnamed_too : is_named (now_of m) ≡ false
+    unfolding now_of has_named
+    unnamed_too = unnamed
+
+    own_turn : comes_itself s ≡ true
+    unfolding itself
+    own_turn = e.turn ∙ rw unnamed refl
+
+    own_shown : (of : Payload) → IsWhose C l of own c (Some (title m)) → IsOwner of s
+    unfolding now_of
+    own_shown payload.Own h = (own_turn, e.owner ∙ (owner_kept c.known c.live (now_of m) (opener_of c.live m) unnamed_too (not_open c.live m.number h.0) ∙ ap (option_map (λ (o : Own). o.title.number)) (sym e.own)))
+    own_shown (payload.Open k) h =
+        let number : h.1.0.opener.number ≡ m.number = ap (λ (w : Title). w.number) h.1.2 in
+        let there : is_open c.live m.number ≡ true = rw number at (open_at c.live k h.1.0 h.1.1) in
+        (e.own ∙ own_open c.known c.live (now_of m) there, (_, slot_is (Some m) e k h.1.0 h.1.1, e.owner ∙ (owner_open c.known c.live (now_of m) (opener_of c.live m) unnamed_too there ∙ ap (λ (n : ℕ). Some n) (sym number))))
+    own_shown payload.Nobody h = absurd h
+
+    own_back : IsTitled m c.live → (of : Payload) → IsOwn C l own s.own → IsOwner of s → IsWhose C l of own c (Some (title m))
+    unfolding now_of
+    own_back titled payload.Own k h = go (is_open c.live m.number) refl
+      where
+        go : (b : Bool) → is_open c.live m.number ≡ b → Each (λ o. o.opener.number ≡ m.number → ⊥) c.live × IsKept C l own (title m) (c.known m.number)
+        go true there = absurd (let no : Some m.number ≡ None = sym (e.owner ∙ owner_open c.known c.live (now_of m) (opener_of c.live m) unnamed_too there) ∙ (h.1 ∙ ap (option_map (λ (o : Own). o.title.number)) (e.own ∙ own_open c.known c.live (now_of m) there)) in cc)
+        go false free = (all_apart c.live m.number free, kept_own C l own (title m) (c.known m.number) (rw (e.own ∙ own_else c.known c.live (now_of m) free unnamed_too) at k))
+    own_back titled (payload.Open i) k h =
+        let at = opened_at c.known c.live i h.1.0 (rw e.slots at h.1.1) in
+        let number : h.1.0.open_as.opener.number ≡ m.number = owner_number c.known c.live (now_of m) (opener_of c.live m) h.1.0.open_as.opener.number unnamed_too (sym e.owner ∙ h.1.2) in
+        (none_own C l own s.own h.0 k, (at.o, at.here, at_index (λ o. o.opener.number ≡ m.number → o.opener ≡ title m) c.live i at.o at.here titled (ap (λ (a : Open). a.opener.number) (sym at.is) ∙ number)))
+    own_back titled payload.Nobody k h = absurd (false≢true (sym h.0 ∙ own_turn))
+
+  shown : (of : Payload) (current : Option Message) → Tells s c current → IsWhose C l of own c (whose_in c.live current) → IsOwner of s
+  unfolding whose
+  shown of None e h = none_shown of e h
+  shown of (Some m) e h = go (has_named m) refl
+    where
+      go : (b : Bool) → has_named m ≡ b → IsOwner of s
+      go true f = other_shown m e f of (opener_of c.live m) refl (rw f at h)
+      go false f = own_shown m e f of (rw f at h)
+
+  back : (of : Payload) (current : Option Message) → Tells s c current → Rising c.live → ((m : Message) → current ≡ Some m → IsTitled m c.live) → IsOwn C l own s.own → IsOwner of s → IsWhose C l of own c (whose_in c.live current)
+  unfolding whose
+  back of None e rising titled k h = none_back of e k h
+  back of (Some m) e rising titled k h = go (has_named m) refl
+    where
+      go : (b : Bool) → has_named m ≡ b → IsWhose C l of own c (if has_named m then opener_title (opener_of c.live m) else Some (title m))
+      go true f = rw f (other_back m e f rising of (opener_of c.live m) refl k h)
+      go false f = rw f (own_back m e f (titled m refl) of k h)
+
+-- ---- Of a stream.
+
+module _ (C : Table) (l : Listed) (m : Memory) (p : List ℕ) where
+  abbrev R : Reading
+  R = message_reading C l
+
+  so : IsSound R p
+  so = sound R (is_causal (said_by C l)) (in_turn C l) p
+
+  tells : (cut p).stop ≡ None → Tells (state_of R p) (stage R p) (cut p).current
+  unfolding state_of stage
+  tells st = record { slots = refl; own = refl; owner = refl; turn = itself_state R p so st }
+
+  pub shows_it : Remembers C l m p → Shows C l m (state_of R p)
+  unfolding state_of stage
+  shows_it h = record {
+    totals = h.totals;
+    stopped = h.stopped;
+    header = h.header;
+    come = h.come ∙ sym (come_state R p so);
+    slots = h.slots;
+    own = h.own;
+    owner = λ free. let st = none_stops (cut p).stop free in shown C l (state_of R p) (stage R p) m.slots.own m.slots.payload (cut p).current (tells st) (h.whose st);
+  }
+
+  pub remembers_it : AreOctets p → Shows C l m (state_of R p) → Remembers C l m p
+  unfolding state_of stage
+  remembers_it octets h = record {
+    octets = octets;
+    totals = h.totals;
+    stopped = h.stopped;
+    header = h.header;
+    come = h.come ∙ come_state R p so;
+    slots = h.slots;
+    own = h.own;
+    whose = λ st. back C l (state_of R p) (stage R p) m.slots.own m.slots.payload (cut p).current (tells st) so.rising (λ c cur. title_is R (is_causal (said_by C l)) (in_turn C l) p st c cur) h.own (h.owner (ap fault_of st));
+  }
