@@ -1,25 +1,23 @@
 //! The program's steps: words, signatures, requests, the opening of the stream, the run. The first that fails decides
 //! the status.
 
-ghost use Rattle.std.specs.Prelude.{◌≡◌, ◌≢◌, ◌≤◌, ◌⊎◌, [], None, Some, IfOk, IfErr};
+ghost use Rattle.std.specs.Prelude.{◌≡◌, ◌≢◌, ◌≤◌, ◌⊎◌, [], None, IfSome, OnOk};
 ghost use Rattle.clap.specs.Values.{kind_of};
 ghost use Rattle.giop_sig.specs.Table.{Table};
 ghost use Rattle.giop_sig.specs.Builtin.{builtin_table};
 ghost use Rattle.giop_message.specs.Signatures.{Kept as Listed};
 ghost use Rattle.giop_message.specs.MessageReading.{message_reading};
 ghost use Rattle.giop_stream.specs.Holding.{AreOf};
-ghost use Rattle.giop_run.specs.Console.{Dumped, exit_status, run_fault};
+ghost use Rattle.giop_run.specs.Console.{Dumped, exit_status, run_of};
 
 use super::arguments::Arguments;
 use clap::Error;
 use clap::error::ErrorKind;
-use giop_run::{
-    Lines, ProgramFault, Report, RunFault, catalogue, dump, requests, status, unreadable,
-};
+use giop_run::{Flush, Lines, ProgramFault, Report, catalogue, dump, requests, status, unreadable};
 use giop_sig::{Catalogue, Requests};
 use std::env;
 use std::fs::File;
-use std::io::{Read, Write};
+use std::io::Read;
 
 /// The status of words that can't be read.
 const USAGE: u8 = 2;
@@ -40,89 +38,97 @@ pub fn program(rt: &HostRuntime) -> u8
     };
     match Arguments::read(alloc, words.as_slice()) {
         Err(error) => refused(rt, &error),
-        Ok(asked) => told(rt, &performed(rt, asked, rt.stdout())),
+        Ok(asked) => printed(rt, asked),
     }
 }
 
+/// The steps behind the words, with the lines on standard output: the program's status.
+fn printed(rt: &HostRuntime, asked: Arguments) -> u8
+    ensures { result ≤ 5 }
+{
+    let Ok(mut lines) = Lines::new(rt.alloc(), rt.stdout()) else {
+        return told(rt, &Err(ProgramFault::OutOfMemory));
+    };
+    told(rt, &performed(rt, asked, &mut lines))
+}
+
 /// The steps behind the words.
-pub fn performed<'a, W: Write + Drop>(
+pub fn performed<'a, O: Flush>(
     rt: &HostRuntime,
     asked: Arguments<'a>,
-    writer: W,
+    out: &mut O,
 ) -> Result<Report, ProgramFault<'a>>
-    // The totals are those of some octets, by the types of some catalogue and a list of requests for it.
-    ensures dumped { IfOk result (λ report. (C : Table) × (l : Listed)
-        × AreOf C l × Dumped (message_reading C l) report None) }
+    // A run reads by the types of some catalogue and a list of requests for it.
+    ensures dumped { IfSome (run_of result) (λ ran. (C : Table) × (l : Listed) × AreOf C l
+        × Dumped (message_reading C l) ran None (O.log out.old) (O.log out.new)) }
     // Without a signature file and a list these are the built-in types, and no request.
     ensures bare { asked.entry.signatures ≡ None → asked.entry.requests ≡ None
-        → IfOk result (λ report. Dumped (message_reading builtin_table []) report None) }
-    // A run never tells that its engine was failed.
-    ensures sound { IfErr result (λ fault. run_fault fault ≢ Some RunFault.Failed) }
+        → IfSome (run_of result) (λ ran.
+        Dumped (message_reading builtin_table []) ran None (O.log out.old) (O.log out.new)) }
+    // A step before the run writes nothing.
+    ensures unwritten { run_of result ≡ None → O.log out.new ≡ O.log out.old }
+    ensures flushed { OnOk result (O.kept out.new ≡ []) }
 {
     let catalogue = catalogue(rt, asked.signatures)?;
-    listed(rt, asked.requests, asked.stream, writer, &catalogue)
+    listed(rt, asked.requests, asked.stream, out, &catalogue)
 }
 
 /// The steps behind the signatures.
-fn listed<'a, W: Write + Drop>(
+fn listed<'a, O: Flush>(
     rt: &HostRuntime,
     list: Option<&'a str>,
     stream: Option<&'a str>,
-    writer: W,
+    out: &mut O,
     catalogue: &Catalogue,
 ) -> Result<Report, ProgramFault<'a>>
-    ensures dumped { IfOk result (λ report. (l : Listed)
-        × AreOf catalogue.now l × Dumped (message_reading catalogue.now l) report None) }
-    ensures bare { list.entry ≡ None
-        → IfOk result (λ report. Dumped (message_reading catalogue.now []) report None) }
-    // A run never tells that its engine was failed.
-    ensures sound { IfErr result (λ fault. run_fault fault ≢ Some RunFault.Failed) }
+    ensures dumped { IfSome (run_of result) (λ ran. (l : Listed) × AreOf catalogue.now l
+        × Dumped (message_reading catalogue.now l) ran None (O.log out.old) (O.log out.new)) }
+    ensures bare { list.entry ≡ None → IfSome (run_of result) (λ ran.
+        Dumped (message_reading catalogue.now []) ran None (O.log out.old) (O.log out.new)) }
+    ensures unwritten { run_of result ≡ None → O.log out.new ≡ O.log out.old }
+    ensures flushed { OnOk result (O.kept out.new ≡ []) }
 {
     let requests = requests(rt, list, catalogue)?;
     match stream {
-        None => dumped(rt, rt.stdin(), writer, catalogue, &requests),
-        Some(name) => opened(rt, name, writer, catalogue, &requests),
+        None => dumped(rt.stdin(), out, catalogue, &requests),
+        Some(name) => opened(rt, name, out, catalogue, &requests),
     }
 }
 
 /// Dumps a file.
-fn opened<'a, W: Write + Drop>(
+fn opened<'a, O: Flush>(
     rt: &HostRuntime,
     name: &'a str,
-    writer: W,
+    out: &mut O,
     catalogue: &Catalogue,
     requests: &Requests,
 ) -> Result<Report, ProgramFault<'a>>
     requires of { AreOf catalogue.now requests.now }
-    ensures dumped { IfOk result (λ report.
-        Dumped (message_reading catalogue.now requests.now) report None) }
-    // A run never tells that its engine was failed.
-    ensures sound { IfErr result (λ fault. run_fault fault ≢ Some RunFault.Failed) }
+    ensures dumped { IfSome (run_of result) (λ ran.
+        Dumped (message_reading catalogue.now requests.now) ran None (O.log out.old) (O.log out.new)) }
+    ensures unwritten { run_of result ≡ None → O.log out.new ≡ O.log out.old }
+    ensures flushed { OnOk result (O.kept out.new ≡ []) }
 {
     match File::open(rt, name) {
-        Ok(file) => dumped(rt, file, writer, catalogue, requests),
+        Ok(file) => dumped(file, out, catalogue, requests),
         Err(error) => Err(unreadable(name, &error)),
     }
 }
 
 /// Dumps what a reader gives.
-fn dumped<'a, R: Read + Drop, W: Write + Drop>(
-    rt: &HostRuntime,
+fn dumped<'a, R: Read + Drop, O: Flush>(
     reader: R,
-    writer: W,
+    out: &mut O,
     catalogue: &Catalogue,
     requests: &Requests,
 ) -> Result<Report, ProgramFault<'a>>
     requires of { AreOf catalogue.now requests.now }
-    ensures dumped { IfOk result (λ report.
-        Dumped (message_reading catalogue.now requests.now) report (R.remaining reader)) }
-    // A run never tells that its engine was failed.
-    ensures sound { IfErr result (λ fault. run_fault fault ≢ Some RunFault.Failed) }
+    ensures dumped { IfSome (run_of result) (λ ran. Dumped (message_reading catalogue.now requests.now)
+        ran (R.remaining reader) (O.log out.old) (O.log out.new)) }
+    ensures reached { run_of result ≢ None }
+    ensures flushed { OnOk result (O.kept out.new ≡ []) }
 {
-    let Ok(lines) = Lines::new(rt.alloc(), writer) else {
-        return Err(ProgramFault::OutOfMemory);
-    };
-    match dump(reader, &lines, catalogue, requests) {
+    match dump(reader, out, catalogue, requests) {
         Ok(report) => Ok(report),
         Err(fault) => Err(ProgramFault::Run(fault)),
     }

@@ -1,3 +1,4 @@
 mod TextLemmas
 mod ReadLemmas
+mod FlushLemmas
 mod TurnLemmas

@@ -6,6 +6,7 @@ use Rattle.std.proofs.lemmas.List.Elements.{All-nil, All-take}
 use Rattle.giop_print.specs.Output.{counted}
 use Rattle.giop_cdr.specs.Numbers.{AreOctets}
 use Rattle.giop_run.specs.SourceLog.{SourceLog, Gave, ReadFailed}
+use Rattle.giop_run.specs.Running.{IsEnded}
 use Rattle.giop_run.specs.Turns.{OneRead}
 
 pub consumes-same : (x : Option (List ℕ)) → Consumes x x []
@@ -34,12 +35,12 @@ read_none a b f =
     }
 
 -- a read of 0 into some room is the end
-pub read_end : (a b : SourceLog) (into : List ℕ) (n : ℕ) → Gave a b into n → n ≡ 0 → 0 < length into → OneRead [] a b × (b.ends ≡ counted a.ends)
+pub read_end : (a b : SourceLog) (into : List ℕ) (n : ℕ) → Gave a b into n → n ≡ 0 → 0 < length into → OneRead [] a b × IsEnded a b
 read_end a b into n g z some =
     let t1 = eq-eqb n 0 z in
     let t2 = lt-ltb 0 (length into) some in (
       record { left = rw z at g.left; octets = All-nil (λ x. x < 256); within = omega arith; reads = g.reads },
-      g.ends ∙ rw (t1, t2) refl,
+      record { answered = g.ends ∙ rw (t1, t2) refl; none = g.over z some },
     )
 
 -- a read of some octets gave no more than there was room for

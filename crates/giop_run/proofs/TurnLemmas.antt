@@ -1,6 +1,5 @@
 -- Turn after turn, to the end of a run.
-use Rattle.std.proofs.Common.{◌≡◌, ℕ, ◌+◌, ◌^◌, ◌<◌, List, [], ◌++◌, refl, sym, subst, ap, ◌∙◌, append-nil, append_assoc, arith, Bool, Result, Ok, Err, true, false, inl, inr, Option}
-use Rattle.std.specs.Prelude.{IfOk}
+use Rattle.std.proofs.Common.{◌≡◌, ℕ, ◌+◌, ◌^◌, ◌<◌, ◌≤◌, List, [], ◌++◌, refl, sym, subst, ap, ◌∙◌, append-nil, append_assoc, arith, Bool, Result, Ok, Err, true, false, inl, inr, Option}
 use Rattle.std.proofs.lemmas.List.Elements.{All-nil, All-append}
 use Rattle.giop_print.specs.Output.{OutLog, counted}
 use Rattle.giop_message.specs.Reading.{Reading}
@@ -11,11 +10,14 @@ use Rattle.giop_print.proofs.Writing.{wrote-append, wrote-front, front-append}
 use Rattle.giop_run.specs.SourceLog.{SourceLog}
 use Rattle.giop_run.specs.Running.{Given, IsOver, Ran}
 use Rattle.giop_run.specs.Console.{Dumped}
-use Rattle.giop_run.specs.Turns.{Took, Fed, OneRead, Turned, Closed, Going}
+use Rattle.giop_run.specs.Flushing.{Flushed, FlushFailed}
+use Rattle.giop_run.specs.Turns.{Took, Fed, OneRead, Turned, Completed, Closed, Going}
+use Rattle.giop_stream.specs.declared.status.Totals.{Totals}
 use Rattle.giop_run.specs.declared.running.Report.{Report}
 use Rattle.giop_run.specs.declared.fault.RunFault.{RunFault}
 use Rattle.giop_run.specs.declared.fault.RunFault.TheVariants as fault
 use Rattle.giop_run.proofs.TextLemmas.{AddsUp, wrote-none, runs_or_stops}
+use Rattle.giop_run.proofs.FlushLemmas.{wrote_flushed, flush_front}
 use Rattle.giop_run.proofs.ReadLemmas.{consumes-same, consumes-append}
 
 -- one turn
@@ -39,6 +41,38 @@ closed_by Q R r p x y q t = subst (λ z. Closed z r p x y) q t
 -- nothing was read
 pub took-none : (R : Reading) (p : List ℕ) (e : EngineMemory) (x : OutLog) → reading_of e ≡ R → Holds e p → Took R p [] e x x
 took-none R p e x r h = record { reads = r; holds = rw append-nil h; written = wrote-none R x p }
+
+-- a flush
+
+-- what was written stays written
+pub going_flushed : (R : Reading) (p s : List ℕ) (e : EngineMemory) (k : ℕ) (a b : SourceLog) (x y z : OutLog) (kept : List ℕ) → Going R p s e k a b x y → Flushed y z kept → Going R p s e k a b x z
+going_flushed R p s e k a b x y z kept g f =
+    record {
+      began = g.began;
+      running = g.running;
+      took = record { reads = g.took.reads; holds = g.took.holds; written = wrote_flushed x y z (added R p s) kept g.took.written f };
+      left = g.left;
+      octets = g.octets;
+      reads = g.reads;
+      exact = g.exact;
+      failures = g.failures;
+      ends = g.ends;
+    }
+
+-- the close of a stream, of which the finish or the flush may fail
+pub closed_flushed : (R : Reading) (t : Totals) (p : List ℕ) (x y z : OutLog) (kept : List ℕ) → Completed R (Ok t) p x y → Flushed y z kept → Closed R (Ok (record { totals = t; saved = 0 })) p x z
+closed_flushed R t p x y z kept (w, e) f =
+    record { written = wrote_flushed x y z (closing R p) kept w f; totals = e; saved = refl }
+
+pub closed_cut : (R : Reading) (t : Totals) (p : List ℕ) (x y z : OutLog) → Completed R (Ok t) p x y → FlushFailed y z → Closed R (Err fault.Out) p x z
+closed_cut R t p x y z (w, e) f =
+    rw append-nil at (wrote-front x y z (closing R p) [] w (flush_front y z [] f))
+
+pub closed_unfinished : (R : Reading) (r : RunFault) (p : List ℕ) (x y : OutLog) → Completed R (Err r) p x y → Closed R (Err r) p x y
+closed_unfinished R fault.Out p x y f = f
+closed_unfinished R fault.Read p x y f = absurd f
+closed_unfinished R fault.Turns p x y f = absurd f
+closed_unfinished R fault.Failed p x y f = absurd f
 
 -- all turns
 
@@ -135,23 +169,28 @@ pub ran_err : (R : Reading) → AddsUp R → (r : RunFault) (p s t : List ℕ) (
 ran_err R adds r p s t e d k a b c x y z g u h =
     failed_on R adds r p s t e d k a b c x y z g (turned_by (reading_of e) R (Err r) (p ++ s) t d b c y z g.took.reads u) h
 
+-- the source gave what went in
+given_all : (R : Reading) (p s : List ℕ) (e : EngineMemory) (k : ℕ) (a b : SourceLog) (x y : OutLog) → Going R p s e k a b x y → k ≤ 2 ^ 40 → Given p s a b
+given_all R p s e k a b x y g h =
+    record {
+      left = g.left;
+      octets = g.octets;
+      reads = omega (arith, g.reads);
+      none = λ q. absurd (runs_or_stops p g.began q);
+      stops = λ _. record {
+        earlier = s;
+        last = [];
+        whole = sym (append-nil s);
+        room = omega arith;
+        running = runs_or_stops (p ++ s) g.running;
+      };
+    }
+
 -- no turn is left
 pub ran_turns : (R : Reading) (p s : List ℕ) (e : EngineMemory) (k : ℕ) (a b : SourceLog) (x y : OutLog) → Going R p s e k a b x y → k ≡ 2 ^ 40 → Ran R (Err fault.Turns) p s a b x y
 ran_turns R p s e k a b x y g h =
     record {
-      given = record {
-        left = g.left;
-        octets = g.octets;
-        reads = omega (arith, g.reads);
-        none = λ q. absurd (runs_or_stops p g.began q);
-        stops = λ _. record {
-          earlier = s;
-          last = [];
-          whole = sym (append-nil s);
-          room = omega arith;
-          running = runs_or_stops (p ++ s) g.running;
-        };
-      };
+      given = given_all R p s e k a b x y g (omega arith);
       reads = λ q. omega (arith, g.exact);
       failures = g.failures;
       ends = g.ends;
@@ -159,8 +198,17 @@ ran_turns R p s e k a b x y g h =
       written = g.took.written;
     }
 
+-- the flush before a turn failed
+pub ran_flush : (R : Reading) (p s : List ℕ) (e : EngineMemory) (k : ℕ) (a b : SourceLog) (x y z : OutLog) → Going R p s e k a b x y → FlushFailed y z → k ≤ 2 ^ 40 → Ran R (Err fault.Out) p s a b x z
+ran_flush R p s e k a b x y z g f h =
+    record {
+      given = given_all R p s e k a b x y g h;
+      failures = g.failures;
+      written = wrote-front x y z (added R p s) (closing R (p ++ s)) g.took.written (flush_front y z (closing R (p ++ s)) f);
+    }
+
 over_more : (p s t : List ℕ) (a b c : SourceLog) → b.ends ≡ a.ends → IsOver ((p ++ s) ++ t) b c → IsOver (p ++ (s ++ t)) a c
-over_more p s t a b c e (inl q) = inl (q ∙ ap counted e)
+over_more p s t a b c e (inl q) = inl (record { answered = q.answered ∙ ap counted e; none = q.none })
 over_more p s t a b c e (inr q) = inr (rw append_assoc at q)
 
 -- the stream is over after a turn
@@ -227,7 +275,5 @@ pub ran_by : (Q R : Reading) (r : Result Report RunFault) (p s : List ℕ) (a b 
 ran_by Q R r p s a b x y q t = subst (λ z. Ran z r p s a b x y) q t
 
 -- a run from an empty stream, by what the source tells that it has left
-pub dumped_by : (R : Reading) (r : Result Report RunFault) (s : List ℕ) (a b : SourceLog) (x y : OutLog) (told : Option (List ℕ)) → a.left ≡ told → Ran R r [] s a b x y → IfOk r (λ report. Dumped R report told)
-dumped_by R (Ok report) s a b x y told l ran =
-    record { octets = s; rest = b.left; given = rw l at ran.given.left; totals = ran.totals }
-dumped_by R (Err f) s a b x y told l ran = tt
+pub dumped_by : (R : Reading) (r : Result Report RunFault) (s : List ℕ) (a b : SourceLog) (x y : OutLog) (told : Option (List ℕ)) → a.left ≡ told → Ran R r [] s a b x y → Dumped R r told x y
+dumped_by R r s a b x y told l ran = record { octets = s; before = a; after = b; reader = l; did = ran }

@@ -1,19 +1,21 @@
--- What the program did with a reader, and the status that says so (meaning).
-use Rattle.std.specs.Prelude.{◌≡◌, ℕ, ◌==◌, List, Option, Some, None, Result, Ok, Err, if◌then◌else◌}
-use Rattle.std.specs.Io.KnownBytes.{Consumes}
+-- What the program did with a reader and an out, and the status that says so (meaning).
+use Rattle.std.specs.Prelude.{◌≡◌, ℕ, ◌==◌, List, [], Option, Some, None, Result, Ok, Err, if◌then◌else◌}
+use Rattle.giop_print.specs.Output.{OutLog}
 use Rattle.giop_message.specs.Reading.{Reading}
-use Rattle.giop_stream.specs.Stream.{final}
+use Rattle.giop_run.specs.SourceLog.{SourceLog}
+use Rattle.giop_run.specs.Running.{Ran}
 use Rattle.giop_run.specs.declared.running.Report.{Report}
 use Rattle.giop_run.specs.declared.fault.RunFault.{RunFault}
 use Rattle.giop_run.specs.declared.fault.ProgramFault.{ProgramFault}
 use Rattle.giop_run.specs.declared.fault.ProgramFault.TheVariants as faults
 
--- the totals are those of some octets with which the reader's, where it tells them, begin; R reads a message
-pub record Dumped (R : Reading) (report : Report) (told : Option (List ℕ)) : Type 0 where
+-- a run from the stream of no octets did this with a reader, where that tells its octets, and an out; R reads a message
+pub record Dumped (R : Reading) (ran : Result Report RunFault) (told : Option (List ℕ)) (x y : OutLog) : Type 0 where
   pub octets : List ℕ
-  pub rest : Option (List ℕ)
-  pub given : Consumes told rest octets
-  pub totals : report.totals ≡ final R octets
+  pub before : SourceLog
+  pub after : SourceLog
+  pub reader : before.left ≡ told
+  pub did : Ran R ran [] octets before after x y
 
 -- the status of what failed: a file refused, a file or a run that failed, no memory
 abbrev pub fault_status : ProgramFault → ℕ
@@ -30,6 +32,16 @@ run_fault (faults.Signatures name fault) = None
 run_fault (faults.Requests name fault) = None
 run_fault (faults.Unreadable name) = None
 run_fault faults.OutOfMemory = None
+
+-- the answer of a run that failed
+abbrev pub ran_as : Option RunFault → Option (Result Report RunFault)
+ran_as (Some fault) = Some (Err fault)
+ran_as None = None
+
+-- the answer of the run behind the program's; None where a step before it failed
+abbrev pub run_of : Result Report ProgramFault → Option (Result Report RunFault)
+run_of (Ok report) = Some (Ok report)
+run_of (Err fault) = ran_as (run_fault fault)
 
 -- the program's status: whether a fault was counted, or what failed
 abbrev pub exit_status : Result Report ProgramFault → ℕ

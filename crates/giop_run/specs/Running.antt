@@ -1,6 +1,6 @@
 -- What a run did (meaning): p is the stream that its engine held, s are the octets that its source gave; R reads a message.
 use Rattle.std.specs.Prelude.{◌≡◌, ℕ, ◌+◌, ◌^◌, ◌≤◌, ◌<◌, List, [], ◌++◌, length, IsSome, Result, Ok, Err, ◌⊎◌}
-use Rattle.std.specs.Io.KnownBytes.{Consumes}
+use Rattle.std.specs.Io.KnownBytes.{Consumes, IsAtEnd}
 use Rattle.giop_cdr.specs.Numbers.{AreOctets}
 use Rattle.giop_print.specs.Output.{OutLog, counted, Wrote, WroteFront}
 use Rattle.giop_message.specs.Reading.{Reading}
@@ -32,9 +32,14 @@ pub record Given (p s : List ℕ) (before after : SourceLog) : Type 0 where
   pub none : IsStopped p → (s ≡ []) × (after ≡ before)
   pub stops : ¬ IsStopped p → LastRead p s
 
--- a read answered 0, or the stream p has a fault
+-- a read answered 0, and nothing is left in the source
+pub record IsEnded (before after : SourceLog) : Type 0 where
+  pub answered : after.ends ≡ counted before.ends
+  pub none : IsAtEnd after.left
+
+-- the source is at its end, or the stream p has a fault
 abbrev pub IsOver : List ℕ → SourceLog → SourceLog → Type 0
-IsOver p before after = (after.ends ≡ counted before.ends) ⊎ IsStopped p
+IsOver p before after = IsEnded before after ⊎ IsStopped p
 
 -- the stream came to its end: its lines and its closing are written, and the report has its totals
 pub record Finished (R : Reading) (report : Report) (p s : List ℕ) (before after : SourceLog) (x y : OutLog) : Type 0 where

@@ -1,6 +1,6 @@
 -- What a source tells of itself, and what a read does to it (meaning).
-use Rattle.std.specs.Prelude.{◌≡◌, ℕ, ◌≤◌, List, length, take, Option, ◌==◌, ◌&&◌, nat_lt, if◌then◌else◌}
-use Rattle.std.specs.Io.KnownBytes.{Consumes, Keeps}
+use Rattle.std.specs.Prelude.{◌≡◌, ℕ, ◌≤◌, ◌<◌, List, length, take, Option, ◌==◌, ◌&&◌, nat_lt, if◌then◌else◌}
+use Rattle.std.specs.Io.KnownBytes.{Consumes, Keeps, IsAtEnd}
 use Rattle.giop_print.specs.Output.{counted}
 
 -- the octets that are left, where they are told, and how many reads, failures and ends there were
@@ -10,10 +10,12 @@ pub record SourceLog : Type 0 where
   pub failures : ℕ
   pub ends : ℕ
 
--- a read put `given` octets at the front of what it was handed; of none into some room the count of ends rises
+-- a read put `given` octets at the front of what it was handed; of none into some room the count of ends rises, and
+-- nothing is left then
 pub record Gave (before after : SourceLog) (into : List ℕ) (given : ℕ) : Type 0 where
   pub within : given ≤ length into
   pub left : Consumes before.left after.left (take given into)
+  pub over : given ≡ 0 → 0 < length into → IsAtEnd after.left
   pub reads : after.reads ≡ counted before.reads
   pub failures : after.failures ≡ before.failures
   pub ends : after.ends ≡ (if given == 0 && nat_lt 0 (length into) then counted before.ends else before.ends)

@@ -10,6 +10,7 @@ use Rattle.giop_stream.specs.Holding.{added, Holds, reading_of}
 use Rattle.giop_stream.specs.Remembering.{EngineMemory}
 use Rattle.giop_run.specs.SourceLog.{SourceLog}
 use Rattle.giop_run.specs.Running.{IsStopped, IsOver}
+use Rattle.giop_stream.specs.declared.status.Totals.{Totals}
 use Rattle.giop_run.specs.declared.running.Report.{Report}
 use Rattle.giop_run.specs.declared.fault.RunFault.{RunFault}
 use Rattle.giop_run.specs.declared.fault.RunFault.TheVariants as fault
@@ -59,7 +60,15 @@ pub record Ended (R : Reading) (report : Report) (p : List ℕ) (x y : OutLog) :
   pub totals : report.totals ≡ final R p
   pub saved : report.saved ≡ 0
 
--- what the close of an engine that held p did
+-- what the finish of an engine that held p did
+abbrev pub Completed : Reading → Result Totals RunFault → List ℕ → OutLog → OutLog → Type 0
+Completed R (Ok totals) p x y = Wrote x y (closing R p) × (totals ≡ final R p)
+Completed R (Err fault.Out) p x y = WroteFront x y (closing R p)
+Completed R (Err fault.Read) p x y = ⊥
+Completed R (Err fault.Turns) p x y = ⊥
+Completed R (Err fault.Failed) p x y = ⊥
+
+-- what the finish of an engine that held p and the flush behind it did
 abbrev pub Closed : Reading → Result Report RunFault → List ℕ → OutLog → OutLog → Type 0
 Closed R (Ok report) p x y = Ended R report p x y
 Closed R (Err fault.Out) p x y = WroteFront x y (closing R p)

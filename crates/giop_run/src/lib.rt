@@ -4,14 +4,18 @@
 mod console;
 mod fault;
 mod files;
+mod flush;
+mod lines;
 mod piecewise;
 mod reading;
 mod running;
 mod source;
 
-pub use console::{Lines, Tied, dump, status};
+pub use console::{dump, status};
 pub use fault::{ProgramFault, RunFault, SourceFault};
 pub use files::{catalogue, front, requests, unreadable};
+pub use flush::Flush;
+pub use lines::Lines;
 pub use piecewise::Piecewise;
 pub use reading::Reading;
 pub use running::{Ending, Report, run};

@@ -13,6 +13,7 @@ pub struct Piecewise<'a> {
     step: usize,
     reads: u64,
     ends: u64,
+    ghost some: { 1 ≤ step },
 }
 
 impl<'a> Piecewise<'a> {

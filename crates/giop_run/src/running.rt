@@ -1,14 +1,16 @@
 //! A run: octets from a source go through an engine to an out, up to the stream's end.
 
-ghost use Rattle.std.specs.Prelude.{◌≡◌, ◌+◌, ◌^◌, ◌≤◌, Err, true, false, List, ℕ, MatchResult, OnOk};
+ghost use Rattle.std.specs.Prelude.{◌≡◌, ◌+◌, ◌^◌, ◌≤◌, Err, true, false, List, [], ℕ, MatchResult, OnOk, IfErr};
 ghost use Rattle.giop_print.specs.Output.{counted};
 ghost use Rattle.giop_cdr.specs.Numbers.{AreOctets};
 ghost use Rattle.giop_stream.specs.Holding.{Holds, reading_of};
 ghost use Rattle.giop_run.specs.SourceLog.{Gave, ReadFailed};
+ghost use Rattle.giop_run.specs.Flushing.{Flushes};
 ghost use Rattle.giop_run.specs.Running.{Ran, Refused};
-ghost use Rattle.giop_run.specs.Turns.{Fed, Turned, Closed};
+ghost use Rattle.giop_run.specs.Turns.{Fed, Turned, Completed, Closed};
 
 use super::fault::{RunFault, SourceFault};
+use super::flush::{Between, Nothing};
 use super::source::Source;
 use giop_print::Out;
 use giop_stream::{Engine, Status, Stop, Totals};
@@ -54,17 +56,49 @@ pub fn run<S: Source, O: Out>(
     ensures reads { (S.log source.new).reads ≤ (S.log source.old).reads + 2 ^ 40 }
 {
     let Ending::Finish = ending;
+    run_by::<S, O, Nothing>(source, out, engine)
+}
+
+/// A run that does `F` to its out before each read, so that a live stream shows its lines as they come, and at the end.
+/// A flush that fails is a failed put.
+pub(crate) fn run_by<S: Source, O: Out, F: Between<O>>(
+    source: &mut S,
+    out: &mut O,
+    engine: Engine,
+) -> Result<Report, RunFault>
+    ensures ran { (p : List ℕ) → Holds engine.entry p → (s : List ℕ)
+        × Ran (reading_of engine.entry) result p s (S.log source.old) (S.log source.new) (O.log out.old) (O.log out.new) }
+    ensures failed { engine.entry.failed ≡ true
+        → Refused result (S.log source.old) (S.log source.new) (O.log out.old) (O.log out.new) }
+    // Of every engine, also of one that holds no stream.
+    ensures sound { result ≡ Err RunFault.Failed → engine.entry.failed ≡ true }
+    ensures reads { (S.log source.new).reads ≤ (S.log source.old).reads + 2 ^ 40 }
+    ensures flushed { OnOk result (F.left out.new ≡ []) }
+{
     let mut engine = engine;
     if !feed(&mut engine, &[], out)? {
-        return close(engine, out);
+        return close::<O, F>(engine, out);
     }
     let mut buffer = [0; ROOM];
     for _turn in 0..TURNS {
+        flush::<O, F>(out)?;
         if !turn(source, out, &mut engine, &mut buffer)? {
-            return close(engine, out);
+            return close::<O, F>(engine, out);
         }
     }
+    flush::<O, F>(out)?;
     Err(RunFault::Turns)
+}
+
+/// Flushes the out.
+fn flush<O: Out, F: Between<O>>(out: &mut O) -> Result<(), RunFault>
+    ensures flushed { Flushes result (O.log out.old) (O.log out.new) (F.left out.new) }
+    ensures cause { IfErr result (λ fault. fault ≡ RunFault.Out) }
+{
+    match F::flush(out) {
+        Ok(()) => Ok(()),
+        Err(_) => Err(RunFault::Out),
+    }
 }
 
 /// One read, and the feed of what it gave: whether the stream goes on.
@@ -117,16 +151,30 @@ fn feed<O: Out>(engine: &mut Engine, piece: &[u8], out: &mut O) -> Result<bool, 
     }
 }
 
-/// Ends the stream, and reports its totals.
-fn close<O: Out>(engine: Engine, out: &mut O) -> Result<Report, RunFault>
+/// Ends the stream, flushes the out, and reports the totals.
+fn close<O: Out, F: Between<O>>(engine: Engine, out: &mut O) -> Result<Report, RunFault>
     ensures closed { (p : List ℕ) → Holds engine.entry p
         → Closed (reading_of engine.entry) result p (O.log out.old) (O.log out.new) }
     ensures failed { engine.entry.failed ≡ true
         → (result ≡ Err RunFault.Failed) × (O.log out.new ≡ O.log out.old) }
     ensures sound { result ≡ Err RunFault.Failed → engine.entry.failed ≡ true }
+    ensures flushed { OnOk result (F.left out.new ≡ []) }
+{
+    let totals = finish(engine, out)?;
+    flush::<O, F>(out)?;
+    Ok(Report { totals, saved: 0 })
+}
+
+/// Ends the stream.
+fn finish<O: Out>(engine: Engine, out: &mut O) -> Result<Totals, RunFault>
+    ensures finished { (p : List ℕ) → Holds engine.entry p
+        → Completed (reading_of engine.entry) result p (O.log out.old) (O.log out.new) }
+    ensures failed { engine.entry.failed ≡ true
+        → (result ≡ Err RunFault.Failed) × (O.log out.new ≡ O.log out.old) }
+    ensures sound { result ≡ Err RunFault.Failed → engine.entry.failed ≡ true }
 {
     match engine.finish(out) {
-        Ok(totals) => Ok(Report { totals, saved: 0 }),
+        Ok(totals) => Ok(totals),
         Err(Stop::Out(_)) => Err(RunFault::Out),
         Err(Stop::Failed) => Err(RunFault::Failed),
     }

@@ -2,23 +2,13 @@
 #![tactic(auto)]
 
 #[cfg(test)]
-mod console_tests;
-#[cfg(test)]
-mod fakes;
-#[cfg(test)]
-mod fault_tests;
-#[cfg(test)]
 mod plain_rows;
-#[cfg(test)]
-mod program_tests;
 #[cfg(test)]
 mod rows;
 #[cfg(test)]
 mod run_tests;
 #[cfg(test)]
 mod tests;
-#[cfg(test)]
-mod words_tests;
 
 use giop_program::program;
 use std::process::ExitCode;

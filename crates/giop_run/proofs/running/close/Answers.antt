@@ -1,9 +1,20 @@
--- What the engine's clauses say of its finish.
-use Rattle.std.proofs.Common.{refl, sym, ◌∙◌}
+-- What the finish and the flush behind it say of the close.
+use Rattle.std.proofs.lemmas.Result.{err_from_is_err_and}
+use Rattle.giop_run.proofs.TurnLemmas.{closed_flushed, closed_cut, closed_unfinished}
 use Rattle.giop_run.proofs.running.close.Goals as goal
 
-pub returns-in-Ok-clause-closed : goal.returns-in-Ok-clause-closed
-returns-in-Ok-clause-closed g c =
+pub returns-in_err-totals-clause-closed : goal.returns-in_err-totals-clause-closed
+returns-in_err-totals-clause-closed g c =
     λ p h.
-    let e = c.in-Ok.ensures in
-    record { written = e.text p h; totals = sym c.in-Ok.totals-is ∙ e.totals p h; saved = refl }
+    let r = err_from_is_err_and c.from_residual.result c.from_residual.ensures.1 in
+    rw (r.1, r.2) (closed_unfinished _ c.in_err-totals.field-0.0 p _ _ (c.in_err-totals.ensures.finished p h))
+
+pub returns-in_err-flush-clause-closed : goal.returns-in_err-flush-clause-closed
+returns-in_err-flush-clause-closed g c =
+    λ p h.
+    let r = err_from_is_err_and c.from_residual-in_err-flush.result c.from_residual-in_err-flush.ensures.1 in
+    rw (r.1, r.2, c.in_err-flush.ensures.cause) (closed_cut _ c.in_ok-totals.totals p _ _ _ (c.in_ok-totals.ensures.finished p h) c.in_err-flush.ensures.flushed)
+
+pub returns-clause-closed : goal.returns-clause-closed
+returns-clause-closed g c =
+    λ p h. closed_flushed _ c.in_ok-totals.totals p _ _ _ _ (c.in_ok-totals.ensures.finished p h) c.in_ok-flush.ensures.flushed

@@ -3,8 +3,8 @@ use Rattle.std.proofs.Common.{◌+◌, [], ◌++◌, arith}
 use Rattle.std.proofs.lemmas.Result.{err_from_is_err_and}
 use Rattle.giop_run.proofs.TextLemmas.{adds_up}
 use Rattle.giop_run.proofs.ReadLemmas.{one_more_read}
-use Rattle.giop_run.proofs.TurnLemmas.{going_start, going_more, ran_err, ran_turns, ran_over, ran_stopped, ran_first}
-use Rattle.giop_run.proofs.running.run.Goals as goal
+use Rattle.giop_run.proofs.TurnLemmas.{going_start, going_more, going_flushed, ran_flush, ran_err, ran_turns, ran_over, ran_stopped, ran_first}
+use Rattle.giop_run.proofs.running.run_by.Goals as goal
 
 pub returns-in_err-feed-clause-ran : goal.returns-in_err-feed-clause-ran
 returns-in_err-feed-clause-ran g c =
@@ -26,21 +26,30 @@ loop-turn-init g c =
       reads = omega arith;
     }
 
+pub returns-in_err-flush-clause-ran : goal.returns-in_err-flush-clause-ran
+returns-in_err-flush-clause-ran g c =
+    λ p h.
+    let s = c.loop-turn.invariant.going p h in
+    let r = err_from_is_err_and c.from_residual-in_err-flush.result c.from_residual-in_err-flush.ensures.1 in
+    (s.0, rw (r.1, r.2, c.in_err-flush.ensures.cause) (ran_flush _ p s.0 _ c.loop-turn._turn _ _ _ _ _ s.1 c.in_err-flush.ensures.flushed (omega (arith, c.loop-turn-test.true))))
+
 pub returns-in_err-turn-clause-ran : goal.returns-in_err-turn-clause-ran
 returns-in_err-turn-clause-ran g c =
     λ p h.
     let s = c.loop-turn.invariant.going p h in
-    let t = c.in_err-turn.ensures.turned (p ++ s.0) s.1.took.holds in
+    let f = going_flushed _ p s.0 _ c.loop-turn._turn _ _ _ _ _ _ s.1 c.in_ok-flush.ensures.flushed in
+    let t = c.in_err-turn.ensures.turned (p ++ s.0) f.took.holds in
     let r = err_from_is_err_and c.from_residual-in_err-turn.result c.from_residual-in_err-turn.ensures.1 in
-    (s.0 ++ t.0, rw (r.1, r.2) (ran_err _ (adds_up c.args.engine) c.in_err-turn.field-0.0 p s.0 t.0 _ _ c.loop-turn._turn _ _ _ _ _ _ s.1 t.1 (omega (arith, c.loop-turn-test.true))))
+    (s.0 ++ t.0, rw (r.1, r.2) (ran_err _ (adds_up c.args.engine) c.in_err-turn.field-0.0 p s.0 t.0 _ _ c.loop-turn._turn _ _ _ _ _ _ f t.1 (omega (arith, c.loop-turn-test.true))))
 
 pub returns-then-not-branch-2-clause-ran : goal.returns-then-not-branch-2-clause-ran
 returns-then-not-branch-2-clause-ran g c =
     λ p h.
     let s = c.loop-turn.invariant.going p h in
-    let t = c.in_ok-turn.ensures.turned (p ++ s.0) s.1.took.holds in
+    let f = going_flushed _ p s.0 _ c.loop-turn._turn _ _ _ _ _ _ s.1 c.in_ok-flush.ensures.flushed in
+    let t = c.in_ok-turn.ensures.turned (p ++ s.0) f.took.holds in
     let u = rw c.if-not-branch-2.true at t.1 in
-    (s.0 ++ t.0, ran_over _ (adds_up c.args.engine) c.close-then-not-branch-2.result p s.0 t.0 _ _ c.loop-turn._turn _ _ _ _ _ _ _ s.1 u (omega (arith, c.loop-turn-test.true)) (c.close-then-not-branch-2.ensures.closed ((p ++ s.0) ++ t.0) u.3.holds))
+    (s.0 ++ t.0, ran_over _ (adds_up c.args.engine) c.close-then-not-branch-2.result p s.0 t.0 _ _ c.loop-turn._turn _ _ _ _ _ _ _ f u (omega (arith, c.loop-turn-test.true)) (c.close-then-not-branch-2.ensures.closed ((p ++ s.0) ++ t.0) u.3.holds))
 
 pub returns-in_err-turn-clause-reads : goal.returns-in_err-turn-clause-reads
 returns-in_err-turn-clause-reads g c =
@@ -55,12 +64,23 @@ loop-turn-preserved g c =
     record {
       going = λ p h.
           let s = c.loop-turn.invariant.going p h in
-          let t = c.in_ok-turn.ensures.turned (p ++ s.0) s.1.took.holds in
-          (s.0 ++ t.0, going_more _ (adds_up c.args.engine) p s.0 t.0 _ _ c.loop-turn._turn _ _ _ _ _ _ s.1 (rw c.if-not-branch-2.false at t.1));
+          let f = going_flushed _ p s.0 _ c.loop-turn._turn _ _ _ _ _ _ s.1 c.in_ok-flush.ensures.flushed in
+          let t = c.in_ok-turn.ensures.turned (p ++ s.0) f.took.holds in
+          (s.0 ++ t.0, going_more _ (adds_up c.args.engine) p s.0 t.0 _ _ c.loop-turn._turn _ _ _ _ _ _ f (rw c.if-not-branch-2.false at t.1));
       sound = c.in_ok-turn.ensures.leaves c.loop-turn.invariant.sound;
       reads = one_more_read _ _ _ _ (c.loop-turn._turn + 1) c.loop-turn.invariant.reads c.in_ok-turn.ensures.reads (omega arith);
     }
 
+pub returns-in_err-flush-2-clause-ran : goal.returns-in_err-flush-2-clause-ran
+returns-in_err-flush-2-clause-ran g c =
+    λ p h.
+    let s = c.loop-turn.invariant.going p h in
+    let r = err_from_is_err_and c.from_residual-in_err-flush-2.result c.from_residual-in_err-flush-2.ensures.1 in
+    (s.0, rw (r.1, r.2, c.in_err-flush-2.ensures.cause) (ran_flush _ p s.0 _ c.loop-turn._turn _ _ _ _ _ s.1 c.in_err-flush-2.ensures.flushed (omega (arith, c.loop-turn-test, c.loop-turn.auto))))
+
 pub returns-clause-ran : goal.returns-clause-ran
 returns-clause-ran g c =
-    λ p h. let s = c.loop-turn.invariant.going p h in (s.0, ran_turns _ p s.0 _ c.loop-turn._turn _ _ _ _ s.1 (omega (arith, c.loop-turn-test, c.loop-turn.auto)))
+    λ p h.
+    let s = c.loop-turn.invariant.going p h in
+    let f = going_flushed _ p s.0 _ c.loop-turn._turn _ _ _ _ _ _ s.1 c.in_ok-flush-2.ensures.flushed in
+    (s.0, ran_turns _ p s.0 _ c.loop-turn._turn _ _ _ _ f (omega (arith, c.loop-turn-test, c.loop-turn.auto)))

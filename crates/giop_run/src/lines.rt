@@ -1,0 +1,84 @@
+//! Lines on their way to a writer, in a buffer.
+
+ghost use Rattle.std.specs.Prelude.{◌≡◌, [], IfOk};
+ghost use Rattle.std.specs.Io.KnownBytes.{append_known};
+
+use super::flush::Flush;
+use super::source::one_more;
+use giop_print::{Out, OutFault};
+use std::alloc::{AllocError, Global};
+use std::io::{BufWriter, Write};
+
+/// Lines on their way to a writer, which a buffer keeps back until they are flushed. It fails where its writer does, and
+/// where that takes nothing of some octets.
+#[derive(Drop)]
+pub struct Lines<W: Write + Drop> {
+    buffer: BufWriter<W>,
+    puts: u64,
+    failures: u64,
+}
+
+impl<W: Write + Drop> Lines<W> {
+    ghost use Rattle.giop_run.specs.Buffered.{lines_log, lines_kept};
+
+    /// An empty buffer in front of the writer.
+    pub fn new(alloc: Global, writer: W) -> Result<Lines<W>, AllocError>
+        ensures log { IfOk result (λ lines. lines_log W.contents lines
+            ≡ record { written = W.contents writer; puts = 0; failures = 0 }) }
+        ensures empty { IfOk result (λ lines. lines_kept lines ≡ []) }
+    {
+        let Ok(buffer) = BufWriter::new(alloc, writer) else {
+            return Err(AllocError);
+        };
+        Ok(Lines {
+            buffer,
+            puts: 0,
+            failures: 0,
+        })
+    }
+
+    /// The writer, which has what was written but for what the buffer keeps back.
+    pub fn writer(&self) -> &W
+        ensures { append_known (W.contents result.now) (lines_kept self.now)
+            ≡ (lines_log W.contents self.now).written }
+    {
+        self.buffer.get_ref()
+    }
+}
+
+impl<W: Write + Drop> Out for Lines<W> {
+    ghost use Rattle.giop_run.specs.Buffered.{lines_log};
+
+    ghost log = { lines_log W.contents };
+
+    fn put(&mut self, octets: &[u8]) -> Result<usize, OutFault> {
+        self.puts = one_more(self.puts);
+        match self.buffer.write(octets) {
+            Ok(taken) => {
+                if taken == 0 && !octets.is_empty() {
+                    self.failures = one_more(self.failures);
+                    return Err(OutFault);
+                }
+                Ok(taken)
+            }
+            Err(_) => {
+                self.failures = one_more(self.failures);
+                Err(OutFault)
+            }
+        }
+    }
+}
+
+impl<W: Write + Drop> Flush for Lines<W> {
+    ghost use Rattle.giop_run.specs.Buffered.{lines_kept};
+
+    ghost kept = { lines_kept };
+
+    fn flush(&mut self) -> Result<(), OutFault> {
+        if self.buffer.flush().is_err() {
+            self.failures = one_more(self.failures);
+            return Err(OutFault);
+        }
+        Ok(())
+    }
+}

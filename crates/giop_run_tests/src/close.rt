@@ -1,0 +1,38 @@
+//! What the tests have in common: the types by which streams are read, and a CloseConnection.
+
+ghost use Rattle.std.specs.Prelude.{IfOk};
+ghost use Rattle.giop_stream.specs.Holding.{AreOf};
+
+use giop_sig::{Catalogue, Requests};
+use std::alloc::Global;
+use std::test::Fail;
+
+/// The built-in types, and the list of no request.
+pub fn built_in(alloc: Global) -> Result<(Catalogue, Requests), Fail>
+    ensures { IfOk result (λ known. AreOf known.0 known.1) }
+{
+    let catalogue = Catalogue::builtin(alloc)?;
+    let requests = Requests::parse(alloc, b"", &catalogue)?;
+    Ok((catalogue, requests))
+}
+
+/// A CloseConnection alone.
+pub const CLOSE: &[u8] = b"GIOP\x01\x00\x00\x05\x00\x00\x00\x00";
+
+/// Its lines.
+pub const CLOSED: &[u8] = b"m1 start 1.0 big CloseConnection size 0\n\
+m1 end\n\
+total messages 1 faults 0 octets 12\n";
+
+/// How many octets the lines before the closing have.
+pub const COMPLETED: usize = 47;
+
+/// What can't be the start of a header.
+pub const WRONG: &[u8] = b"GIOQ";
+
+/// Its lines.
+pub const REFUSED: &[u8] = b"stream fault magic at 4\n\
+total messages 0 faults 1 octets 4\n";
+
+/// The lines of no octets.
+pub const NOTHING: &[u8] = b"total messages 0 faults 0 octets 0\n";

@@ -1,0 +1,238 @@
+//! Lines that are buffered: when they are flushed, and what a flush or a read that fails leaves.
+
+ghost use Rattle.giop_stream.specs.Holding.{AreOf};
+
+use super::close::{CLOSE, CLOSED, COMPLETED, NOTHING, REFUSED, WRONG, built_in};
+use super::fakes::{FailingReader, FailingWriter};
+use giop_run::{Lines, ProgramFault, Report, RunFault, dump, status};
+use giop_sig::{Catalogue, Requests};
+use std::cell::{Cell, RefCell};
+use std::io;
+use std::io::{ErrorKind, Read};
+use std::process::Abort;
+use std::test::Fail;
+
+/// The status of the program after such a run.
+fn status_of(dumped: Result<Report, RunFault>) -> u8 {
+    match dumped {
+        Ok(report) => status(&Ok(report)),
+        Err(fault) => status(&Err(ProgramFault::Run(fault))),
+    }
+}
+
+/// A reader that gives a CloseConnection whole at its first read, and fails at its second unless its lines are
+/// written then.
+#[derive(Drop)]
+struct WatchingReader<'a> {
+    reads: usize,
+    held: &'a RefCell<Vec<u8>>,
+}
+
+impl Read for WatchingReader<'_> {
+    fn read(&mut self, into: &mut [u8]) -> io::Result<usize> {
+        self.reads = self.reads.saturating_add(1);
+        if self.reads > 1 {
+            return if self.held.try_borrow()?.len() == COMPLETED {
+                Ok(0)
+            } else {
+                Err(io::Error::from(ErrorKind::Other))
+            };
+        }
+        let mut stream = CLOSE;
+        stream.read(into)
+    }
+}
+
+/// Dumps what a reader gives that watches the lines: whether it saw them in time.
+fn is_watched(
+    rt: &impl AllocGlobal,
+    catalogue: &Catalogue,
+    requests: &Requests,
+    held: &RefCell<Vec<u8>>,
+) -> Result<bool, Fail>
+    requires of { AreOf catalogue.now requests.now }
+{
+    let mut lines = Lines::new(rt.alloc(), FailingWriter::new(held, 100))?;
+    let reader = WatchingReader { reads: 0, held };
+    Ok(dump(reader, &mut lines, catalogue, requests).is_ok())
+}
+
+fn watches(
+    rt: &(impl Abort + AllocGlobal),
+    catalogue: &Catalogue,
+    requests: &Requests,
+) -> Result<(), Fail>
+    requires of { AreOf catalogue.now requests.now }
+{
+    let held = RefCell::new(Vec::new(rt.alloc()));
+    let seen = is_watched(rt, catalogue, requests, &held)?;
+    assert!(rt; seen && held.into_inner().as_slice() == CLOSED);
+    Ok(())
+}
+
+#[test]
+fn the_lines_are_written_before_the_next_read(rt: HostRuntime) -> Result<(), Fail> {
+    let known = built_in(rt.alloc())?;
+    watches(&rt, &known.0, &known.1)
+}
+
+/// Dumps a stream to a vector.
+fn dumps(
+    rt: &(impl Abort + AllocGlobal),
+    catalogue: &Catalogue,
+    requests: &Requests,
+    stream: &[u8],
+    want: &[u8],
+) -> Result<u8, Fail>
+    requires of { AreOf catalogue.now requests.now }
+{
+    let mut lines = Lines::new(rt.alloc(), Vec::new(rt.alloc()))?;
+    let dumped = dump(stream, &mut lines, catalogue, requests);
+    assert!(rt; lines.writer().as_slice() == want);
+    Ok(status_of(dumped))
+}
+
+fn each_status(
+    rt: &(impl Abort + AllocGlobal),
+    catalogue: &Catalogue,
+    requests: &Requests,
+) -> Result<(), Fail>
+    requires of { AreOf catalogue.now requests.now }
+{
+    let empty = dumps(rt, catalogue, requests, b"", NOTHING)?;
+    let sound = dumps(rt, catalogue, requests, CLOSE, CLOSED)?;
+    let faulted = dumps(rt, catalogue, requests, WRONG, REFUSED)?;
+    assert!(rt; (empty, sound, faulted) == (0, 0, 1));
+    Ok(())
+}
+
+#[test]
+fn the_status_says_whether_a_fault_was_counted(rt: HostRuntime) -> Result<(), Fail> {
+    let known = built_in(rt.alloc())?;
+    each_status(&rt, &known.0, &known.1)
+}
+
+/// Dumps a CloseConnection by reads of an octet, of which one may fail, over a writer of which one write may.
+fn dump_by_octets(
+    rt: &impl AllocGlobal,
+    catalogue: &Catalogue,
+    requests: &Requests,
+    reader: FailingReader,
+    writer: FailingWriter,
+) -> Result<Result<Report, RunFault>, Fail>
+    requires of { AreOf catalogue.now requests.now }
+{
+    let mut lines = Lines::new(rt.alloc(), writer)?;
+    Ok(dump(reader, &mut lines, catalogue, requests))
+}
+
+/// What differs where a write fails. Three writes of at most 16 octets flush the first two lines, and three more the
+/// closing.
+fn write_differs(
+    dumped: Result<Report, RunFault>,
+    reads: usize,
+    held: &[u8],
+    fails_at: usize,
+) -> &'static str {
+    let fails = fails_at < 6;
+    if (dumped == Err(RunFault::Out)) != fails || (status_of(dumped) == 4) != fails {
+        return "the answer";
+    }
+    if reads != if fails_at < 3 { 12 } else { 13 } {
+        return "the reads";
+    }
+    if CLOSED.starts_with(held) {
+        ""
+    } else {
+        "the lines"
+    }
+}
+
+fn fails_at_a_write(
+    rt: &(impl Abort + AllocGlobal),
+    catalogue: &Catalogue,
+    requests: &Requests,
+    fails_at: usize,
+) -> Result<(), Fail>
+    requires of { AreOf catalogue.now requests.now }
+{
+    let held = RefCell::new(Vec::new(rt.alloc()));
+    let reads = Cell::new(0);
+    let reader = FailingReader::new(CLOSE, &reads, 100);
+    let writer = FailingWriter::new(&held, fails_at);
+    let dumped = dump_by_octets(rt, catalogue, requests, reader, writer)?;
+    let held = held.into_inner();
+    let differs = write_differs(dumped, reads.get(), &held, fails_at);
+    assert!(rt; differs.is_empty(), "write {fails_at}: {differs}");
+    Ok(())
+}
+
+fn each_write_fails(
+    rt: &(impl Abort + AllocGlobal),
+    catalogue: &Catalogue,
+    requests: &Requests,
+) -> Result<(), Fail>
+    requires of { AreOf catalogue.now requests.now }
+{
+    for fails_at in 0..7 {
+        fails_at_a_write(rt, catalogue, requests, fails_at)?;
+    }
+    Ok(())
+}
+
+#[test]
+fn a_failing_flush_is_a_failed_write(rt: HostRuntime) -> Result<(), Fail> {
+    let known = built_in(rt.alloc())?;
+    each_write_fails(&rt, &known.0, &known.1)
+}
+
+/// What differs where a read fails: the lines of what was read are written.
+fn read_differs(dumped: Result<Report, RunFault>, held: &[u8], fails_at: usize) -> &'static str {
+    if dumped != Err(RunFault::Read) || status_of(dumped) != 4 {
+        return "the answer";
+    }
+    let due = if fails_at < 12 { 0 } else { COMPLETED };
+    if held.len() == due && CLOSED.starts_with(held) {
+        ""
+    } else {
+        "the lines"
+    }
+}
+
+fn fails_at_a_read(
+    rt: &(impl Abort + AllocGlobal),
+    catalogue: &Catalogue,
+    requests: &Requests,
+    fails_at: usize,
+) -> Result<(), Fail>
+    requires of { AreOf catalogue.now requests.now }
+{
+    let held = RefCell::new(Vec::new(rt.alloc()));
+    let reads = Cell::new(0);
+    let reader = FailingReader::new(CLOSE, &reads, fails_at);
+    let writer = FailingWriter::new(&held, 100);
+    let dumped = dump_by_octets(rt, catalogue, requests, reader, writer)?;
+    let held = held.into_inner();
+    let differs = read_differs(dumped, &held, fails_at);
+    assert!(rt; differs.is_empty(), "read {fails_at}: {differs}");
+    Ok(())
+}
+
+fn each_read_fails(
+    rt: &(impl Abort + AllocGlobal),
+    catalogue: &Catalogue,
+    requests: &Requests,
+) -> Result<(), Fail>
+    requires of { AreOf catalogue.now requests.now }
+{
+    for fails_at in 0..13 {
+        fails_at_a_read(rt, catalogue, requests, fails_at)?;
+    }
+    Ok(())
+}
+
+#[test]
+fn a_failing_read_leaves_the_lines_flushed(rt: HostRuntime) -> Result<(), Fail> {
+    let known = built_in(rt.alloc())?;
+    each_read_fails(&rt, &known.0, &known.1)
+}

@@ -1,0 +1,232 @@
+//! The program's steps on files: its lines, what it says, and its status.
+
+use giop_program::{Arguments, performed};
+use giop_run::{Lines, ProgramFault, Report, status};
+use std::alloc::{AllocError, Global};
+use std::fs;
+use std::process::Abort;
+use std::test::Fail;
+
+/// The texts of files: the name in a line, and the text up to a line of `=`.
+static FILES: &str = "\
+lab.sig
+signatures 1;
+operation void set(in long v);
+operation long ask(in long a, out octet b);
+=
+lab.req
+1 ask
+=
+wrong.sig
+signatures 1;
+struct A {
+  B b;
+};
+=
+wrong.req
+1 ask
+01 ask
+=
+empty.txt
+=
+";
+
+/// The octets of streams in hexadecimal text, behind their names.
+static STREAMS: &str = "\
+set.giop 47494f50 0100 00 00 00000024 00000000 00000007 01 000000 00000002 6b31 0000 \
+    00000004 73657400 00000000 fffffffb
+ask.giop 47494f50 0100 00 01 00000011 00000000 00000001 00000000 0000002a 09
+wrong.giop 47494f51
+";
+
+/// Cases: the signature file, the request list and the stream that are asked for; the status, and what is printed
+/// behind the program's name; the lines, up to a line of `=`. Files that can't be opened are missing, and a directory
+/// can be opened and not read. The first step that fails decides.
+static CASES: &str = "\
+lab.sig _ set.giop
+0
+m1 start 1.0 big Request size 36
+m1 header.service_contexts count 0
+m1 header.request_id ulong 7
+m1 header.response_expected boolean true
+m1 header.object_key octets @0 6b31
+m1 header.operation string @0 \"set\"
+m1 call 7 set
+m1 header.requesting_principal octets @0
+m1 body.v long -5
+m1 end
+total messages 1 faults 0 octets 48
+=
+lab.sig lab.req ask.giop
+0
+m1 start 1.0 big Reply size 17
+m1 header.service_contexts count 0
+m1 header.request_id ulong 1
+m1 header.reply_status enum NO_EXCEPTION
+m1 body.return long 42
+m1 body.b octet 9
+m1 end
+total messages 1 faults 0 octets 29
+=
+lab.sig _ ask.giop
+0
+m1 start 1.0 big Reply size 17
+m1 header.service_contexts count 0
+m1 header.request_id ulong 1
+m1 header.reply_status enum NO_EXCEPTION
+m1 rest @0 0000002a09
+m1 end
+total messages 1 faults 0 octets 29
+=
+_ empty.txt empty.txt
+0
+total messages 0 faults 0 octets 0
+=
+_ _ wrong.giop
+1
+stream fault magic at 4
+total messages 0 faults 1 octets 4
+=
+wrong.sig lab.req set.giop
+3 wrong.sig:3: unknown-type
+=
+empty.txt lab.req set.giop
+3 empty.txt:1: syntax
+=
+lab.sig wrong.req set.giop
+3 wrong.req:2: syntax
+=
+missing.sig lab.req set.giop
+4 missing.sig: cannot read
+=
+lab.sig missing.req set.giop
+4 missing.req: cannot read
+=
+lab.sig lab.req missing.giop
+4 missing.giop: cannot read
+=
+. lab.req set.giop
+4 .: cannot read
+=
+lab.sig lab.req .
+4 read failed
+=
+wrong.sig wrong.req missing.giop
+3 wrong.sig:3: unknown-type
+=
+missing.sig wrong.req missing.giop
+4 missing.sig: cannot read
+=
+lab.sig wrong.req missing.giop
+3 wrong.req:2: syntax
+=
+";
+
+/// The file that a word names.
+fn file_of<'a>(word: Option<&'a str>) -> Option<&'a str> {
+    match word {
+        Some("_") => None,
+        named => named,
+    }
+}
+
+/// What a line asks for.
+fn asked(line: &str) -> Arguments {
+    let mut words = line.split(' ');
+    Arguments {
+        signatures: file_of(words.next()),
+        requests: file_of(words.next()),
+        stream: file_of(words.next()),
+    }
+}
+
+/// Whether the program ended with this status, and said this.
+fn is_told(
+    alloc: Global,
+    ended: &Result<Report, ProgramFault>,
+    want: &str,
+) -> Result<bool, AllocError> {
+    let (number, says) = want.split_once(' ').unwrap_or((want, ""));
+    let is_status = number == STATUSES[status(ended) as usize % 6];
+    let Err(fault) = ended else {
+        return Ok(is_status && says.is_empty());
+    };
+    let text = format!(in alloc; "{fault}")?;
+    Ok(is_status && text.as_str() == says)
+}
+
+const STATUSES: [&str; 6] = ["0", "1", "2", "3", "4", "5"];
+
+/// Whether a case ends as it says: its lines, its status, and what is printed.
+fn is_performed(rt: &HostRuntime, case: &str) -> Result<bool, Fail> {
+    let mut parts = case.splitn(3, '\n');
+    let asked = asked(parts.next().unwrap_or(""));
+    let told = parts.next().unwrap_or("");
+    let want = parts.next().unwrap_or("");
+    let mut lines = Lines::new(rt.alloc(), Vec::new(rt.alloc()))?;
+    let ended = performed(rt, asked, &mut lines);
+    let is_written = lines.writer().as_slice() == want.as_bytes();
+    Ok(is_told(rt.alloc(), &ended, told)? && is_written)
+}
+
+/// Performs the cases.
+fn perform(rt: &HostRuntime, abort: &impl Abort) -> Result<(), Fail> {
+    for case in CASES.split_terminator("=\n") {
+        let is_as_told = is_performed(rt, case)?;
+        assert!(abort; is_as_told, "{case}");
+    }
+    Ok(())
+}
+
+/// The octets of hexadecimal text, in which spaces stand anywhere.
+fn octets(alloc: Global, text: &str) -> Result<Vec<u8>, AllocError> {
+    let mut octets = Vec::new(alloc);
+    let mut high = None;
+    for digit in text.chars().filter(|c| *c != ' ') {
+        let digit = digit.to_digit(16).unwrap_or(0);
+        match high.take() {
+            None => high = Some(digit),
+            // A digit is below 16: the remainders tell that to the check.
+            Some(first) => octets.push((first % 16 * 16 + digit % 16) as u8)?,
+        }
+    }
+    Ok(octets)
+}
+
+/// Writes a stream.
+fn write_stream(rt: &HostRuntime, name: &str, text: &str) -> Result<(), Fail> {
+    let octets = octets(rt.alloc(), text)?;
+    fs::write(rt, name, octets.as_slice())?;
+    Ok(())
+}
+
+/// Writes the files and the streams.
+fn write_files(rt: &HostRuntime) -> Result<(), Fail> {
+    for file in FILES.split_terminator("=\n") {
+        let (name, text) = file.split_once('\n').unwrap_or(("", ""));
+        fs::write(rt, name, text.as_bytes())?;
+    }
+    for line in STREAMS.lines() {
+        let (name, text) = line.split_once(' ').unwrap_or(("", ""));
+        write_stream(rt, name, text)?;
+    }
+    Ok(())
+}
+
+/// Removes them.
+fn remove_files(rt: &HostRuntime) -> Result<(), Fail> {
+    for file in FILES.split_terminator("=\n") {
+        fs::remove_file(rt, file.split('\n').next().unwrap_or(""))?;
+    }
+    for line in STREAMS.lines() {
+        fs::remove_file(rt, line.split(' ').next().unwrap_or(""))?;
+    }
+    Ok(())
+}
+
+#[test]
+fn the_first_step_that_fails_decides(rt: HostRuntime) -> Result<(), Fail> {
+    write_files(&rt)?;
+    perform(&rt, &rt)?;
+    remove_files(&rt)
+}

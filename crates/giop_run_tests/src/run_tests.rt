@@ -1,0 +1,239 @@
+//! Runs over sources and outs that fail at each call in turn.
+
+ghost use Rattle.giop_stream.specs.Holding.{AreOf};
+
+use super::close::{CLOSE, CLOSED, COMPLETED, NOTHING, REFUSED, WRONG, built_in};
+use super::fakes::{FailingReader, FailingWriter};
+use giop_print::{Sheet, Written};
+use giop_run::{Ending, Piecewise, Reading, Report, RunFault, run};
+use giop_sig::{Catalogue, Requests};
+use giop_stream::{Engine, Status, Stop, Totals};
+use std::cell::{Cell, RefCell};
+use std::process::Abort;
+use std::test::Fail;
+
+/// Runs what a reader gives, all of it at its first read.
+fn reads(rt: &impl Abort, engine: Engine, stream: &[u8], want: &[u8]) {
+    let mut room = [0; 512];
+    let mut sheet = Sheet::new(&mut room);
+    let mut source = Reading::new(stream);
+    let ran = run(&mut source, &mut sheet, engine, Ending::Finish);
+    assert!(rt; ran.is_ok() && sheet.held() == want);
+}
+
+fn each_reader(rt: &impl Abort, catalogue: &Catalogue, requests: &Requests)
+    requires of { AreOf catalogue.now requests.now }
+{
+    reads(rt, Engine::new(catalogue, requests), b"", NOTHING);
+    reads(rt, Engine::new(catalogue, requests), CLOSE, CLOSED);
+    reads(rt, Engine::new(catalogue, requests), WRONG, REFUSED);
+}
+
+#[test]
+fn lines_come_from_a_reader(rt: HostRuntime) -> Result<(), Fail> {
+    let known = built_in(rt.alloc())?;
+    each_reader(&rt, &known.0, &known.1);
+    Ok(())
+}
+
+/// What differs where read number `fails_at` of thirteen fails.
+fn read_differs(
+    ran: Result<Report, RunFault>,
+    reads: usize,
+    held: &[u8],
+    fails_at: usize,
+) -> &'static str {
+    if (ran == Err(RunFault::Read)) != (fails_at < 13) {
+        return "the answer";
+    }
+    if reads != fails_at.saturating_add(1).min(13) {
+        return "the reads";
+    }
+    let due = match fails_at {
+        0..=11 => 0,
+        12 => COMPLETED,
+        _ => CLOSED.len(),
+    };
+    if held.len() == due && CLOSED.starts_with(held) {
+        ""
+    } else {
+        "the lines"
+    }
+}
+
+/// Runs a CloseConnection by reads of an octet, of which one fails.
+fn fails_at_a_read(rt: &impl Abort, engine: Engine, fails_at: usize) {
+    let mut room = [0; 512];
+    let mut sheet = Sheet::new(&mut room);
+    let reads = Cell::new(0);
+    let mut source = Reading::new(FailingReader::new(CLOSE, &reads, fails_at));
+    let ran = run(&mut source, &mut sheet, engine, Ending::Finish);
+    let differs = read_differs(ran, reads.get(), sheet.held(), fails_at);
+    assert!(rt; differs.is_empty(), "read {fails_at}: {differs}");
+}
+
+fn each_read_fails(rt: &impl Abort, catalogue: &Catalogue, requests: &Requests)
+    requires of { AreOf catalogue.now requests.now }
+{
+    for fails_at in 0..14 {
+        fails_at_a_read(rt, Engine::new(catalogue, requests), fails_at);
+    }
+}
+
+#[test]
+fn a_failing_read_ends_the_run_and_keeps_the_lines(rt: HostRuntime) -> Result<(), Fail> {
+    let known = built_in(rt.alloc())?;
+    each_read_fails(&rt, &known.0, &known.1);
+    Ok(())
+}
+
+/// What differs where a write may fail.
+fn put_differs(ran: Result<Report, RunFault>, held: &[u8]) -> &'static str {
+    if !CLOSED.starts_with(held) {
+        return "the lines";
+    }
+    match ran {
+        Ok(_) if held.len() == CLOSED.len() => "",
+        Err(RunFault::Out) if held.len() < CLOSED.len() => "",
+        _ => "the answer",
+    }
+}
+
+/// Runs a CloseConnection over an out of which one write fails, and says whether the run came to its end.
+fn fails_at_a_put(rt: &(impl Abort + AllocGlobal), engine: Engine, fails_at: usize) -> bool {
+    let held = RefCell::new(Vec::new(rt.alloc()));
+    let mut out = Written::new(FailingWriter::new(&held, fails_at));
+    let mut source = Piecewise::new(CLOSE, 12);
+    let ran = run(&mut source, &mut out, engine, Ending::Finish);
+    let held = held.into_inner();
+    let differs = put_differs(ran, &held);
+    assert!(rt; differs.is_empty(), "write {fails_at}: {differs}");
+    ran.is_ok()
+}
+
+fn each_put_fails(rt: &(impl Abort + AllocGlobal), catalogue: &Catalogue, requests: &Requests)
+    requires of { AreOf catalogue.now requests.now }
+{
+    let mut ended = 0;
+    for fails_at in 0..20 {
+        if fails_at_a_put(rt, Engine::new(catalogue, requests), fails_at) {
+            ended = fails_at.max(ended);
+        } else {
+            assert!(rt; ended == 0, "write {fails_at}");
+        }
+    }
+    assert!(rt; ended == 19);
+}
+
+#[test]
+fn a_failing_put_ends_the_run_and_keeps_a_front(rt: HostRuntime) -> Result<(), Fail> {
+    let known = built_in(rt.alloc())?;
+    each_put_fails(&rt, &known.0, &known.1);
+    Ok(())
+}
+
+/// What differs in an engine of which a put failed.
+fn failed_differs(engine: &Engine, fed: Result<Status, Stop>) -> &'static str {
+    if !matches!(fed, Err(Stop::Out(_))) {
+        return "the answer";
+    }
+    if engine.totals() != NO_TOTALS {
+        return "the totals";
+    }
+    if engine.is_failed() { "" } else { "the engine" }
+}
+
+const NO_TOTALS: Totals = Totals {
+    messages: 0,
+    faults: 0,
+    octets: 0,
+};
+
+/// Feeds a CloseConnection to an engine over too little room, and then runs that engine over a wide sheet.
+fn fails_for_good(rt: &impl Abort, engine: Engine, room: usize) {
+    let mut engine = engine;
+    let mut octets = [0; COMPLETED];
+    let mut sheet = Sheet::new(&mut octets[..room.min(COMPLETED)]);
+    let fed = engine.feed(CLOSE, &mut sheet);
+    let differs = failed_differs(&engine, fed);
+    assert!(rt; differs.is_empty(), "room {room}: {differs}");
+    let again = engine.feed(CLOSE, &mut sheet);
+    assert!(rt; matches!(again, Err(Stop::Failed)), "room {room}");
+    reads_nothing(rt, engine);
+}
+
+/// Runs an engine that is failed.
+fn reads_nothing(rt: &impl Abort, engine: Engine) {
+    let mut wide = [0; 512];
+    let mut sheet = Sheet::new(&mut wide);
+    let reads = Cell::new(0);
+    let mut source = Reading::new(FailingReader::new(CLOSE, &reads, 100));
+    let ran = run(&mut source, &mut sheet, engine, Ending::Finish);
+    let untouched = reads.get() == 0 && sheet.held().is_empty();
+    assert!(rt; ran == Err(RunFault::Failed) && untouched);
+}
+
+fn each_room_fails(rt: &impl Abort, catalogue: &Catalogue, requests: &Requests)
+    requires of { AreOf catalogue.now requests.now }
+{
+    for room in 0..COMPLETED {
+        fails_for_good(rt, Engine::new(catalogue, requests), room);
+    }
+}
+
+#[test]
+fn a_failed_engine_reads_and_writes_nothing(rt: HostRuntime) -> Result<(), Fail> {
+    let known = built_in(rt.alloc())?;
+    each_room_fails(&rt, &known.0, &known.1);
+    Ok(())
+}
+
+/// What differs on a sheet with so much room.
+fn kept_differs(
+    fed: Result<Status, Stop>,
+    finished: Result<Totals, Stop>,
+    room: usize,
+) -> &'static str {
+    if room < COMPLETED {
+        return match (fed, finished) {
+            (Err(Stop::Out(_)), Err(Stop::Failed)) => "",
+            _ => "the failure",
+        };
+    }
+    if !matches!(fed, Ok(Status::Running)) {
+        return "the answer";
+    }
+    if finished.is_ok() == (room == 83) {
+        ""
+    } else {
+        "the end"
+    }
+}
+
+/// Dumps a CloseConnection on a sheet with so much room.
+fn keeps_what_fits(rt: &impl Abort, engine: Engine, room: usize) {
+    let mut engine = engine;
+    let mut octets = [0; 84];
+    let mut sheet = Sheet::new(&mut octets[..room.min(84)]);
+    let fed = engine.feed(CLOSE, &mut sheet);
+    let finished = engine.finish(&mut sheet);
+    let differs = kept_differs(fed, finished, room);
+    let held = sheet.held();
+    let fits = held.len() == room && CLOSED.starts_with(held);
+    assert!(rt; fits && differs.is_empty(), "room {room}: {differs}");
+}
+
+fn each_room(rt: &impl Abort, catalogue: &Catalogue, requests: &Requests)
+    requires of { AreOf catalogue.now requests.now }
+{
+    for room in 0..84 {
+        keeps_what_fits(rt, Engine::new(catalogue, requests), room);
+    }
+}
+
+#[test]
+fn a_full_sheet_keeps_what_fits(rt: HostRuntime) -> Result<(), Fail> {
+    let known = built_in(rt.alloc())?;
+    each_room(&rt, &known.0, &known.1);
+    Ok(())
+}

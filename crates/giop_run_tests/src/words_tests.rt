@@ -1,0 +1,97 @@
+//! The program's words.
+
+use clap::error::ErrorKind as WordsKind;
+use giop_program::Arguments;
+use std::alloc::{AllocError, Global};
+use std::process::Abort;
+use std::test::Fail;
+
+/// Words behind the program's name, and behind `>` the signature file, the request list and the stream that they ask
+/// for, or why nothing is read.
+static WORDS: &str = "\
+> _ _ _
+one.giop > _ _ one.giop
+- > _ _ -
+-- --help > _ _ --help
+--signatures a.sig > a.sig _ _
+--signatures=a.sig > a.sig _ _
+--signatures - > - _ _
+--requests a.req > _ a.req _
+one.giop --requests=a.req --signatures a.sig > a.sig a.req one.giop
+--help > help
+-h > help
+--version > version
+-V > version
+one two > unknown
+--resume x > unknown
+--save=x > unknown
+--signatures > value
+--requests > value
+--requests --signatures a > value
+--signatures a --signatures b > conflict
+--requests=a --requests=a > conflict
+";
+
+/// The file that a word names.
+fn file_of<'a>(word: Option<&'a str>) -> Option<&'a str> {
+    match word {
+        Some("_") => None,
+        named => named,
+    }
+}
+
+/// What is wanted of some words: the files, or the kind of what is printed and the status.
+fn wanted(text: &str) -> Result<Arguments, (WordsKind, i32)> {
+    match text {
+        "help" => Err((WordsKind::DisplayHelp, 0)),
+        "version" => Err((WordsKind::DisplayVersion, 0)),
+        "unknown" => Err((WordsKind::UnknownArgument, 2)),
+        "value" => Err((WordsKind::InvalidValue, 2)),
+        "conflict" => Err((WordsKind::ArgumentConflict, 2)),
+        files => Ok(files_of(files)),
+    }
+}
+
+/// The files that a row wants, in order.
+fn files_of(text: &str) -> Arguments {
+    let mut words = text.split(' ');
+    Arguments {
+        signatures: file_of(words.next()),
+        requests: file_of(words.next()),
+        stream: file_of(words.next()),
+    }
+}
+
+/// The program's name, and the words behind it.
+fn named(alloc: Global, given: &str) -> Result<Vec<String>, AllocError> {
+    let mut words = Vec::new(alloc);
+    words.push(String::from_str(alloc, "giopdump")?)?;
+    for word in given.split(' ').filter(|word| !word.is_empty()) {
+        words.push(String::from_str(alloc, word)?)?;
+    }
+    Ok(words)
+}
+
+/// Whether words ask for what is wanted.
+fn asks(alloc: Global, words: &[String], want: &str) -> bool {
+    let asked = match Arguments::read(alloc, words) {
+        Ok(asked) => Ok(asked),
+        Err(error) => Err((error.kind(), error.exit_code())),
+    };
+    asked == wanted(want)
+}
+
+fn each_row(rt: &(impl Abort + AllocGlobal), row: &str) -> Result<(), Fail> {
+    let (given, want) = row.split_once("> ").unwrap_or(("", ""));
+    let words = named(rt.alloc(), given)?;
+    assert!(rt; asks(rt.alloc(), &words, want), "{row}");
+    Ok(())
+}
+
+#[test]
+fn words_ask_for_files(rt: HostRuntime) -> Result<(), Fail> {
+    for row in WORDS.lines() {
+        each_row(&rt, row)?;
+    }
+    Ok(())
+}
