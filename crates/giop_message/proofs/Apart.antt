@@ -19,9 +19,9 @@ use Rattle.giop_message.specs.Reading as said
 use Rattle.giop_message.specs.Reading.{Saying, Value, Call, Rest, Fault, End, Remark, InTurn, AtClose}
 use Rattle.giop_message.specs.Signatures.{Signatures}
 use Rattle.giop_message.specs.Steps.{rest_step, message_step, advance}
-use Rattle.giop_message.proofs.AtOctet.{due_said}
+use Rattle.giop_message.proofs.AtOctet.{due_said_is}
 use Rattle.giop_message.proofs.Causal.{Silent, rest_silent, after_header_silent, after_exception_silent, body_silent, is_ordered}
-use Rattle.giop_message.proofs.Closes.{closes_say}
+use Rattle.giop_message.proofs.Closes.{is_closing}
 use Rattle.giop_message.proofs.Going.{message_goes}
 
 abbrev Sayings : List Told → List Saying
@@ -102,7 +102,7 @@ octet_leaves : (S : Signatures) (header xs : List ℕ) (x : ℕ) →
     Leaves (map (λ r. r.saying) (said.due (reading_by S) header xs x)) (stage_of (message S header (xs ++ x ∷ [])))
 unfolding due
 octet_leaves S header xs x =
-    rw (due_said S header xs x, speaks (due S header xs (x ∷ [])), message_goes S header xs x) (advance_settles S header (message S header xs) x)
+    rw (due_said_is S header xs x, speaks (due S header xs (x ∷ [])), message_goes S header xs x) (advance_settles S header (message S header xs) x)
 
 -- ---- the close
 
@@ -135,13 +135,16 @@ call_apart sayings (inl e) = rw e (((λ k. cc), ((λ k. cc), tt)), other Call Fa
 call_apart sayings (inr (inl e)) = rw e (((λ k. cc), ((λ k. cc), tt)), other Call End (λ k. cc))
 call_apart sayings (inr (inr e)) = rw e (((λ k. cc), ((λ k. cc), ((λ k. cc), tt))), one_apart Call (Rest ∷ End ∷ []) (inr (inr refl)) (λ k. cc) (λ k. cc) (λ k. cc))
 
-turn_apart : (sayings : List Saying) (stage : Stage) → InTurn sayings → Leaves sayings stage →
+turn_apart : (sayings : List Saying) (stage : Stage) → InTurn sayings → Leaves sayings stage → AtClose (Closings stage) →
     AreApart (sayings ++ Closings stage)
-turn_apart sayings stage (inl e) h = rw e (close_apart (Closings stage) (closes_say stage))
-turn_apart sayings stage (inr (inl e)) h = rw e (one_apart Value (Closings stage) (closes_say stage) (λ k. cc) (λ k. cc) (λ k. cc))
-turn_apart sayings stage (inr (inr (inl e))) h = rw e (call_apart (Closings stage) (closes_say stage))
-turn_apart sayings stage (inr (inr (inr (inl e)))) h = rw (leaves_end sayings stage h (inl e), e) (other Rest End (λ k. cc))
-turn_apart sayings stage (inr (inr (inr (inr e)))) h = rw (leaves_end sayings stage h (inr e), e) (other Fault End (λ k. cc))
+turn_apart sayings stage (inl e) h closed = rw e (close_apart (Closings stage) closed)
+turn_apart sayings stage (inr (inl e)) h closed =
+    rw e (one_apart Value (Closings stage) closed (λ k. cc) (λ k. cc) (λ k. cc))
+turn_apart sayings stage (inr (inr (inl e))) h closed = rw e (call_apart (Closings stage) closed)
+turn_apart sayings stage (inr (inr (inr (inl e)))) h closed =
+    rw (leaves_end sayings stage h (inl e), e) (other Rest End (λ k. cc))
+turn_apart sayings stage (inr (inr (inr (inr e)))) h closed =
+    rw (leaves_end sayings stage h (inr e), e) (other Fault End (λ k. cc))
 
 octet_apart : (S : Signatures) (header xs : List ℕ) (x : ℕ) →
     AreApart (map (λ r. r.saying) (said.due (reading_by S) header xs x) ++ map (λ l. l.0) ((reading_by S).closes header (xs ++ x ∷ [])))
@@ -149,6 +152,7 @@ unfolding reading_by
 octet_apart S header xs x =
     turn_apart (map (λ r. r.saying) (said.due (reading_by S) header xs x)) (stage_of (message S header (xs ++ x ∷ [])))
     ((is_ordered S).ordered header (xs ++ x ∷ []) (suc (length xs))) (octet_leaves S header xs x)
+    ((is_closing S).closed header (xs ++ x ∷ []))
 
 -- No octet has two lines of one kind, with those of a close at it.
 pub is_apart : (S : Signatures) → IsApart (reading_by S)

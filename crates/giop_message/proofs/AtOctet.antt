@@ -54,9 +54,9 @@ one_octet S header xs x =
       said = said_is ∙ ap (map remark_of) (sym due_is);
     }
 
--- what is said at an octet is what is told of it
-pub due_said : (S : Signatures) (header xs : List ℕ) (x : ℕ) → said.due (reading_by S) header xs x ≡ map remark_of (due S header xs (x ∷ []))
-due_said S header xs x = (one_octet S header xs x).said
+-- what is said of one octet more
+pub due_said_is : (S : Signatures) (header xs : List ℕ) (x : ℕ) → said.due (reading_by S) header xs x ≡ map remark_of (due S header xs (x ∷ []))
+due_said_is S header xs x = (one_octet S header xs x).said
 
 told_here : (number place offset : ℕ) (told : List Told) → ToldAt (offset + 1) told → told_text number place offset told ≡ said_text (suc place) number (map remark_of told)
 unfolding told_text said_text speech_line

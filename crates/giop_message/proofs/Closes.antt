@@ -13,7 +13,7 @@ first_or : Saying → List Saying → Saying
 first_or s [] = s
 first_or s (x ∷ xs) = x
 
-abbrev pub Sayings : List Speech → List Saying
+abbrev Sayings : List Speech → List Saying
 Sayings speeches = map (λ l. l.0) (map closing_of speeches)
 
 lack_says : (test : Bool) → AtClose (Sayings (if test then Ends ∷ [] else Incomplete ∷ []))
@@ -21,7 +21,7 @@ unfolding saying_of
 lack_says true = inr (inl refl)
 lack_says false = inl refl
 
-pub closes_say : (stage : Stage) → AtClose (Sayings (close stage))
+closes_say : (stage : Stage) → AtClose (Sayings (close stage))
 unfolding saying_of close
 closes_say (In_header h outer leaf) = inl refl
 closes_say (In_padding b) = lack_says (may_lack b)
