@@ -19,6 +19,7 @@ mod Waiting
 mod Starting
 mod Hearing
 mod WholeStrings
+mod OneCut
 mod Left
 mod Taking
 pub mod ReadingLaws

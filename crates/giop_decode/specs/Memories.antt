@@ -59,13 +59,17 @@ cut_from (suc full) offset octets =
 abbrev pub pieces_of : List ℕ → List TextPiece
 pieces_of content = cut_from (full_pieces (length content)) 0 content
 
+-- pieces of which none is the last
+abbrev pub AreUnended : List TextPiece → Type 0
+AreUnended pieces = Each (λ p. p.more ≡ true) pieces
+
 -- The strings of a reading, in their order: the contents of those that are whole, and the pieces of one that has
 -- begun and not ended.
 pub record Strings (r : Read) : Type 0 where
   pub contents : List (List ℕ)
   pub begun : List TextPiece
   pub lines : text_pieces (lines_of r) ≡ flat_map pieces_of contents ++ begun
-  pub unended : Each (λ p. p.more ≡ true) begun
+  pub unended : AreUnended begun
   pub none : in_string r ≡ false → begun ≡ []
 
 -- ---- what is left in mind

@@ -1,6 +1,6 @@
 //! The laws of reading: what one octet more, or many, do to the reading of a list, and what a reading leaves in mind.
 
-ghost use Rattle.std.specs.Prelude.{◌≡◌, ℕ, ◌+◌, Bool, List, [], ◌∷◌, ◌++◌, length};
+ghost use Rattle.std.specs.Prelude.{◌≡◌, ℕ, ◌+◌, Bool, List, [], ◌∷◌, ◌++◌, length, flat_map};
 ghost use Rattle.giop_cdr.specs.declared.order.Order.{Order as ByteOrder};
 ghost use Rattle.giop_sig.specs.Types.{Ty};
 ghost use Rattle.giop_sig.specs.Fits.{IsFit};
@@ -10,7 +10,7 @@ ghost use Rattle.giop_decode.specs.Begins.{start_outer, start_leaf};
 ghost use Rattle.giop_decode.specs.Steps.{step, advance, resumes, Now};
 ghost use Rattle.giop_decode.specs.Fits.{FitsIn, Sound};
 ghost use Rattle.giop_decode.specs.Heard.{heard_of};
-ghost use Rattle.giop_decode.specs.Memories.{IsLeft};
+ghost use Rattle.giop_decode.specs.Memories.{TextPiece, pieces_of, AreUnended, IsLeft};
 
 /// The reading of a list is told by the parts that the reading of a front of it has begun and not ended. It has no body,
 /// and is called for its contract.
@@ -42,6 +42,10 @@ pub fn reading_laws()
 /// What a reading leaves in mind is what its lines say last: of the values at the request id of a header, of the enums, and
 /// of the strings that are whole. It has no body, and is called for its contract.
 pub fn memory_laws()
-    ensures { (is_header : Bool) (order : ByteOrder) (path : List Seg) (T : Ty) (at : ℕ) (s : List ℕ) →
+    ensures left { (is_header : Bool) (order : ByteOrder) (path : List Seg) (T : Ty) (at : ℕ) (s : List ℕ) →
         IsLeft is_header (read order path T at s) (heard_of is_header (read order path T at s)) }
+    // Lines are the pieces of one list of contents at most.
+    ensures one { (contents others : List (List ℕ)) (begun other : List TextPiece) →
+        AreUnended begun → AreUnended other →
+        flat_map pieces_of contents ++ begun ≡ flat_map pieces_of others ++ other → contents ≡ others }
 {}

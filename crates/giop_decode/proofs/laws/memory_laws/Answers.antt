@@ -1,5 +1,6 @@
 use Rattle.giop_decode.proofs.Left.{read_left}
+use Rattle.giop_decode.proofs.OneCut.{contents_one}
 use Rattle.giop_decode.proofs.laws.memory_laws.Goals as goal
 
 pub returns : goal.returns
-returns c = read_left
+returns c = record { left = read_left; one = contents_one }
