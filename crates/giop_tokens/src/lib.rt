@@ -9,8 +9,6 @@ mod marks;
 mod names;
 mod numbers;
 mod readers;
-#[cfg(test)]
-mod tests;
 
 pub use fault::{Refusal, SigFault, SigFaultKind};
 pub use laws::{first_token, laid_out, no_list, one_list};

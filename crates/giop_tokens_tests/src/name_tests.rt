@@ -1,0 +1,101 @@
+//! Names and repository ids: which words are none, and how long they may be.
+
+use crate::rows::{FREE, RESERVED};
+use crate::spelled::repeated;
+use giop_tokens::{Refusal, SigFaultKind, identifier, is_reserved, operation_name, repository_id};
+use std::process::Abort;
+use std::test::Fail;
+
+#[test]
+fn reserved_words_are_no_names(rt: HostRuntime) {
+    for reserved in RESERVED.split(' ') {
+        assert!(rt; is_no_name(reserved.as_bytes()), "{reserved}");
+    }
+}
+
+/// Whether a word is reserved, names nothing, and is an operation all the same.
+fn is_no_name(word: &[u8]) -> bool {
+    let syntax = Refusal {
+        kind: SigFaultKind::Syntax,
+        left: word.len(),
+    };
+    let is_operation = match operation_name(word) {
+        Ok((name, rest)) => name == word && rest.is_empty(),
+        Err(_) => false,
+    };
+    is_reserved(word) && is_operation && identifier(word) == Err(syntax)
+}
+
+#[test]
+fn other_words_are_free(rt: HostRuntime) {
+    for free in FREE.split(' ') {
+        assert!(rt; !is_reserved(free.as_bytes()), "{free}");
+    }
+}
+
+/// How many octets, whether a name may have them, and whether an operation's name may.
+static SIZES: [(usize, bool, bool); 4] = [
+    (64, true, true),
+    (65, false, true),
+    (128, false, true),
+    (129, false, false),
+];
+
+#[test]
+fn a_name_has_at_most_64_octets_and_an_operations_128(rt: HostRuntime) -> Result<(), Fail> {
+    for (size, is_name, is_operation) in &SIZES {
+        is_limited(&rt, *size, *is_name, *is_operation)?;
+    }
+    Ok(())
+}
+
+fn is_limited(
+    rt: &(impl Abort + AllocGlobal),
+    size: usize,
+    is_name: bool,
+    is_operation: bool,
+) -> Result<(), Fail> {
+    let text = repeated(rt.alloc(), b"  ", b"n", size)?;
+    let name = identifier(&text);
+    assert!(rt;
+        is_taken_or_limited(name, size, is_name),
+        "a name of {size}"
+    );
+    let name = operation_name(&text);
+    assert!(rt;
+        is_taken_or_limited(name, size, is_operation),
+        "an operation of {size}"
+    );
+    Ok(())
+}
+
+/// Whether a name is taken, or else refused for its length.
+fn is_taken_or_limited(name: Result<(&[u8], &[u8]), Refusal>, size: usize, is_taken: bool) -> bool {
+    match name {
+        Ok(_) => is_taken,
+        Err(refusal) => !is_taken
+            && refusal
+                == Refusal {
+                    kind: SigFaultKind::Limit,
+                    left: size,
+                },
+    }
+}
+
+/// How many octets, and whether a repository id may have them.
+static ID_SIZES: [(usize, bool); 4] = [(0, false), (1, true), (128, true), (129, false)];
+
+#[test]
+fn a_repository_id_has_1_to_128_octets(rt: HostRuntime) -> Result<(), Fail> {
+    for (size, is_id) in &ID_SIZES {
+        is_an_id(&rt, *size, *is_id)?;
+    }
+    Ok(())
+}
+
+fn is_an_id(rt: &(impl Abort + AllocGlobal), size: usize, is_id: bool) -> Result<(), Fail> {
+    let mut text = repeated(rt.alloc(), b"\"", b"r", size)?;
+    text.push(b'"')?;
+    assert!(rt; repository_id(&text).is_ok() == is_id, "size {size}");
+    Ok(())
+}

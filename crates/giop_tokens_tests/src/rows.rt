@@ -1,0 +1,90 @@
+//! Texts and what is told of them: what a test expects, `|` and the text; `=` ends a row.
+
+use std::test::Fail;
+
+/// What a row wants, and its text.
+pub fn row_of(row: &[u8]) -> Result<(&[u8], &[u8]), Fail> {
+    let end = row.iter().position(|octet| *octet == b'|').ok_or("a row")?;
+    Ok((&row[..end], &row[end + 1..]))
+}
+
+/// Texts of tokens.
+pub static READ: &[u8] = b"\
+    |=\
+    | \t\r\n=\
+    |// a comment may end the text=\
+    |//=\
+    |//\n/////\n=\
+    word a|a//b=\
+    word a word c|a// b \" \x00\xff\nc=\
+    word a word d|a // b\rc\n d=\
+    word _1 word a1_B word Z|_1 a1_B Z=\
+    number 0|0=\
+    number 7 number 10|7 10=\
+    number 18446744073709551615|18446744073709551615=\
+    negative 18446744073709551615|-18446744073709551615=\
+    negative 1 word a negative 20|-1 a-20=\
+    number 1 negative 1|1-1=\
+    id IDL:a//b:1.0 word x|\"IDL:a//b:1.0\"x=\
+    id ! id ~|\"!\"\"~\"=\
+    number 1 id # number 2|1\"#\"2=\
+    mark { mark } mark ( mark ) mark < mark >|{}()<>=\
+    mark [ mark ] mark , mark ; mark :|[],;:=\
+    word case negative 1 mark : word default mark :|case -1:default:=\
+    word struct word A mark { word long word x mark [ number 3 mark ] mark ; mark } mark ;|struct A{long x[3];};// end";
+
+/// Texts with something that is no token: how many octets are left from its first octet on, and its line.
+pub static REFUSED: &[u8] = b"\
+    7 2|signatures 1;\nstruct A { long x[00]; };=\
+    7 2|signatures 1;\nstruct A { long x[01]; };=\
+    25 2|signatures 1;\nstruct A { long x[18446744073709551616]; };=\
+    26 2|signatures 1;\nstruct A { long x[100000000000000000000]; };=\
+    7 2|signatures 1;\nstruct A { long x[1a]; };=\
+    7 2|signatures 1;\nstruct A { long x[-0]; };=\
+    8 2|signatures 1;\nstruct A { long x[-01]; };=\
+    8 2|signatures 1;\nstruct A { long x[- 1]; };=\
+    8 2|signatures 1;\nstruct A { long x[-1a]; };=\
+    33 2|signatures 1;\nunion U switch (short) { case -18446744073709551616: long a; };=\
+    2 2|signatures 1;\nstruct A { long x; }; / =\
+    1 2|signatures 1;\nstruct A { long x; };\x0b=\
+    7 2|signatures 1;\nexception E \"\" { };=\
+    10 2|signatures 1;\nexception E \"a b\" { };=\
+    9 2|signatures 1;\nexception E \"a\n\" { };=\
+    1 1|/=\
+    1 1|a /=\
+    1 1|-=\
+    2 2|a\n-x=\
+    1 1|\"=\
+    2 1|\"a=\
+    3 1|\"\x7f\"=\
+    1 1|#=\
+    2 1|a.b=\
+    1 1|.=\
+    1 1|'=\
+    1 3|// c\n\n \x7f=\
+    21 1|000000000000000000001=\
+    2 1|1_=\
+    2 1|+1";
+
+/// How many octets of a text are left at a place, and the line of that place.
+pub static LINES: &[u8] = b"\
+    0 1|=\
+    0 1| =\
+    0 1|\n=\
+    0 2|\n\n=\
+    0 2|signatures 1;\nenum=\
+    0 2|signatures 1;\nenum\n=\
+    0 3|signatures 1;\nenum\n\n=\
+    5 1|a\nb\nc=\
+    4 1|a\nb\nc=\
+    3 2|a\nb\nc=\
+    2 2|a\nb\nc=\
+    1 3|a\nb\nc=\
+    1 1|a\rb";
+
+/// The words that the grammar quotes, and two more that are kept for later.
+pub static RESERVED: &str =
+    "signatures enum struct union switch case default true false exception operation void in out inout string Object sequence octet char boolean short ushort long ulong longlong ulonglong float double return encapsulation";
+
+/// Words that are names.
+pub static FREE: &str = "Enum object bool enums e _enum returns";

@@ -1,0 +1,94 @@
+//! What is told of tokens and of refusals, and texts of many octets.
+
+use giop_tokens::{Mark, Refusal, SigFault, SigFaultKind, Token, fault_in, line_of, next};
+use std::alloc::Global;
+use std::test::Fail;
+
+fn word_of(mark: Mark) -> &'static [u8] {
+    match mark {
+        Mark::OpenBrace => b"{",
+        Mark::CloseBrace => b"}",
+        Mark::OpenParenthesis => b"(",
+        Mark::CloseParenthesis => b")",
+        Mark::OpenBracket => b"[",
+        Mark::CloseBracket => b"]",
+        Mark::OpenAngle => b"<",
+        Mark::CloseAngle => b">",
+        Mark::Comma => b",",
+        Mark::Semicolon => b";",
+        Mark::Colon => b":",
+    }
+}
+
+fn add_number(alloc: Global, kind: &[u8], number: u64, told: &mut Vec<u8>) -> Result<(), Fail> {
+    let digits = format!(in alloc; "{number}")?;
+    told.extend_from_slice(kind)?;
+    told.extend_from_slice(digits.as_bytes())?;
+    Ok(())
+}
+
+fn add_octets(kind: &[u8], octets: &[u8], told: &mut Vec<u8>) -> Result<(), Fail> {
+    told.extend_from_slice(kind)?;
+    told.extend_from_slice(octets)?;
+    Ok(())
+}
+
+/// Adds a token: its kind and its content.
+fn add_token(alloc: Global, token: Token, told: &mut Vec<u8>) -> Result<(), Fail> {
+    if !told.is_empty() {
+        told.push(b' ')?;
+    }
+    match token {
+        Token::Word(word) => add_octets(b"word ", word, told),
+        Token::Number(number) => add_number(alloc, b"number ", number, told),
+        Token::Negative(number) => add_number(alloc, b"negative ", number, told),
+        Token::Repository(id) => add_octets(b"id ", id, told),
+        Token::Mark(mark) => add_octets(b"mark ", word_of(mark), told),
+    }
+}
+
+/// Adds all tokens of a text, and answers what is refused of it.
+pub fn add_tokens(alloc: Global, text: &[u8], told: &mut Vec<u8>) -> Result<Option<Refusal>, Fail> {
+    let mut rest = text;
+    for _ in 0..text.len() + 1 {
+        match next(rest) {
+            Ok((Some(token), after)) => {
+                add_token(alloc, token, told)?;
+                rest = after;
+            }
+            Ok((None, _)) => return Ok(None),
+            Err(refusal) => return Ok(Some(refusal)),
+        }
+    }
+    Err(Fail::from("more tokens than octets"))
+}
+
+/// The line of a place in a text that is no longer than a signature file may be.
+pub fn line_in(text: &[u8], left: usize) -> Option<u32> {
+    if text.len() > 1_048_576 {
+        return None;
+    }
+    Some(line_of(text, left))
+}
+
+/// What is told of a refusal of such a text.
+pub fn told_of(text: &[u8], kind: SigFaultKind, left: usize) -> Option<SigFault> {
+    if text.len() > 1_048_576 {
+        return None;
+    }
+    Some(fault_in(text, Refusal { kind, left }))
+}
+
+/// So many times this text, behind that one.
+pub fn repeated(alloc: Global, first: &[u8], text: &[u8], times: usize) -> Result<Vec<u8>, Fail> {
+    let mut all = Vec::from_slice(alloc, first)?;
+    add_times(text, times, &mut all)?;
+    Ok(all)
+}
+
+fn add_times(text: &[u8], times: usize, all: &mut Vec<u8>) -> Result<(), Fail> {
+    for _ in 0..times {
+        all.extend_from_slice(text)?;
+    }
+    Ok(())
+}
