@@ -196,6 +196,13 @@ impl Message {
         rest_line(out, self.number, self.offset, self.held.as_slice())
     }
 
+    /// Its number.
+    pub fn number(&self) -> u64
+        ensures { result ≡ self.now.number }
+    {
+        self.number
+    }
+
     /// The octets of its header.
     pub fn header(&self) -> [u8; 12]
         ensures { result ≡ self.now.header }

@@ -168,6 +168,17 @@ fn front_differs(
     }
 }
 
+/// A header of a Request of 1.0.
+const REQUEST: &[u8; 12] = b"GIOP\x01\x00\x00\x00\x00\x00\x00\x00";
+
+#[test]
+fn a_message_has_its_number_and_its_header(rt: HostRuntime) -> Result<(), Fail> {
+    let known = built_in(rt.alloc())?;
+    let message = Message::start(&known.0, 7, *REQUEST);
+    assert!(rt; message.number() == 7 && message.header() == *REQUEST);
+    Ok(())
+}
+
 /// The octets of a request id, and the id once they have come.
 #[test]
 fn the_request_id_comes_with_its_last_octet(rt: HostRuntime) -> Result<(), Fail> {

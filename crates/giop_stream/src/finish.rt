@@ -1,6 +1,6 @@
 //! The finish of a stream: its totals, and the lines of what is left.
 
-ghost use Rattle.std.specs.Prelude.{◌≡◌, ◌+◌, ◌++◌, ◌∷◌, ◌<◌, ℕ, List, [], length, None, flat_map, if◌then◌else◌};
+ghost use Rattle.std.specs.Prelude.{◌≡◌, ◌++◌, [], flat_map, if◌then◌else◌};
 
 use crate::framing::Framing;
 use crate::kinds::is_fragment;
@@ -13,14 +13,12 @@ impl Framing {
     ghost use Rattle.giop_print.specs.Lines.{unfinished_line, total_line};
     ghost use Rattle.giop_sig.specs.Table.{Table};
     ghost use Rattle.giop_message.specs.Signatures.{Kept as Listed};
-    ghost use Rattle.giop_message.specs.MessageReading.{message_reading};
-    ghost use Rattle.giop_stream.specs.Framing.{cut};
     ghost use Rattle.giop_stream.specs.Text.{truncated_line};
-    ghost use Rattle.giop_stream.specs.Stream.{is_truncated, final, closing};
-    ghost use Rattle.giop_stream.specs.State.{state_of};
-    ghost use Rattle.giop_stream.specs.Machine.{left_over, left_own};
+    ghost use Rattle.giop_stream.specs.Engine.{State};
+    ghost use Rattle.giop_stream.specs.Step as one;
     ghost use Rattle.giop_stream.specs.Shown.{shown};
-    ghost use Rattle.giop_stream.specs.Holding.{Remembers, status_of};
+    ghost use Rattle.giop_stream.specs.Showing.{Shows};
+    ghost use Rattle.giop_stream.specs.Holding.{status_of};
     ghost use Rattle.giop_stream.specs.Steps.{is_cut_short, final_totals};
 
     /// Whether the stream goes on.
@@ -45,8 +43,7 @@ impl Framing {
     #[tactic(auto, unfolding(crate::specs::Steps::final_totals))]
     pub fn final_totals(&self) -> Totals
         ensures state { result ≡ final_totals (shown self.now) }
-        ensures value { (C : Table) (l : Listed) (p : List ℕ) → Remembers C l (shown self.now) p →
-            result ≡ final (message_reading C l) p }
+        ensures value { (C : Table) (l : Listed) (s : State) → Shows C l (shown self.now) s → result ≡ one.final_totals s }
     {
         let mut totals = self.totals;
         if self.is_cut_short() {
@@ -57,8 +54,8 @@ impl Framing {
 
     /// The line of a stream that ends inside a message or a header.
     fn truncation<O: Out>(&self, out: &mut O) -> Result<(), OutFault>
-        ensures { (C : Table) (l : Listed) (p : List ℕ) → Remembers C l (shown self.now) p →
-            Writes result (O.log out.old) (O.log out.new) (if is_truncated (cut p) then truncated_line (length p) else []) }
+        ensures { (C : Table) (l : Listed) (s : State) → Shows C l (shown self.now) s →
+            Writes result (O.log out.old) (O.log out.new) (if one.is_cut_short s then truncated_line s.totals.octets else []) }
     {
         if self.is_cut_short() {
             return truncated_line(out, self.totals.octets);
@@ -66,36 +63,36 @@ impl Framing {
         Ok(())
     }
 
-    /// Whether the message whose payload comes, or came at the stream's fault, is unfinished: its own octets are kept, and
-    /// it is no Fragment.
-    fn own_is_unfinished(&self) -> bool
-        ensures { (C : Table) (l : Listed) (p : List ℕ) → Remembers C l (shown self.now) p →
-            left_own (cut p).current (state_of (message_reading C l) p).own ≡ (if result then self.now.totals.messages ∷ [] else []) }
+    /// The message whose own octets are kept, unless it is a Fragment.
+    fn own_unfinished<O: Out>(&self, out: &mut O) -> Result<(), OutFault>
+        ensures { (C : Table) (l : Listed) (s : State) → Shows C l (shown self.now) s →
+            Writes result (O.log out.old) (O.log out.new) (flat_map unfinished_line (one.left_own s.own)) }
     {
-        match &self.slots.own {
-            Some(message) => !is_fragment(&message.header()),
-            None => false,
+        let Some(message) = &self.slots.own else {
+            return Ok(());
+        };
+        if is_fragment(&message.header()) {
+            return Ok(());
         }
+        unfinished_line(out, message.number())
     }
 
     /// The messages that have neither ended nor been faulted, by number.
     fn unfinished<O: Out>(&self, out: &mut O) -> Result<(), OutFault>
-        ensures { (C : Table) (l : Listed) (p : List ℕ) → Remembers C l (shown self.now) p →
-            Writes result (O.log out.old) (O.log out.new) (flat_map unfinished_line (left_over (state_of (message_reading C l) p))) }
+        ensures { (C : Table) (l : Listed) (s : State) → Shows C l (shown self.now) s →
+            Writes result (O.log out.old) (O.log out.new) (flat_map unfinished_line (one.left_over s)) }
     {
         self.slots.unfinished(out)?;
-        if self.own_is_unfinished() {
-            return unfinished_line(out, self.totals.messages);
-        }
-        Ok(())
+        self.own_unfinished(out)
     }
 
     /// What comes behind the line of a truncation.
     #[tactic(auto, using(giop_print::proofs::Writing::writes_then, giop_print::proofs::Writing::writes_err))]
     fn ending<O: Out>(&self, out: &mut O) -> Result<(), OutFault>
-        ensures { (C : Table) (l : Listed) (p : List ℕ) → Remembers C l (shown self.now) p →
-            Writes result (O.log out.old) (O.log out.new) (flat_map unfinished_line (left_over (state_of (message_reading C l) p))
-            ++ total_line (final (message_reading C l) p).messages (final (message_reading C l) p).faults (final (message_reading C l) p).octets) }
+        ensures { (C : Table) (l : Listed) (s : State) → Shows C l (shown self.now) s →
+            (let t = one.final_totals s in
+            Writes result (O.log out.old) (O.log out.new)
+            (flat_map unfinished_line (one.left_over s) ++ total_line t.messages t.faults t.octets)) }
     {
         self.unfinished(out)?;
         let totals = self.final_totals();
@@ -105,8 +102,8 @@ impl Framing {
     /// The lines of the finish.
     #[tactic(auto, using(giop_print::proofs::Writing::writes_then, giop_print::proofs::Writing::writes_err))]
     pub fn finish<O: Out>(&self, out: &mut O) -> Result<(), OutFault>
-        ensures { (C : Table) (l : Listed) (p : List ℕ) → Remembers C l (shown self.now) p →
-            Writes result (O.log out.old) (O.log out.new) (closing (message_reading C l) p) }
+        ensures { (C : Table) (l : Listed) (s : State) → Shows C l (shown self.now) s →
+            Writes result (O.log out.old) (O.log out.new) (one.finish s) }
     {
         self.truncation(out)?;
         self.ending(out)
