@@ -3,10 +3,12 @@
 //! `stdin` has sets of rows, and between two sets a line `=`. The parts of a set stand between empty lines. Its first
 //! part is the files of its rows: a signature file, or none, a line `requests` and a request list, in which `I..J NAME`
 //! stands for a line for each id from I to J. Each other part is a row: its name, `status` with 0 or 1, the octets of
-//! its stream in hexadecimal text, in any number of lines, a line `lines`, and the lines of its dump.
+//! its stream in hexadecimal text, in any number of lines, a line `lines`, and the lines of its dump. The rows that are
+//! named `generated` were made by chance, and have their lines from a reference that was written apart from the dumper.
 //!
-//! `stdout` has a line for each row, and at its end how many there were and how many differ. The status is 0 where
-//! there are rows and none differs.
+//! Written is a line for each row, and at the end how many there were and how many differ. Of a row that differs there
+//! is the way in which it was dumped, and the first line that differs. The status is 0 where there are rows and none
+//! differs.
 #![tactic(auto)]
 
 mod difference;

@@ -18,18 +18,10 @@ impl<'a> Row<'a> {
         let mut parts = head.splitn(3, '\n');
         Some(Row {
             name: parts.next()?,
-            status: status_of(parts.next()?)?,
+            status: parts.next()?.strip_prefix("status ")?.parse().ok()?,
             stream: parts.next().unwrap_or(""),
             lines,
         })
-    }
-}
-
-fn status_of(text: &str) -> Option<u8> {
-    match text {
-        "status 0" => Some(0),
-        "status 1" => Some(1),
-        _ => None,
     }
 }
 

@@ -7,7 +7,7 @@ use super::row::{Row, list, octets};
 use super::tally::Tally;
 use super::way::Way;
 use giop_print::Sheet;
-use giop_run::{ProgramFault, status};
+use giop_run::{ProgramFault, Report, RunFault, status};
 use giop_sig::{Catalogue, Requests, SigFault};
 use giop_stream::Engine;
 use std::alloc::Global;
@@ -103,13 +103,24 @@ fn tell_row(
     requires of { AreOf catalogue.now requests.now }
 {
     match octets(rt.alloc(), row.stream) {
-        Some(stream) => {
-            let is_as_told = is_dumped_each_way(rt, catalogue, requests, row, &stream)?;
-            tally.count(is_as_told);
-            told(rt, row.name, is_as_told)
-        }
+        Some(stream) => tell_stream(rt, catalogue, requests, row, &stream, tally),
         None => unread(rt, "MALFORMED octets", row.stream, tally),
     }
+}
+
+fn tell_stream(
+    rt: &HostRuntime,
+    catalogue: &Catalogue,
+    requests: &Requests,
+    row: &Row,
+    stream: &[u8],
+    tally: &mut Tally,
+) -> io::Result<()>
+    requires of { AreOf catalogue.now requests.now }
+{
+    let is_as_told = is_dumped_each_way(rt, catalogue, requests, row, stream)?;
+    tally.count(is_as_told);
+    told(rt, row.name, is_as_told)
 }
 
 /// Tells of a row that is as told; one that isn't was told already.
@@ -130,8 +141,13 @@ fn is_dumped_each_way(
 ) -> io::Result<bool>
     requires of { AreOf catalogue.now requests.now }
 {
-    let engine = Engine::new(catalogue, requests);
-    if !is_dumped(rt, engine, row, stream, Way::Whole)? {
+    if !is_dumped(
+        rt,
+        Engine::new(catalogue, requests),
+        row,
+        stream,
+        Way::Whole,
+    )? {
         return Ok(false);
     }
     for at in 0..stream.len() + 1 {
@@ -154,8 +170,7 @@ fn is_dumped_at(
     requires of { AreOf catalogue.now requests.now }
 {
     for way in Way::at(at) {
-        let engine = Engine::new(catalogue, requests);
-        if !is_dumped(rt, engine, row, stream, way)? {
+        if !is_dumped(rt, Engine::new(catalogue, requests), row, stream, way)? {
             return Ok(false);
         }
     }
@@ -172,11 +187,16 @@ fn is_dumped(
 ) -> io::Result<bool> {
     let mut room = [0; 16_384];
     let mut sheet = Sheet::new(&mut room);
-    let ended = match way.dump(engine, stream, &mut sheet) {
-        Ok(report) => Ok(report),
-        Err(fault) => Err(ProgramFault::Run(fault)),
-    };
-    is_as_told(rt, row, way, sheet.held(), status(&ended))
+    let ended = way.dump(engine, stream, &mut sheet);
+    is_as_told(rt, row, way, sheet.held(), status_of(ended))
+}
+
+/// The status of the program after such a run.
+fn status_of(ended: Result<Report, RunFault>) -> u8 {
+    match ended {
+        Ok(report) => status(&Ok(report)),
+        Err(fault) => status(&Err(ProgramFault::Run(fault))),
+    }
 }
 
 /// Whether these are the lines and the status of the row.
