@@ -1,15 +1,6 @@
 //! Dumps one direction of a GIOP connection: octets in, lines on standard output.
 #![tactic(auto)]
 
-#[cfg(test)]
-mod plain_rows;
-#[cfg(test)]
-mod rows;
-#[cfg(test)]
-mod run_tests;
-#[cfg(test)]
-mod tests;
-
 use giop_program::program;
 use std::process::ExitCode;
 
