@@ -5,8 +5,6 @@ mod lines;
 mod path;
 mod sheet;
 mod sink;
-#[cfg(test)]
-mod tests;
 mod text;
 mod value;
 mod words;

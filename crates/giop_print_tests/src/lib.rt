@@ -1,0 +1,11 @@
+//! Tests of lines: those of worked streams, of each kind of value, and outs that fail.
+#![tactic(auto)]
+
+#[cfg(test)]
+mod line_tests;
+#[cfg(test)]
+mod out_tests;
+#[cfg(test)]
+mod streams;
+#[cfg(test)]
+mod value_tests;

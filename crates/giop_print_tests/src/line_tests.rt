@@ -1,0 +1,59 @@
+//! The lines of worked streams, and of pieces.
+
+use crate::streams::{FRAGMENTS, REQUEST, fragments, request};
+use giop_print::{OutFault, Path, Piece, Root, Sheet, piece_line};
+use std::test::Fail;
+
+#[test]
+fn lines_of_a_request(rt: HostRuntime) -> Result<(), Fail> {
+    let mut room = [0; 512];
+    let mut sheet = Sheet::new(&mut room);
+    request(&mut sheet)?;
+    assert!(rt; sheet.held() == REQUEST);
+    Ok(())
+}
+
+#[test]
+fn lines_of_fragments_and_faults(rt: HostRuntime) -> Result<(), Fail> {
+    let mut room = [0; 512];
+    let mut sheet = Sheet::new(&mut room);
+    fragments(&mut sheet)?;
+    assert!(rt; sheet.held() == FRAGMENTS);
+    Ok(())
+}
+
+/// Pieces of a text and of octets, whole and with more to come.
+fn pieces(sheet: &mut Sheet, path: &mut Path) -> Result<(), OutFault> {
+    piece_line(sheet, 1, path, Piece::Text(b"IDL:Late:1.0"), 0, false)?;
+    path.restart(Root::Body);
+    path.push_name(b"s");
+    path.push_index(4_294_967_295);
+    piece_line(sheet, 1, path, Piece::Text(b""), 0, false)?;
+    piece_line(
+        sheet,
+        1,
+        path,
+        Piece::Text(b"\"\\\x07 ~\x7f\xff"),
+        32,
+        false,
+    )?;
+    piece_line(sheet, 1, path, Piece::Text(&[0; 32]), 64, true)?;
+    piece_line(sheet, 1, path, Piece::Octets(&[0xab; 32]), 0, true)
+}
+
+const PIECES: &[u8] = b"m1 exception string @0 \"IDL:Late:1.0\"
+m1 body.s[4294967295] string @0 \"\"
+m1 body.s[4294967295] string @32 \"\\x22\\x5c\\x07 ~\\x7f\\xff\"
+m1 body.s[4294967295] string @64 \"\\x00\\x00\\x00\\x00\\x00\\x00\\x00\\x00\\x00\\x00\\x00\\x00\\x00\\x00\\x00\\x00\\x00\\x00\\x00\\x00\\x00\\x00\\x00\\x00\\x00\\x00\\x00\\x00\\x00\\x00\\x00\\x00\" more
+m1 body.s[4294967295] octets @0 abababababababababababababababababababababababababababababababab more
+";
+
+#[test]
+fn pieces_are_escaped_or_spelled_and_say_whether_more_comes(rt: HostRuntime) -> Result<(), Fail> {
+    let mut room = [0; 512];
+    let mut sheet = Sheet::new(&mut room);
+    let mut path = Path::new(Root::Exception);
+    pieces(&mut sheet, &mut path)?;
+    assert!(rt; sheet.held() == PIECES);
+    Ok(())
+}

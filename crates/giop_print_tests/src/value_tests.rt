@@ -1,0 +1,94 @@
+//! The line of each kind of value.
+
+use giop_cdr::{Number, Prim};
+use giop_print::{OutFault, Path, Root, Sheet, Value, put_all, value_line};
+use std::process::Abort;
+use std::test::Fail;
+
+/// A value and what its line has behind `m9 body.m.switch`.
+static VALUES: [(Value<'static>, &str); 17] = [
+    (
+        Value::Primitive(Prim::Octet, Number::Unsigned(255)),
+        "octet 255",
+    ),
+    (Value::Primitive(Prim::Char, Number::Char(65)), "char \"A\""),
+    (
+        Value::Primitive(Prim::Char, Number::Char(34)),
+        "char \"\\x22\"",
+    ),
+    (
+        Value::Primitive(Prim::Boolean, Number::Truth(true)),
+        "boolean true",
+    ),
+    (
+        Value::Primitive(Prim::Boolean, Number::Truth(false)),
+        "boolean false",
+    ),
+    (
+        Value::Primitive(Prim::Short, Number::Signed(-32_768)),
+        "short -32768",
+    ),
+    (
+        Value::Primitive(Prim::UShort, Number::Unsigned(8)),
+        "ushort 8",
+    ),
+    (Value::Primitive(Prim::Long, Number::Signed(42)), "long 42"),
+    (
+        Value::Primitive(Prim::ULong, Number::Unsigned(0)),
+        "ulong 0",
+    ),
+    (
+        Value::Primitive(Prim::LongLong, Number::Signed(-9_223_372_036_854_775_808)),
+        "longlong -9223372036854775808",
+    ),
+    (
+        Value::Primitive(
+            Prim::ULongLong,
+            Number::Unsigned(18_446_744_073_709_551_615),
+        ),
+        "ulonglong 18446744073709551615",
+    ),
+    (
+        Value::Primitive(Prim::Float, Number::Bits(3_212_836_864)),
+        "float bf800000",
+    ),
+    (
+        Value::Primitive(Prim::Float, Number::Bits(1)),
+        "float 00000001",
+    ),
+    (
+        Value::Primitive(Prim::Double, Number::Bits(4_609_434_218_613_702_656)),
+        "double 3ff8000000000000",
+    ),
+    (Value::Enum(b"red"), "enum red"),
+    (Value::Enum(b"COMPLETED_NO"), "enum COMPLETED_NO"),
+    (Value::Count(4_294_967_295), "count 4294967295"),
+];
+
+#[test]
+fn each_kind_of_value_has_its_line(rt: HostRuntime) -> Result<(), Fail> {
+    let mut path = Path::new(Root::Body);
+    path.push_name(b"m");
+    path.push_name(b"switch");
+    each_has_its_line(&rt, &path)
+}
+
+fn each_has_its_line(rt: &impl Abort, path: &Path) -> Result<(), Fail> {
+    for (value, want) in &VALUES {
+        assert!(rt; is_its_line(path, *value, want)?, "{want}");
+    }
+    Ok(())
+}
+
+/// Whether the line of a value ends in this.
+fn is_its_line(path: &Path, value: Value, want: &str) -> Result<bool, OutFault> {
+    let mut room = [0; 128];
+    let mut sheet = Sheet::new(&mut room);
+    value_line(&mut sheet, 9, path, value)?;
+    let mut wanted = [0; 128];
+    let mut sample = Sheet::new(&mut wanted);
+    put_all(&mut sample, b"m9 body.m.switch ")?;
+    put_all(&mut sample, want.as_bytes())?;
+    put_all(&mut sample, b"\n")?;
+    Ok(sheet.held() == sample.held())
+}
