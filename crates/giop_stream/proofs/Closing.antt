@@ -1,5 +1,5 @@
 -- The finish, by the fields that show a state.
-use Rattle.std.proofs.Common.{◌≡◌, ℕ, ◌+◌, Bool, true, false, List, [], ◌∷◌, ◌++◌, get_or, flat_map, refl, sym, ap, ◌∙◌, Option, Some, None, arith, append-nil}
+use Rattle.std.proofs.Common.{◌≡◌, ℕ, ◌+◌, true, false, List, [], ◌∷◌, ◌++◌, get_or, flat_map, refl, sym, ap, ◌∙◌, Option, Some, None, arith, append-nil}
 use Rattle.std.specs.Prelude.{is_some, if◌then◌else◌}
 use Rattle.std.proofs.lemmas.List.Concat.{flat_map-append}
 use Rattle.giop_print.specs.Lines.{unfinished_line, total_line}

@@ -1,8 +1,8 @@
 -- What is remembered of a stream is what the fields show of its state.
-use Rattle.std.proofs.Common.{◌≡◌, ℕ, zero, suc, ◌-◌, ◌<◌, ◌≤◌, Bool, true, false, not, List, [], ◌∷◌, length, refl, sym, ap, subst, ◌∙◌, Option, Some, None, arith}
+use Rattle.std.proofs.Common.{◌≡◌, ℕ, zero, suc, ◌-◌, ◌<◌, Bool, true, false, not, List, [], ◌∷◌, length, refl, sym, ap, ◌∙◌, Option, Some, None, arith}
 use Rattle.std.specs.Prelude.{◌==◌, ◌&&◌, ◌||◌, nat_lt, nat_le, slice_get, is_some, option_map, IfSome, if◌then◌else◌}
-use Rattle.std.specs.List.{find, AllByRecursion as Each}
-use Rattle.std.proofs.lemmas.Bool.{lt-ltb, le-ltb, lt-leb, le-leb, eq-eqb, ne_eqb, false≢true}
+use Rattle.std.specs.List.{AllByRecursion as Each}
+use Rattle.std.proofs.lemmas.Bool.{lt-ltb, le-ltb, lt-leb, le-leb, eq-eqb, false≢true}
 use Rattle.giop_cdr.specs.Numbers.{AreOctets}
 use Rattle.giop_sig.specs.Table.{Table}
 use Rattle.giop_message.specs.declared.message.Message.{Message as Kept_message}
@@ -15,9 +15,8 @@ use Rattle.giop_stream.specs.declared.fault.StreamFault.{StreamFault}
 use Rattle.giop_stream.specs.declared.slots.Payload.{Payload}
 use Rattle.giop_stream.specs.declared.slots.Payload.TheVariants as payload
 use Rattle.giop_stream.specs.Framing.{Message, Cut, cut, fault_of}
-use Rattle.giop_stream.specs.Events.{Title, Open, Rising, title, id, opener_of, has_named, open_after}
-use Rattle.giop_stream.specs.Stream.{tally}
-use Rattle.giop_stream.specs.State.{Slot, Kept, is_open, octets_of, slots_of}
+use Rattle.giop_stream.specs.Events.{Title, Open, Rising, title, id, opener_of, has_named}
+use Rattle.giop_stream.specs.State.{Slot, Kept, is_open, slots_of}
 use Rattle.giop_stream.specs.Plays.{Scene, stage}
 use Rattle.giop_stream.specs.Keeping.{IsKept, IsWhose}
 use Rattle.giop_stream.specs.Whose.{opener_title, whose, whose_in}

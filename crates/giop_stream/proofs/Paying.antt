@@ -1,6 +1,6 @@
 -- An octet of a payload: what is remembered with it, and what it adds to the text.
 use Rattle.std.proofs.Common.{inl, inr, ◌≡◌, ℕ, suc, ◌+◌, ◌^◌, ◌<◌, ◌≤◌, Bool, true, false, List, [], ◌∷◌, ◌++◌, length, refl, sym, ap, subst, ◌∙◌, Option, Some, None, arith}
-use Rattle.std.specs.Prelude.{is_some, nat_lt, ◌==◌, if◌then◌else◌}
+use Rattle.std.specs.Prelude.{is_some, ◌==◌, if◌then◌else◌}
 use Rattle.std.proofs.lemmas.Bool.{cases_lt, lt-ltb, le-ltb, eq-eqb, ne_eqb}
 use Rattle.std.proofs.lemmas.List.{length_push}
 use Rattle.std.proofs.lemmas.List.Elements.{All-push}
@@ -15,7 +15,7 @@ use Rattle.giop_stream.specs.declared.status.Totals.{Totals}
 use Rattle.giop_stream.specs.declared.slots.Slots.{Slots}
 use Rattle.giop_stream.specs.declared.dispatch.Current.{Current}
 use Rattle.giop_stream.specs.Headers.{offence}
-use Rattle.giop_stream.specs.Framing.{Message, Cut, limit, cut, messages, read_of, fault_of}
+use Rattle.giop_stream.specs.Framing.{Message, Cut, limit, cut, messages, read_of}
 use Rattle.giop_stream.specs.Events.{happens, open_after}
 use Rattle.giop_stream.specs.Lines.{lines}
 use Rattle.giop_stream.specs.Text.{lines_text}

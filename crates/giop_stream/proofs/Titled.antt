@@ -4,7 +4,7 @@ use Rattle.std.specs.List.{AllByRecursion as Each}
 use Rattle.giop_message.specs.Reading.{Reading, IsCausal, IsInTurn}
 use Rattle.giop_stream.specs.Framing.{Message, Cut, cut, messages}
 use Rattle.giop_stream.specs.Events.{Open, id, title, happens, opened, open_after}
-use Rattle.giop_stream.specs.Plays.{Scene, plays, with_octet, stage}
+use Rattle.giop_stream.specs.Plays.{Scene, with_octet, stage}
 use Rattle.giop_stream.specs.Octet.{Octet, Behind, Ends, Held, Of}
 use Rattle.giop_stream.proofs.Lists.{by_growth, each_append, each_filter, each_weaker}
 use Rattle.giop_stream.proofs.Cutting.{of_parts, stopped_at}

@@ -1,5 +1,4 @@
 use Rattle.std.proofs.Common.{sym, ap, ◌∙◌}
-use Rattle.giop_print.specs.Lines.{unfinished_line}
 use Rattle.giop_print.proofs.Writing.{wrote-nil}
 use Rattle.giop_message.specs.Headers.{is_fragment}
 use Rattle.giop_stream.proofs.Closing.{nothing_left, fragment_left, message_left}
