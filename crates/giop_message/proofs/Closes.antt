@@ -1,4 +1,5 @@
--- What a close says, and that a message which is faulted at its last octet has no rest left.
+-- What a close says, and that a message which is faulted at its last octet, or ends a part of its rest there, has no rest
+-- left.
 use Rattle.std.proofs.Common.{◌≡◌, ℕ, suc, ◌-◌, Bool, true, false, List, [], ◌∷◌, ◌++◌, length, map, inl, inr, refl, ap, ◌∙◌}
 use Rattle.std.specs.Prelude.{◌||◌, ◌==◌, if◌then◌else◌}
 use Rattle.std.specs.List.{filter, list_any}
@@ -8,6 +9,7 @@ use Rattle.giop_message.specs.Signatures.{Signatures}
 use Rattle.giop_message.specs.Messages.{Speech, Incomplete, Ends, Told, may_lack, Stage, In_header, In_padding, In_exception, In_body, In_rest, Over, message, told_of, stage_of, close}
 use Rattle.giop_message.specs.MessageReading.{saying_of, remark_of, closing_of, reading_by, is_over, is_wrong}
 use Rattle.giop_message.proofs.Faults.{over_where_faulted}
+use Rattle.giop_message.proofs.LastRests.{rest_ends}
 
 first_or : Saying → List Saying → Saying
 first_or s [] = s
@@ -69,4 +71,5 @@ is_closing S = record {
   no_rest = λ header xs x faulted rests.
       let told = told_of (message S header (xs ++ x ∷ [])) in
       over_says (stage_of (message S header (xs ++ x ∷ []))) (over_where_faulted S header (xs ++ x ∷ []) ∙ fault_told (suc (length xs)) told faulted) rests;
+  one_rest = rest_ends S;
 }

@@ -21,6 +21,7 @@ mod Results
 mod Dues
 mod Closing
 mod Remarks
+mod LastRests
 mod Closes
 mod Apart
 mod Rows

@@ -22,12 +22,12 @@ use Rattle.giop_message.proofs.Followings.{follows_by}
 use Rattle.giop_message.proofs.Opened.{at_more}
 
 -- from where a message comes to
-comes_more : (S : Signatures) (header s : List ℕ) (b : ℕ) (told : List Told) (at : ℕ) (stage : Stage) → message S header s ≡ Comes told at stage →
+pub comes_more : (S : Signatures) (header s : List ℕ) (b : ℕ) (told : List Told) (at : ℕ) (stage : Stage) → message S header s ≡ Comes told at stage →
     message S header (s ++ b ∷ []) ≡ with_front told (message_step S header at stage b)
 unfolding advance
 comes_more S header s b told at stage e = message_goes S header s b ∙ ap (λ m. advance S header m b) e
 
-comes_due : (S : Signatures) (header s : List ℕ) (b : ℕ) (told : List Told) (at : ℕ) (stage : Stage) (m : Message) → message S header s ≡ Comes told at stage → message_step S header at stage b ≡ m →
+pub comes_due : (S : Signatures) (header s : List ℕ) (b : ℕ) (told : List Told) (at : ℕ) (stage : Stage) (m : Message) → message S header s ≡ Comes told at stage → message_step S header at stage b ≡ m →
     due S header s (b ∷ []) ≡ told_of m
 unfolding told_of
 comes_due S header s b told at stage m e f =

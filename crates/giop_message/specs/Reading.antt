@@ -56,10 +56,12 @@ due R header xs x = filter (λ r. r.at == suc (length xs)) (R.reads header (xs +
 abbrev pub AtClose : List Saying → Type 0
 AtClose sayings = (sayings ≡ Fault ∷ []) ⊎ (sayings ≡ End ∷ []) ⊎ (sayings ≡ Rest ∷ End ∷ [])
 
--- A close ends the message, once; a message that is faulted at its last octet has no rest left.
+-- A close ends the message, once. A message that is faulted at its last octet has no rest left, and neither has one whose
+-- last octet ends a part of it.
 pub record IsClosing (R : Reading) : Type 0 where
   pub closed : (header xs : List ℕ) → AtClose (map (λ l. l.0) (R.closes header xs))
   pub no_rest : (header xs : List ℕ) (x : ℕ) → map (λ r. r.saying) (due R header xs x) ≡ Fault ∷ [] → map (λ l. l.0) (R.closes header (xs ++ x ∷ [])) ≡ Rest ∷ End ∷ [] → ⊥
+  pub one_rest : (header xs : List ℕ) (x : ℕ) → map (λ r. r.saying) (due R header xs x) ≡ Rest ∷ [] → map (λ l. l.0) (R.closes header (xs ++ x ∷ [])) ≡ Rest ∷ End ∷ [] → ⊥
 
 -- what is asked of a reading whose lines are written as they come
 pub record IsInTurn (R : Reading) : Type 0 where

@@ -1,16 +1,15 @@
 -- A message that begins with its request id is not over before that is complete: what has come of it is kept.
-use Rattle.std.proofs.Common.{inl, inr, ◌≡◌, ℕ, suc, ◌+◌, ◌-◌, ◌<◌, ◌≤◌, Bool, true, false, List, [], ◌∷◌, ◌++◌, length, get_or, refl, sym, ap, ◌∙◌, append-nil, Option, Some, None, arith}
+use Rattle.std.proofs.Common.{◌≡◌, ℕ, suc, ◌+◌, ◌-◌, ◌<◌, ◌≤◌, Bool, true, false, List, [], ◌∷◌, ◌++◌, length, get_or, refl, sym, ap, ◌∙◌, append-nil, Option, Some, None, arith}
 use Rattle.std.specs.Prelude.{nat_lt, ◌==◌, ◌&&◌, ◌||◌, if◌then◌else◌, map}
 use Rattle.std.specs.List.{list_any, AllByRecursion as Each}
-use Rattle.std.proofs.lemmas.Bool.{le-ltb, eq-eqb, ne_eqb, and_parts, and_right, eqb-true, ltb-true, ltb-false, or_cases}
+use Rattle.std.proofs.lemmas.Bool.{le-ltb, eq-eqb, ne_eqb, and_right, eqb-true, ltb-true, ltb-false}
 use Rattle.std.proofs.lemmas.List.{length_push, get_or_push}
 use Rattle.giop_stream.specs.declared.fault.StreamFault.{StreamFault}
 use Rattle.giop_stream.specs.declared.fault.StreamFault.TheVariants.{StreamLimit}
-use Rattle.giop_message.specs.Headers.{minor, kind, has_more, size, may_be_fragmented, is_opener, is_fragment, is_cancel, has_name}
+use Rattle.giop_message.specs.Headers.{size, is_fragment, has_name}
 use Rattle.giop_stream.specs.Headers.{wrong}
 use Rattle.giop_stream.specs.Framing.{Message, Cut, limit, cut, messages}
 use Rattle.giop_message.specs.Reading.{Saying, Value, Reading, IsCausal, IsInTurn, due}
-use Rattle.giop_stream.specs.Kinds.{refused}
 use Rattle.giop_stream.specs.Events.{Takes, Title, Event, Open, title, place, goes_past, at_header, at_octet, happens, octet, joined, open_after}
 use Rattle.giop_stream.specs.Lines.{Line, Said, line, tells, is_last_of, standing}
 use Rattle.giop_stream.specs.State.{octets_of}
@@ -19,6 +18,7 @@ use Rattle.giop_stream.specs.Plays.{Scene, Play, lines_of, octets_then, plays, o
 use Rattle.giop_stream.proofs.Lists.{by_growth, each_filter}
 use Rattle.giop_stream.proofs.Cutting.{settle, header_case, next, of_parts, cut_grows}
 use Rattle.giop_stream.proofs.Bridge.{next_stopped, next_limit, next_payload, next_front, cut_nothing, sound}
+use Rattle.giop_stream.proofs.Accepted.{named_accepted}
 use Rattle.giop_stream.proofs.InPlace.{own_then}
 use Rattle.giop_stream.proofs.Cases.{octet_own, header_begins}
 use Rattle.giop_stream.proofs.Growing.{payload_grows, beginner, header_grows}
@@ -65,46 +65,6 @@ takes_last R laws at w xs x name short =
 pub named_then : (R : Reading) → IsInTurn R → (at : ℕ) (w : Title) (xs : List ℕ) (x : ℕ) → has_name w.header ≡ true → length xs < 4 → octets_then R (record { place = at; whom = w; what = Takes x }) (Some xs) ≡ Some (xs ++ x ∷ [])
 unfolding octets_then octet
 named_then R laws at w xs x name short = rw (takes_last R laws at w xs x name short) refl
-
--- ---- No header of such a message is refused.
-
-refused_by : (h : List ℕ) (k : ℕ) → kind h ≡ k → nat_lt 7 k ≡ false → (k == 7) ≡ false → (minor h == 1) ≡ false → refused h ≡ None
-unfolding refused
-refused_by h k e low other version = rw (e, low, other, version) refl
-
-opener_accepted : (h : List ℕ) → is_opener h ≡ true → refused h ≡ None
-unfolding is_opener may_be_fragmented
-opener_accepted h o =
-    let both = and_parts ((minor h == 2) && has_more h) (may_be_fragmented h) o in
-    let version : minor h ≡ 2 = eqb-true (minor h) 2 (and_parts (minor h == 2) (has_more h) both.0).0 in
-    let old : (minor h == 1) ≡ false = ne_eqb (minor h) 1 (λ e. omega arith) in
-    elim (or_cases ((kind h == 0) || (kind h == 1) || (kind h == 3)) (kind h == 4) both.1) [
-      | inr d ↦ refused_by h 4 (eqb-true (kind h) 4 d) refl refl old
-      | inl abc ↦ elim (or_cases ((kind h == 0) || (kind h == 1)) (kind h == 3) abc) [
-        | inr c ↦ refused_by h 3 (eqb-true (kind h) 3 c) refl refl old
-        | inl ab ↦ elim (or_cases (kind h == 0) (kind h == 1) ab) [ inl a ↦ refused_by h 0 (eqb-true (kind h) 0 a) refl refl old | inr b ↦ refused_by h 1 (eqb-true (kind h) 1 b) refl refl old ]
-      ]
-    ]
-
-fragment_accepted : (h : List ℕ) → is_fragment h ≡ true → refused h ≡ None
-unfolding is_fragment refused
-fragment_accepted h f =
-    let both = and_parts (minor h == 2) (kind h == 7) f in
-    let version = eqb-true (minor h) 2 both.0 in
-    let type = eqb-true (kind h) 7 both.1 in
-    rw (refused, version, type) refl
-
-cancel_accepted : (h : List ℕ) → is_cancel h ≡ true → refused h ≡ None
-unfolding is_cancel refused may_be_fragmented
-cancel_accepted h c =
-    let type = eqb-true (kind h) 2 c in
-    rw (refused, may_be_fragmented, type, and_right (has_more h) false refl, and_right (minor h == 1) false refl) refl
-
-pub named_accepted : (h : List ℕ) → has_name h ≡ true → refused h ≡ None
-named_accepted h n = elim (or_cases (is_opener h || is_fragment h) (is_cancel h) n) [
-  | inr c ↦ cancel_accepted h c
-  | inl of ↦ elim (or_cases (is_opener h) (is_fragment h) of) [ inl o ↦ opener_accepted h o | inr f ↦ fragment_accepted h f ]
-]
 
 -- ---- Octet by octet.
 

@@ -65,7 +65,7 @@ step_current : (R : Reading) (s : State) (m : Message) (x : ℕ) → s.stop ≡ 
 unfolding step step_on
 step_current R s m x st cur e = rw (st, e, cur) refl
 
-free_read : (R : Reading) (p : List ℕ) → (cut p).stop ≡ None → (state_of R p).read ≡ length p
+pub free_read : (R : Reading) (p : List ℕ) → (cut p).stop ≡ None → (state_of R p).read ≡ length p
 unfolding state_of read_of
 free_read R p st = rw st refl
 

@@ -1,6 +1,6 @@
 -- What is known of a stream with one octet more is what a play of that octet's events leaves, and its lines are those of
 -- the play.
-use Rattle.std.proofs.Common.{◌≡◌, ℕ, suc, ◌+◌, ◌-◌, ◌<◌, ◌≤◌, true, false, List, [], ◌∷◌, ◌++◌, length, refl, sym, ap, ◌∙◌, append-nil, Option, Some, None, arith}
+use Rattle.std.proofs.Common.{◌≡◌, ℕ, suc, ◌+◌, ◌-◌, ◌<◌, ◌≤◌, true, false, List, [], ◌∷◌, ◌++◌, length, refl, sym, ap, subst, ◌∙◌, append-nil, Option, Some, None, arith}
 use Rattle.std.specs.Prelude.{nat_lt, ◌==◌}
 use Rattle.std.specs.List.{AllByRecursion as Each}
 use Rattle.std.proofs.lemmas.Bool.{le-ltb, eq-eqb}
@@ -11,14 +11,15 @@ use Rattle.giop_stream.specs.Framing.{Message, Cut, limit, cut, messages}
 use Rattle.giop_message.specs.Reading.{Reading, IsCausal, IsInTurn}
 use Rattle.giop_stream.specs.Events.{Happening, Event, Open, place, happens, opened, events_from, events, open_after, joined}
 use Rattle.giop_stream.specs.Lines.{lines}
-use Rattle.giop_stream.specs.State.{octets_of}
-use Rattle.giop_stream.specs.Machine.{now_written}
+use Rattle.giop_stream.specs.State.{Kept, octets_of}
+use Rattle.giop_stream.specs.Machine.{utters, now_written}
 use Rattle.giop_stream.specs.Plays.{plays, IsBegun, with_octet, stage}
 use Rattle.giop_stream.proofs.Lists.{all_by}
 use Rattle.giop_stream.proofs.Cutting.{settle, header_case, next, of_parts, cut_grows}
 use Rattle.giop_stream.proofs.Happenings.{happens_each}
-use Rattle.giop_stream.proofs.Ordering.{are_plays}
-use Rattle.giop_stream.proofs.Turns.{happens_ordered}
+use Rattle.giop_stream.proofs.Telling.{standing_each, utters_places}
+use Rattle.giop_stream.proofs.Ordering.{Ordered, Rises, Fine, ordered_stays, are_plays}
+use Rattle.giop_stream.proofs.Turns.{happens_fine}
 use Rattle.giop_stream.proofs.Grown.{said_grows, octets_grow, open_grows, lines_free}
 use Rattle.giop_stream.proofs.Dealt.{settle_stop, settled_messages}
 use Rattle.giop_stream.proofs.Soundness.{events_on, events_begin, Fits, CurrentFits}
@@ -29,7 +30,17 @@ use Rattle.giop_stream.proofs.Dealing.{octets_are, if_some}
 -- what one octet adds, told by its events
 pub record Grows (R : Reading) (p p' : List ℕ) (es : List Event) : Type 0 where
   pub lines : lines R p' ≡ lines R p ++ (plays R (stage R p) es).lines
+  pub here : Each (λ l. l.place ≡ suc (length p)) (plays R (stage R p) es).lines
+  pub rises : Rises (plays R (stage R p) es).lines
   pub stage : stage R p' ≡ (plays R (stage R p) es).scene
+
+now_here : (R : Reading) (n : ℕ) (K : Kept) (es : List Event) → Ordered (utters R K es) → Each (λ e. e.place ≡ n) es → Each (λ l. l.place ≡ n) (now_written R K es)
+unfolding now_written
+now_here R n K es h here = rw (ordered_stays (utters R K es) h) (standing_each (λ l. l.place ≡ n) (λ i. false) (utters R K es) (utters_places R (λ k. k ≡ n) K es here))
+
+now_rises : (R : Reading) (K : Kept) (es : List Event) → Fine (utters R K es) → Rises (now_written R K es)
+unfolding now_written
+now_rises R K es h = rw (ordered_stays (utters R K es) h.ordered) h.rises
 
 grows_by : (R : Reading) → IsCausal R → IsInTurn R → (p p' : List ℕ) (m : Message) → length p' ≡ suc (length p) → (cut p).stop ≡ None → (cut p').stop ≡ None → events p' ≡ events p ++ happens (open_after p) m → place m ≡ suc (length p)
     → length m.payload ≤ size m.header → (has_name m.header ≡ true → IsBegun (octets_of R p) m) → Grows R p p' (happens (open_after p) m)
@@ -40,10 +51,13 @@ grows_by R causal laws p p' m len st st' ev pl fits begun =
     let es = happens live m in
     let here : Each (λ e. e.place ≡ suc (length p)) es = happens_each (λ e. e.place ≡ suc (length p)) live m (λ what. pl) (all_by (λ (o : Open). (what : Happening) → place m ≡ suc (length p)) (λ o what. pl) live) in
     let sd = said_grows R causal p p' es len ev (sound R causal p).places here in
-    let p1 = are_plays R (record { live = live; known = K }) es (happens_ordered R laws K live m fits begun) in
+    let fine = happens_fine R laws K live m fits begun in
+    let p1 = are_plays R (record { live = live; known = K }) es fine.ordered in
     record {
       lines = lines_free R p' st' ∙ (sd ∙ rw (lines_free R p st, p1.lines) refl);
       stage = λ j. record { live = (open_grows p p' es ev ∙ p1.live) j; known = λ i. (octets_grow R p p' es (now_written R K es) ev sd i ∙ p1.known i) j };
+      here = subst (Each (λ l. l.place ≡ suc (length p))) p1.lines (now_here R (suc (length p)) K es fine.ordered here);
+      rises = subst Rises p1.lines (now_rises R K es fine);
     }
 
 begun_now : (R : Reading) → IsCausal R → (p : List ℕ) (m : Message) (x : ℕ) → (cut p).stop ≡ None → (cut p).current ≡ Some m → IsBegun (octets_of R p) (with_octet m x)

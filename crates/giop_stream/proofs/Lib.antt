@@ -19,6 +19,7 @@ mod Sharing
 mod Rows
 mod Ordering
 mod Spans
+mod Accepted
 mod Turns
 mod Dealing
 mod InPlace
@@ -48,6 +49,7 @@ mod Closing
 mod Runs
 mod InPieces
 mod Stopped
+mod OneOfEach
 pub mod StreamLaws
 mod EngineRows
 mod Acts

@@ -12,7 +12,7 @@ use Rattle.giop_stream.specs.State.{Kept}
 use Rattle.giop_stream.specs.Machine.{utters_kept, taking, utters, written, now_written}
 use Rattle.giop_stream.specs.Plays.{Scene, lines_at, scene_at, plays}
 use Rattle.giop_stream.proofs.Lists.{filter_drops, filter_keeps, each_weaker, each_filter, any_append}
-use Rattle.giop_stream.proofs.Telling.{joined_append, standing_append, standing_drops, tells_number}
+use Rattle.giop_stream.proofs.Telling.{joined_append, standing_append, standing_drops, standing_each, tells_number}
 
 -- ---- Lines in the order of their classes.
 
@@ -22,6 +22,34 @@ rank_of l = rank (class_of l.content)
 abbrev pub Ordered : List Line → Type 0
 Ordered [] = Unit {0}
 Ordered (l ∷ ls) = Each (λ k. rank_of l ≤ rank_of k) ls × Ordered ls
+
+-- lines whose ranks rise, so that no two are of one class
+abbrev pub Rises : List Line → Type 0
+Rises [] = Unit {0}
+Rises (l ∷ ls) = Each (λ k. rank_of l < rank_of k) ls × Rises ls
+
+pub rises_ordered : (ls : List Line) → Rises ls → Ordered ls
+rises_ordered [] h = tt
+rises_ordered (l ∷ ls) h = (each_weaker (λ k. rank_of l < rank_of k) (λ k. rank_of l ≤ rank_of k) (λ k i. omega arith) ls h.0, rises_ordered ls h.1)
+
+rises_if : (b : Bool) (l : Line) (one two : List Line) → Each (λ k. rank_of l < rank_of k) two → Rises one → Rises two → Rises (if b then one else l ∷ two)
+rises_if true l one two h j k = j
+rises_if false l one two h j k = (h, k)
+
+pub rises_standing : (over : ℕ → Bool) (ls : List Line) → Rises ls → Rises (standing over ls)
+unfolding standing
+rises_standing over [] h = tt
+rises_standing over (l ∷ ls) h =
+    let later : ℕ → Bool = λ i. over i || is_last_of i l in
+    rises_if (over l.number) l (standing over ls) (standing later ls) (standing_each (λ k. rank_of l < rank_of k) later ls h.0) (rises_standing over ls h.1) (rises_standing later ls h.1)
+
+-- in order, and with no two of one class up to the last line of each message
+pub record Fine (ls : List Line) : Type 0 where
+  pub ordered : Ordered ls
+  pub rises : Rises (standing (λ i. false) ls)
+
+pub fine_of : (ls : List Line) → Rises ls → Fine ls
+fine_of ls h = record { ordered = rises_ordered ls h; rises = rises_standing (λ i. false) ls h }
 
 -- the ranks of these classes rise
 abbrev Rise : List Class → Type 0

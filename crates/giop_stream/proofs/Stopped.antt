@@ -10,7 +10,7 @@ use Rattle.giop_stream.specs.State.{State, state_of}
 use Rattle.giop_stream.specs.Machine.{step_unless, step, run, run_state, totals_of}
 use Rattle.giop_stream.proofs.Bridge.{run_text, run_holds, tally_is}
 
-step_nothing : (R : Reading) (s : State) (x : ℕ) (found : ℕ × StreamFault) → s.stop ≡ Some found → step R s x ≡ record { state = s; lines = [] }
+pub step_nothing : (R : Reading) (s : State) (x : ℕ) (found : ℕ × StreamFault) → s.stop ≡ Some found → step R s x ≡ record { state = s; lines = [] }
 unfolding step
 step_nothing R s x found h = ap (step_unless R s x) h
 
@@ -24,7 +24,7 @@ unfolding run_state
 stays R s [] found h = refl
 stays R s (x ∷ q) found h = rw (step_nothing R s x found h) (stays R s q found h)
 
-is_stopped : (R : Reading) (p : List ℕ) (found : ℕ × StreamFault) → (cut p).stop ≡ Some found → (state_of R p).stop ≡ Some found
+pub is_stopped : (R : Reading) (p : List ℕ) (found : ℕ × StreamFault) → (cut p).stop ≡ Some found → (state_of R p).stop ≡ Some found
 unfolding state_of
 is_stopped R p found h = h
 

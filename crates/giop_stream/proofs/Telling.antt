@@ -243,6 +243,17 @@ unfolding utters_kept IsOf
 tells_number R P e None h = tt
 tells_number R P e (Some xs) h = each_weaker (IsOf e) (λ l. P l.number) (λ l k. subst P (sym k.1) h) (tells R e xs (xs ++ joined e.whom.number (e ∷ [])) e.what) (tells_of R e xs (xs ++ joined e.whom.number (e ∷ [])) e.what)
 
+-- and what holds of their places
+tells_place : (R : Reading) (P : ℕ → Type 0) (e : Event) (o : Option (List ℕ)) → P e.place → Each (λ l. P l.place) (utters_kept R e o)
+unfolding utters_kept IsOf
+tells_place R P e None h = tt
+tells_place R P e (Some xs) h = each_weaker (IsOf e) (λ l. P l.place) (λ l k. subst P (sym k.0) h) (tells R e xs (xs ++ joined e.whom.number (e ∷ [])) e.what) (tells_of R e xs (xs ++ joined e.whom.number (e ∷ [])) e.what)
+
+pub utters_places : (R : Reading) (P : ℕ → Type 0) (known : Kept) (es : List Event) → Each (λ e. P e.place) es → Each (λ l. P l.place) (utters R known es)
+unfolding utters
+utters_places R P known [] h = tt
+utters_places R P known (e ∷ es) h = each_append (λ l. P l.place) (utters_kept R e (known e.whom.number)) (utters R (taking known (e ∷ [])) es) (tells_place R P e (known e.whom.number) h.0) (utters_places R P (taking known (e ∷ [])) es h.1)
+
 utters_each : (R : Reading) (P : ℕ → Type 0) (known : Kept) (es : List Event) → Each (λ e. P e.whom.number) es → Each (λ l. P l.number) (utters R known es)
 unfolding utters
 utters_each R P known [] h = tt

@@ -3,22 +3,23 @@
 use Rattle.std.proofs.Common.{inl, inr, ◌⊎◌, ◌≡◌, ℕ, suc, ◌-◌, ◌<◌, ◌≤◌, Bool, true, false, List, [], ◌∷◌, ◌++◌, length, get_or, map, refl, sym, subst, append_assoc, Option, Some, None, arith}
 use Rattle.std.specs.Prelude.{nat_lt, nat_le, ◌==◌, if◌then◌else◌, ◌&&◌, ◌||◌, option_map}
 use Rattle.std.specs.List.{filter, AllByRecursion as Each}
-use Rattle.std.proofs.lemmas.Bool.{cases_lt, cases_eq, le-ltb, lt-ltb, eq-eqb, ne_eqb, and_right}
+use Rattle.std.proofs.lemmas.Bool.{cases_lt, cases_eq, le-ltb, lt-ltb, eq-eqb, eqb-true, ne_eqb, and_parts, and_right}
 use Rattle.std.proofs.lemmas.List.{append-nil, length_push}
 use Rattle.giop_stream.specs.declared.fault.ImposedFault.{ImposedFault}
 use Rattle.giop_stream.specs.declared.fault.ImposedFault.TheVariants.{Short, NoOpen, IdOpen, TooManyOpen, FragmentOrder}
 use Rattle.giop_message.specs.Headers.{order, has_more, size, is_fragment, is_opener, is_cancel, has_name}
 use Rattle.giop_stream.specs.Framing.{Message}
-use Rattle.giop_message.specs.Reading.{Saying, Value, Reading, IsOrdered, due, IsClosing, IsInTurn}
+use Rattle.giop_message.specs.Reading.{Saying, Value, Fault, Reading, IsOrdered, due, IsClosing, IsInTurn}
 use Rattle.giop_stream.specs.Kinds.{may_be_cancelled, refused}
 use Rattle.giop_stream.specs.Plays.{IsBegun}
 use Rattle.giop_stream.specs.Events.{Happening, Begins, Takes, Opens, Continues, Cancelled, Imposed, Closes, Title, Event, Open, title, place, own, about, id, opener_of, goes_past, imposed, at_header, at_octet, opens_by, opens, most_open, same_order, continues_by, continues, cancels_by, cancels, at_id, at_end, happens, octet, joined}
-use Rattle.giop_stream.specs.Lines.{Said, line, tells}
+use Rattle.giop_stream.specs.Lines.{Said, line, tells, is_last_of, standing}
 use Rattle.giop_stream.specs.State.{Kept}
 use Rattle.giop_stream.specs.Machine.{utters_kept, taking, utters}
 use Rattle.giop_stream.proofs.Lists.{each_filter}
-use Rattle.giop_stream.proofs.Ordering.{rank_of, Ordered}
-use Rattle.giop_stream.proofs.Spans.{Spans, spans_none, spans_wider, spans_join, spans_one, said_rank, SayingsOrdered, rank_said, said_each, said_ordered, said_spans, turn_spans, close_spans, both_span, value_spans}
+use Rattle.giop_stream.proofs.Ordering.{rank_of, Ordered, Rises, Fine, fine_of}
+use Rattle.giop_stream.proofs.Spans.{Spans, spans_none, spans_wider, spans_join, spans_one, said_rank, SayingsRise, rank_said, said_each, said_rises, said_spans, turn_spans, close_spans, both_say, value_spans}
+use Rattle.giop_stream.proofs.Accepted.{named_accepted}
 
 -- ---- The lines of one happening.
 
@@ -66,12 +67,12 @@ utters_join R K (e ∷ es) fs =
     let more = utters_join R (taking K (e ∷ [])) es fs in
     (more.0, rw more.1 (sym (append_assoc (utters_kept R e (K e.whom.number)) (utters R (taking K (e ∷ [])) es) (utters R more.0 fs))))
 
--- events of lines in order, before others of such
-join_spans : (R : Reading) (K : Kept) (a b c d : ℕ) (es fs : List Event) → b ≤ c → a ≤ c → b ≤ d → Spans a b (utters R K es) → Always R c d fs → Spans a d (utters R K (es ++ fs))
+-- events of lines whose classes rise, before others of such
+join_spans : (R : Reading) (K : Kept) (a b c d : ℕ) (es fs : List Event) → b < c → a ≤ c → b ≤ d → Spans a b (utters R K es) → Always R c d fs → Spans a d (utters R K (es ++ fs))
 unfolding Always
 join_spans R K a b c d es fs h k i s t = let both = utters_join R K es fs in rw both.1 (spans_join a b c d (utters R K es) (utters R both.0 fs) h k i s (t both.0))
 
-always_join : (R : Reading) (a b c d : ℕ) (es fs : List Event) → b ≤ c → a ≤ c → b ≤ d → Always R a b es → Always R c d fs → Always R a d (es ++ fs)
+always_join : (R : Reading) (a b c d : ℕ) (es fs : List Event) → b < c → a ≤ c → b ≤ d → Always R a b es → Always R c d fs → Always R a d (es ++ fs)
 unfolding Always
 always_join R a b c d es fs h k i s t K = join_spans R K a b c d es fs h k i (s K) t
 
@@ -143,20 +144,47 @@ always_id R live m =
     (always_if R 3 5 (is_opener m.header) (opens_by live m (opener_of live m)) _ (always_opens R live m (opener_of live m))
     (always_if R 3 5 (is_cancel m.header) (cancels_by m (opener_of live m)) [] (always_cancels R m (opener_of live m)) (always_none R 3 5)))
 
-always_end : (R : Reading) → IsClosing R → (live : List Open) (m : Message) → Always R 5 8 (at_end live m)
+-- a message that ends before its request id, which it needs
+abbrev ends_short : Message → Bool
+ends_short m = nat_lt (size m.header) 4 && (is_opener m.header || is_fragment m.header)
+
+-- where it isn't, the joined message may close
+always_close : (R : Reading) → IsClosing R → (live : List Open) (m : Message) → ends_short m ≡ false → Always R 6 8 (at_end live m)
 unfolding at_end
-always_end R closing live m =
-    always_if R 5 8 (nat_lt (size m.header) 4 && (is_opener m.header || is_fragment m.header)) (own m (Imposed Short)) _ (always_wider R 5 8 5 5 (own m (Imposed Short)) (omega arith) (omega arith) (always_imposed R m Short))
-    (always_if R 5 8 (is_opener m.header) [] _ (always_none R 5 8)
-    (always_if R 5 8 (is_fragment m.header) _ (own m Closes)
-    (always_if R 5 8 (has_more m.header) [] (about m (opener_of live m) Closes) (always_none R 5 8) (always_wider R 5 8 6 8 _ (omega arith) (omega arith) (always_about R 6 8 m (opener_of live m) Closes (tells_closes R closing))))
-    (always_wider R 5 8 6 8 (own m Closes) (omega arith) (omega arith) (always_own R 6 8 m Closes (tells_closes R closing)))))
+always_close R closing live m long =
+    rw long
+    (always_if R 6 8 (is_opener m.header) [] _ (always_none R 6 8)
+    (always_if R 6 8 (is_fragment m.header) _ (own m Closes)
+    (always_if R 6 8 (has_more m.header) [] (about m (opener_of live m) Closes) (always_none R 6 8) (always_about R 6 8 m (opener_of live m) Closes (tells_closes R closing)))
+    (always_own R 6 8 m Closes (tells_closes R closing))))
+
+always_short : (R : Reading) (live : List Open) (m : Message) → ends_short m ≡ true → Always R 5 5 (at_end live m)
+unfolding at_end
+always_short R live m short = rw short (always_imposed R m Short)
+
+always_end : (R : Reading) → IsClosing R → (live : List Open) (m : Message) → Always R 5 8 (at_end live m)
+always_end R closing live m = go (ends_short m) refl
+  where
+    go : (b : Bool) → ends_short m ≡ b → Always R 5 8 (at_end live m)
+    go true short = always_wider R 5 8 5 5 (at_end live m) (omega arith) (omega arith) (always_short R live m short)
+    go false long = always_wider R 5 8 6 8 (at_end live m) (omega arith) (omega arith) (always_close R closing live m long)
+
+long_enough : (m : Message) → 4 ≤ size m.header → ends_short m ≡ false
+long_enough m h = rw (le-ltb (size m.header) 4 h) refl
 
 -- behind the first part
-always_later : (R : Reading) → IsClosing R → (live : List Open) (m : Message) → Always R 3 8 ((if length m.payload == 4 then at_id live m else []) ++ (if length m.payload == size m.header then at_end live m else []))
-always_later R closing live m =
-    always_join R 3 5 5 8 (if length m.payload == 4 then at_id live m else []) (if length m.payload == size m.header then at_end live m else []) (omega arith) (omega arith) (omega arith)
-    (always_if R 3 5 (length m.payload == 4) (at_id live m) [] (always_id R live m) (always_none R 3 5)) (always_if R 5 8 (length m.payload == size m.header) (at_end live m) [] (always_end R closing live m) (always_none R 5 8))
+always_later : (R : Reading) → IsClosing R → (live : List Open) (m : Message) → length m.payload ≤ size m.header
+    → Always R 3 8 ((if length m.payload == 4 then at_id live m else []) ++ (if length m.payload == size m.header then at_end live m else []))
+always_later R closing live m fits = go (length m.payload == 4) refl
+  where
+    go : (b : Bool) → (length m.payload == 4) ≡ b → Always R 3 8 ((if b then at_id live m else []) ++ (if length m.payload == size m.header then at_end live m else []))
+    go true e =
+        let four = eqb-true (length m.payload) 4 e in
+        always_join R 3 5 6 8 (at_id live m) (if length m.payload == size m.header then at_end live m else []) (omega arith) (omega arith) (omega arith) (always_id R live m)
+        (always_if R 6 8 (length m.payload == size m.header) (at_end live m) [] (always_close R closing live m (long_enough m (omega arith))) (always_none R 6 8))
+    go false e =
+        always_wider R 3 8 5 8 (if length m.payload == size m.header then at_end live m else []) (omega arith) (omega arith)
+        (always_if R 5 8 (length m.payload == size m.header) (at_end live m) [] (always_end R closing live m) (always_none R 5 8))
 
 -- ---- An octet, and the close behind it.
 
@@ -169,46 +197,71 @@ pair_each : {A B : Type 0} (P : ℕ → Type 0) (d e : Event) (f : A → Saying)
 pair_each P d e f g f' g' [] ys h = said_each P e f' g' ys h
 pair_each P d e f g f' g' (x ∷ xs) ys h = (subst P (sym (rank_said d (f x) (g x))) h.0, pair_each P d e f g f' g' xs ys h.1)
 
-pair_ordered : {A B : Type 0} (d e : Event) (f : A → Saying) (g : A → List ℕ) (f' : B → Saying) (g' : B → List ℕ) (xs : List A) (ys : List B) → SayingsOrdered (map f xs ++ map f' ys)
-    → Ordered (map (λ a. line d (Said (f a) (g a))) xs ++ map (λ b. line e (Said (f' b) (g' b))) ys)
-pair_ordered d e f g f' g' [] ys h = said_ordered e f' g' ys h
-pair_ordered {A} {B} d e f g f' g' (x ∷ xs) ys h = (rw (rank_said d (f x) (g x)) (pair_each (λ n. said_rank (f x) ≤ n) d e f g f' g' xs ys h.0), pair_ordered d e f g f' g' xs ys h.1)
+pair_rises : {A B : Type 0} (d e : Event) (f : A → Saying) (g : A → List ℕ) (f' : B → Saying) (g' : B → List ℕ) (xs : List A) (ys : List B) → SayingsRise (map f xs ++ map f' ys)
+    → Rises (map (λ a. line d (Said (f a) (g a))) xs ++ map (λ b. line e (Said (f' b) (g' b))) ys)
+pair_rises d e f g f' g' [] ys h = said_rises e f' g' ys h
+pair_rises {A} {B} d e f g f' g' (x ∷ xs) ys h = (rw (rank_said d (f x) (g x)) (pair_each (λ n. said_rank (f x) < n) d e f g f' g' xs ys h.0), pair_rises d e f g f' g' xs ys h.1)
+
+-- Of two faults of one message the second falls away.
+two_faults : (d e : Event) (t u : List ℕ) → d.whom.number ≡ e.whom.number → Fine (line d (Said Fault t) ∷ line e (Said Fault u) ∷ [])
+unfolding line standing is_last_of
+two_faults d e t u same = record { ordered = omega arith; rises = rw (eq-eqb d.whom.number e.whom.number same) (tt, tt) }
+
+faults_fine : {A B : Type 0} (d e : Event) (f : A → Saying) (g : A → List ℕ) (f' : B → Saying) (g' : B → List ℕ) (xs : List A) (ys : List B) → d.whom.number ≡ e.whom.number → map f xs ≡ Fault ∷ [] → map f' ys ≡ Fault ∷ []
+    → Fine (map (λ a. line d (Said (f a) (g a))) xs ++ map (λ b. line e (Said (f' b) (g' b))) ys)
+faults_fine d e f g f' g' [] ys same h k = absurd cc
+faults_fine d e f g f' g' (x ∷ []) [] same h k = absurd cc
+faults_fine d e f g f' g' (x ∷ []) (y ∷ []) same h k =
+    let first : f x ≡ Fault = cc in
+    let second : f' y ≡ Fault = cc in
+    rw (first, second) (two_faults d e (g x) (g' y) same)
+faults_fine d e f g f' g' (x ∷ []) (y ∷ y' ∷ ys) same h k = absurd cc
+faults_fine d e f g f' g' (x ∷ x' ∷ xs) ys same h k = absurd cc
+
+pair_fine : {A B : Type 0} (d e : Event) (f : A → Saying) (g : A → List ℕ) (f' : B → Saying) (g' : B → List ℕ) (xs : List A) (ys : List B) → d.whom.number ≡ e.whom.number
+    → SayingsRise (map f xs ++ map f' ys) ⊎ ((map f xs ≡ Fault ∷ []) × (map f' ys ≡ Fault ∷ []))
+    → Fine (map (λ a. line d (Said (f a) (g a))) xs ++ map (λ b. line e (Said (f' b) (g' b))) ys)
+pair_fine d e f g f' g' xs ys same (inl h) = fine_of _ (pair_rises d e f g f' g' xs ys h)
+pair_fine d e f g f' g' xs ys same (inr h) = faults_fine d e f g f' g' xs ys same h.0 h.1
+
+fine_none : Fine []
+fine_none = fine_of [] tt
 
 abbrev event : ℕ → Title → Happening → Event
 event at whom what = record { place = at; whom = whom; what = what }
 
 pair_by : (R : Reading) → IsInTurn R → (at : ℕ) (whom : Title) (x : ℕ) (o : Option (List ℕ))
-    → Ordered (utters_kept R (event at whom (Takes x)) o ++ utters_kept R (event at whom Closes) (option_map (λ xs. xs ++ joined whom.number (event at whom (Takes x) ∷ [])) o))
+    → Fine (utters_kept R (event at whom (Takes x)) o ++ utters_kept R (event at whom Closes) (option_map (λ xs. xs ++ joined whom.number (event at whom (Takes x) ∷ [])) o))
 unfolding utters_kept tells
-pair_by R laws at whom x None = tt
+pair_by R laws at whom x None = fine_none
 pair_by R laws at whom x (Some xs) =
     rw (one_octet (event at whom (Takes x)) x refl)
-    (pair_ordered (event at whom (Takes x)) (event at whom Closes) (λ r. r.saying) (λ r. r.text) (λ l. l.0) (λ l. l.1) (due R whom.header xs x) (R.closes whom.header (xs ++ x ∷ []))
-    (both_span _ _ (laws.ordered.ordered whom.header (xs ++ x ∷ []) (suc (length xs))) (laws.closing.closed whom.header (xs ++ x ∷ [])) (laws.closing.no_rest whom.header xs x)))
+    (pair_fine (event at whom (Takes x)) (event at whom Closes) (λ r. r.saying) (λ r. r.text) (λ l. l.0) (λ l. l.1) (due R whom.header xs x) (R.closes whom.header (xs ++ x ∷ [])) refl
+    (both_say _ _ (laws.ordered.ordered whom.header (xs ++ x ∷ []) (suc (length xs))) (laws.closing.closed whom.header (xs ++ x ∷ [])) (laws.closing.no_rest whom.header xs x) (laws.closing.one_rest whom.header xs x)))
 
-pair_ordered_at : (R : Reading) → IsInTurn R → (K : Kept) (at : ℕ) (whom : Title) (x : ℕ) → Ordered (utters R K (event at whom (Takes x) ∷ event at whom Closes ∷ []))
+pair_fine_at : (R : Reading) → IsInTurn R → (K : Kept) (at : ℕ) (whom : Title) (x : ℕ) → Fine (utters R K (event at whom (Takes x) ∷ event at whom Closes ∷ []))
 unfolding utters taking
-pair_ordered_at R laws K at whom x = rw (append-nil) (pair_by R laws at whom x (K whom.number))
+pair_fine_at R laws K at whom x = rw (append-nil) (pair_by R laws at whom x (K whom.number))
 
-takes_alone : (R : Reading) → IsInTurn R → (K : Kept) (at : ℕ) (whom : Title) (x : ℕ) → Ordered (utters R K (event at whom (Takes x) ∷ []))
+takes_alone : (R : Reading) → IsInTurn R → (K : Kept) (at : ℕ) (whom : Title) (x : ℕ) → Fine (utters R K (event at whom (Takes x) ∷ []))
 unfolding Always
-takes_alone R laws K at whom x = (always_one R 1 7 (event at whom (Takes x)) (tells_takes R laws.ordered x) K).ordered
+takes_alone R laws K at whom x = fine_of _ (always_one R 1 7 (event at whom (Takes x)) (tells_takes R laws.ordered x) K).rises
 
 -- the octet of a message, and perhaps its close
-takes_then : (R : Reading) → IsInTurn R → (K : Kept) (m : Message) (x : ℕ) (b : Bool) (es : List Event) → (es ≡ []) ⊎ (es ≡ own m Closes) → Ordered (utters R K (own m (Takes x) ++ (if b then es else [])))
+takes_then : (R : Reading) → IsInTurn R → (K : Kept) (m : Message) (x : ℕ) (b : Bool) (es : List Event) → (es ≡ []) ⊎ (es ≡ own m Closes) → Fine (utters R K (own m (Takes x) ++ (if b then es else [])))
 unfolding own
 takes_then R laws K m x false es h = takes_alone R laws K (place m) (title m) x
 takes_then R laws K m x true es (inl h) = rw h (takes_alone R laws K (place m) (title m) x)
-takes_then R laws K m x true es (inr h) = rw h (pair_ordered_at R laws K (place m) (title m) x)
+takes_then R laws K m x true es (inr h) = rw h (pair_fine_at R laws K (place m) (title m) x)
 
-passes_then : (R : Reading) → IsInTurn R → (K : Kept) (m : Message) (o : Option Open) (x : ℕ) (b : Bool) (es : List Event) → (es ≡ []) ⊎ (es ≡ about m o Closes) → Ordered (utters R K (about m o (Takes x) ++ (if b then es else [])))
+passes_then : (R : Reading) → IsInTurn R → (K : Kept) (m : Message) (o : Option Open) (x : ℕ) (b : Bool) (es : List Event) → (es ≡ []) ⊎ (es ≡ about m o Closes) → Fine (utters R K (about m o (Takes x) ++ (if b then es else [])))
 unfolding about utters
-passes_then R laws K m None x false es h = tt
-passes_then R laws K m None x true es (inl h) = rw h tt
-passes_then R laws K m None x true es (inr h) = rw h tt
+passes_then R laws K m None x false es h = fine_none
+passes_then R laws K m None x true es (inl h) = rw h fine_none
+passes_then R laws K m None x true es (inr h) = rw h fine_none
 passes_then R laws K m (Some o) x false es h = takes_alone R laws K (place m) o.opener x
 passes_then R laws K m (Some o) x true es (inl h) = rw h (takes_alone R laws K (place m) o.opener x)
-passes_then R laws K m (Some o) x true es (inr h) = rw h (pair_ordered_at R laws K (place m) o.opener x)
+passes_then R laws K m (Some o) x true es (inr h) = rw h (pair_fine_at R laws K (place m) o.opener x)
 
 -- the first octets of a message that begins with its request id
 named_takes : (R : Reading) → IsInTurn R → (at : ℕ) (whom : Title) (x : ℕ) (o : Option (List ℕ)) → has_name whom.header ≡ true → ((xs : List ℕ) → o ≡ Some xs → length xs < 4) → Spans 1 1 (utters_kept R (event at whom (Takes x)) o)
@@ -218,7 +271,7 @@ named_takes R laws at whom x (Some xs) k few =
     let short = few xs refl in
     rw (one_octet (event at whom (Takes x)) x refl)
     (said_spans 1 1 (event at whom (Takes x)) (λ r. r.saying) (λ r. r.text) (due R whom.header xs x)
-    (value_spans (λ r. r.saying) (due R whom.header xs x) (each_filter (λ r. r.saying ≡ Value) (λ r. r.at == suc (length xs)) (R.reads whom.header (xs ++ x ∷ [])) (laws.named.named whom.header (xs ++ x ∷ []) k (omega (arith, length_push xs x))))))
+    (value_spans (λ r. r.saying) (due R whom.header xs x) (laws.ordered.ordered whom.header (xs ++ x ∷ []) (suc (length xs))) (each_filter (λ r. r.saying ≡ Value) (λ r. r.at == suc (length xs)) (R.reads whom.header (xs ++ x ∷ [])) (laws.named.named whom.header (xs ++ x ∷ []) k (omega (arith, length_push xs x))))))
 
 -- ---- All of an octet.
 
@@ -269,7 +322,7 @@ not_short m (inr h) = rw (le-ltb (size m.header) 4 h) refl
 
 -- an octet of a message that does not begin with its request id, or one behind it
 plain_octet : (R : Reading) → IsInTurn R → (K : Kept) (live : List Open) (m : Message) → 0 < length m.payload → (has_name m.header ≡ false) ⊎ (4 < length m.payload) → length m.payload ≤ size m.header
-    → Ordered (utters R K (happens live m))
+    → Fine (utters R K (happens live m))
 unfolding happens
 plain_octet R laws K live m some h fits =
     rw (happens, ne_eqb (length m.payload) 0 (λ e. omega arith), second) (go (is_fragment m.header) refl)
@@ -284,7 +337,7 @@ plain_octet R laws K live m some h fits =
     long : (nat_lt (size m.header) 4 && (is_opener m.header || is_fragment m.header)) ≡ false
     long = not_short m (elim h [ inl k ↦ inl k | inr k ↦ inr (omega arith) ])
 
-    go : (b : Bool) → is_fragment m.header ≡ b → Ordered (utters R K (at_octet live m ++ (if length m.payload == size m.header then at_end live m else [])))
+    go : (b : Bool) → is_fragment m.header ≡ b → Fine (utters R K (at_octet live m ++ (if length m.payload == size m.header then at_end live m else [])))
     go false f = unfold at_octet goes_past in
         rw (f) (takes_then R laws K m (get_or m.payload (length m.payload - 1) 0) (length m.payload == size m.header) (at_end live m) (at_end_whose live m long f))
     go true f = unfold at_octet goes_past in
@@ -292,22 +345,36 @@ plain_octet R laws K live m some h fits =
         rw (f, lt-ltb 4 (length m.payload) past) (passes_then R laws K m (opener_of live m) (get_or m.payload (length m.payload - 1) 0) (length m.payload == size m.header) (at_end live m) (at_end_past live m long f))
 
 -- an octet of a request id
-named_octet : (R : Reading) → IsInTurn R → (K : Kept) (live : List Open) (m : Message) → 0 < length m.payload → has_name m.header ≡ true → length m.payload ≤ 4 → IsBegun K m → Ordered (utters R K (happens live m))
+named_octet : (R : Reading) → IsInTurn R → (K : Kept) (live : List Open) (m : Message) → 0 < length m.payload → has_name m.header ≡ true → length m.payload ≤ 4 → length m.payload ≤ size m.header → IsBegun K m → Fine (utters R K (happens live m))
 unfolding happens at_octet
-named_octet R laws K live m some h short begun =
+named_octet R laws K live m some h short fits begun =
     rw (happens, at_octet, ne_eqb (length m.payload) 0 (λ e. omega arith), not_past m short)
-    (join_spans R K 1 1 3 8 (own m (Takes (get_or m.payload (length m.payload - 1) 0))) _ (omega arith) (omega arith) (omega arith) (own_named R laws K m (get_or m.payload (length m.payload - 1) 0) h some short begun) (always_later R laws.closing live m)).ordered
+    (fine_of _ (join_spans R K 1 1 3 8 (own m (Takes (get_or m.payload (length m.payload - 1) 0))) _ (omega arith) (omega arith) (omega arith) (own_named R laws K m (get_or m.payload (length m.payload - 1) 0) h some short begun) (always_later R laws.closing live m fits)).rises)
 
 -- the header's last octet
-first_octet : (R : Reading) → IsInTurn R → (K : Kept) (live : List Open) (m : Message) → length m.payload ≡ 0 → Ordered (utters R K (happens live m))
-unfolding happens Always
-first_octet R laws K live m none =
-    let header : Always R 0 5 (at_header m) = always_header R m in
-    let end : Always R 5 8 (if length m.payload == size m.header then at_end live m else []) = always_if R 5 8 (length m.payload == size m.header) (at_end live m) [] (always_end R laws.closing live m) (always_none R 5 8) in
-    rw (happens, eq-eqb (length m.payload) 0 none, ne_eqb (length m.payload) 4 (λ e. omega arith)) (always_join R 0 5 5 8 (at_header m) _ (omega arith) (omega arith) (omega arith) header end K).ordered
+short_begins : (R : Reading) (m : Message) → ends_short m ≡ true → Always R 0 0 (at_header m)
+unfolding at_header own
+short_begins R m short =
+    let named : has_name m.header ≡ true = rw ((and_parts (nat_lt (size m.header) 4) (is_opener m.header || is_fragment m.header) short).1) refl in
+    rw (named_accepted m.header named) (always_own R 0 0 m Begins (tells_begins R))
 
-pub happens_ordered : (R : Reading) → IsInTurn R → (K : Kept) (live : List Open) (m : Message) → length m.payload ≤ size m.header → (has_name m.header ≡ true → IsBegun K m) → Ordered (utters R K (happens live m))
-happens_ordered R laws K live m fits begun = elim (cases_eq (length m.payload) 0) [
+first_rises : (R : Reading) → IsInTurn R → (K : Kept) (live : List Open) (m : Message) (b : Bool) → ends_short m ≡ b → Rises (utters R K (at_header m ++ (if length m.payload == size m.header then at_end live m else [])))
+unfolding Always
+first_rises R laws K live m true short =
+    (always_join R 0 0 5 8 (at_header m) (if length m.payload == size m.header then at_end live m else []) (omega arith) (omega arith) (omega arith) (short_begins R m short)
+    (always_if R 5 8 (length m.payload == size m.header) (at_end live m) [] (always_end R laws.closing live m) (always_none R 5 8)) K).rises
+first_rises R laws K live m false long =
+    (always_join R 0 5 6 8 (at_header m) (if length m.payload == size m.header then at_end live m else []) (omega arith) (omega arith) (omega arith) (always_header R m)
+    (always_if R 6 8 (length m.payload == size m.header) (at_end live m) [] (always_close R laws.closing live m long) (always_none R 6 8)) K).rises
+
+first_octet : (R : Reading) → IsInTurn R → (K : Kept) (live : List Open) (m : Message) → length m.payload ≡ 0 → Fine (utters R K (happens live m))
+unfolding happens
+first_octet R laws K live m none =
+    rw (happens, eq-eqb (length m.payload) 0 none, ne_eqb (length m.payload) 4 (λ e. omega arith)) (fine_of _ (first_rises R laws K live m (ends_short m) refl))
+
+-- The lines of an octet are in order, and those that stand have no two of one class.
+pub happens_fine : (R : Reading) → IsInTurn R → (K : Kept) (live : List Open) (m : Message) → length m.payload ≤ size m.header → (has_name m.header ≡ true → IsBegun K m) → Fine (utters R K (happens live m))
+happens_fine R laws K live m fits begun = elim (cases_eq (length m.payload) 0) [
   | inl none ↦ first_octet R laws K live m none
   | inr some ↦ elim (cases_lt 4 (length m.payload)) [
     | inl past ↦ plain_octet R laws K live m (omega arith) (inr past) fits
@@ -315,6 +382,9 @@ happens_ordered R laws K live m fits begun = elim (cases_eq (length m.payload) 0
   ]
 ]
   where
-    go : (b : Bool) → has_name m.header ≡ b → 0 < length m.payload → length m.payload ≤ 4 → Ordered (utters R K (happens live m))
-    go true h some short = named_octet R laws K live m some h short (begun h)
+    go : (b : Bool) → has_name m.header ≡ b → 0 < length m.payload → length m.payload ≤ 4 → Fine (utters R K (happens live m))
+    go true h some short = named_octet R laws K live m some h short fits (begun h)
     go false h some short = plain_octet R laws K live m some (inl h) fits
+
+pub happens_ordered : (R : Reading) → IsInTurn R → (K : Kept) (live : List Open) (m : Message) → length m.payload ≤ size m.header → (has_name m.header ≡ true → IsBegun K m) → Ordered (utters R K (happens live m))
+happens_ordered R laws K live m fits begun = (happens_fine R laws K live m fits begun).ordered

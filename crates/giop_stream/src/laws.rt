@@ -1,6 +1,6 @@
 //! The laws of a stream whose messages are joined from their fragments, for any reading of one message.
 
-ghost use Rattle.std.specs.Prelude.{◌≡◌, ◌≤◌, ◌<◌, ℕ, suc, List, [], ◌∷◌, ◌++◌, length, true, Some, None, slice_get, slice_set};
+ghost use Rattle.std.specs.Prelude.{◌≡◌, ◌≤◌, ◌<◌, ◌==◌, ◌&&◌, ℕ, suc, List, [], ◌∷◌, ◌++◌, length, filter, true, Some, None, slice_get, slice_set};
 ghost use Rattle.std.specs.List.{remove};
 ghost use Rattle.giop_stream.specs.declared.fault.StreamFault.{StreamFault};
 ghost use Rattle.giop_stream.specs.Headers.{wrong};
@@ -9,7 +9,7 @@ ghost use Rattle.giop_stream.specs.Framing.{Message, limit, cut, messages};
 ghost use Rattle.giop_message.specs.Headers.{has_name};
 ghost use Rattle.giop_stream.specs.Events.{Event, Open, Opens, Continues, most_open, happens, events, open_after, joined, Rising};
 ghost use Rattle.giop_stream.specs.Shares.{shares};
-ghost use Rattle.giop_stream.specs.Lines.{lines};
+ghost use Rattle.giop_stream.specs.Lines.{Class, has_class, lines};
 ghost use Rattle.giop_stream.specs.Text.{lines_text};
 ghost use Rattle.giop_stream.specs.Stream.{text, tally, final, closing};
 ghost use Rattle.giop_stream.specs.State.{State, octets_of, state_of};
@@ -124,6 +124,12 @@ pub fn behind_a_stop()
         text R (p ++ q) ≡ text R p }
     ensures totals { (R : Reading) → IsCausal R → (p q : List ℕ) (found : ℕ × StreamFault) → (cut p).stop ≡ Some found →
         tally R (p ++ q) ≡ tally R p }
+{}
+
+/// No octet has two lines of one class.
+pub fn one_of_each()
+    ensures { (R : Reading) → IsCausal R → IsInTurn R → (p : List ℕ) (k : ℕ) (c : Class) →
+        length (filter (λ l. (l.place == k) && has_class c l) (lines R p)) ≤ 1 }
 {}
 
 /// What an engine holds of a stream goes by one step for each octet.
