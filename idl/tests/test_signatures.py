@@ -240,7 +240,22 @@ class CosFiles(unittest.TestCase):
 
 
 class Examples(unittest.TestCase):
-    """The signature files in examples/ are what the converter writes."""
+    """The converted files in examples/ are what the converter writes; the dumper takes each, and its streams."""
+
+    def test_the_streams(self) -> None:
+        examples = REPOSITORY / "examples"
+        for path in sorted(examples.glob("*.sig")):
+            self.assertEqual(refusal_of(path.read_text()), "", path.name)
+        requests, calls = examples / "naming.giop", examples / "naming.req"
+        words = ["--signatures", str(examples / "naming.sig")]
+        asked = dump(*words, str(requests))
+        answered = dump(*words, "--requests", str(calls), str(examples / "naming-replies.giop"))
+        self.assertEqual("".join(re.findall(r"(?m)^m\d+ call (.*\n)", asked.stdout)), calls.read_text())
+        for done, total in ((asked, "total messages 7 faults 0 octets 711\n"),
+                            (answered, "total messages 6 faults 0 octets 511\n")):
+            self.assertEqual(done.returncode, 0)
+            self.assertTrue(done.stdout.endswith(total))
+            self.assertNotRegex(done.stdout, r"(?m)^m\d+ (rest|fault|unfinished)")
 
     def test_each(self) -> None:
         for idl, example in (
