@@ -173,6 +173,11 @@ class Cases(unittest.TestCase):
         lines = dumped(pcap(segments(("c", b"GET / HTTP/1.0\r\n"))), status=1)
         self.assertEqual(lines[:3], [THERE, "stream fault magic at 2", "total messages 0 faults 1 octets 2"])
 
+    def test_a_version_that_is_none(self) -> None:
+        a, b = pair(5)
+        lines = dumped(pcap(segments(("c", a[:5] + b"\x03" + a[6:] + a))), status=1)
+        self.assertEqual(lines[:2], [THERE, "stream fault version at 6"])
+
     def test_two_connections(self) -> None:
         a, b = pair(5)
         parts = segments(("c", a), ("s", b))
