@@ -1,5 +1,4 @@
 //! Messages and their lines, taken whole and in two pieces, and outs that fail. The messages are of the built-in types.
-ghost use Rattle.std.specs.Prelude.{◌≡◌, ◌≤◌, length};
 ghost use Rattle.giop_message.specs.Holding.{AreOf};
 
 use crate::known::{built_in, octets_of};

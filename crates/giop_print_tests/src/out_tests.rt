@@ -5,7 +5,6 @@ ghost use Rattle.giop_print.specs.Output.{counted};
 use crate::streams::{REQUEST, request};
 use giop_cdr::Order;
 use giop_print::{Out, OutFault, Sheet, Written, end_line, put_all, start_line};
-use std::process::Abort;
 use std::test::Fail;
 
 /// One more, in a count that stays at its greatest.
