@@ -1,4 +1,4 @@
--- The number that octets spell, and what it is as a primitive (CDR Transfer Syntax, Primitive Types).
+-- The number that octets spell, and what it is as a primitive (CDR Transfer Syntax, Primitive Types; meaning).
 use Rattle.std.specs.Prelude.{ℕ, ◌+◌, ◌-◌, ◌*◌, ◌^◌, ◌<◌, ◌==◌, ℤ, pos, ◌-ℤ◌, true, false, if◌then◌else◌, nat_lt, List, [], ◌∷◌, reverse, All, Option, Some, None}
 use Rattle.giop_cdr.specs.declared.order.Order.{Order}
 use Rattle.giop_cdr.specs.declared.order.Order.TheVariants.{Big, Little}

@@ -1,4 +1,4 @@
--- The sizes of the primitive types (CDR Transfer Syntax, Primitive Types).
+-- The sizes of the primitive types (CDR Transfer Syntax, Primitive Types; meaning).
 use Rattle.std.specs.Prelude.{ℕ}
 use Rattle.giop_cdr.specs.declared.prim.Primitive.{Primitive}
 use Rattle.giop_cdr.specs.declared.prim.Primitive.TheVariants.{Octet, Char, Boolean, Short, UShort, Long, ULong, LongLong, ULongLong, Float, Double}

@@ -1,4 +1,4 @@
--- Which places and leaf can stand inside a type.
+-- Which places and leaf can stand inside a type (state).
 use Rattle.std.specs.Prelude.{◌≡◌, ℕ, zero, suc, ◌+◌, ◌-◌, ◌<◌, ◌≤◌, List, [], ◌∷◌, length}
 use Rattle.giop_decode.specs.Spine.{Place, Part, Member, Leaf, Head, Content, Read, Done, Short, Fault}
 use Rattle.giop_decode.specs.Pieces.{tail}

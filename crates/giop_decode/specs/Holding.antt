@@ -1,4 +1,4 @@
--- What a decoder holds of the list of octets that it has taken, one field a clause.
+-- What a decoder holds of the list of octets that it has taken, one field a clause (state).
 use Rattle.std.specs.Prelude.{◌≡◌, ℕ, ◌+◌, ◌%◌, ◌<◌, ◌≤◌, Bool, true, false, List, [], ◌∷◌, ◌++◌, length, drop, Option, Some, None}
 use Rattle.giop_cdr.specs.declared.order.Order.{Order}
 use Rattle.giop_decode.specs.declared.decoder.Decoder.{Decoder}

@@ -1,5 +1,5 @@
 -- What a reading leaves in mind, said of its lines: the request id of a header, the last of the enums, and the last of the
--- strings that are whole.
+-- strings that are whole (meaning).
 use Rattle.std.specs.Prelude.{◌≡◌, ℕ, zero, suc, ◌+◌, ◌&&◌, Bool, true, false, cond, List, [], ◌∷◌, ◌++◌, length, take, drop, Option, Some, None, filter_map, flat_map, codes}
 use Rattle.std.specs.List.{AllByRecursion as Each, last_or}
 use Rattle.giop_cdr.specs.declared.prim.Primitive.TheVariants as prims

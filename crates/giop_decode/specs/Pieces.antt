@@ -1,5 +1,5 @@
 -- Octets that are taken together: numbers behind their padding (CDR Transfer Syntax, Alignment), and the contents of strings and
--- octet sequences in pieces of 32 (docs/FORMATS.md).
+-- octet sequences in pieces of 32 (docs/FORMATS.md; meaning).
 use Rattle.std.specs.Prelude.{ℕ, zero, suc, ◌+◌, ◌-◌, ◌/◌, false, true, cond, ltb, eqb, List, [], ◌∷◌, length, take, drop, get_or, Option, Some, None}
 use Rattle.giop_cdr.specs.Alignment.{padding}
 use Rattle.giop_decode.specs.declared.progress.Kind.{Kind}

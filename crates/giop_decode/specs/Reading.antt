@@ -1,4 +1,4 @@
--- Reading a value of a type from a whole list of octets, by recursion on the type (CDR Transfer Syntax).
+-- Reading a value of a type from a whole list of octets, by recursion on the type (CDR Transfer Syntax; meaning).
 use Rattle.std.specs.Prelude.{ℕ, zero, suc, cond, ltb, List, [], ◌∷◌, ◌++◌, Option, Some, None}
 use Rattle.giop_cdr.specs.Numbers.{num}
 use Rattle.giop_cdr.specs.declared.order.Order.{Order}

@@ -1,4 +1,4 @@
--- What an octet that has something to say does to what was heard.
+-- What an octet that has something to say does to what was heard (steps).
 use Rattle.std.specs.Prelude.{◌≡◌, ◌&&◌, Bool, true, false}
 use Rattle.giop_decode.specs.declared.leaf.Leaf.{Leaf as Innermost}
 use Rattle.giop_decode.specs.declared.leaf.Leaf.TheVariants as innermost

@@ -1,4 +1,4 @@
--- The text of a reading's lines, in a message and below a root (docs/FORMATS.md).
+-- The text of a reading's lines, in a message and below a root (docs/FORMATS.md; meaning).
 use Rattle.std.specs.Prelude.{ℕ, List, [], ◌∷◌, ◌++◌, Option, Some, None, codes, decimal}
 use Rattle.giop_cdr.specs.Numbers.{taken_as}
 use Rattle.giop_cdr.specs.Primitives.{size_of}

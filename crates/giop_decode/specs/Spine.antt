@@ -1,4 +1,4 @@
--- What the reading of a value says, and what it leaves: its lines, and the parts that it has begun and not ended.
+-- What the reading of a value says, and what it leaves: its lines, and the parts that it has begun and not ended (meaning).
 use Rattle.std.specs.Prelude.{ℕ, Bool, List, ◌∷◌, ◌++◌}
 use Rattle.giop_decode.specs.declared.progress.Kind.{Kind}
 use Rattle.giop_sig.specs.Types.{Scalar, Ty}

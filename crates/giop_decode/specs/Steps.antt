@@ -1,4 +1,4 @@
--- One octet more, on the parts that a reading has begun and not ended.
+-- One octet more, on the parts that a reading has begun and not ended (steps).
 use Rattle.std.specs.Prelude.{◌≡◌, ℕ, suc, ◌+◌, ◌-◌, cond, ltb, List, [], ◌∷◌, ◌++◌, length}
 use Rattle.giop_cdr.specs.Alignment.{padding}
 use Rattle.giop_cdr.specs.Numbers.{num}

@@ -1,4 +1,4 @@
--- What the fields of a decoder stand for, and what one octet turns its innermost part into.
+-- What the fields of a decoder stand for, and what one octet turns its innermost part into (steps).
 use Rattle.std.specs.Prelude.{◌≡◌, ℕ, ◌<◌, ◌^◌, Bool, true, false, List, [], ◌∷◌, ◌++◌, length, map, Option, Some, None}
 use Rattle.std.specs.List.{AllByRecursion}
 use Rattle.giop_cdr.specs.declared.number.Number.{Number as Taken}

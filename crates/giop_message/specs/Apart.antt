@@ -1,4 +1,4 @@
--- That no octet of a message has two lines of one kind.
+-- That no octet of a message has two lines of one kind (meaning).
 use Rattle.std.specs.Prelude.{◌≢◌, ℕ, List, [], ◌∷◌, ◌++◌, map}
 use Rattle.std.specs.List.{AllByRecursion as Each}
 use Rattle.giop_message.specs.Reading.{Saying, Reading, due}

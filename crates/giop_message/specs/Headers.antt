@@ -1,4 +1,4 @@
--- The fields of a message header of 12 octets, and what kind of message it begins (GIOP Message Formats, GIOP Message Header).
+-- The fields of a message header of 12 octets, and what kind of message it begins (GIOP Message Formats, GIOP Message Header; meaning).
 use Rattle.std.specs.Prelude.{ℕ, ◌/◌, ◌%◌, Bool, ◌&&◌, ◌||◌, List, get_or, drop, nat_lt, ◌==◌, if◌then◌else◌}
 use Rattle.giop_cdr.specs.declared.order.Order.{Order}
 use Rattle.giop_cdr.specs.declared.order.Order.TheVariants.{Big, Little}

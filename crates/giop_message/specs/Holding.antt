@@ -1,4 +1,4 @@
--- What a message holds of the octets that it has taken behind its header, one field a clause; and what its calls write.
+-- What a message holds of the octets that it has taken behind its header, one field a clause; and what its calls write (state).
 use Rattle.std.specs.Prelude.{◌≡◌, ℕ, ◌+◌, ◌-◌, ◌<◌, ◌≤◌, Bool, true, false, List, [], ◌∷◌, ◌++◌, length, take, drop, flat_map, Option, Some, None}
 use Rattle.giop_print.specs.declared.path.Root.{Root}
 use Rattle.giop_print.specs.declared.path.Root.TheVariants as roots

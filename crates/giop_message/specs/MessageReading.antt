@@ -1,4 +1,4 @@
--- The reading of one message as the stream takes it, by a catalogue's table and what is kept of a request list; and its request id.
+-- The reading of one message as the stream takes it, by a catalogue's table and what is kept of a request list; and its request id (meaning).
 use Rattle.std.specs.Prelude.{◌≡◌, ℕ, ◌-◌, Bool, true, false, cond, List, [], ◌∷◌, map, Option, Some, None, codes, IfSome}
 use Rattle.giop_cdr.specs.declared.prim.Primitive.TheVariants as prims
 use Rattle.giop_print.specs.declared.path.Root.TheVariants as roots

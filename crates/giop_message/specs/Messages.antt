@@ -1,4 +1,4 @@
--- One joined message: the reading of all its octets, in one piece (GIOP Message Formats; docs/FORMATS.md). Offsets count from
+-- One joined message: the reading of all its octets, in one piece (GIOP Message Formats; docs/FORMATS.md; meaning). Offsets count from
 -- the first octet of the message, so its octets behind the header begin at 12.
 use Rattle.std.specs.Prelude.{ℕ, zero, suc, ◌+◌, ◌/◌, Bool, true, false, ◌&&◌, ◌||◌, List, [], ◌∷◌, ◌++◌, length, take, drop, Option, Some, None, ◌==◌, nat_lt, nat_le, if◌then◌else◌}
 use Rattle.std.specs.List.{list_all}

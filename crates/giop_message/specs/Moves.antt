@@ -1,4 +1,4 @@
--- What the parts of a message's code do: the text of an octet, and where a message stands behind a part that has ended. Private
+-- What the parts of a message's code do: the text of an octet, and where a message stands behind a part that has ended (steps). Private
 -- contracts alone cite it.
 use Rattle.std.specs.Prelude.{◌≡◌, ℕ, ◌+◌, Bool, List, [], ◌∷◌, length, Option, Some, ◌&&◌, ◌==◌, nat_lt, if◌then◌else◌}
 use Rattle.giop_cdr.specs.Alignment.{padding}

@@ -1,4 +1,4 @@
--- The reading of one message, as the stream takes it: what its octets say so far, and what its close adds. Octets of a
+-- The reading of one message, as the stream takes it: what its octets say so far, and what its close adds (meaning). Octets of a
 -- message count from 1 behind its header.
 use Rattle.std.specs.Prelude.{◌≡◌, ℕ, suc, ◌≤◌, ◌==◌, ◌⊎◌, Bool, true, false, List, [], ◌∷◌, ◌++◌, length, map}
 use Rattle.std.specs.List.{filter, list_any, AllByRecursion as Each}

@@ -1,4 +1,4 @@
--- What a catalogue and a request list say of messages: the types of headers, and the types that bodies can have.
+-- What a catalogue and a request list say of messages: the types of headers, and the types that bodies can have (meaning).
 use Rattle.std.specs.Prelude.{ℕ, List, Option}
 use Rattle.std.specs.Option.{option_map}
 use Rattle.giop_sig.specs.declared.types.OpId.{OpId}

@@ -1,4 +1,4 @@
--- One octet more, on where a message stands.
+-- One octet more, on where a message stands (steps).
 use Rattle.std.specs.Prelude.{ℕ, ◌+◌, false, List, [], ◌∷◌, ◌++◌, length, ◌==◌, nat_lt, if◌then◌else◌}
 use Rattle.giop_cdr.specs.Alignment.{padding}
 use Rattle.giop_print.specs.declared.path.Root.TheVariants as roots

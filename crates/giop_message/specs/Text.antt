@@ -1,4 +1,4 @@
--- The text of what a reading says of a message, without the message's number, and of its lines (docs/FORMATS.md, Lines).
+-- The text of what a reading says of a message, without the message's number, and of its lines (docs/FORMATS.md, Lines; meaning).
 use Rattle.std.specs.Prelude.{ℕ, List, [], ◌∷◌, ◌++◌, Option, Some, None, codes, decimal, flat_map}
 use Rattle.giop_cdr.specs.Numbers.{taken_as}
 use Rattle.giop_cdr.specs.Primitives.{size_of}

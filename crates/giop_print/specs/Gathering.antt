@@ -1,4 +1,4 @@
--- What gathering parts for a put did.
+-- What gathering parts for a put did (steps).
 use Rattle.std.specs.Prelude.{◌≡◌, ℕ, List, ◌++◌, Result, MatchResult}
 use Rattle.giop_print.specs.Output.{OutLog, Wrote, WroteFront}
 

@@ -1,4 +1,4 @@
--- The text of each line (docs/FORMATS.md).
+-- The text of each line (docs/FORMATS.md; meaning).
 use Rattle.std.specs.Prelude.{ℕ, ◌*◌, List, [], ◌∷◌, ◌++◌, Bool, true, false, ◌==◌, if◌then◌else◌, codes, decimal}
 use Rattle.std.specs.Fmt.{signed_decimal}
 use Rattle.giop_cdr.specs.declared.order.Order.{Order}

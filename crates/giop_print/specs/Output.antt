@@ -1,4 +1,4 @@
--- What an out tells, and what writing to it did.
+-- What an out tells, and what writing to it did (meaning).
 use Rattle.std.specs.Prelude.{◌≡◌, ℕ, ◌+◌, ◌-◌, ◌^◌, ◌≤◌, ◌<◌, List, length, take, Option, Result, min, MatchResult}
 use Rattle.std.specs.Io.KnownBytes.{Appends, Keeps}
 

@@ -1,4 +1,4 @@
--- What a sheet tells.
+-- What a sheet tells (state).
 use Rattle.std.specs.Prelude.{ℕ, ◌-◌, length, take, Some}
 use Rattle.giop_print.specs.declared.sheet.Sheet.{Sheet}
 use Rattle.giop_print.specs.Output.{OutLog}

@@ -1,4 +1,4 @@
--- How octets and numbers are spelled in a line (docs/FORMATS.md).
+-- How octets and numbers are spelled in a line (docs/FORMATS.md; meaning).
 use Rattle.std.specs.Prelude.{ℕ, zero, suc, ◌/◌, ◌%◌, ◌^◌, ◌==◌, ◌||◌, Bool, false, nat_lt, if◌then◌else◌, not, List, [], ◌∷◌, ◌++◌, slice_index, codes, flat_map}
 
 -- the digit of a number below 16

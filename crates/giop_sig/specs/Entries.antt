@@ -1,4 +1,4 @@
--- What a caller sees of a catalogue's fields.
+-- What a caller sees of a catalogue's fields (state).
 use Rattle.std.specs.Prelude.{ℕ, List, map}
 use Rattle.arrayvec.specs.ArrayVec.{ArrayVec}
 use Rattle.giop_sig.specs.declared.types.TypeId.{TypeId}

@@ -1,4 +1,4 @@
--- Types that a reader has room for, and whose parts each take some octet.
+-- Types that a reader has room for, and whose parts each take some octet (meaning).
 use Rattle.std.specs.Prelude.{◌≡◌, ℕ, zero, suc, ◌<◌, ◌⊎◌}
 use Rattle.giop_sig.specs.declared.types.Selected.{Selected}
 use Rattle.giop_sig.specs.declared.types.Selected.TheVariants.{Case}

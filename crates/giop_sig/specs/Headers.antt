@@ -1,4 +1,4 @@
--- Which built-in types are headers and bodies (GIOP Message Formats), and what holds of a catalogue as a whole.
+-- Which built-in types are headers and bodies (GIOP Message Formats), and what holds of a catalogue as a whole (meaning).
 use Rattle.std.specs.Prelude.{◌≡◌, ℕ, suc, ◌<◌, ◌≤◌, ◌⊎◌, List, [], ◌∷◌, ◌++◌, length, Option, Some, None, slice_get, slice_index_or, codes}
 use Rattle.std.specs.List.{All}
 use Rattle.std.specs.Option.{option_map}

@@ -1,4 +1,4 @@
--- Reading members from left to right: items, structs and exceptions.
+-- Reading members from left to right: items, structs and exceptions (steps).
 use Rattle.std.specs.Prelude.{ℕ, zero, suc, Bool, true, false, if◌then◌else◌, nat_le, nat_lt, List, [], ◌∷◌, ◌++◌, length, Option, Some, None, Result, Ok, Err}
 use Rattle.std.specs.Map.{lookup}
 use Rattle.std.specs.Option.{is_some}

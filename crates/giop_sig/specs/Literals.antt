@@ -1,4 +1,4 @@
--- What the built-in table as it is written spells.
+-- What the built-in table as it is written spells (state).
 use Rattle.std.specs.Prelude.{[], ◌∷◌, map, None}
 use Rattle.giop_cdr.specs.declared.number.Number.TheVariants.{Signed}
 use Rattle.giop_sig.specs.declared.types.Selected.TheVariants.{Refused}

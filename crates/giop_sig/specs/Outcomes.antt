@@ -1,4 +1,4 @@
--- What a function of the reader returned, against reading.
+-- What a function of the reader returned, against reading (steps).
 use Rattle.std.specs.Prelude.{◌≡◌, ℕ, List, Result, Ok, Err}
 use Rattle.giop_tokens.specs.declared.fault.Refusal.{Refusal}
 use Rattle.giop_tokens.specs.declared.fault.SigFaultKind.{SigFaultKind}

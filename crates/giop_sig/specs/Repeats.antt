@@ -1,4 +1,4 @@
--- Reading in steps, each of which tells whether it was the last.
+-- Reading in steps, each of which tells whether it was the last (steps).
 use Rattle.std.specs.Prelude.{ℕ, zero, suc, Bool, if◌then◌else◌, Result, Ok, Err}
 use Rattle.giop_tokens.specs.declared.fault.Refusal.{Refusal}
 use Rattle.giop_tokens.specs.Reading.{◌>>=◌}

@@ -1,4 +1,4 @@
--- Request lists: which text is which list of entries, and what the list says of an id (docs/FORMATS.md).
+-- Request lists: which text is which list of entries, and what the list says of an id (docs/FORMATS.md; meaning).
 use Rattle.std.specs.Prelude.{◌≡◌, ℕ, ◌+◌, ◌^◌, ◌<◌, ◌≤◌, ◌==◌, ◌⊎◌, List, [], ◌∷◌, ◌++◌, length, map, filter, Option, Some, None, nat_eq, option_and_then, if◌then◌else◌}
 use Rattle.std.specs.List.{All, list_all, onto_first}
 use Rattle.std.specs.Map.{lookup}

@@ -1,5 +1,5 @@
 -- What declarations add: the types, operations and exceptions of a table, and the names that later declarations may use
--- (docs/FORMATS.md, Signature file).
+-- (docs/FORMATS.md, Signature file; meaning).
 use Rattle.std.specs.Prelude.{ℕ, ◌+◌, ◌==◌, ◌-ℤ◌, Bool, true, false, if◌then◌else◌, nat_le, ℤ, pos, List, [], ◌∷◌, ◌++◌, length, Option, Some, None, codes, position}
 use Rattle.std.specs.Map.{lookup}
 use Rattle.std.specs.Str.{bytes_eq}

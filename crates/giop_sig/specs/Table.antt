@@ -1,5 +1,5 @@
 -- The table that a catalogue is: one node for each type, which names the types of its parts by their numbers, and the operations
--- and exceptions by their names.
+-- and exceptions by their names (meaning).
 use Rattle.std.specs.Prelude.{ℕ, ◌+◌, ◌<◌, ◌≤◌, ◌==◌, Bool, false, List, [], ◌∷◌, ◌++◌, length, Option, Some, None, slice_index_or, slice_get, position}
 use Rattle.std.specs.Ordering.{int_eq}
 use mathlib.Core.Bool.{beq}

@@ -1,4 +1,4 @@
--- The trees of a table's types, and what holds of a table as a whole.
+-- The trees of a table's types, and what holds of a table as a whole (meaning).
 use Rattle.std.specs.Prelude.{ℕ, ◌^◌, ◌<◌, ◌≤◌, max, List, [], ◌∷◌, ◌++◌, length, Option, Some, None, slice_index_or, slice_get}
 use Rattle.giop_cdr.specs.declared.prim.Primitive.TheVariants as prims
 use Rattle.giop_cdr.specs.declared.number.Number.{Number}

@@ -1,4 +1,4 @@
--- Reading a type from left to right, and what it adds to the scope.
+-- Reading a type from left to right, and what it adds to the scope (steps).
 use Rattle.std.specs.Prelude.{ℕ, zero, suc, ◌==◌, if◌then◌else◌, nat_le, nat_lt, List, length, Option, Some, None, Result, Ok, Err, codes}
 use Rattle.std.specs.Str.{bytes_eq}
 use Rattle.giop_tokens.specs.declared.fault.Refusal.{Refusal}

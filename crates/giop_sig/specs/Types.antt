@@ -1,4 +1,4 @@
--- CDR's types as finite trees (CDR Transfer Syntax, Constructed Types). The parts of a type are named by their places, from 0.
+-- CDR's types as finite trees (CDR Transfer Syntax, Constructed Types; meaning). The parts of a type are named by their places, from 0.
 -- What a union's discriminator selects is told by the whole number that its octets spell: a label of a signed type is compared
 -- with that number taken in two's complement, so that -1 of a short is selected by the octets of 65535.
 use Rattle.std.specs.Prelude.{◌≡◌, ℕ, zero, suc, ◌+◌, ◌<◌, max, cond, nat_lt, List, [], Option, Some, None}

@@ -1,4 +1,4 @@
--- When declarations are valid (docs/FORMATS.md, Signature file): six rules, each the kind of its refusal. What a kind asks of
+-- When declarations are valid (docs/FORMATS.md, Signature file): six rules, each the kind of its refusal (meaning). What a kind asks of
 -- a declaration is what it asks of the names, sizes, lists and labels in it; of what isn't told it asks nothing.
 use Rattle.std.specs.Prelude.{◌≡◌, ℕ, ◌^◌, ◌<◌, ◌≤◌, ◌==◌, Bool, true, false, List, [], ◌∷◌, ◌++◌, length, map, Option, Some, None}
 use Rattle.std.specs.List.{list_any}

@@ -1,4 +1,4 @@
--- What a caller sees of parameters that were read.
+-- What a caller sees of parameters that were read (state).
 use Rattle.std.specs.Prelude.{map}
 use Rattle.giop_sig.specs.declared.read_calls.Ways.{Ways}
 use Rattle.giop_sig.specs.Views.{part_view}

@@ -1,4 +1,4 @@
--- Refusals of a signature file.
+-- Refusals of a signature file (meaning).
 use Rattle.giop_tokens.specs.declared.fault.SigFault.{SigFault}
 use Rattle.giop_tokens.specs.declared.fault.Refusal.{Refusal}
 use Rattle.giop_tokens.specs.declared.fault.SigFaultKind.TheVariants.{OutOfMemory}

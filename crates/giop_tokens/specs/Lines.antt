@@ -1,4 +1,4 @@
--- The line of a place in a text (docs/FORMATS.md, Signature file).
+-- The line of a place in a text (docs/FORMATS.md, Signature file; meaning).
 use Rattle.std.specs.Prelude.{ℕ, ◌+◌, ◌-◌, List, length, take, max, count_by, ◌==◌}
 use Rattle.giop_tokens.specs.declared.fault.Refusal.{Refusal}
 use Rattle.giop_tokens.specs.declared.fault.SigFault.{SigFault}

@@ -1,4 +1,4 @@
--- The marks, each an octet (docs/FORMATS.md, Signature file).
+-- The marks, each an octet (docs/FORMATS.md, Signature file; meaning).
 use Rattle.std.specs.Prelude.{ℕ, Option, Some, None, ◌==◌, if◌then◌else◌}
 use Rattle.giop_tokens.specs.declared.marks.Mark.{Mark}
 use Rattle.giop_tokens.specs.declared.marks.Mark.TheVariants as marks

@@ -1,4 +1,4 @@
--- Names: which words are reserved, and how long a name may be (docs/FORMATS.md, Signature file).
+-- Names: which words are reserved, and how long a name may be (docs/FORMATS.md, Signature file; meaning).
 use Rattle.std.specs.Prelude.{ℕ, Bool, List, [], ◌∷◌, length, Result, Ok, Err, nat_lt, if◌then◌else◌, codes}
 use Rattle.std.specs.List.{list_any}
 use Rattle.std.specs.Str.{bytes_eq}

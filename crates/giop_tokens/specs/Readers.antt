@@ -1,4 +1,4 @@
--- Readers of one token: what it tells, and what follows it. Each refuses with Token where there is no token, and with
+-- Readers of one token: what it tells, and what follows it (meaning). Each refuses with Token where there is no token, and with
 -- Syntax, at the token, where it is another one or the text ends (docs/FORMATS.md, Signature file).
 use Rattle.std.specs.Prelude.{ℕ, Bool, true, false, List, Option, Some, None, Result, Ok, Err, ◌==◌, if◌then◌else◌, option_and_then}
 use Rattle.std.specs.Str.{bytes_eq}

@@ -1,4 +1,4 @@
--- Reading from left to right: one thing, and then what follows it. A function of the code against such a reading.
+-- Reading from left to right: one thing, and then what follows it (steps). A function of the code against such a reading.
 use Rattle.std.specs.Prelude.{◌≡◌, Result, Ok, Err}
 use Rattle.giop_tokens.specs.declared.fault.Refusal.{Refusal}
 
