@@ -1,4 +1,4 @@
--- What each octet of each message does, and to which message. From this come the open messages, the octets that each
+-- What each octet of each message does, and to which message (meaning). From this come the open messages, the octets that each
 -- joined message has, and its lines (GIOP Message Formats, Fragment Message, CancelRequest Message).
 use Rattle.std.specs.Prelude.{ℕ, ◌+◌, ◌-◌, ◌<◌, Bool, true, false, not, ◌&&◌, ◌||◌, List, [], ◌∷◌, ◌++◌, length, get_or, take, filter, flat_map, Option, Some, None, nat_lt, nat_le, ◌==◌, if◌then◌else◌}
 use Rattle.std.specs.List.{find, AllByRecursion as Each}

@@ -1,4 +1,4 @@
--- A message header of 12 octets: its fields, and which of its octets is wrong (GIOP Message Formats, GIOP Message Header).
+-- A message header of 12 octets: its fields, and which of its octets is wrong (GIOP Message Formats, GIOP Message Header; meaning).
 use Rattle.std.specs.Prelude.{ℕ, ◌-◌, Bool, true, false, ◌||◌, List, [], ◌∷◌, length, get_or, map, Option, Some, None, nat_lt, ◌==◌, if◌then◌else◌}
 use Rattle.giop_stream.specs.declared.fault.StreamFault.{StreamFault}
 use Rattle.giop_stream.specs.declared.fault.StreamFault.TheVariants.{Magic, Version, ByteOrder}

@@ -1,4 +1,4 @@
--- Which streams an engine holds: each of its fields is said from the whole stream.
+-- Which streams an engine holds: each of its fields is said from the whole stream (state).
 use Rattle.std.specs.Prelude.{◌≡◌, ℕ, List, [], length, drop, ◌++◌, true, false, Option, Some, None, Result, Ok, Err}
 use Rattle.giop_cdr.specs.Numbers.{AreOctets}
 use Rattle.giop_print.specs.Output.{OutLog, Wrote, WroteFront}

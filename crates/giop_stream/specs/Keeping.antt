@@ -1,4 +1,4 @@
--- What the code keeps of the messages, against what there is to know of them.
+-- What the code keeps of the messages, against what there is to know of them (state).
 use Rattle.std.specs.Prelude.{◌≡◌, ◌<◌, ℕ, List, [], ◌∷◌, Option, Some, None, slice_get}
 use Rattle.std.specs.List.{AllByRecursion as Each}
 use Rattle.giop_sig.specs.Table.{Table}

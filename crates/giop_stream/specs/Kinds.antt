@@ -1,5 +1,5 @@
 -- What kind of message a header begins, and what a message is faulted for by its header, its request id or its size alone
--- (GIOP Message Formats, Fragment Message).
+-- (GIOP Message Formats, Fragment Message; meaning).
 use Rattle.std.specs.Prelude.{ℕ, Bool, ◌&&◌, ◌||◌, List, Option, Some, None, nat_lt, ◌==◌, if◌then◌else◌}
 use Rattle.giop_stream.specs.declared.fault.ImposedFault.{ImposedFault}
 use Rattle.giop_stream.specs.declared.fault.ImposedFault.TheVariants.{MessageType, OldFragment}

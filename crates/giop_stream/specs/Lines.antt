@@ -1,4 +1,4 @@
--- The lines of a stream, each stamped with the place of its octet and its class (docs/FORMATS.md, Order).
+-- The lines of a stream, each stamped with the place of its octet and its class (docs/FORMATS.md, Order; meaning).
 use Rattle.std.specs.Prelude.{ℕ, zero, suc, Bool, true, false, ◌&&◌, ◌||◌, List, [], ◌∷◌, ◌++◌, length, map, filter, flat_map, Option, Some, None, ◌==◌, if◌then◌else◌}
 use Rattle.giop_stream.specs.declared.fault.StreamFault.{StreamFault}
 use Rattle.giop_stream.specs.declared.fault.ImposedFault.{ImposedFault}

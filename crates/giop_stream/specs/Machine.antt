@@ -1,4 +1,4 @@
--- What the next octet of a stream adds to what is known of it, and what is written at its finish.
+-- What the next octet of a stream adds to what is known of it, and what is written at its finish (steps).
 use Rattle.std.specs.Prelude.{ℕ, suc, ◌+◌, ◌-◌, false, List, [], ◌∷◌, ◌++◌, length, map, flat_map, Option, Some, None, ◌==◌, nat_lt, if◌then◌else◌, option_map}
 use Rattle.std.specs.List.{list_any}
 use Rattle.giop_stream.specs.declared.fault.StreamFault.{StreamFault}

@@ -1,4 +1,4 @@
--- Meaning. What is written of a stream that comes in pieces.
+-- What is written of a stream that comes in pieces (meaning).
 use Rattle.std.specs.Prelude.{ℕ, List, [], ◌∷◌, ◌++◌}
 use Rattle.giop_message.specs.Reading.{Reading}
 use Rattle.giop_stream.specs.Holding.{added}

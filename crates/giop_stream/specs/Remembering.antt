@@ -1,4 +1,4 @@
--- What an engine remembers of a stream, as contracts see its fields.
+-- What an engine remembers of a stream, as contracts see its fields (state).
 use Rattle.std.specs.Prelude.{ℕ, List, Bool, Option}
 use Rattle.giop_sig.specs.Table.{Table}
 use Rattle.giop_message.specs.Signatures.{Kept as Listed}

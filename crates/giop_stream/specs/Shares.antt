@@ -1,4 +1,4 @@
--- The joined message in other words: the octets of the message, then of each that continues it those after the request id.
+-- The joined message in other words: the octets of the message, then of each that continues it those after the request id (meaning).
 use Rattle.std.specs.Prelude.{ℕ, List, [], ◌∷◌, ◌++◌, take, drop, Option, Some, None, ◌==◌, if◌then◌else◌}
 use Rattle.giop_stream.specs.Framing.{Message}
 use Rattle.giop_message.specs.Headers.{is_fragment}

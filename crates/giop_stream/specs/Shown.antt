@@ -1,4 +1,4 @@
--- The fields of the code as what an engine remembers.
+-- The fields of the code as what an engine remembers (state).
 use Rattle.giop_stream.specs.declared.framing.Framing.{Framing}
 use Rattle.giop_stream.specs.Remembering.{Memory}
 

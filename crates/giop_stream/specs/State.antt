@@ -1,4 +1,4 @@
--- What there is to know of a stream after these octets, each field said from the whole of them.
+-- What there is to know of a stream after these octets, each field said from the whole of them (state).
 use Rattle.std.specs.Prelude.{ℕ, Bool, ◌||◌, List, length, map, Option, Some, None, ◌==◌, if◌then◌else◌}
 use Rattle.std.specs.List.{list_any}
 use Rattle.giop_stream.specs.declared.fault.StreamFault.{StreamFault}

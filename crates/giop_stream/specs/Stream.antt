@@ -1,4 +1,4 @@
--- The text of a stream, its totals, and its closing: what is written at the finish (docs/FORMATS.md, Lines).
+-- The text of a stream, its totals, and its closing: what is written at the finish (docs/FORMATS.md, Lines; meaning).
 use Rattle.std.specs.Prelude.{ℕ, ◌+◌, Bool, true, false, not, ◌&&◌, ◌||◌, List, [], ◌++◌, length, map, filter, flat_map, Option, is_some, is_none, nat_lt, if◌then◌else◌}
 use Rattle.std.specs.List.{list_any}
 use Rattle.giop_stream.specs.declared.fault.StreamFault.{StreamFault}

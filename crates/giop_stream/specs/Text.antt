@@ -1,4 +1,4 @@
--- The text of each stamped line (docs/FORMATS.md, Lines).
+-- The text of each stamped line (docs/FORMATS.md, Lines; meaning).
 use Rattle.std.specs.Prelude.{ℕ, List, flat_map, codes}
 use Rattle.giop_print.specs.Lines.{fault_line, stream_fault_line, continues_line, cancelled_line}
 use Rattle.giop_print.specs.Lines as print

@@ -1,4 +1,4 @@
--- Whose the octets of a message's payload are, and what the code knows of that message at one of them.
+-- Whose the octets of a message's payload are, and what the code knows of that message at one of them (state).
 use Rattle.std.specs.Prelude.{◌≡◌, ◌==◌, ◌<◌, ◌+◌, ℕ, true, List, [], length, Option, Some, None, if◌then◌else◌}
 use Rattle.std.specs.List.{AllByRecursion as Each}
 use Rattle.giop_sig.specs.Types.{Ty}

@@ -1,4 +1,4 @@
--- Meaning. Worked streams, message by message, with their lines.
+-- Worked streams, message by message, with their lines (meaning).
 use Rattle.std.specs.Prelude.{[], ◌∷◌, codes}
 use Rattle.giop_stream_rows.specs.Worked.{stream, Row, reading, builtin, puts, bigs, asks, kept}
 

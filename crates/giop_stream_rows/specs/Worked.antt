@@ -1,5 +1,5 @@
--- Meaning. How a worked stream is told: its octets in hexadecimal digits, its lines, and the types and requests that it
--- is read by.
+-- How a worked stream is told: its octets in hexadecimal digits, its lines, and the types and requests that it
+-- is read by (meaning).
 use Rattle.std.specs.Prelude.{◌≡◌, ℕ, ◌+◌, ◌-◌, ◌*◌, ◌==◌, nat_lt, if◌then◌else◌, List, [], ◌∷◌, ◌++◌, Some, None, codes}
 use Rattle.giop_sig.specs.Table.{Node, members, Operation, Exception, Table, op_id, operation_number}
 use Rattle.giop_sig.specs.Builtin.{builtin_types, member}
