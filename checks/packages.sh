@@ -1,17 +1,18 @@
 # shellcheck shell=bash
 # What the scripts of this folder need: programs of other packages, which are installed where they are missing, and the
-# built dumper. Read by them from the top of the repository.
+# built dumper. Read by them from the top of the repository. A script ends with status 77 where a package is missing that
+# can't be installed.
 
 # need_program PROGRAM PACKAGE
 need_program() {
     command -v "$1" > /dev/null || install_package "$2"
-    command -v "$1" > /dev/null || { echo "$0: $1 is missing: install $2" >&2; exit 1; }
+    command -v "$1" > /dev/null || { echo "$0: $1 is missing: install $2" >&2; exit 77; }
 }
 
 # need_file FILE PACKAGE
 need_file() {
     [ -e "$1" ] || install_package "$2"
-    [ -e "$1" ] || { echo "$0: $1 is missing: install $2" >&2; exit 1; }
+    [ -e "$1" ] || { echo "$0: $1 is missing: install $2" >&2; exit 77; }
 }
 
 install_package() {

@@ -24,7 +24,9 @@ A signature file declares operations and the types that they are made of:
 A request list has a line for each request of the other direction, its id and its operation:
 
     1 distance
-    2 distance";
+    2 distance
+
+docs/FORMATS.md has every line, fault and status; docs/SIGNATURES.md says how IDL becomes a signature file.";
 
 /// What the words ask for: each file by its name, of which none has a special meaning.
 #[derive(Clone, Copy, Debug, Drop, PartialEq, Eq)]

@@ -1,0 +1,20 @@
+#!/usr/bin/env bash
+# Runs all scripts of this folder over the built program, which it builds where it is missing. The status is 1 where one
+# of them failed. One whose packages are missing and can't be installed is told as not run.
+set -uo pipefail
+cd "$(dirname "$0")/.."
+
+[ -x crates/giopdump/out/giopdump ] || (cd crates/giopdump && rt run -- --version) || exit 1
+
+passed=0 failed=0 not_run=0
+for script in idl pcap manual readme; do
+    echo "== checks/$script.sh"
+    "checks/$script.sh"
+    case $? in
+        0) passed=$((passed + 1)) ;;
+        77) not_run=$((not_run + 1)); echo "checks/$script.sh was not run" ;;
+        *) failed=$((failed + 1)); echo "checks/$script.sh failed" ;;
+    esac
+done
+echo "scripts: $passed passed, $failed failed, $not_run not run"
+[ "$failed" = 0 ]
