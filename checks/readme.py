@@ -1,4 +1,5 @@
-"""Runs the commands of README.md that have their output beside them, and looks for the files that it links to."""
+"""Runs the commands of README.md that have their output beside them, looks for the files that the pages link to, and for
+the code of docs/LIBRARY.md in the source that is proved."""
 
 from __future__ import annotations
 
@@ -12,6 +13,7 @@ from typing import Iterator, List, Tuple
 
 TOP = Path(__file__).resolve().parent.parent
 PROGRAMS = [TOP / "crates/giopdump/out", TOP / "scripts"]
+LIBRARY = (TOP / "docs/LIBRARY.md", TOP / "crates/giop_stream_tests/src/own_out.rt")
 
 
 def commands(text: str) -> Iterator[Tuple[str, List[str]]]:
@@ -41,6 +43,13 @@ def broken_links(page: Path) -> List[str]:
     return [f"{page.relative_to(TOP)}: {target}" for target in targets if not (page.parent / target).exists()]
 
 
+def is_shown_as_written(page: Path, source: Path) -> bool:
+    """Whether a page has code, each block of which stands in the source."""
+    blocks = re.findall(r"(?s)```rust\n(.*?)```", page.read_text())
+    text = source.read_text()
+    return bool(blocks) and all(block in text for block in blocks)
+
+
 def main() -> int:
     """Prints figures; 1 where something differs."""
     listed = list(commands((TOP / "README.md").read_text()))
@@ -49,7 +58,10 @@ def main() -> int:
     print(f"README.md: {len(listed)} commands with {sum(len(each) for _, each in listed)} lines, {wrong} differ")
     for each in broken:
         print(f"broken link in {each}")
-    return 1 if wrong or broken or not listed else 0
+    shown = is_shown_as_written(*LIBRARY)
+    if not shown:
+        print("docs/LIBRARY.md: its code isn't that of the source")
+    return 1 if wrong or broken or not listed or not shown else 0
 
 
 if __name__ == "__main__":

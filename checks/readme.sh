@@ -1,5 +1,6 @@
 #!/usr/bin/env bash
-# The commands of README.md print what stands beside them, and the files that its pages link to are there.
+# The commands of README.md print what stands beside them, the files that its pages link to are there, and the code of
+# docs/LIBRARY.md is that of the source.
 # Installs tshark where it is missing.
 set -euo pipefail
 cd "$(dirname "$0")/.."
