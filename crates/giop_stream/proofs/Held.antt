@@ -24,15 +24,14 @@ use Rattle.giop_stream.specs.Octet.{Now, now_of, header_of, come_of}
 use Rattle.giop_stream.specs.Engine.{State, Own, unless, left_of, is_named, own_for, owner_for, own_in, owner_in, state_of}
 use Rattle.giop_stream.specs.Remembering.{Memory}
 use Rattle.giop_stream.specs.Holding.{Remembers}
-use Rattle.giop_stream.specs.Showing.{IsOwn, IsOwner, Shows, come_in, comes_itself}
+use Rattle.giop_stream.specs.Showing.{IsOwn, IsOwner, IsTurn, Shows, come_in, comes_itself}
 use Rattle.giop_stream.proofs.Lists.{each_weaker}
 use Rattle.giop_stream.proofs.InPlace.{at_index}
-use Rattle.giop_stream.proofs.Keepers.{slots_get}
 use Rattle.giop_stream.proofs.Parts.{in_turn}
 use Rattle.giop_stream.proofs.Soundness.{CurrentFits, IsSound}
 use Rattle.giop_stream.proofs.Acts.{found_in}
 use Rattle.giop_stream.proofs.Idle.{none_stops}
-use Rattle.giop_stream.proofs.Owning.{not_open, open_at, own_open, own_named, own_else}
+use Rattle.giop_stream.proofs.Owning.{own_open, own_named, own_else, owner_named, owner_open, Tells}
 use Rattle.giop_stream.proofs.EngineLaws.{sound}
 use Rattle.giop_stream.proofs.Titled.{IsTitled, title_is}
 
@@ -72,25 +71,6 @@ module _ (R : Reading) (p : List ℕ) (so : IsSound R p) where
       itself_by (cut p).stop st (cut p).current (cut p).held (come_in (state_of R p)) come (fits_of (length p) (cut p) (cut p).current (so.fits st).current) (so.fits st).short
 
 -- ---- Whose the next octets are, by number.
-
-owner_named : (K : Kept) (live : List Open) (now : Now) (other : Option Open) → is_named now ≡ true → owner_for K live now other ≡ option_map (λ o. o.opener.number) other
-unfolding owner_for
-owner_named K live now other e = rw e refl
-
-owner_open : (K : Kept) (live : List Open) (now : Now) (other : Option Open) → is_named now ≡ false → is_open live now.whom.number ≡ true → owner_for K live now other ≡ Some now.whom.number
-unfolding owner_for
-owner_open K live now other e f = rw (e, f) refl
-
-owner_kept : (K : Kept) (live : List Open) (now : Now) (other : Option Open) → is_named now ≡ false → is_open live now.whom.number ≡ false → owner_for K live now other ≡ option_map (λ o. o.title.number) (own_for K live now)
-unfolding owner_for own_for
-owner_kept K live now other e f = rw (e, f) (go (K now.whom.number))
-  where
-    own : Option (List ℕ) → Option Own
-    own o = option_map (λ xs. record { title = now.whom; octets = xs }) o
-
-    go : (o : Option (List ℕ)) → (if is_some o then Some now.whom.number else None) ≡ option_map (λ o. o.title.number) (own o)
-    go None = refl
-    go (Some xs) = refl
 
 owner_number : (K : Kept) (live : List Open) (now : Now) (other : Option Open) (n : ℕ) → is_named now ≡ false → owner_for K live now other ≡ Some n → n ≡ now.whom.number
 unfolding owner_for
@@ -145,121 +125,91 @@ kept_own C l None w (Some xs) h = absurd h
 kept_own C l (Some m) w None h = absurd h
 kept_own C l (Some m) w (Some xs) h = h
 
--- ---- Whose the octets of the payload are, by number and by message.
-
--- what a state tells of these messages
-record Tells (s : State) (c : Scene) (current : Option Message) : Type 0 where
-  slots : s.slots ≡ slots_of c.known c.live
-  own : s.own ≡ own_in c.known c.live current
-  owner : s.owner ≡ owner_in c.known c.live current
-  turn : comes_itself s ≡ itself current
+-- ---- Whose the octets of the payload are, by message.
 
 module _ (C : Table) (l : Listed) (s : State) (c : Scene) (own : Option Kept_message) where
-  slot_is : (current : Option Message) → Tells s c current → (k : ℕ) (o : Open) → slice_get c.live k ≡ Some o → slice_get s.slots k ≡ Some (record { open_as = o; octets = c.known o.opener.number })
-  slot_is current e k o here = rw e.slots (slots_get c k o here)
-
   -- of no message
-  none_shown : (of : Payload) → Tells s c None → IsWhose C l of own c None → IsOwner of s
-  unfolding itself
-  none_shown payload.Own e h = absurd h
-  none_shown (payload.Open k) e h = absurd h
-  none_shown payload.Nobody e h = (e.turn, e.owner)
+  none_turn : (of : Payload) → comes_itself s ≡ false → IsWhose C l of own c None → IsTurn of s
+  none_turn payload.Own t h = absurd h
+  none_turn (payload.Open k) t h = absurd h
+  none_turn payload.Nobody t h = t
 
-  none_back : (of : Payload) → Tells s c None → IsOwn C l own s.own → IsOwner of s → IsWhose C l of own c None
-  unfolding itself
-  none_back payload.Own e k h = absurd (false≢true (sym e.turn ∙ h.0))
-  none_back (payload.Open i) e k h = absurd (let no : None ≡ Some h.1.0.open_as.opener.number = sym e.owner ∙ h.1.2 in cc)
-  none_back payload.Nobody e k h = none_own C l own s.own e.own k
+  none_back : (of : Payload) → Tells s c None → comes_itself s ≡ false → IsOwn C l own s.own → IsOwner of s → IsTurn of s → IsWhose C l of own c None
+  none_back payload.Own e t k h u = absurd (false≢true (sym t ∙ u))
+  none_back (payload.Open i) e t k h u = absurd (let no : None ≡ Some h.1.0.open_as.opener.number = sym e.owner ∙ h.1.2 in cc)
+  none_back payload.Nobody e t k h u = none_own C l own s.own e.own k
 
   -- of a Fragment whose request id is complete
-  module _ (m : Message) (e : Tells s c (Some m)) (named : has_named m ≡ true) where
-    named_too : is_named (now_of m) ≡ true
-    unfolding now_of has_named
-    named_too = named
-
-    other_turn : comes_itself s ≡ false
-    unfolding itself
-    other_turn = e.turn ∙ rw named refl
-
+  module _ (m : Message) (e : Tells s c (Some m)) (named : has_named m ≡ true) (t : comes_itself s ≡ false) where
     other_own : s.own ≡ None
-    other_own = e.own ∙ own_named c.known c.live (now_of m) named_too
+    unfolding now_of has_named
+    other_own = e.own ∙ own_named c.known c.live (now_of m) named
 
     other_number : s.owner ≡ option_map (λ o. o.opener.number) (opener_of c.live m)
-    other_number = e.owner ∙ owner_named c.known c.live (now_of m) (opener_of c.live m) named_too
+    unfolding now_of has_named
+    other_number = e.owner ∙ owner_named c.known c.live (now_of m) (opener_of c.live m) named
 
-    other_shown : (of : Payload) (r : Option Open) → opener_of c.live m ≡ r → IsWhose C l of own c (opener_title r) → IsOwner of s
+    other_turn : (of : Payload) (r : Option Open) → opener_of c.live m ≡ r → IsWhose C l of own c (opener_title r) → IsTurn of s
     unfolding opener_of
-    other_shown payload.Own None f h = absurd h
-    other_shown (payload.Open k) None f h = absurd h
-    other_shown payload.Nobody None f h = (other_turn, other_number ∙ ap (option_map (λ (o : Open). o.opener.number)) f)
-    other_shown payload.Own (Some o) f h = absurd (found_in (λ a. a.opener.number ≡ o.opener.number → ⊥) (λ a. a.id == id m) c.live o h.0 f refl)
-    other_shown (payload.Open k) (Some o) f h =
-        let number : o.opener.number ≡ h.1.0.opener.number = sym (ap (λ (w : Title). w.number) h.1.2) in
-        (other_own, (_, slot_is (Some m) e k h.1.0 h.1.1, other_number ∙ (ap (option_map (λ (o : Open). o.opener.number)) f ∙ ap (λ (n : ℕ). Some n) number)))
-    other_shown payload.Nobody (Some o) f h = absurd h
+    other_turn payload.Own None f h = absurd h
+    other_turn (payload.Open k) r f h = tt
+    other_turn payload.Nobody r f h = t
+    other_turn payload.Own (Some o) f h = absurd (found_in (λ a. a.opener.number ≡ o.opener.number → ⊥) (λ a. a.id == id m) c.live o h.0 f refl)
 
-    other_back : Rising c.live → (of : Payload) (r : Option Open) → opener_of c.live m ≡ r → IsOwn C l own s.own → IsOwner of s → IsWhose C l of own c (opener_title r)
+    other_back : Rising c.live → (of : Payload) (r : Option Open) → opener_of c.live m ≡ r → IsOwn C l own s.own → IsOwner of s → IsTurn of s → IsWhose C l of own c (opener_title r)
     unfolding opener_of
-    other_back rising payload.Own r f k h = absurd (false≢true (sym other_turn ∙ h.0))
-    other_back rising (payload.Open i) None f k h = absurd (let no : None ≡ Some h.1.0.open_as.opener.number = sym (other_number ∙ ap (option_map (λ (o : Open). o.opener.number)) f) ∙ h.1.2 in cc)
-    other_back rising (payload.Open i) (Some o) f k h =
+    other_back rising payload.Own r f k h u = absurd (false≢true (sym t ∙ u))
+    other_back rising (payload.Open i) None f k h u = absurd (let no : None ≡ Some h.1.0.open_as.opener.number = sym (other_number ∙ ap (option_map (λ (o : Open). o.opener.number)) f) ∙ h.1.2 in cc)
+    other_back rising (payload.Open i) (Some o) f k h u =
         let at = opened_at c.known c.live i h.1.0 (rw e.slots at h.1.1) in
         let both : Some o.opener.number ≡ Some h.1.0.open_as.opener.number = sym (other_number ∙ ap (option_map (λ (o : Open). o.opener.number)) f) ∙ h.1.2 in
         let number : at.o.opener.number ≡ o.opener.number = ap (λ (a : Open). a.opener.number) (sym at.is) ∙ cc in
         let same : at.o ≡ o = found_in (λ b. at.o.opener.number ≡ b.opener.number → at.o ≡ b) (λ a. a.id == id m) c.live o (unique_at c.live i at.o rising at.here) f number in
         (none_own C l own s.own other_own k, (at.o, at.here, ap (λ (a : Open). a.opener) same))
-    other_back rising payload.Nobody None f k h = none_own C l own s.own other_own k
-    other_back rising payload.Nobody (Some o) f k h = absurd (let no : Some o.opener.number ≡ None = sym (other_number ∙ ap (option_map (λ (o : Open). o.opener.number)) f) ∙ h.1 in cc)
+    other_back rising payload.Nobody None f k h u = none_own C l own s.own other_own k
+    other_back rising payload.Nobody (Some o) f k h u = absurd (let no : Some o.opener.number ≡ None = sym (other_number ∙ ap (option_map (λ (o : Open). o.opener.number)) f) ∙ h in cc)
 
   -- of the current message itself
-  module _ (m : Message) (e : Tells s c (Some m)) (unnamed : has_named m ≡ false) where
+  module _ (m : Message) (e : Tells s c (Some m)) (unnamed : has_named m ≡ false) (t : comes_itself s ≡ true) where
     unnamed_too : is_named (now_of m) ≡ false
     unfolding now_of has_named
     unnamed_too = unnamed
 
-    own_turn : comes_itself s ≡ true
-    unfolding itself
-    own_turn = e.turn ∙ rw unnamed refl
+    own_turn : (of : Payload) → IsWhose C l of own c (Some (title m)) → IsTurn of s
+    own_turn payload.Own h = t
+    own_turn (payload.Open k) h = tt
+    own_turn payload.Nobody h = absurd h
 
-    own_shown : (of : Payload) → IsWhose C l of own c (Some (title m)) → IsOwner of s
+    own_back : IsTitled m c.live → (of : Payload) → IsOwn C l own s.own → IsOwner of s → IsTurn of s → IsWhose C l of own c (Some (title m))
     unfolding now_of
-    own_shown payload.Own h = (own_turn, e.owner ∙ (owner_kept c.known c.live (now_of m) (opener_of c.live m) unnamed_too (not_open c.live m.number h.0) ∙ ap (option_map (λ (o : Own). o.title.number)) (sym e.own)))
-    own_shown (payload.Open k) h =
-        let number : h.1.0.opener.number ≡ m.number = ap (λ (w : Title). w.number) h.1.2 in
-        let there : is_open c.live m.number ≡ true = rw number at (open_at c.live k h.1.0 h.1.1) in
-        (e.own ∙ own_open c.known c.live (now_of m) there, (_, slot_is (Some m) e k h.1.0 h.1.1, e.owner ∙ (owner_open c.known c.live (now_of m) (opener_of c.live m) unnamed_too there ∙ ap (λ (n : ℕ). Some n) (sym number))))
-    own_shown payload.Nobody h = absurd h
-
-    own_back : IsTitled m c.live → (of : Payload) → IsOwn C l own s.own → IsOwner of s → IsWhose C l of own c (Some (title m))
-    unfolding now_of
-    own_back titled payload.Own k h = go (is_open c.live m.number) refl
+    own_back titled payload.Own k h u = go (is_open c.live m.number) refl
       where
         go : (b : Bool) → is_open c.live m.number ≡ b → Each (λ o. o.opener.number ≡ m.number → ⊥) c.live × IsKept C l own (title m) (c.known m.number)
-        go true there = absurd (let no : Some m.number ≡ None = sym (e.owner ∙ owner_open c.known c.live (now_of m) (opener_of c.live m) unnamed_too there) ∙ (h.1 ∙ ap (option_map (λ (o : Own). o.title.number)) (e.own ∙ own_open c.known c.live (now_of m) there)) in cc)
+        go true there = absurd (let no : Some m.number ≡ None = sym (e.owner ∙ owner_open c.known c.live (now_of m) (opener_of c.live m) unnamed_too there) ∙ (h ∙ ap (option_map (λ (o : Own). o.title.number)) (e.own ∙ own_open c.known c.live (now_of m) there)) in cc)
         go false free = (all_apart c.live m.number free, kept_own C l own (title m) (c.known m.number) (rw (e.own ∙ own_else c.known c.live (now_of m) free unnamed_too) at k))
-    own_back titled (payload.Open i) k h =
+    own_back titled (payload.Open i) k h u =
         let at = opened_at c.known c.live i h.1.0 (rw e.slots at h.1.1) in
         let number : h.1.0.open_as.opener.number ≡ m.number = owner_number c.known c.live (now_of m) (opener_of c.live m) h.1.0.open_as.opener.number unnamed_too (sym e.owner ∙ h.1.2) in
         (none_own C l own s.own h.0 k, (at.o, at.here, at_index (λ o. o.opener.number ≡ m.number → o.opener ≡ title m) c.live i at.o at.here titled (ap (λ (a : Open). a.opener.number) (sym at.is) ∙ number)))
-    own_back titled payload.Nobody k h = absurd (false≢true (sym h.0 ∙ own_turn))
+    own_back titled payload.Nobody k h u = absurd (false≢true (sym u ∙ t))
 
-  shown : (of : Payload) (current : Option Message) → Tells s c current → IsWhose C l of own c (whose_in c.live current) → IsOwner of s
-  unfolding whose
-  shown of None e h = none_shown of e h
-  shown of (Some m) e h = go (has_named m) refl
+  turns : (of : Payload) (current : Option Message) → Tells s c current → comes_itself s ≡ itself current → IsWhose C l of own c (whose_in c.live current) → IsTurn of s
+  unfolding whose itself
+  turns of None e t h = none_turn of t h
+  turns of (Some m) e t h = go (has_named m) refl
     where
-      go : (b : Bool) → has_named m ≡ b → IsOwner of s
-      go true f = other_shown m e f of (opener_of c.live m) refl (rw f at h)
-      go false f = own_shown m e f of (rw f at h)
+      go : (b : Bool) → has_named m ≡ b → IsTurn of s
+      go true f = other_turn m e f (t ∙ rw f refl) of (opener_of c.live m) refl (rw f at h)
+      go false f = own_turn m e f (t ∙ rw f refl) of (rw f at h)
 
-  back : (of : Payload) (current : Option Message) → Tells s c current → Rising c.live → ((m : Message) → current ≡ Some m → IsTitled m c.live) → IsOwn C l own s.own → IsOwner of s → IsWhose C l of own c (whose_in c.live current)
-  unfolding whose
-  back of None e rising titled k h = none_back of e k h
-  back of (Some m) e rising titled k h = go (has_named m) refl
+  back : (of : Payload) (current : Option Message) → Tells s c current → comes_itself s ≡ itself current → Rising c.live → ((m : Message) → current ≡ Some m → IsTitled m c.live) → IsOwn C l own s.own → IsOwner of s → IsTurn of s → IsWhose C l of own c (whose_in c.live current)
+  unfolding whose itself
+  back of None e t rising titled k h u = none_back of e t k h u
+  back of (Some m) e t rising titled k h u = go (has_named m) refl
     where
       go : (b : Bool) → has_named m ≡ b → IsWhose C l of own c (if has_named m then opener_title (opener_of c.live m) else Some (title m))
-      go true f = rw f (other_back m e f rising of (opener_of c.live m) refl k h)
-      go false f = rw f (own_back m e f (titled m refl) of k h)
+      go true f = rw f (other_back m e f (t ∙ rw f refl) rising of (opener_of c.live m) refl k h u)
+      go false f = rw f (own_back m e f (t ∙ rw f refl) (titled m refl) of k h u)
 
 -- ---- Of a stream.
 
@@ -270,9 +220,9 @@ module _ (C : Table) (l : Listed) (m : Memory) (p : List ℕ) where
   so : IsSound R p
   so = sound R (is_causal (said_by C l)) (in_turn C l) p
 
-  tells : (cut p).stop ≡ None → Tells (state_of R p) (stage R p) (cut p).current
+  tells : Tells (state_of R p) (stage R p) (cut p).current
   unfolding state_of stage
-  tells st = record { slots = refl; own = refl; owner = refl; turn = itself_state R p so st }
+  tells = record { slots = refl; own = refl; owner = refl }
 
   pub shows_it : Remembers C l m p → Shows C l m (state_of R p)
   unfolding state_of stage
@@ -283,7 +233,8 @@ module _ (C : Table) (l : Listed) (m : Memory) (p : List ℕ) where
     come = h.come ∙ sym (come_state R p so);
     slots = h.slots;
     own = h.own;
-    owner = λ free. let st = none_stops (cut p).stop free in shown C l (state_of R p) (stage R p) m.slots.own m.slots.payload (cut p).current (tells st) (h.whose st);
+    owner = h.owner;
+    turn = λ free. let st = none_stops (cut p).stop free in turns C l (state_of R p) (stage R p) m.slots.own m.slots.payload (cut p).current tells (itself_state R p so st) (h.whose st);
   }
 
   pub remembers_it : AreOctets p → Shows C l m (state_of R p) → Remembers C l m p
@@ -296,5 +247,6 @@ module _ (C : Table) (l : Listed) (m : Memory) (p : List ℕ) where
     come = h.come ∙ come_state R p so;
     slots = h.slots;
     own = h.own;
-    whose = λ st. back C l (state_of R p) (stage R p) m.slots.own m.slots.payload (cut p).current (tells st) so.rising (λ c cur. title_is R (is_causal (said_by C l)) (in_turn C l) p st c cur) h.own (h.owner (ap fault_of st));
+    whose = λ st. back C l (state_of R p) (stage R p) m.slots.own m.slots.payload (cut p).current tells (itself_state R p so st) so.rising (λ c cur. title_is R (is_causal (said_by C l)) (in_turn C l) p st c cur) h.own h.owner (h.turn (ap fault_of st));
+    owner = h.owner;
   }

@@ -12,6 +12,7 @@ use Rattle.giop_message.specs.Reading.{Reading, IsCausal}
 use Rattle.giop_message.proofs.MessageLaws.{is_causal}
 use Rattle.giop_stream.specs.declared.fault.StreamFault.{StreamFault}
 use Rattle.giop_stream.specs.declared.fault.StreamFault.TheVariants.{StreamLimit}
+use Rattle.giop_stream.specs.declared.slots.Payload.{Payload}
 use Rattle.giop_stream.specs.declared.status.Totals.{Totals}
 use Rattle.giop_stream.specs.Headers.{wrong}
 use Rattle.giop_stream.specs.Framing.{Message, Cut, limit, cut, read_of, fault_of}
@@ -28,8 +29,9 @@ use Rattle.giop_stream.specs.Whose.{Knows, whose_in}
 use Rattle.giop_stream.specs.Remembering.{Memory}
 use Rattle.giop_stream.specs.Holding.{Remembers, added}
 use Rattle.giop_stream.specs.Octet.{header_of, come_of}
-use Rattle.giop_stream.specs.Engine.{unless, own_in}
-use Rattle.giop_stream.specs.Showing.{IsOwn}
+use Rattle.giop_stream.specs.Engine.{unless, own_in, owner_in}
+use Rattle.giop_stream.specs.Engine as engine
+use Rattle.giop_stream.specs.Showing.{IsOwn, IsOwner}
 use Rattle.giop_stream.specs.Steps.{read_on, held_on, stop}
 use Rattle.giop_stream.proofs.Cutting.{header_case, next, of_parts, cut_grows}
 use Rattle.giop_stream.proofs.Soundness.{CurrentFits}
@@ -38,7 +40,7 @@ use Rattle.giop_stream.proofs.Bridge.{next_stopped, next_limit, next_front, step
 use Rattle.giop_stream.proofs.Dealing.{if_some}
 use Rattle.giop_stream.proofs.Beginning.{parts_by}
 use Rattle.giop_stream.proofs.Staged.{stage_idle, events_stopped, events_limit, events_front}
-use Rattle.giop_stream.proofs.Owning.{own_known}
+use Rattle.giop_stream.proofs.Owning.{own_known, owner_known, owner_stays}
 use Rattle.giop_stream.proofs.Adding.{added_octet}
 
 -- ---- The limit.
@@ -147,7 +149,13 @@ remembers_by C l m q c e st octets totals stopped header come knows =
       slots = knows.slots;
       own = own_known C l (stage R q) m.slots.own m.slots.payload (cut q).current knows.payload;
       whose = λ free. knows.payload;
+      owner = owner_known C l (engine.state_of R q) (stage R q) m.slots.own m.slots.payload (cut q).current (unfold engine.state_of in record { slots = refl; own = refl; owner = refl }) knows.payload;
     }
+
+owner_idle : (R : Reading) (p p' : List ℕ) (of : Payload) → stage R p' ≡ stage R p → (cut p').current ≡ (cut p).current → IsOwner of (engine.state_of R p) → IsOwner of (engine.state_of R p')
+unfolding engine.state_of stage
+owner_idle R p p' of scene now h =
+    owner_stays of (engine.state_of R p) (engine.state_of R p') (ap (λ (c : Scene). slots_of c.known c.live) scene) (λ j. own_in (scene j).known (scene j).live (now j)) (λ j. owner_in (scene j).known (scene j).live (now j)) h
 
 all_read : (R : Reading) (p : List ℕ) → (cut p).stop ≡ None → (state_of R p).read ≡ length p
 unfolding state_of read_of
@@ -207,6 +215,7 @@ module _ (C : Table) (l : Listed) (m : Memory) (p : List ℕ) (h : Remembers C l
         slots = rw slots (subst (λ (c : Scene). AreSlots C l m.slots.slots.items (slots_of c.known c.live)) (sym scene) h.slots);
         own = rw (slots, now) (subst (λ (c : Scene). IsOwn C l m.slots.own (own_in c.known c.live (cut p).current)) (sym scene) h.own);
         whose = λ free. rw (slots, now) (subst (λ (c : Scene). IsWhose C l m.slots.payload m.slots.own c (whose_in c.live (cut p).current)) (sym scene) (h.whose (runs (ap (λ (d : Cut). d.stop) (sym e) ∙ free))));
+        owner = rw slots (owner_idle R p p' m.slots.payload scene now h.owner);
       }
 
   -- an octet behind a stream's fault

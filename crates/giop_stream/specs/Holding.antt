@@ -21,7 +21,7 @@ use Rattle.giop_stream.specs.Keeping.{AreSlots, IsWhose}
 use Rattle.giop_stream.specs.Whose.{whose_in}
 use Rattle.giop_stream.specs.Octet.{header_of, come_of}
 use Rattle.giop_stream.specs.Engine.{unless, own_in, state_of}
-use Rattle.giop_stream.specs.Showing.{IsOwn, Shows}
+use Rattle.giop_stream.specs.Showing.{IsOwn, IsOwner, Shows}
 use Rattle.giop_stream.specs.Remembering.{Memory, EngineMemory}
 
 -- what is kept of a list of requests for the operations of this table
@@ -47,6 +47,7 @@ pub record Remembers (C : Table) (l : Listed) (m : Memory) (p : List ℕ) : Type
   pub own : IsOwn C l m.slots.own (own_in (octets_of (message_reading C l) p) (open_after p) (cut p).current)
   pub whose : (cut p).stop ≡ None →
       IsWhose C l m.slots.payload m.slots.own (stage (message_reading C l) p) (whose_in (open_after p) (cut p).current)
+  pub owner : IsOwner m.slots.payload (state_of (message_reading C l) p)
 
 -- The engine holds the stream p: its fields show what there is to hold of it.
 pub record Holds (e : EngineMemory) (p : List ℕ) : Type 0 where
