@@ -11,6 +11,7 @@ use Rattle.giop_decode.specs.Reading.{read}
 use Rattle.giop_decode.specs.Spine.{Head, Short}
 use Rattle.giop_decode.specs.Turns.{places, AreKnown, Link}
 use Rattle.giop_decode.proofs.Around.{read_none}
+use Rattle.giop_decode.proofs.Hearing.{minds_by}
 use Rattle.giop_decode.proofs.Sound.{read_keeps}
 use Rattle.giop_print.specs.declared.path.Root.{Root}
 use Rattle.giop_sig.specs.declared.types.TypeId.{TypeId}
@@ -28,7 +29,7 @@ module _ (C : Table) (T : Ty) (order : Order) (at message : ℕ) (root : Root) (
       by_type (Struct zero names parts) e = record {
         lines = [];
         is = sym (ap (λ l. standing_in C d l [] (at + 0)) none ∙ rw (add-zero at) refl);
-        minds = recalls;
+        minds = minds_by root d (read order [] (Struct zero names parts) at []) (λ asked. recalls);
         same_order = same_order;
         same_message = same_message;
         same_root = same_root;
@@ -50,7 +51,7 @@ module _ (C : Table) (T : Ty) (order : Order) (at message : ℕ) (root : Root) (
       record {
         lines = [];
         is = none ∙ sym (ap (λ l. standing_in C d l [] (at + 0)) goes_on ∙ rw (add-zero at, are, empty) refl);
-        minds = rw none recalls;
+        minds = minds_by root d (read order [] T at []) (λ asked. rw none recalls);
         same_order = same_order;
         same_message = same_message;
         same_root = same_root;

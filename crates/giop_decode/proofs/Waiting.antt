@@ -12,7 +12,7 @@ use Rattle.giop_decode.specs.Spine.{Line, Seg, Short, with_front}
 use Rattle.giop_decode.specs.Steps.{around, leaf_step, path_in, step}
 use Rattle.giop_decode.specs.Turns.{places, leaf_of, IsClean}
 use Rattle.giop_decode.proofs.Advancing.{same_some, step_fits}
-use Rattle.giop_decode.proofs.Hearing.{leaf_inside}
+use Rattle.giop_decode.proofs.Hearing.{leaf_inside, minds_by, recalls_by}
 use Rattle.giop_decode.proofs.Settling.{around_more}
 use Rattle.giop_sig.specs.Table.{Table}
 
@@ -62,8 +62,9 @@ module _ (C : Table) (d new : Decoder) (leaf : Innermost) (octet : ℕ) where
   pub held_minds : (here : ℕ) (front : List Line) → d.leaf ≡ Some leaf → new.leaf ≡ Some leaf → new.outer ≡ d.outer → new.memory ≡ d.memory → Holds C d new leaf here octet →
       Minds d.root d (standing C d front here) → Minds d.root new (with_front front (stepped C d here octet))
   held_minds here front e e' same memory holds old =
+      minds_by d.root new (with_front front (stepped C d here octet)) (λ asked.
       let header = is_header_root d.root in
       let before : Recalls d.memory (heard_of header (Short front here (places C d.outer.items) (leaf_of C leaf d.carry d.piece.items))) =
-      subst (λ l. Recalls d.memory (heard_of header (standing_in C d l front here))) e old in
+      subst (λ l. Recalls d.memory (heard_of header (standing_in C d l front here))) e (recalls_by d.root d (standing C d front here) asked old) in
       let now = rw (leaf_inside C leaf d.carry d.piece.items, ← leaf_inside C leaf new.carry new.piece.items) at before in
-      rw (memory, step_held here e e' same holds, append-nil front) now
+      rw (memory, step_held here e e' same holds, append-nil front) now)

@@ -14,6 +14,7 @@ use Rattle.giop_decode.specs.Fits.{FitsIn}
 use Rattle.giop_decode.specs.Heard.{Heard, heard_of, is_header_root, names_operation}
 use Rattle.giop_decode.specs.Turns.{places, AreKnown, Link, leaf_of, leaf_type, IsClean}
 use Rattle.giop_print.specs.declared.path.Root.{Root}
+use Rattle.giop_print.specs.declared.path.Root.TheVariants as roots
 use Rattle.giop_sig.specs.Types.{Ty}
 use Rattle.giop_sig.specs.Fits.{IsFit}
 use Rattle.giop_sig.specs.Table.{Table}
@@ -60,8 +61,10 @@ pub record Recalls (m : Memory) (h : Heard) : Type 0 where
   pub status : m.status ≡ h.status
   pub name : IsHeld m.buffer m.name.items h.name h.so_far
 
--- what a decoder has in mind of a reading, whether that goes on, has ended or is faulted
+-- What a decoder has in mind of a reading, whether that goes on, has ended or is faulted: of a header, or of a repository id.
+-- Of a body nothing is asked, so nothing is minded.
 abbrev pub Minds : Root → Decoder → Read → Type 0
+Minds roots.Body d r = Unit {0}
 Minds root d r = Recalls d.memory (heard_of (is_header_root root) r)
 
 -- The decoder's fields are what reading the list has begun and not ended, and what it leaves in mind.

@@ -1,6 +1,6 @@
 //! A decoder of one value: the state that reading a list of octets leaves.
 
-ghost use Rattle.std.specs.Prelude.{◌≡◌, ℕ, ◌+◌, ◌-◌, ◌%◌, ◌<◌, List, [], length, ◌↔◌, IsTrue, false, IfOk, OnOk, None, Some};
+ghost use Rattle.std.specs.Prelude.{◌≡◌, ℕ, ◌+◌, ◌-◌, ◌%◌, ◌<◌, List, [], length, ◌↔◌, IsTrue, true, false, IfOk, OnOk, None, Some};
 ghost use Rattle.std.specs.Option.{option_map};
 ghost use Rattle.giop_cdr.specs.declared.order.Order.{Order as ByteOrder};
 ghost use Rattle.giop_decode.specs.declared.leaf.Leaf.{Leaf as Innermost};
@@ -119,24 +119,25 @@ impl Decoder {
 
     /// The request id of a header, once that was read.
     pub fn request_id(&self) -> Option<u32>
-        ensures { (root : PathRoot) (r : Read) → Minds root self.now r →
-            result ≡ (heard_of (is_header_root root) r).request_id }
+        ensures { (r : Read) → Minds Root.Header self.now r → result ≡ (heard_of true r).request_id }
     {
         self.memory.request_id()
     }
 
-    /// The number of the last enum.
+    /// The number of a header's last enum: of a reply header the status.
     pub fn status(&self) -> Option<u32>
-        ensures { (root : PathRoot) (r : Read) → Minds root self.now r →
-            result ≡ (heard_of (is_header_root root) r).status }
+        ensures { (r : Read) → Minds Root.Header self.now r → result ≡ (heard_of true r).status }
     {
         self.memory.status()
     }
 
-    /// The last string that has ended, where that is a name: of at most 128 octets.
+    /// The last string of a header, or the repository id, once that has ended and where it is a name: of at most 128
+    /// octets.
     pub fn name(&self) -> Option<&[u8]>
-        ensures { (root : PathRoot) (r : Read) → Minds root self.now r →
-            option_map (λ octets. octets.now) result ≡ (heard_of (is_header_root root) r).name }
+        ensures header { (r : Read) → Minds Root.Header self.now r →
+            option_map (λ octets. octets.now) result ≡ (heard_of true r).name }
+        ensures repository { (r : Read) → Minds Root.Exception self.now r →
+            option_map (λ octets. octets.now) result ≡ (heard_of false r).name }
     {
         self.memory.name()
     }

@@ -1,4 +1,4 @@
-//! What was last heard of a value: a request id, an enum's number, and the last string as a name.
+//! What was last heard of a header or of a repository id: a request id, an enum's number, and the last string as a name.
 
 ghost use Rattle.std.specs.Prelude.{◌≡◌, ℕ, ◌<◌, ◌&&◌, true, List, [], length};
 ghost use Rattle.std.specs.Option.{option_map};
@@ -156,7 +156,7 @@ impl Memory {
     }
 
     /// Hears what an octet gives to say of an innermost part of this type, and answers whether that ends the operation of
-    /// a Request's header.
+    /// a Request's header. In a body nothing is heard, since nothing of it is asked for.
     pub(crate) fn hear(
         &mut self,
         catalogue: &Catalogue,
@@ -168,13 +168,16 @@ impl Memory {
         requires known { of.0 < length catalogue.now.types }
         requires known_outer { AreKnown catalogue.now outer.now }
         requires speaks { CanSpeak (tree catalogue.now of.0) spoken.now }
-        ensures hears { (h : Heard) (at : ℕ) (lines : List Line) → Recalls self.old h →
+        ensures hears { (root ≡ Root.Body → ⊥) → (h : Heard) (at : ℕ) (lines : List Line) → Recalls self.old h →
             IsSpoken (tree catalogue.now of.0) (path_in [] (places catalogue.now outer.now)) at spoken.now lines →
             Recalls self.new (hushed (hushes spoken.now) (heard (is_header_root root) h lines)) }
         ensures named { (at : ℕ) (lines : List Line) →
             IsSpoken (tree catalogue.now of.0) (path_in [] (places catalogue.now outer.now)) at spoken.now lines →
             result ≡ names_operation (is_header_root root) lines }
     {
+        if root == Root::Body {
+            return false;
+        }
         match spoken {
             Spoken::Nothing => false,
             Spoken::Count(_) => false,

@@ -30,11 +30,7 @@ pub fn row_of(text: &str) -> Row {
         of: TypeId(u32::from_str_radix(place.next().unwrap_or(""), 10).unwrap_or(0)),
         order: order_of(place.next().unwrap_or("")),
         offset: u64::from_str_radix(place.next().unwrap_or(""), 10).unwrap_or(0),
-        root: if place.next() == Some("header") {
-            Root::Header
-        } else {
-            Root::Body
-        },
+        root: root_of(place.next().unwrap_or("")),
         octets: parts.next().unwrap_or(""),
         want: parts.next().unwrap_or(""),
     }
@@ -46,5 +42,16 @@ pub fn order_of(word: &str) -> Order {
         Order::Little
     } else {
         Order::Big
+    }
+}
+
+/// The root of a word.
+pub fn root_of(word: &str) -> Root {
+    if word == "header" {
+        Root::Header
+    } else if word == "exception" {
+        Root::Exception
+    } else {
+        Root::Body
     }
 }

@@ -4,7 +4,6 @@ pub static ROWS: &str = r#"object reference of two profiles
 17 big 0 body
 00000002 6100 ee*2 00000002 00000000 00000001 ab ee*3 00000009 00000000
 6 m1 body.type_id string @0 "a"
-6 request_id None, status None, name Some("a")
 12 m1 body.profiles count 2
 16 m1 body.profiles[0].tag ulong 0
 21 m1 body.profiles[0].profile_data octets @0 ab
@@ -16,7 +15,6 @@ object reference without a profile, empty type id
 17 little 4 body
 00000000 00000000
 4 m1 body.type_id string @0 ""
-4 request_id None, status None, name Some("")
 8 m1 body.profiles count 0
 8 done
 =
@@ -41,7 +39,6 @@ target: an object reference
 2 m1 body.switch short 2
 8 m1 body.ior.selected_profile_index ulong 1
 13 m1 body.ior.ior.type_id string @0 ""
-13 request_id None, status None, name Some("")
 20 m1 body.ior.ior.profiles count 0
 20 done
 =
@@ -59,17 +56,14 @@ system exception
 21 little 24 body
 02000000 4500 ee*2 07000000 01000000
 6 m1 body.exception_id string @0 "E"
-6 request_id None, status None, name Some("E")
 12 m1 body.minor ulong 7
 16 m1 body.completed enum COMPLETED_NO
 16 done
-16 request_id None, status Some(1), name Some("E")
 =
 system exception: no such status
 21 big 24 body
 00000001 00 ee*3 00000007 00000003
 5 m1 body.exception_id string @0 ""
-5 request_id None, status None, name Some("")
 12 m1 body.minor ulong 7
 16 fault enum
 =
@@ -91,7 +85,6 @@ the greatest number of an enum
 02000000
 4 m1 body enum COMPLETED_MAYBE
 4 done
-4 request_id None, status Some(2), name None
 =
 a number above it
 20 big 3 body

@@ -1,12 +1,12 @@
 use Rattle.std.proofs.Common.{◌+◌, [], ap, subst, sym, ◌∙◌, arith}
 use Rattle.giop_decode.proofs.Advancing.{stands_at, same_some, comes_by, goes, moved, step_fits, lines_turned}
 use Rattle.giop_print.proofs.Writing.{writes_failed}
-use Rattle.giop_decode.proofs.Hearing.{heard_on, leaf_inside}
+use Rattle.giop_decode.proofs.Hearing.{heard_on, leaf_inside, minds_by, recalls_by}
 use Rattle.giop_decode.specs.Heard.{heard, hushed, in_string, is_header_root, nothing}
-use Rattle.giop_decode.specs.Holding.{Recalls}
+use Rattle.giop_decode.specs.Holding.{Recalls, standing}
 use Rattle.giop_decode.specs.Recalling.{leaf_in_string}
 use Rattle.giop_decode.specs.Moves.{stepped, leaf_in}
-use Rattle.giop_decode.specs.Spine.{lines_of}
+use Rattle.giop_decode.specs.Spine.{lines_of, with_front}
 use Rattle.giop_decode.specs.Steps.{around, path_in, step}
 use Rattle.giop_decode.specs.Turns.{places, leaf_type}
 use Rattle.giop_sig.specs.Trees.{tree}
@@ -88,16 +88,21 @@ returns-clause-minds g c here front h old =
     let T = tree C (leaf_type leaf) in
     let ps = places C d.outer.items in
     let header = is_header_root d.root in
+    let turn = c.take_octet-step.result.turn in
+    let spoken = c.take_octet-step.result.spoken in
     let t = c.take_octet-step.ensures.turns (path_in [] ps) here h in
     let e = ap (λ l. step d.order [] ps (leaf_in C d l) here c.args.octet) c.in-Some.is ∙ ap (around d.order [] ps) t.comes in
-    let ls = ap lines_of e ∙ lines_turned C d.order [] ps T c.take_octet-step.result.turn c.take_octet-step.new.carry c.take_octet-step.new.piece.items t.lines (here + 1) in
+    let ls = ap lines_of e ∙ lines_turned C d.order [] ps T turn c.take_octet-step.new.carry c.take_octet-step.new.piece.items t.lines (here + 1) in
     let s = rw c.of-of.ensures at (c.settle.ensures.settles d.order [] (here + 1) t.lines) in
     let i = rw c.of-of.ensures at (c.settle.ensures.inside (here + 1) t.lines) in
+    minds_by d.root c.settle.new.self (with_front front (stepped C d here c.args.octet)) (λ asked.
     let before : Recalls d.memory (hushed (leaf_in_string T leaf) (heard header nothing front)) =
-    subst (λ b. Recalls d.memory (hushed b (heard header nothing front))) (leaf_inside C leaf d.carry d.piece.items) (rw c.in-Some.is at old) in
-    let now = rw (c.of-of.ensures, c.as_slice-2.ensures.value) at (c.hear-named.ensures.hears (hushed (leaf_in_string T leaf) (heard header nothing front)) (here + 1) t.lines before) in
+    subst (λ b. Recalls d.memory (hushed b (heard header nothing front))) (leaf_inside C leaf d.carry d.piece.items)
+    (rw c.in-Some.is at (recalls_by d.root d (standing C d front here) asked old)) in
+    let now = rw (c.of-of.ensures, c.as_slice-2.ensures.value) at
+    (c.hear-named.ensures.hears asked (hushed (leaf_in_string T leaf) (heard header nothing front)) (here + 1) t.lines before) in
     rw (
       c.settle.ensures.memory,
-      ← heard_on header C leaf c.take_octet-step.result.turn c.take_octet-step.result.spoken (path_in [] ps) (here + 1) front t.lines (stepped C d here c.args.octet)
+      ← heard_on header C leaf turn spoken (path_in [] ps) (here + 1) front t.lines (stepped C d here c.args.octet)
           c.take_octet-step.ensures.voices t.says (ap in_string (e ∙ s) ∙ i) ls,
-    ) (now t.says)
+    ) (now t.says))

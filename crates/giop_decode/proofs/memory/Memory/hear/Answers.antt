@@ -8,7 +8,7 @@ use Rattle.giop_decode.proofs.Hearing.{switch_heard}
 use Rattle.giop_decode.proofs.memory.Memory.hear.Goals as goal
 
 pub returns-in-Switch-clause-hears : goal.returns-in-Switch-clause-hears
-returns-in-Switch-clause-hears c h at lines recalls says =
+returns-in-Switch-clause-hears c asked h at lines recalls says =
     let path = path_in [] (places c.args.catalogue.now c.args.outer.now) in
     let k = rw c.in-Switch.is at says in
     let heard = rw c.switch_type.ensures.tree at c.hear_number-in-Switch.ensures in
