@@ -5,9 +5,9 @@ use Rattle.giop_cdr.specs.Primitives.{size_of}
 use Rattle.giop_cdr.specs.declared.number.Number.{Number as Taken}
 use Rattle.giop_cdr.specs.declared.prim.Primitive.{Primitive}
 use Rattle.giop_decode.specs.Spine.{Seg, Name, Index, Switch, Value, Number, Count, Piece, Line}
-use Rattle.giop_print.specs.Lines.{kind_line, kind_word, spaced, number_text, content_line, spaced_hex, more_word}
+use Rattle.giop_print.specs.Lines.{kind_word, spaced, number_text, spaced_hex, more_word}
 use Rattle.giop_print.specs.Paths.{root_word, name_segment, index_segment}
-use Rattle.giop_print.specs.Text.{quoted}
+use Rattle.giop_print.specs.Text.{joined, quoted}
 use Rattle.giop_print.specs.declared.path.Root.{Root}
 use Rattle.giop_sig.specs.Types.{Plain, Enum, Text, Octets}
 
@@ -24,17 +24,25 @@ unfoldable pub path_text : Root → List Seg → List ℕ
 path_text root path = root_word root ++ segs_text path
 
 -- a number that is a value of its primitive
-abbrev pub primitive_line : ℕ → List ℕ → Primitive → Option Taken → List ℕ
-primitive_line message path p None = []
-primitive_line message path p (Some number) = kind_line message path (spaced (kind_word p)) (number_text (size_of p) number)
+abbrev pub number_words : Primitive → Option Taken → List (List ℕ)
+number_words p None = []
+number_words p (Some number) = spaced (kind_word p) ∷ number_text (size_of p) number ∷ []
 
+-- the words of a value's line behind its path
+abbrev pub value_words : Value → List (List ℕ)
+value_words (Number (Plain p) n) = number_words p (taken_as p n)
+value_words (Number (Enum count names) n) = codes " enum " ∷ names n ∷ []
+value_words (Count n) = codes " count " ∷ decimal n ∷ []
+value_words (Piece (Text bound) offset octets more) =
+    codes " string @" ∷ decimal offset ∷ (codes " " ++ quoted octets) ∷ more_word more ∷ []
+value_words (Piece (Octets bound) offset octets more) =
+    codes " octets @" ∷ decimal offset ∷ spaced_hex octets ∷ more_word more ∷ []
+value_words value = []
+
+-- the line of a value at a path, in the message of this number
 abbrev pub value_text : ℕ → List ℕ → Value → List ℕ
-value_text message path (Number (Plain p) n) = primitive_line message path p (taken_as p n)
-value_text message path (Number (Enum count names) n) = kind_line message path (codes " enum ") (names n)
-value_text message path (Count n) = kind_line message path (codes " count ") (decimal n)
-value_text message path (Piece (Text bound) offset octets more) = content_line message path (codes " string @") offset (codes " " ++ quoted octets) (more_word more)
-value_text message path (Piece (Octets bound) offset octets more) = content_line message path (codes " octets @") offset (spaced_hex octets) (more_word more)
-value_text message path value = []
+value_text message path value =
+    joined (codes "m" ∷ decimal message ∷ codes " " ∷ path ∷ (value_words value ++ codes "\n" ∷ []))
 
 abbrev pub line_text : ℕ → Root → Line → List ℕ
 line_text message root l = value_text message (path_text root l.path) l.value

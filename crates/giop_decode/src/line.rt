@@ -47,6 +47,7 @@ fn go_to(catalogue: &Catalogue, root: Root, outer: &[Frame], path: &mut Path)
 }
 
 /// The line of a value of a type of one number.
+#[tactic(auto, unfolding(giop_print::specs::Lines::kind_line))]
 fn number_line<O: Out>(
     catalogue: &Catalogue,
     message: u64,
@@ -74,6 +75,7 @@ fn number_line<O: Out>(
 }
 
 /// The line of a piece.
+#[tactic(auto, unfolding(giop_print::specs::Lines::content_line))]
 fn octets_line<O: Out>(
     catalogue: &Catalogue,
     message: u64,

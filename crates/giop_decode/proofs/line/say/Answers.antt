@@ -5,6 +5,7 @@ use Rattle.giop_decode.specs.Turns.{places}
 use Rattle.giop_decode.proofs.Segments.{said_one, said_none, path_switch}
 use Rattle.giop_decode.proofs.line.say.Goals as goal
 use Rattle.giop_print.proofs.Writing.{wrote-nil}
+use Rattle.giop_print.specs.Lines.{kind_line}
 
 pub returns-in-Nothing : goal.returns-in-Nothing
 returns-in-Nothing g c at lines h = rw (said_none c.args.message c.args.root lines (rw c.in-Nothing.is at h)) (wrote-nil _)
@@ -19,6 +20,7 @@ returns-in-Number g c at lines h =
     rw (← said_one c.args.message c.args.root at path _ _ lines c.go_to.ensures.text k.1) (c.number_line.ensures k.0)
 
 pub returns-in-Count : goal.returns-in-Count
+unfolding kind_line
 returns-in-Count g c at lines h =
     let path = path_in [] (places c.args.catalogue.now c.args.outer.now) in
     let k = rw c.in-Count.is at h in
