@@ -14,13 +14,13 @@ use Rattle.giop_sig.specs.Builtin.{builtin_types, builtin_table}
 use Rattle.giop_sig.specs.Headers.{header_type, header_number, IsTable, IsCall, IsRaised}
 use Rattle.giop_sig.proofs.Builtins.{builtin_are, builtin_fit, header_built_in}
 use Rattle.giop_decode.specs.Spine
-use Rattle.giop_decode.specs.Spine.{Seg, Name, Switch, Line, Place, Part, Member, Leaf, Head, Content, Read, Done, Short, Fault, lines_of, with_front, followed, within}
+use Rattle.giop_decode.specs.Spine.{Seg, Name, Switch, Line, Place, Part, Member, Leaf, Head, Content, Read, Done, Short, Fault, lines_of, with_front}
 use Rattle.giop_decode.specs.Reading.{parts_from}
 use Rattle.giop_decode.specs.Steps.{Now, part_at, path_in, seg_of, seg_in, step, resumed}
 use Rattle.giop_decode.specs.Fits.{FitsIn}
 use Rattle.giop_decode.specs.Heard.{is_member, ends_operation, ends_text}
 use Rattle.giop_decode.proofs.ReadingLaws.{step_now, next_part, switch_member}
-use Rattle.giop_message.proofs.Saying.{IsOf, step_of, fits_say}
+use Rattle.giop_message.proofs.Saying.{IsOf, step_of}
 
 -- a struct whose last part has another name
 abbrev pub EndsOtherwise : Ty → Type 0
@@ -112,7 +112,7 @@ module _ (order : Order) (is : Bool) (n : ℕ) (names : ℕ → List ℕ) (parts
       go (inl more) = absurd (false≢true (sym (goes_on order 23 n names parts i (at + 1) (step order (Name (names i) ∷ []) [] leaf at b) fit more (step_now order (Name (names i) ∷ []) [] leaf at b)) ∙ done))
       go (inr last) =
           let e : i ≡ n = omega (arith, below) in
-          no_ends is (Name (names i) ∷ []) _ (step_of order [] (Part (Struct (suc n) names parts) i (suc n) ∷ []) leaf at b (fits_say (parts i) [] leaf fits)) (ap (λ k. bytes_eq (codes "operation") (names k)) e ∙ other)
+          no_ends is (Name (names i) ∷ []) _ (step_of order [] (Part (Struct (suc n) names parts) i (suc n) ∷ []) leaf at b) (ap (λ k. bytes_eq (codes "operation") (names k)) e ∙ other)
 
   in_struct : (outer : List Place) (leaf : Leaf) → FitsIn (Struct (suc n) names parts) outer leaf → done_test (step order [] outer leaf at b) ≡ true → NoCalls outer leaf
   in_struct [] (Head U carry) fits done = absurd fits.kind
@@ -123,7 +123,7 @@ module _ (order : Order) (is : Bool) (n : ℕ) (names : ℕ → List ℕ) (parts
       subst (λ p. NoCalls (p ∷ []) leaf) (sym same)
       (in_part i leaf fits.1 (rw fits.0.kind at fits.0.below) (subst (λ p. done_test (step order [] (p ∷ []) leaf at b) ≡ true) same done))
   in_struct (Part U i count ∷ place ∷ outer) leaf fits done =
-      no_ends is (path_in (seg_of U i ∷ seg_in place ∷ []) outer) _ (step_of order [] (Part U i count ∷ place ∷ outer) leaf at b (fits_say (Struct (suc n) names parts) (Part U i count ∷ place ∷ outer) leaf fits))
+      no_ends is (path_in (seg_of U i ∷ seg_in place ∷ []) outer) _ (step_of order [] (Part U i count ∷ place ∷ outer) leaf at b)
       (deep_member (codes "operation") (seg_of U i) (seg_in place) [] outer)
 
 -- What ends a header that ends otherwise calls nothing.

@@ -1,12 +1,11 @@
 -- One octet of a part that a decoder reads: what is told, its text, and the id.
 use Rattle.std.proofs.Common.{◌≡◌, ℕ, ◌+◌, ◌-◌, Bool, List, [], ◌∷◌, ◌++◌, refl, sym, ap, ◌∙◌, append_assoc, append-nil, arith}
-use Rattle.std.specs.List.{AllByRecursion as Each}
 use Rattle.std.proofs.Math.Seq.{drop-append_seam}
 use Rattle.std.proofs.lemmas.List.Concat.{flat_map-append}
 use Rattle.giop_print.specs.declared.path.Root.{Root}
 use Rattle.giop_sig.specs.Types.{Ty}
 use Rattle.giop_decode.specs.Spine
-use Rattle.giop_decode.specs.Spine.{Seg, Line, Value, Number, Count, Piece, Place, Leaf, Read, Done, Short, Fault, lines_of}
+use Rattle.giop_decode.specs.Spine.{Line, Place, Leaf, Read, Done, Short, Fault, lines_of}
 use Rattle.giop_decode.specs.Reading.{read}
 use Rattle.giop_decode.specs.Steps as decoder
 use Rattle.giop_decode.specs.Steps.{Now, OneAt}
@@ -23,7 +22,6 @@ use Rattle.giop_message.specs.Moves.{fault_text}
 use Rattle.giop_message.proofs.Going.{Goes, front_twice, front_advance, passes_front, passes_go, message_goes}
 use Rattle.giop_message.proofs.Causal.{Silent}
 use Rattle.giop_message.proofs.Spelling.{said_is_line}
-use Rattle.giop_message.proofs.Saying.{IsOf}
 
 told_front : (front : List Told) (m : Message) → told_of (with_front front m) ≡ front ++ told_of m
 unfolding told_of with_front
@@ -111,20 +109,20 @@ abbrev pub first_call : Root → Bool → Heard → List Line → List Told
 first_call root is h [] = []
 first_call root is h (l ∷ ls) = calls is l (hear (is_header_root root) h l)
 
-said_text : (number place offset at : ℕ) (root : Root) (path : List Seg) (l : Line) → IsOf path l → told_text number place offset (tell at (Said root l.path l.value) ∷ []) ≡ line_text number root l
+said_text : (number place offset at : ℕ) (root : Root) (l : Line) → told_text number place offset (tell at (Said root l.path l.value) ∷ []) ≡ line_text number root l
 unfolding told_text speech_line saying_of tell
-said_text number place offset at root path l is = append-nil _ ∙ said_is_line number l.at root l.path l.value is.sayable
+said_text number place offset at root l = append-nil _ ∙ said_is_line number l.at root l.path l.value
 
-tells_text : (number place offset n : ℕ) (root : Root) (is : Bool) (h : Heard) (path : List Seg) (lines : List Line) → OneAt n lines → Each (IsOf path) lines →
+tells_text : (number place offset n : ℕ) (root : Root) (is : Bool) (h : Heard) (lines : List Line) → OneAt n lines →
     told_text number place offset (tells root is h lines) ≡ lines_text number root lines ++ told_text number place offset (first_call root is h lines)
 unfolding tells lines_text
-tells_text number place offset n root is h path [] one each = refl
-tells_text number place offset n root is h path (l ∷ []) one each =
+tells_text number place offset n root is h [] one = refl
+tells_text number place offset n root is h (l ∷ []) one =
     let called = calls is l (hear (is_header_root root) h l) in
     ap (told_text number place offset) (append-nil (tell l.at (Said root l.path l.value) ∷ called))
     ∙ (text_both number place offset (tell l.at (Said root l.path l.value) ∷ []) called
-    ∙ ap (λ z. z ++ told_text number place offset called) (said_text number place offset l.at root path l each.0 ∙ sym (append-nil (line_text number root l))))
-tells_text number place offset n root is h path (l ∷ l' ∷ ls) one each = absurd one
+    ∙ ap (λ z. z ++ told_text number place offset called) (said_text number place offset l.at root l ∙ sym (append-nil (line_text number root l))))
+tells_text number place offset n root is h (l ∷ l' ∷ ls) one = absurd one
 
 wrongs_text : (number place n : ℕ) (st : Read) → Now (n + 1) st → told_text number place n (wrongs st) ≡ fault_text number (place + 1) st
 unfolding told_text speech_line saying_of text_of tell
@@ -143,11 +141,11 @@ swapped number place n root is h (Done lines at rest) now = rw (append-nil (told
 swapped number place n root is h (Short lines at outer leaf) now = rw (append-nil (told_text number place n (first_call root is h lines)), append-nil (lines_text number root lines)) refl
 swapped number place n root is h (Fault lines at why T) now = rw now.0 (sym (append-nil _))
 
-pub step_text : (number place n : ℕ) (root : Root) (is : Bool) (h : Heard) (path : List Seg) (st : Read) → Now (n + 1) st → Each (IsOf path) (lines_of st) →
+pub step_text : (number place n : ℕ) (root : Root) (is : Bool) (h : Heard) (st : Read) → Now (n + 1) st →
     told_text number place n (tells root is h (lines_of st) ++ wrongs st)
     ≡ (lines_text number root (lines_of st) ++ fault_text number (place + 1) st) ++ told_text number place n (first_call root is h (lines_of st))
-step_text number place n root is h path st now each =
+step_text number place n root is h st now =
     text_both number place n (tells root is h (lines_of st)) (wrongs st)
-    ∙ (rw (wrongs_text number place n st now, tells_text number place n (n + 1) root is h path (lines_of st) (one_of (n + 1) st now) each)
+    ∙ (rw (wrongs_text number place n st now, tells_text number place n (n + 1) root is h (lines_of st) (one_of (n + 1) st now))
     (append_assoc (lines_text number root (lines_of st)) (told_text number place n (first_call root is h (lines_of st))) (fault_text number (place + 1) st)
     ∙ swapped number place n root is h st now))

@@ -1,12 +1,10 @@
 -- One octet of a part that a decoder reads, where the message follows a list: what it comes to, and its text.
 use Rattle.std.proofs.Common.{◌≡◌, ℕ, ◌+◌, Bool, true, List, [], ◌∷◌, ◌++◌, length, refl, sym, ap, subst, ◌∙◌, arith, length-append}
-use Rattle.std.specs.List.{AllByRecursion as Each}
 use Rattle.std.proofs.Math.Seq.{drop-append_seam}
 use Rattle.giop_cdr.specs.declared.order.Order.{Order}
 use Rattle.giop_print.specs.declared.path.Root.{Root}
 use Rattle.giop_sig.specs.Types.{Ty}
 use Rattle.giop_sig.specs.Table.{Table}
-use Rattle.giop_sig.specs.Trees.{tree}
 use Rattle.giop_decode.specs.declared.decoder.Decoder.{Decoder}
 use Rattle.giop_decode.specs.declared.progress.Kind.{Kind}
 use Rattle.giop_decode.specs.declared.progress.Progress.{Progress}
@@ -15,7 +13,7 @@ use Rattle.giop_decode.specs.Spine
 use Rattle.giop_decode.specs.Spine.{Line, Place, Leaf, Read, Done, Short, Fault, lines_of}
 use Rattle.giop_decode.specs.Reading.{read}
 use Rattle.giop_decode.specs.Steps as decoder
-use Rattle.giop_decode.specs.Steps.{Now, path_in}
+use Rattle.giop_decode.specs.Steps.{Now}
 use Rattle.giop_decode.specs.Turns.{places, leaf_of}
 use Rattle.giop_decode.specs.Heard.{Heard, nothing, heard, heard_of, is_header_root}
 use Rattle.giop_decode.specs.Holding as decoders
@@ -30,7 +28,6 @@ use Rattle.giop_message.specs.Holding.{told_text, due, due_text}
 use Rattle.giop_message.specs.Moves.{fault_text}
 use Rattle.giop_message.proofs.Going.{Goes, front_twice}
 use Rattle.giop_message.proofs.Causal.{Silent}
-use Rattle.giop_message.proofs.Saying.{IsOf, step_of, fits_say}
 use Rattle.giop_message.proofs.Octets.{stage_front, wrongs, first_call, part_goes, part_due, passed_tells, step_text}
 
 -- ---- the decoder's part
@@ -54,9 +51,6 @@ module _ (C : Table) (o : Order) (T : Ty) (A number : ℕ) (root : Root) (d : De
 
   pub stepped_now : Now ((A + length octets) + 1) stepped
   stepped_now = step_now o [] outer_in leaf_in (A + length octets) b
-
-  pub stepped_of : Each (IsOf (path_in [] outer_in)) (lines_of stepped)
-  stepped_of = step_of o [] outer_in leaf_in (A + length octets) b (fits_say (tree C fits.root) outer_in leaf_in fits.fits)
 
   pub lines_due : decoders.due o T A octets b ≡ lines_of stepped
   lines_due = rw (read_short, read_more, lines_front reads.lines stepped) (drop-append_seam reads.lines (lines_of stepped))
@@ -111,7 +105,7 @@ module _ (S : Signatures) (header : List ℕ) (root : Root) (is : Bool) (stage :
       let f = read_more C (order header) T (12 + length front) number root d octets reads fits b in
       let now = subst (λ n. Now (n + 1) stepped_here) (here_is front octets s since) (stepped_now C (order header) T (12 + length front) number root d octets reads fits b) in
       ap (told_text number place (12 + length s)) due_here
-      ∙ (step_text number place (12 + length s) root is heard_here _ stepped_here now (stepped_of C (order header) T (12 + length front) number root d octets reads fits b)
+      ∙ (step_text number place (12 + length s) root is heard_here stepped_here now
       ∙ rw (lines_due C (order header) T (12 + length front) number root d octets reads fits b, f, fault_front number (place + 1) reads.lines stepped_here) refl)
 
   -- ---- where it ends, and where it is faulted

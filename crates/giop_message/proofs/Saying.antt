@@ -1,4 +1,4 @@
--- The lines of a step: whose paths they have, and that they can be shown.
+-- The lines of a step: whose paths they have.
 use Rattle.std.proofs.Common.{◌≡◌, ℕ, zero, suc, ◌+◌, ◌-◌, ◌⊎◌, inl, inr, Bool, true, false, List, [], ◌∷◌, ◌++◌, length, take, Option, Some, None, refl, sym, ap, subst, ◌∙◌, append-nil}
 use Rattle.std.specs.Prelude.{cond, ltb}
 use Rattle.std.specs.List.{AllByRecursion as Each}
@@ -14,20 +14,17 @@ use Rattle.giop_cdr.specs.Alignment.{padding}
 use Rattle.giop_decode.specs.Pieces.{Grab, Waiting, Got, block, unless, over, content, full_piece, full_pieces, last_piece, tail, ends, text}
 use Rattle.giop_decode.specs.Reading.{read, headed, single, wrong, refused, member, parts_from}
 use Rattle.giop_decode.specs.Steps.{inner_path, Quiet, Now, after, block_step, head_width, leaf_step, number_step, part_at, path_in, seg_of, step}
-use Rattle.giop_decode.specs.Fits.{HasContent, FitsIn}
 use Rattle.giop_decode.proofs.ReadingLaws.{each_append, quiet_within, read_quiet, parts_quiet, step_now, lines_front}
-use Rattle.giop_message.proofs.Spelling.{Sayable, right_sayable}
 
 -- a line of the part with this path
 pub record IsOf (path : List Seg) (l : Line) : Type 0 where
-  pub sayable : Sayable l.value
   pub stands : (l.path ≡ path) ⊎ (l.path ≡ path ++ Switch ∷ [])
 
 abbrev pub AreOf : List Seg → Read → Type 0
 AreOf path r = Each (IsOf path) (lines_of r)
 
-at_path : (path : List Seg) (at : ℕ) (v : Spine.Value) → Sayable v → IsOf path (line at path v)
-at_path path at v h = record { sayable = h; stands = inl refl }
+at_path : (path : List Seg) (at : ℕ) (v : Spine.Value) → IsOf path (line at path v)
+at_path path at v = record { stands = inl refl }
 
 quiet_of : (path : List Seg) (n : ℕ) (r : Read) → Quiet n r → AreOf path r
 quiet_of path n (Done lines at rest) h = rw h.0 tt
@@ -41,33 +38,28 @@ unless_of : (path : List Seg) (T : Ty) (why : Option Kind) (n : ℕ) (r : Read) 
 unless_of path T None n r h = h refl
 unless_of path T (Some kind) n r h = tt
 
--- a leaf whose content is that of a string or an octet sequence
-abbrev pub CanSay : Leaf → Type 0
-CanSay (Head T carry) = Unit {0}
-CanSay (Content T total offset piece) = HasContent T
-
-last_of : (path : List Seg) (T : Ty) (total offset : ℕ) → HasContent T → (g : Grab) → AreOf path (last_piece T path total offset g)
-last_of path T total offset kind (Waiting piece at) = tt
-last_of path T total offset kind (Got xs at rest) =
+last_of : (path : List Seg) (T : Ty) (total offset : ℕ) (g : Grab) → AreOf path (last_piece T path total offset g)
+last_of path T total offset (Waiting piece at) = tt
+last_of path T total offset (Got xs at rest) =
     unless_of path T (ends T (total - offset) xs) at (Done (line at path (Piece T offset (take (total - offset) xs) false) ∷ []) at rest)
-    (λ e. (at_path path at (Piece T offset (take (total - offset) xs) false) kind, tt))
+    (λ e. (at_path path at (Piece T offset (take (total - offset) xs) false), tt))
 
-full_of : (path : List Seg) (T : Ty) (total offset : ℕ) → HasContent T → (next : ℕ → List ℕ → Read) → ((at : ℕ) (s : List ℕ) → AreOf path (next at s)) → (g : Grab) → AreOf path (full_piece T path total offset next g)
-full_of path T total offset kind next h (Waiting piece at) = tt
-full_of path T total offset kind next h (Got xs at rest) =
-    front_of path (line at path (Piece T offset xs true) ∷ []) (next at rest) (at_path path at (Piece T offset xs true) kind, tt) (h at rest)
+full_of : (path : List Seg) (T : Ty) (total offset : ℕ) (next : ℕ → List ℕ → Read) → ((at : ℕ) (s : List ℕ) → AreOf path (next at s)) → (g : Grab) → AreOf path (full_piece T path total offset next g)
+full_of path T total offset next h (Waiting piece at) = tt
+full_of path T total offset next h (Got xs at rest) =
+    front_of path (line at path (Piece T offset xs true) ∷ []) (next at rest) (at_path path at (Piece T offset xs true), tt) (h at rest)
 
-content_of : (path : List Seg) (T : Ty) (total : ℕ) → HasContent T → (full offset at : ℕ) (s : List ℕ) → AreOf path (content T path total full offset at s)
-content_of path T total kind zero offset at s = last_of path T total offset kind (block (total - offset + tail T) at s)
-content_of path T total kind (suc full) offset at s = full_of path T total offset kind (content T path total full (offset + 32)) (content_of path T total kind full (offset + 32)) (block 32 at s)
+content_of : (path : List Seg) (T : Ty) (total full offset at : ℕ) (s : List ℕ) → AreOf path (content T path total full offset at s)
+content_of path T total zero offset at s = last_of path T total offset (block (total - offset + tail T) at s)
+content_of path T total (suc full) offset at s = full_of path T total offset (content T path total full (offset + 32)) (content_of path T total full (offset + 32)) (block 32 at s)
 
 single_of : (path : List Seg) (scalar : Scalar) (n at : ℕ) (s : List ℕ) → AreOf path (single path scalar n at s)
 single_of path scalar n at s =
-    unless_of path (Single scalar) (wrong scalar n) at (Done (line at path (Spine.Number scalar n) ∷ []) at s) (λ e. (at_path path at (Spine.Number scalar n) (right_sayable scalar n e), tt))
+    unless_of path (Single scalar) (wrong scalar n) at (Done (line at path (Spine.Number scalar n) ∷ []) at s) (λ e. (at_path path at (Spine.Number scalar n), tt))
 
 text_of : (path : List Seg) (bound : Option ℕ) (n at : ℕ) (s : List ℕ) → AreOf path (text bound path n at s)
-text_of path bound zero at s = (at_path path at (Piece (Text bound) 0 [] false) tt, tt)
-text_of path bound (suc n) at s = unless_of path (Text bound) (over bound n) at (content (Text bound) path n (full_pieces n) 0 at s) (λ e. content_of path (Text bound) n tt (full_pieces n) 0 at s)
+text_of path bound zero at s = (at_path path at (Piece (Text bound) 0 [] false), tt)
+text_of path bound (suc n) at s = unless_of path (Text bound) (over bound n) at (content (Text bound) path n (full_pieces n) 0 at s) (λ e. content_of path (Text bound) n (full_pieces n) 0 at s)
 
 member_of : (n : ℕ) (order : Order) (path : List Seg) (T : Ty) (selected : Selected) →
     AreOf path (member selected (λ i at s. within (Member T i) (read order (inner_path path T i) (part_of T i) at s)) n [])
@@ -79,20 +71,20 @@ member_of n order path T Refused = tt
 after_of : (order : Order) (path : List Seg) (T : Ty) (n at : ℕ) → AreOf path (after order path T n at [])
 after_of order path (Single scalar) n at = single_of path scalar n at []
 after_of order path (Text bound) n at = text_of path bound n at []
-after_of order path (Octets bound) n at = unless_of path (Octets bound) (over bound n) at (content (Octets bound) path n (full_pieces n) 0 at []) (λ e. content_of path (Octets bound) n tt (full_pieces n) 0 at [])
+after_of order path (Octets bound) n at = unless_of path (Octets bound) (over bound n) at (content (Octets bound) path n (full_pieces n) 0 at []) (λ e. content_of path (Octets bound) n (full_pieces n) 0 at [])
 after_of order path (Struct count names parts) n at = tt
 after_of order path (Array count T) n at = tt
 after_of order path (Sequence bound T) n at =
     let elements = parts_from (part_at order path (Sequence bound T) n) n 0 at [] in
     unless_of path (Sequence bound T) (over bound n) at (with_front (line at path (Count n) ∷ []) elements)
-    (λ e. front_of path (line at path (Count n) ∷ []) elements (at_path path at (Count n) tt, tt) (quiet_of path at elements (parts_quiet order path (Sequence bound T) n at n 0)))
+    (λ e. front_of path (line at path (Count n) ∷ []) elements (at_path path at (Count n), tt) (quiet_of path at elements (parts_quiet order path (Sequence bound T) n at n 0)))
 after_of order path (Union count scalar select names cases) n at =
     let T = Union count scalar select names cases in
     let next : ℕ → List ℕ → Read = member (select n) (λ i at s. within (Member T i) (read order (inner_path path T i) (part_of T i) at s)) in
     let front : List Line = line at (path ++ Switch ∷ []) (Spine.Number scalar n) ∷ [] in
     unless_of path T (wrong scalar n) at (unless T (refused (select n)) at (with_front front (next at [])))
     (λ e. unless_of path T (refused (select n)) at (with_front front (next at []))
-    (λ f. front_of path front (next at []) (record { sayable = right_sayable scalar n e; stands = inr refl }, tt) (member_of at order path T (select n))))
+    (λ f. front_of path front (next at []) (record { stands = inr refl }, tt) (member_of at order path T (select n))))
 
 -- octets of which none are left
 abbrev pub IsAll : Grab → Type 0
@@ -120,9 +112,9 @@ headed_of : (order : Order) (path : List Seg) (T : Ty) (g : Grab) → IsAll g �
 headed_of order path T (Waiting carry at) h = tt
 headed_of order path T (Got xs at rest) h = rw h (after_of order path T (num order xs) at)
 
-leaf_of : (order : Order) (path : List Seg) (leaf : Leaf) (at b : ℕ) → CanSay leaf → AreOf path (leaf_step order path leaf at b)
-leaf_of order path (Head T carry) at b h = headed_of order path T (number_step (head_width T) at carry b) (number_all (head_width T) at carry b)
-leaf_of order path (Content T total offset piece) at b h = go (ltb 32 (total - offset))
+leaf_of : (order : Order) (path : List Seg) (leaf : Leaf) (at b : ℕ) → AreOf path (leaf_step order path leaf at b)
+leaf_of order path (Head T carry) at b = headed_of order path T (number_step (head_width T) at carry b) (number_all (head_width T) at carry b)
+leaf_of order path (Content T total offset piece) at b = go (ltb 32 (total - offset))
   where
     full : Read
     full = full_piece T path total offset (content T path total (full_pieces (total - (offset + 32))) (offset + 32)) (block_step 32 at piece b)
@@ -131,8 +123,8 @@ leaf_of order path (Content T total offset piece) at b h = go (ltb 32 (total - o
     last = last_piece T path total offset (block_step (total - offset + tail T) at piece b)
 
     go : (test : Bool) → AreOf path (cond test full last)
-    go true = full_of path T total offset h (content T path total (full_pieces (total - (offset + 32))) (offset + 32)) (content_of path T total h (full_pieces (total - (offset + 32))) (offset + 32)) (block_step 32 at piece b)
-    go false = last_of path T total offset h (block_step (total - offset + tail T) at piece b)
+    go true = full_of path T total offset (content T path total (full_pieces (total - (offset + 32))) (offset + 32)) (content_of path T total (full_pieces (total - (offset + 32))) (offset + 32)) (block_step 32 at piece b)
+    go false = last_of path T total offset (block_step (total - offset + tail T) at piece b)
 
 -- ---- what stands around it says nothing
 
@@ -167,13 +159,6 @@ lines_step order path (Member T i ∷ outer) leaf at b =
     lines_within (Member T i) (step order (path ++ seg_of T i ∷ []) outer leaf at b) ∙ lines_step order (path ++ seg_of T i ∷ []) outer leaf at b
 
 -- The lines of a step are of its innermost part.
-pub step_of : (order : Order) (path : List Seg) (outer : List Place) (leaf : Leaf) (at b : ℕ) → CanSay leaf → AreOf (path_in path outer) (step order path outer leaf at b)
-step_of order path outer leaf at b h =
-    subst (λ ls. Each (IsOf (path_in path outer)) ls) (sym (lines_step order path outer leaf at b)) (leaf_of order (path_in path outer) leaf at b h)
-
--- what fits in a type can be said
-pub fits_say : (T : Ty) (outer : List Place) (leaf : Leaf) → FitsIn T outer leaf → CanSay leaf
-fits_say T [] (Head U carry) fits = tt
-fits_say T [] (Content U total offset piece) fits = rw fits.same fits.kind
-fits_say T (Part U i count ∷ outer) leaf fits = fits_say (part_of T i) outer leaf fits.1
-fits_say T (Member U i ∷ outer) leaf fits = fits_say (part_of T i) outer leaf fits.1
+pub step_of : (order : Order) (path : List Seg) (outer : List Place) (leaf : Leaf) (at b : ℕ) → AreOf (path_in path outer) (step order path outer leaf at b)
+step_of order path outer leaf at b =
+    subst (λ ls. Each (IsOf (path_in path outer)) ls) (sym (lines_step order path outer leaf at b)) (leaf_of order (path_in path outer) leaf at b)

@@ -1,36 +1,18 @@
 -- The text of what a reading says of a message, without the message's number, and of its lines (docs/FORMATS.md, Lines; meaning).
-use Rattle.std.specs.Prelude.{ℕ, List, [], ◌∷◌, ◌++◌, Option, Some, None, codes, decimal, flat_map}
-use Rattle.giop_cdr.specs.Numbers.{taken_as}
-use Rattle.giop_cdr.specs.Primitives.{size_of}
-use Rattle.giop_cdr.specs.declared.number.Number.{Number as Taken}
-use Rattle.giop_cdr.specs.declared.prim.Primitive.{Primitive}
-use Rattle.giop_print.specs.Text.{joined, hex, quoted}
-use Rattle.giop_print.specs.Lines.{fault_line, kind_word, spaced, number_text, spaced_hex, more_word}
-use Rattle.giop_sig.specs.Types.{Plain, Enum, Text, Octets}
+use Rattle.std.specs.Prelude.{ℕ, List, [], ◌∷◌, codes, decimal, flat_map}
+use Rattle.giop_print.specs.Text.{joined, hex}
+use Rattle.giop_print.specs.Lines.{fault_line}
 use Rattle.giop_decode.specs.Spine as spine
-use Rattle.giop_decode.specs.Spine.{Number, Count, Piece}
+use Rattle.giop_decode.specs.Spelling.{value_words}
 use Rattle.giop_decode.specs.declared.progress.Kind.{Kind}
 use Rattle.giop_decode.specs.declared.progress.Kind.TheVariants as kinds
 use Rattle.giop_message.specs.Reading.{Saying, Value, Call, Rest, Fault, End, Remark}
 
 -- ---- what is said
 
--- a value of a kind, whose word has its spaces
-abbrev pub kind_text : List ℕ → List ℕ → List ℕ → List ℕ
-kind_text path kind text = joined (path ∷ kind ∷ text ∷ [])
-
-abbrev pub number_said : List ℕ → Primitive → Option Taken → List ℕ
-number_said path p None = []
-number_said path p (Some number) = kind_text path (spaced (kind_word p)) (number_text (size_of p) number)
-
 -- the value at a path
 unfoldable pub value_said : List ℕ → spine.Value → List ℕ
-value_said path (Number (Plain p) n) = number_said path p (taken_as p n)
-value_said path (Number (Enum count names) n) = kind_text path (codes " enum ") (names n)
-value_said path (Count n) = kind_text path (codes " count ") (decimal n)
-value_said path (Piece (Text bound) offset octets more) = joined (path ∷ codes " string @" ∷ decimal offset ∷ (codes " " ++ quoted octets) ∷ more_word more ∷ [])
-value_said path (Piece (Octets bound) offset octets more) = joined (path ∷ codes " octets @" ∷ decimal offset ∷ spaced_hex octets ∷ more_word more ∷ [])
-value_said path value = []
+value_said path value = joined (path ∷ value_words value)
 
 unfoldable pub call_text : ℕ → List ℕ → List ℕ
 call_text id operation = joined (codes "call " ∷ decimal id ∷ codes " " ∷ operation ∷ [])
