@@ -5,8 +5,8 @@ use Rattle.std.specs.List.{cons_option, last_or}
 use Rattle.std.proofs.lemmas.List.{take-append-drop}
 use Rattle.giop_cdr.specs.declared.order.Order.{Order}
 use Rattle.giop_cdr.specs.declared.prim.Primitive.TheVariants as prims
-use Rattle.giop_decode.specs.Heard.{Heard, hear, hear_value, heard, heard_of, hushed, in_string, is_member, name_if, nothing}
-use Rattle.giop_decode.specs.Memories.{TextPiece, enum_of, enums, ulong_of, id_of, request_ids, text_of, text_pieces, cut_from, pieces_of, Strings, name_of, IsLeft}
+use Rattle.giop_decode.specs.Heard.{Heard, first_of, hear, hear_value, heard, heard_of, hushed, in_string, is_member, name_if, nothing}
+use Rattle.giop_decode.specs.Memories.{TextPiece, first_in, enum_of, enums, ulong_of, id_of, request_ids, text_of, text_pieces, cut_from, pieces_of, Strings, name_of, IsLeft}
 use Rattle.giop_decode.specs.Pieces.{full_pieces}
 use Rattle.giop_decode.specs.Reading.{read}
 use Rattle.giop_decode.specs.Spine.{Seg, Value, Number, Piece, Line, Read, lines_of}
@@ -42,25 +42,34 @@ left_status is_header h (l ∷ ls) =
 
 -- ---- the request id
 
+kept : (is_id : Bool) (o : Option ℕ) → o ≡ first_of o (cond is_id None None)
+kept true (Some n) = refl
+kept true None = refl
+kept false (Some n) = refl
+kept false None = refl
+
 value_id : (is_id : Bool) (h : Heard) (value : Value) →
-    (hear_value is_id h value).request_id ≡ last_or h.request_id (cons_option (cond is_id (ulong_of value) None) [])
-value_id true h (Number (Plain prims.ULong) n) = refl
-value_id false h (Number (Plain prims.ULong) n) = refl
-value_id true h (Number (Enum count names) n) = refl
-value_id false h (Number (Enum count names) n) = refl
-value_id true h (Piece (Text bound) offset octets true) = refl
-value_id true h (Piece (Text bound) offset octets false) = refl
-value_id false h (Piece (Text bound) offset octets true) = refl
-value_id false h (Piece (Text bound) offset octets false) = refl
-value_id true h value = refl
-value_id false h value = refl
+    (hear_value is_id h value).request_id ≡ first_of h.request_id (cond is_id (ulong_of value) None)
+value_id is_id h (Number (Plain prims.ULong) n) = refl
+value_id is_id h (Number (Enum count names) n) = kept is_id h.request_id
+value_id is_id h (Piece (Text bound) offset octets true) = kept is_id h.request_id
+value_id is_id h (Piece (Text bound) offset octets false) = kept is_id h.request_id
+value_id is_id h value = kept is_id h.request_id
+
+first_cons : (o x : Option ℕ) (xs : List ℕ) →
+    first_of (first_of o x) (first_in xs) ≡ first_of o (first_in (cons_option x xs))
+first_cons (Some n) x xs = refl
+first_cons None (Some n) xs = refl
+first_cons None None xs = refl
 
 left_id : (is_header : Bool) (h : Heard) (lines : List Line) →
-    (heard is_header h lines).request_id ≡ last_or h.request_id (request_ids is_header lines)
-left_id is_header h [] = refl
+    (heard is_header h lines).request_id ≡ first_of h.request_id (first_in (request_ids is_header lines))
+left_id is_header h [] = kept true h.request_id
 left_id is_header h (l ∷ ls) =
+    let is_id = is_header && is_member (codes "request_id") l.path in
     left_id is_header (hear is_header h l) ls
-    ∙ (ap (λ o. last_or o (request_ids is_header ls)) (value_id (is_header && is_member (codes "request_id") l.path) h l.value) ∙ sym (last_cons h.request_id (id_of is_header l) (request_ids is_header ls)))
+    ∙ (ap (λ o. first_of o (first_in (request_ids is_header ls))) (value_id is_id h l.value)
+    ∙ first_cons h.request_id (id_of is_header l) (request_ids is_header ls))
 
 -- ---- the last whole string
 

@@ -30,6 +30,11 @@ id_of is_header l = cond (is_header && is_member (codes "request_id") l.path) (u
 abbrev pub request_ids : Bool → List Line → List ℕ
 request_ids is_header lines = filter_map (id_of is_header) lines
 
+-- the first of them
+abbrev pub first_in : List ℕ → Option ℕ
+first_in [] = None
+first_in (n ∷ ns) = Some n
+
 -- ---- strings
 
 -- of a string: where in the content, what, and whether more follows
@@ -81,7 +86,7 @@ name_of (Some content) = name_if content
 
 pub record IsLeft (is_header : Bool) (r : Read) (h : Heard) : Type 0 where
   -- the header's
-  pub request_id : h.request_id ≡ last_or None (request_ids is_header (lines_of r))
+  pub request_id : h.request_id ≡ first_in (request_ids is_header (lines_of r))
   -- the number of the last line that is an enum
   pub status : h.status ≡ last_or None (enums (lines_of r))
   pub strings : Strings r

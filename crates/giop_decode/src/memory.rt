@@ -32,6 +32,7 @@ pub(crate) enum Buffer {
 /// What was last heard.
 #[derive(Debug, Drop)]
 pub(crate) struct Memory {
+    // The first that was said.
     request_id: Option<u32>,
     status: Option<u32>,
     name: ArrayVec<u8, 128>,
@@ -141,7 +142,7 @@ impl Memory {
         match catalogue.shape(t) {
             Shape::Prim(prim) => match (prim, number) {
                 (Prim::ULong, Number::Unsigned(n)) => {
-                    if is_id {
+                    if is_id && self.request_id.is_none() {
                         self.request_id = Some(n as u32);
                     }
                 }
