@@ -1,11 +1,10 @@
 -- A decoder before and after an octet.
 use Rattle.std.proofs.Common.{◌≡◌, ℕ, suc, ◌+◌, ◌-◌, ◌%◌, ◌<◌, Bool, true, false, List, [], ◌∷◌, ◌++◌, length, Option, Some, None, refl, sym, ◌∙◌, ap, subst, append-nil, arith}
-use Rattle.giop_cdr.specs.declared.order.Order.{Order}
 use Rattle.giop_decode.specs.declared.leaf.Turn.{Turn}
 use Rattle.giop_decode.specs.declared.leaf.Turn.TheVariants as turns
 use Rattle.giop_decode.specs.declared.progress.Progress.{Progress}
 use Rattle.giop_decode.specs.declared.progress.Progress.TheVariants as progress
-use Rattle.giop_decode.specs.Spine.{Seg, Line, Place, Part, Member, Read, Done, Short, Fault, within, lines_of}
+use Rattle.giop_decode.specs.Spine.{plain, Coding, Seg, Line, Place, Part, Member, Read, Done, Short, Fault, within, lines_of}
 use Rattle.giop_decode.specs.Reading.{parts_from}
 use Rattle.giop_decode.specs.Begins.{start_outer, start_leaf}
 use Rattle.giop_decode.specs.Steps.{Quiet, around, part_at, seg_of, step}
@@ -100,8 +99,8 @@ pub step_fits : (C : Table) (d new : Decoder) (f : Fits C d) (octet : ℕ) (g : 
     Link C f.root new.outer.items (leaf_type g.leaf) → AreKnown C new.outer.items → leaf_type g.leaf < length C.types → IsClean g.leaf new.carry new.piece.items → Fits C new
 step_fits C d new f octet g at link known_outer known clean =
     let sound : Sound (tree C f.root) (d.at + 1) (stepped C d d.at octet) =
-    subst (λ l. Sound (tree C f.root) (d.at + 1) (step d.order [] (places C d.outer.items) (leaf_in C d l) d.at octet)) (sym f.goes_on)
-    (step_keeps 24 d.order [] (tree C f.root) (places C d.outer.items) (leaf_of C f.leaf d.carry d.piece.items) d.at octet f.fit f.fits) in
+    subst (λ l. Sound (tree C f.root) (d.at + 1) (step (plain d.order) [] (places C d.outer.items) (leaf_in C d l) d.at octet)) (sym f.goes_on)
+    (step_keeps 24 (plain d.order) [] (tree C f.root) (places C d.outer.items) (leaf_of C f.leaf d.carry d.piece.items) d.at octet f.fit f.fits) in
     record {
       leaf = g.leaf;
       goes_on = g.goes_on;
@@ -116,15 +115,15 @@ step_fits C d new f octet g at link known_outer known clean =
       at = omega (arith, at);
     }
 
-around_quiet : (n : ℕ) (order : Order) (path : List Seg) (outer : List Place) (r : Read) → Quiet n r → Quiet n (around order path outer r)
-around_quiet n order path [] r h = h
-around_quiet n order path (Part T i count ∷ outer) r h =
-    let inner = around order (path ++ seg_of T i ∷ []) outer r in
-    quiet_followed n (within (Part T i count) inner) (parts_from (part_at order path T count) (count - suc i) (suc i))
-    (quiet_within n (Part T i count) inner (around_quiet n order (path ++ seg_of T i ∷ []) outer r h))
-    (parts_quiet order path T count n (count - suc i) (suc i))
-around_quiet n order path (Member T i ∷ outer) r h =
-    quiet_within n (Member T i) (around order (path ++ seg_of T i ∷ []) outer r) (around_quiet n order (path ++ seg_of T i ∷ []) outer r h)
+around_quiet : (n : ℕ) (coding : Coding) (path : List Seg) (outer : List Place) (r : Read) → Quiet n r → Quiet n (around coding path outer r)
+around_quiet n coding path [] r h = h
+around_quiet n coding path (Part T i count ∷ outer) r h =
+    let inner = around coding (path ++ seg_of T i ∷ []) outer r in
+    quiet_followed n (within (Part T i count) inner) (parts_from (part_at coding path T count) (count - suc i) (suc i))
+    (quiet_within n (Part T i count) inner (around_quiet n coding (path ++ seg_of T i ∷ []) outer r h))
+    (parts_quiet coding path T count n (count - suc i) (suc i))
+around_quiet n coding path (Member T i ∷ outer) r h =
+    quiet_within n (Member T i) (around coding (path ++ seg_of T i ∷ []) outer r) (around_quiet n coding (path ++ seg_of T i ∷ []) outer r h)
 
 quiet_lines : (n : ℕ) (r : Read) → Quiet n r → lines_of r ≡ []
 quiet_lines n (Done lines at rest) h = h.0
@@ -132,15 +131,15 @@ quiet_lines n (Short lines at outer leaf) h = h.0
 quiet_lines n (Fault lines at kind S) h = absurd h
 
 -- nothing is said but by the innermost part
-pub lines_turned : (C : Table) (order : Order) (path : List Seg) (ps : List Place) (T : Ty) (turn : Turn) (carry piece : List ℕ) (lines : List Line) (at : ℕ) →
-    lines_of (around order path ps (turned C T turn carry piece lines at)) ≡ lines
-lines_turned C order path ps T (turns.Refused kind) carry piece lines at = ap lines_of (around-fault order path ps lines at kind T)
-lines_turned C order path ps T (turns.More leaf) carry piece lines at = ap lines_of (around-short order path ps lines at [] (leaf_of C leaf carry piece))
-lines_turned C order path ps T (turns.Opened count) carry piece lines at =
-    ap lines_of (around-short order path ps lines at (Part T 0 count ∷ start_outer (part_of T 0)) (start_leaf (part_of T 0)))
-lines_turned C order path ps T (turns.Selected i) carry piece lines at =
-    ap lines_of (around-short order path ps lines at (Member T i ∷ start_outer (part_of T i)) (start_leaf (part_of T i)))
-lines_turned C order path ps T turns.Ended carry piece lines at =
-    let inner = around order path ps (Done [] at []) in
-    let none : lines_of inner ≡ [] = quiet_lines at inner (around_quiet at order path ps (Done [] at []) (refl, refl, refl)) in
-    ap lines_of (around_done order path ps lines at) ∙ (lines_front lines inner ∙ (ap (λ ls. lines ++ ls) none ∙ append-nil lines))
+pub lines_turned : (C : Table) (coding : Coding) (path : List Seg) (ps : List Place) (T : Ty) (turn : Turn) (carry piece : List ℕ) (lines : List Line) (at : ℕ) →
+    lines_of (around coding path ps (turned C T turn carry piece lines at)) ≡ lines
+lines_turned C coding path ps T (turns.Refused kind) carry piece lines at = ap lines_of (around-fault coding path ps lines at kind T)
+lines_turned C coding path ps T (turns.More leaf) carry piece lines at = ap lines_of (around-short coding path ps lines at [] (leaf_of C leaf carry piece))
+lines_turned C coding path ps T (turns.Opened count) carry piece lines at =
+    ap lines_of (around-short coding path ps lines at (Part T 0 count ∷ start_outer (part_of T 0)) (start_leaf (part_of T 0)))
+lines_turned C coding path ps T (turns.Selected i) carry piece lines at =
+    ap lines_of (around-short coding path ps lines at (Member T i ∷ start_outer (part_of T i)) (start_leaf (part_of T i)))
+lines_turned C coding path ps T turns.Ended carry piece lines at =
+    let inner = around coding path ps (Done [] at []) in
+    let none : lines_of inner ≡ [] = quiet_lines at inner (around_quiet at coding path ps (Done [] at []) (refl, refl, refl)) in
+    ap lines_of (around_done coding path ps lines at) ∙ (lines_front lines inner ∙ (ap (λ ls. lines ++ ls) none ∙ append-nil lines))

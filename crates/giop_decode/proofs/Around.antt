@@ -1,83 +1,72 @@
 -- The machine, from its innermost part outwards.
-use Rattle.std.proofs.Common.{◌≡◌, ℕ, zero, suc, ◌-◌, ◌<◌, ◌≤◌, List, [], ◌∷◌, ◌++◌, refl, ◌∙◌, ap, arith, ◌⊎◌, inl, inr, add-zero, lit<}
-use Rattle.std.proofs.lemmas.Bool.{cases_lt}
-use Rattle.giop_cdr.specs.Alignment.{padding}
-use Rattle.giop_cdr.specs.declared.order.Order.{Order}
+use Rattle.std.proofs.Common.{◌≡◌, ℕ, zero, suc, ◌-◌, ◌<◌, ◌≤◌, List, [], ◌∷◌, ◌++◌, refl, ◌∙◌, ap, arith, add-zero, lit<}
 use Rattle.giop_decode.specs.Begins.{start_leaf, start_outer}
 use Rattle.giop_decode.specs.Fits.{HasParts}
-use Rattle.giop_decode.specs.Pieces.{Waiting, block, number}
+use Rattle.giop_decode.specs.Pieces.{Waiting, block}
 use Rattle.giop_decode.specs.Reading.{parts_from, read}
-use Rattle.giop_decode.specs.Spine.{Done, Fault, Index, Leaf, Line, Member, Name, Part, Place, Read, Seg, Short, with_front, within}
+use Rattle.giop_decode.specs.Spine.{Coding, Done, Fault, Index, Leaf, Line, Member, Name, Part, Place, Read, Seg, Short, with_front, within}
 use Rattle.giop_decode.specs.Steps.{inner_path, around, part_at, path_in, resumed, seg_in, seg_of}
 use Rattle.giop_decode.specs.declared.progress.Kind.{Kind}
 use Rattle.giop_sig.specs.Fits.{IsFit}
 use Rattle.giop_sig.specs.Types.{Array, Octets, Sequence, Single, Struct, Text, Ty, Union, part_of, width}
-use Rattle.giop_decode.proofs.Law.{with_front-followed, with_front-within, block_waits, number_waits, number_blocks, width_pos}
+use Rattle.giop_decode.proofs.Now.{number_none}
+use Rattle.giop_decode.proofs.Law.{with_front-followed, with_front-within, block_waits, width_pos}
 
-pub around-append : (order : Order) (path : List Seg) (outer : List Place) (place : Place) (r : Read) →
-    around order path (outer ++ place ∷ []) r ≡ around order path outer (resumed order (path_in path outer) place r)
-around-append order path [] place r = refl
-around-append order path (p ∷ outer) place r = ap (resumed order path p) (around-append order (path ++ seg_in p ∷ []) outer place r)
+pub around-append : (coding : Coding) (path : List Seg) (outer : List Place) (place : Place) (r : Read) →
+    around coding path (outer ++ place ∷ []) r ≡ around coding path outer (resumed coding (path_in path outer) place r)
+around-append coding path [] place r = refl
+around-append coding path (p ∷ outer) place r = ap (resumed coding path p) (around-append coding (path ++ seg_in p ∷ []) outer place r)
 
 pub path_in-append : (path : List Seg) (outer : List Place) (place : Place) → path_in path (outer ++ place ∷ []) ≡ path_in path outer ++ seg_in place ∷ []
 path_in-append path [] place = refl
 path_in-append path (p ∷ outer) place = path_in-append (path ++ seg_in p ∷ []) outer place
 
-pub around-short : (order : Order) (path : List Seg) (outer : List Place) (lines : List Line) (at : ℕ) (inner : List Place) (leaf : Leaf) →
-    around order path outer (Short lines at inner leaf) ≡ Short lines at (outer ++ inner) leaf
-around-short order path [] lines at inner leaf = refl
-around-short order path (Part T i count ∷ outer) lines at inner leaf = rw (around-short order (path ++ seg_of T i ∷ []) outer lines at inner leaf) refl
-around-short order path (Member T i ∷ outer) lines at inner leaf = rw (around-short order (path ++ seg_of T i ∷ []) outer lines at inner leaf) refl
+pub around-short : (coding : Coding) (path : List Seg) (outer : List Place) (lines : List Line) (at : ℕ) (inner : List Place) (leaf : Leaf) →
+    around coding path outer (Short lines at inner leaf) ≡ Short lines at (outer ++ inner) leaf
+around-short coding path [] lines at inner leaf = refl
+around-short coding path (Part T i count ∷ outer) lines at inner leaf = rw (around-short coding (path ++ seg_of T i ∷ []) outer lines at inner leaf) refl
+around-short coding path (Member T i ∷ outer) lines at inner leaf = rw (around-short coding (path ++ seg_of T i ∷ []) outer lines at inner leaf) refl
 
-pub around-fault : (order : Order) (path : List Seg) (outer : List Place) (lines : List Line) (at : ℕ) (kind : Kind) (S : Ty) →
-    around order path outer (Fault lines at kind S) ≡ Fault lines at kind S
-around-fault order path [] lines at kind S = refl
-around-fault order path (Part T i count ∷ outer) lines at kind S = rw (around-fault order (path ++ seg_of T i ∷ []) outer lines at kind S) refl
-around-fault order path (Member T i ∷ outer) lines at kind S = rw (around-fault order (path ++ seg_of T i ∷ []) outer lines at kind S) refl
+pub around-fault : (coding : Coding) (path : List Seg) (outer : List Place) (lines : List Line) (at : ℕ) (kind : Kind) (S : Ty) →
+    around coding path outer (Fault lines at kind S) ≡ Fault lines at kind S
+around-fault coding path [] lines at kind S = refl
+around-fault coding path (Part T i count ∷ outer) lines at kind S = rw (around-fault coding (path ++ seg_of T i ∷ []) outer lines at kind S) refl
+around-fault coding path (Member T i ∷ outer) lines at kind S = rw (around-fault coding (path ++ seg_of T i ∷ []) outer lines at kind S) refl
 
-pub around-front : (order : Order) (path : List Seg) (outer : List Place) (front : List Line) (r : Read) →
-    around order path outer (with_front front r) ≡ with_front front (around order path outer r)
-around-front order path [] front r = refl
-around-front order path (Part T i count ∷ outer) front r =
-    let inner = around order (path ++ seg_of T i ∷ []) outer r in
-    let next = parts_from (part_at order path T count) (count - suc i) (suc i) in
-    rw (around-front order (path ++ seg_of T i ∷ []) outer front r, with_front-within front (Part T i count) inner) (with_front-followed front (within (Part T i count) inner) next)
-around-front order path (Member T i ∷ outer) front r =
-    rw (around-front order (path ++ seg_of T i ∷ []) outer front r) (with_front-within front (Member T i) (around order (path ++ seg_of T i ∷ []) outer r))
+pub around-front : (coding : Coding) (path : List Seg) (outer : List Place) (front : List Line) (r : Read) →
+    around coding path outer (with_front front r) ≡ with_front front (around coding path outer r)
+around-front coding path [] front r = refl
+around-front coding path (Part T i count ∷ outer) front r =
+    let inner = around coding (path ++ seg_of T i ∷ []) outer r in
+    let next = parts_from (part_at coding path T count) (count - suc i) (suc i) in
+    rw (around-front coding (path ++ seg_of T i ∷ []) outer front r, with_front-within front (Part T i count) inner) (with_front-followed front (within (Part T i count) inner) next)
+around-front coding path (Member T i ∷ outer) front r =
+    rw (around-front coding (path ++ seg_of T i ∷ []) outer front r) (with_front-within front (Member T i) (around coding (path ++ seg_of T i ∷ []) outer r))
 
 -- Before the first octet.
 pub block_none : (n at : ℕ) → 0 < n → block n at [] ≡ Waiting [] at
 block_none n at pos = block_waits n at [] pos ∙ ap (Waiting []) (add-zero at)
 
-number_none : (n at : ℕ) → 0 < n → number n at [] ≡ Waiting [] at
-number_none n at pos = go (cases_lt 0 (padding at n))
-  where
-    go : (0 < padding at n) ⊎ (padding at n ≤ 0) → number n at [] ≡ Waiting [] at
-    go (inl h) = number_waits n at [] h ∙ ap (Waiting []) (add-zero at)
-    go (inr h) =
-        let e : padding at n ≡ 0 = omega arith in
-        number_blocks n at [] h ∙ rw (e, add-zero) (block_none n at pos)
-
 -- the first of several parts, and what comes behind it
-pub first_part : (order : Order) (path : List Seg) (T : Ty) (count more i : ℕ) (at : ℕ) →
-    (read order (inner_path path T i) (part_of T i) at [] ≡ Short [] at (start_outer (part_of T i)) (start_leaf (part_of T i))) →
-    parts_from (part_at order path T count) (suc more) i at [] ≡ Short [] at (Part T i count ∷ start_outer (part_of T i)) (start_leaf (part_of T i))
-first_part order path T count more i at e = rw e refl
+pub first_part : (coding : Coding) (path : List Seg) (T : Ty) (count more i : ℕ) (at : ℕ) →
+    (read coding (inner_path path T i) (part_of T i) at [] ≡ Short [] at (start_outer (part_of T i)) (start_leaf (part_of T i))) →
+    parts_from (part_at coding path T count) (suc more) i at [] ≡ Short [] at (Part T i count ∷ start_outer (part_of T i)) (start_leaf (part_of T i))
+first_part coding path T count more i at e = rw e refl
 
-pub read_none : (order : Order) (path : List Seg) (d : ℕ) (T : Ty) (at : ℕ) → IsFit d T → read order path T at [] ≡ Short [] at (start_outer T) (start_leaf T)
+pub read_none : (coding : Coding) (path : List Seg) (d : ℕ) (T : Ty) (at : ℕ) → IsFit d T → read coding path T at [] ≡ Short [] at (start_outer T) (start_leaf T)
 unfolding IsFit
-read_none order path zero T at h = absurd h
-read_none order path (suc d) (Single scalar) at h = rw (number_none (width scalar) at (width_pos scalar)) refl
-read_none order path (suc d) (Text bound) at h = rw (number_none 4 at (lit< tt)) refl
-read_none order path (suc d) (Octets bound) at h = rw (number_none 4 at (lit< tt)) refl
-read_none order path (suc d) (Sequence bound T) at h = rw (number_none 4 at (lit< tt)) refl
-read_none order path (suc d) (Union count scalar select names cases) at h = rw (number_none (width scalar) at (width_pos scalar)) refl
-read_none order path (suc d) (Struct zero names parts) at h = absurd (omega (arith, h.0))
-read_none order path (suc d) (Struct (suc more) names parts) at h =
-    first_part order path (Struct (suc more) names parts) (suc more) more 0 at (read_none order (path ++ Name (names 0) ∷ []) d (parts 0) at (h.1 0 h.0))
-read_none order path (suc d) (Array zero T) at h = absurd (omega (arith, h.0))
-read_none order path (suc d) (Array (suc more) T) at h =
-    first_part order path (Array (suc more) T) (suc more) more 0 at (read_none order (path ++ Index 0 ∷ []) d T at h.1)
+read_none coding path zero T at h = absurd h
+read_none coding path (suc d) (Single scalar) at h = rw (number_none coding.origin (width scalar) at (width_pos scalar)) refl
+read_none coding path (suc d) (Text bound) at h = rw (number_none coding.origin 4 at (lit< tt)) refl
+read_none coding path (suc d) (Octets bound) at h = rw (number_none coding.origin 4 at (lit< tt)) refl
+read_none coding path (suc d) (Sequence bound T) at h = rw (number_none coding.origin 4 at (lit< tt)) refl
+read_none coding path (suc d) (Union count scalar select names cases) at h = rw (number_none coding.origin (width scalar) at (width_pos scalar)) refl
+read_none coding path (suc d) (Struct zero names parts) at h = absurd (omega (arith, h.0))
+read_none coding path (suc d) (Struct (suc more) names parts) at h =
+    first_part coding path (Struct (suc more) names parts) (suc more) more 0 at (read_none coding (path ++ Name (names 0) ∷ []) d (parts 0) at (h.1 0 h.0))
+read_none coding path (suc d) (Array zero T) at h = absurd (omega (arith, h.0))
+read_none coding path (suc d) (Array (suc more) T) at h =
+    first_part coding path (Array (suc more) T) (suc more) more 0 at (read_none coding (path ++ Index 0 ∷ []) d T at h.1)
 
 -- A part that has ended: its whole goes on with the next, or ends too.
 pub fit_part : (d : ℕ) (T : Ty) (i count : ℕ) → IsFit (suc d) T → HasParts T count → i < count → IsFit d (part_of T i)
@@ -90,17 +79,17 @@ fit_part d (Text bound) i count fit kind below = absurd kind
 fit_part d (Octets bound) i count fit kind below = absurd kind
 fit_part d (Union n scalar select names cases) i count fit kind below = absurd kind
 
-pub next_part : (order : Order) (path : List Seg) (d : ℕ) (T : Ty) (i count at : ℕ) → IsFit (suc d) T → HasParts T count → suc i < count →
-    resumed order path (Part T i count) (Done [] at []) ≡ Short [] at (Part T (suc i) count ∷ start_outer (part_of T (suc i))) (start_leaf (part_of T (suc i)))
-next_part order path d T i count at fit kind below = go (count - suc i) refl
+pub next_part : (coding : Coding) (path : List Seg) (d : ℕ) (T : Ty) (i count at : ℕ) → IsFit (suc d) T → HasParts T count → suc i < count →
+    resumed coding path (Part T i count) (Done [] at []) ≡ Short [] at (Part T (suc i) count ∷ start_outer (part_of T (suc i))) (start_leaf (part_of T (suc i)))
+next_part coding path d T i count at fit kind below = go (count - suc i) refl
   where
     go : (more : ℕ) → count - suc i ≡ more →
-        with_front [] (parts_from (part_at order path T count) more (suc i) at []) ≡ Short [] at (Part T (suc i) count ∷ start_outer (part_of T (suc i))) (start_leaf (part_of T (suc i)))
+        with_front [] (parts_from (part_at coding path T count) more (suc i) at []) ≡ Short [] at (Part T (suc i) count ∷ start_outer (part_of T (suc i))) (start_leaf (part_of T (suc i)))
     go zero e = absurd (omega arith)
-    go (suc more) e = ap (with_front []) (first_part order path T count more (suc i) at (read_none order (inner_path path T (suc i)) d (part_of T (suc i)) at (fit_part d T (suc i) count fit kind below)))
+    go (suc more) e = ap (with_front []) (first_part coding path T count more (suc i) at (read_none coding (inner_path path T (suc i)) d (part_of T (suc i)) at (fit_part d T (suc i) count fit kind below)))
 
-pub last_part : (order : Order) (path : List Seg) (T : Ty) (i count at : ℕ) → count ≤ suc i → resumed order path (Part T i count) (Done [] at []) ≡ Done [] at []
-last_part order path T i count at h =
+pub last_part : (coding : Coding) (path : List Seg) (T : Ty) (i count at : ℕ) → count ≤ suc i → resumed coding path (Part T i count) (Done [] at []) ≡ Done [] at []
+last_part coding path T i count at h =
     let e : count - suc i ≡ 0 = omega arith in
     rw e refl
 

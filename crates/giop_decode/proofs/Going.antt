@@ -1,8 +1,7 @@
 -- Behind a part that has ended.
 use Rattle.std.proofs.Common.{◌≡◌, ℕ, zero, suc, ◌+◌, ◌<◌, ◌≤◌, List, [], ◌∷◌, ◌++◌, length, refl, sym, ◌∙◌, ap, subst, arith, append_assoc}
 use Rattle.std.specs.List.{AllByRecursion}
-use Rattle.giop_cdr.specs.declared.order.Order.{Order}
-use Rattle.giop_decode.specs.Spine.{Seg, Place, Part, Member, Done, Short}
+use Rattle.giop_decode.specs.Spine.{Coding, Seg, Place, Part, Member, Done, Short}
 use Rattle.giop_decode.specs.Steps.{around, path_in}
 use Rattle.giop_decode.specs.Fits.{HasParts, HasCase, IsOpen, OpenFrom}
 use Rattle.giop_decode.specs.Begins.{start_outer, start_leaf}
@@ -47,29 +46,29 @@ next_in d (Text bound) i count h none below = absurd h.0
 next_in d (Octets bound) i count h none below = absurd h.0
 next_in d (Union n scalar select names cases) i count h none below = absurd (let e : count ≡ 0 = none tt in omega arith)
 
-pub goes_next : (order : Order) (path : List Seg) (ps : List Place) (T : Ty) (i count at e : ℕ) → Next (suc e) T i count → suc i < count →
-    around order path (ps ++ place_in T i count ∷ []) (Done [] at [])
+pub goes_next : (coding : Coding) (path : List Seg) (ps : List Place) (T : Ty) (i count at e : ℕ) → Next (suc e) T i count → suc i < count →
+    around coding path (ps ++ place_in T i count ∷ []) (Done [] at [])
     ≡ Short [] at ((ps ++ place_in T (suc i) count ∷ []) ++ start_outer (part_of T (suc i))) (start_leaf (part_of T (suc i)))
-goes_next order path ps T i count at e next below = rw (next.is, next.then)
-    (around-append order path ps (Part T i count) (Done [] at [])
-    ∙ (ap (around order path ps) (next_part order (path_in path ps) e T i count at next.fit next.parts below)
-    ∙ (around-short order path ps [] at (Part T (suc i) count ∷ start_outer (part_of T (suc i))) (start_leaf (part_of T (suc i)))
+goes_next coding path ps T i count at e next below = rw (next.is, next.then)
+    (around-append coding path ps (Part T i count) (Done [] at [])
+    ∙ (ap (around coding path ps) (next_part coding (path_in path ps) e T i count at next.fit next.parts below)
+    ∙ (around-short coding path ps [] at (Part T (suc i) count ∷ start_outer (part_of T (suc i))) (start_leaf (part_of T (suc i)))
     ∙ ap (λ qs. Short [] at qs (start_leaf (part_of T (suc i)))) (sym (append_assoc ps (Part T (suc i) count ∷ []) (start_outer (part_of T (suc i))))))))
 
-part_out : (order : Order) (path : List Seg) (ps : List Place) (T : Ty) (i count at : ℕ) → count ≤ suc i →
-    around order path (ps ++ Part T i count ∷ []) (Done [] at []) ≡ around order path ps (Done [] at [])
-part_out order path ps T i count at h =
-    around-append order path ps (Part T i count) (Done [] at []) ∙ ap (around order path ps) (last_part order (path_in path ps) T i count at h)
+part_out : (coding : Coding) (path : List Seg) (ps : List Place) (T : Ty) (i count at : ℕ) → count ≤ suc i →
+    around coding path (ps ++ Part T i count ∷ []) (Done [] at []) ≡ around coding path ps (Done [] at [])
+part_out coding path ps T i count at h =
+    around-append coding path ps (Part T i count) (Done [] at []) ∙ ap (around coding path ps) (last_part coding (path_in path ps) T i count at h)
 
-pub goes_out : (order : Order) (path : List Seg) (ps : List Place) (T : Ty) (i count at : ℕ) → count ≤ suc i →
-    around order path (ps ++ place_in T i count ∷ []) (Done [] at []) ≡ around order path ps (Done [] at [])
-goes_out order path ps (Union n scalar select names cases) i count at h = around-append order path ps (Member (Union n scalar select names cases) i) (Done [] at [])
-goes_out order path ps (Struct n names parts) i count at h = part_out order path ps (Struct n names parts) i count at h
-goes_out order path ps (Array n E) i count at h = part_out order path ps (Array n E) i count at h
-goes_out order path ps (Sequence bound E) i count at h = part_out order path ps (Sequence bound E) i count at h
-goes_out order path ps (Single scalar) i count at h = part_out order path ps (Single scalar) i count at h
-goes_out order path ps (Text bound) i count at h = part_out order path ps (Text bound) i count at h
-goes_out order path ps (Octets bound) i count at h = part_out order path ps (Octets bound) i count at h
+pub goes_out : (coding : Coding) (path : List Seg) (ps : List Place) (T : Ty) (i count at : ℕ) → count ≤ suc i →
+    around coding path (ps ++ place_in T i count ∷ []) (Done [] at []) ≡ around coding path ps (Done [] at [])
+goes_out coding path ps (Union n scalar select names cases) i count at h = around-append coding path ps (Member (Union n scalar select names cases) i) (Done [] at [])
+goes_out coding path ps (Struct n names parts) i count at h = part_out coding path ps (Struct n names parts) i count at h
+goes_out coding path ps (Array n E) i count at h = part_out coding path ps (Array n E) i count at h
+goes_out coding path ps (Sequence bound E) i count at h = part_out coding path ps (Sequence bound E) i count at h
+goes_out coding path ps (Single scalar) i count at h = part_out coding path ps (Single scalar) i count at h
+goes_out coding path ps (Text bound) i count at h = part_out coding path ps (Text bound) i count at h
+goes_out coding path ps (Octets bound) i count at h = part_out coding path ps (Octets bound) i count at h
 
 pub all_pop : {X : Type 0} (P : X → Type 0) (xs : List X) (x : X) → AllByRecursion P (xs ++ x ∷ []) → AllByRecursion P xs × P x
 all_pop P [] x h = (tt, h.0)

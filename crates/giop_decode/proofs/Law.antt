@@ -1,5 +1,5 @@
 -- Reading a list with one octet more is one step on the parts that reading the list has begun.
-use Rattle.std.proofs.Common.{◌≡◌, ℕ, zero, suc, ◌+◌, ◌-◌, ◌/◌, ◌%◌, ◌<◌, ◌≤◌, true, false, List, [], ◌∷◌, ◌++◌, length, take, drop, Option, Some, None, refl, sym, ◌∙◌, ap, append_assoc, arith, length-append, ◌⊎◌, inl, inr, ◌*◌, add_assoc, add-zero, div-add-mod', mod-lt, mod-eq_of_lt, lt-ltb, le-ltb, le_of_eq, lit<}
+use Rattle.std.proofs.Common.{◌≡◌, ℕ, zero, suc, ◌+◌, ◌-◌, ◌/◌, ◌%◌, ◌<◌, ◌≤◌, true, false, List, [], ◌∷◌, ◌++◌, length, take, drop, Option, Some, None, refl, sym, ◌∙◌, ap, append_assoc, arith, length-append, ◌⊎◌, inl, inr, ◌*◌, add_assoc, add-zero, div-add-mod', mod-lt, mod-eq_of_lt, lt-ltb, le-ltb, le_of_eq, lit<, subst}
 use Rattle.std.proofs.lemmas.Nat.{mod-mul-add}
 use Rattle.std.proofs.Math.Nat.{mul-mod_left, mod_self, sub-zero}
 use Rattle.std.proofs.Math.Seq.{take-length, drop-length}
@@ -8,11 +8,10 @@ use Rattle.std.proofs.lemmas.Bool.{cases_lt}
 use Rattle.giop_cdr.specs.Alignment.{padding}
 use Rattle.giop_cdr.specs.Numbers.{num}
 use Rattle.giop_cdr.specs.Primitives.{size_of}
-use Rattle.giop_cdr.specs.declared.order.Order.{Order}
 use Rattle.giop_cdr.specs.declared.prim.Primitive.{Primitive}
 use Rattle.giop_decode.specs.Pieces.{Got, Grab, Waiting, block, content, ends, full_piece, full_pieces, last_piece, number, octets, over, tail, text, unless}
 use Rattle.giop_decode.specs.Reading.{headed, member, parts_from, read, refused, single, wrong}
-use Rattle.giop_decode.specs.Spine.{Content, Count, Done, Fault, Head, Index, Leaf, Line, Member, Name, Part, Piece, Place, Read, Seg, Short, Switch, followed, line, with_front, within}
+use Rattle.giop_decode.specs.Spine.{Coding, Count, Done, Fault, Index, Line, Member, Name, Part, Piece, Place, Read, Seg, Short, Switch, followed, line, with_front, within}
 use Rattle.giop_decode.specs.Steps.{advance, after, block_step, head_width, inner_path, number_step, part_at, step}
 use Rattle.giop_decode.specs.declared.progress.Kind.{Kind}
 use Rattle.giop_sig.specs.Types.{Array, Enum, Octets, Plain, Scalar, Sequence, Single, Struct, Text, Ty, Union, part_of, width}
@@ -22,8 +21,8 @@ use Rattle.giop_cdr.specs.declared.prim.Primitive.TheVariants as prims
 use Rattle.giop_decode.specs.Spine
 
 -- a reader that goes on as the machine does
-abbrev pub Goes : Order → List Seg → (ℕ → List ℕ → Read) → Type 0
-Goes order path reader = (at : ℕ) (s : List ℕ) (b : ℕ) → reader at (s ++ b ∷ []) ≡ advance order path (reader at s) b
+abbrev pub Goes : Coding → List Seg → (ℕ → List ℕ → Read) → Type 0
+Goes coding path reader = (at : ℕ) (s : List ℕ) (b : ℕ) → reader at (s ++ b ∷ []) ≡ advance coding path (reader at s) b
 
 -- with_front
 
@@ -37,10 +36,10 @@ with_front_none (Done lines at rest) = refl
 with_front_none (Short lines at outer leaf) = refl
 with_front_none (Fault lines at kind S) = refl
 
-pub with_front-advance : (order : Order) (path : List Seg) (front : List Line) (r : Read) (b : ℕ) → with_front front (advance order path r b) ≡ advance order path (with_front front r) b
-with_front-advance order path front (Done lines at rest) b = refl
-with_front-advance order path front (Short lines at outer leaf) b = with_front_twice front lines (step order path outer leaf at b)
-with_front-advance order path front (Fault lines at kind S) b = refl
+pub with_front-advance : (coding : Coding) (path : List Seg) (front : List Line) (r : Read) (b : ℕ) → with_front front (advance coding path r b) ≡ advance coding path (with_front front r) b
+with_front-advance coding path front (Done lines at rest) b = refl
+with_front-advance coding path front (Short lines at outer leaf) b = with_front_twice front lines (step coding path outer leaf at b)
+with_front-advance coding path front (Fault lines at kind S) b = refl
 
 pub with_front-followed : (front : List Line) (r : Read) (next : ℕ → List ℕ → Read) → followed (with_front front r) next ≡ with_front front (followed r next)
 with_front-followed front (Done lines at rest) next = sym (with_front_twice front lines (next at rest))
@@ -54,37 +53,37 @@ with_front-within front place (Fault lines at kind S) = refl
 
 -- a part, and what follows it
 
-pub part_goes : (order : Order) (path : List Seg) (T : Ty) (count i more : ℕ) → more ≡ count - suc i →
-    Goes order path (parts_from (part_at order path T count) more (suc i)) → (r : Read) (b : ℕ) →
-    followed (within (Part T i count) (advance order (inner_path path T i) r b)) (parts_from (part_at order path T count) more (suc i))
-    ≡ advance order path (followed (within (Part T i count) r) (parts_from (part_at order path T count) more (suc i))) b
-part_goes order path T count i more is goes (Done lines at rest) b =
-    ap (with_front lines) (goes at rest b) ∙ with_front-advance order path lines (parts_from (part_at order path T count) more (suc i) at rest) b
-part_goes order path T count i more is goes (Short lines at outer leaf) b =
-    let r = step order (inner_path path T i) outer leaf at b in
-    let next = parts_from (part_at order path T count) more (suc i) in
+pub part_goes : (coding : Coding) (path : List Seg) (T : Ty) (count i more : ℕ) → more ≡ count - suc i →
+    Goes coding path (parts_from (part_at coding path T count) more (suc i)) → (r : Read) (b : ℕ) →
+    followed (within (Part T i count) (advance coding (inner_path path T i) r b)) (parts_from (part_at coding path T count) more (suc i))
+    ≡ advance coding path (followed (within (Part T i count) r) (parts_from (part_at coding path T count) more (suc i))) b
+part_goes coding path T count i more is goes (Done lines at rest) b =
+    ap (with_front lines) (goes at rest b) ∙ with_front-advance coding path lines (parts_from (part_at coding path T count) more (suc i) at rest) b
+part_goes coding path T count i more is goes (Short lines at outer leaf) b =
+    let r = step coding (inner_path path T i) outer leaf at b in
+    let next = parts_from (part_at coding path T count) more (suc i) in
     ap (λ x. followed x next) (with_front-within lines (Part T i count) r)
     ∙ (with_front-followed lines (within (Part T i count) r) next
-    ∙ ap (λ m. with_front lines (followed (within (Part T i count) r) (parts_from (part_at order path T count) m (suc i)))) is)
-part_goes order path T count i more is goes (Fault lines at kind S) b = refl
+    ∙ ap (λ m. with_front lines (followed (within (Part T i count) r) (parts_from (part_at coding path T count) m (suc i)))) is)
+part_goes coding path T count i more is goes (Fault lines at kind S) b = refl
 
 -- parts, one from where the other ended
-pub parts_go : (order : Order) (path : List Seg) (T : Ty) (count : ℕ) →
-    ((i : ℕ) → Goes order (inner_path path T i) (read order (inner_path path T i) (part_of T i))) →
-    (more i : ℕ) → more ≡ count - i → Goes order path (parts_from (part_at order path T count) more i)
-parts_go order path T count each zero i is at s b = refl
-parts_go order path T count each (suc more) i is at s b =
-    let next = parts_from (part_at order path T count) more (suc i) in
+pub parts_go : (coding : Coding) (path : List Seg) (T : Ty) (count : ℕ) →
+    ((i : ℕ) → Goes coding (inner_path path T i) (read coding (inner_path path T i) (part_of T i))) →
+    (more i : ℕ) → more ≡ count - i → Goes coding path (parts_from (part_at coding path T count) more i)
+parts_go coding path T count each zero i is at s b = refl
+parts_go coding path T count each (suc more) i is at s b =
+    let next = parts_from (part_at coding path T count) more (suc i) in
     let is_next : more ≡ count - suc i = omega arith in
     ap (λ r. followed (within (Part T i count) r) next) (each i at s b)
-    ∙ part_goes order path T count i more is_next (parts_go order path T count each more (suc i) is_next) (read order (inner_path path T i) (part_of T i) at s) b
+    ∙ part_goes coding path T count i more is_next (parts_go coding path T count each more (suc i) is_next) (read coding (inner_path path T i) (part_of T i) at s) b
 
 -- a union's member, behind which nothing follows
-pub member_goes : (order : Order) (path : List Seg) (T : Ty) (i : ℕ) (r : Read) (b : ℕ) →
-    within (Member T i) (advance order (inner_path path T i) r b) ≡ advance order path (within (Member T i) r) b
-member_goes order path T i (Done lines at rest) b = refl
-member_goes order path T i (Short lines at outer leaf) b = with_front-within lines (Member T i) (step order (inner_path path T i) outer leaf at b)
-member_goes order path T i (Fault lines at kind S) b = refl
+pub member_goes : (coding : Coding) (path : List Seg) (T : Ty) (i : ℕ) (r : Read) (b : ℕ) →
+    within (Member T i) (advance coding (inner_path path T i) r b) ≡ advance coding path (within (Member T i) r) b
+member_goes coding path T i (Done lines at rest) b = refl
+member_goes coding path T i (Short lines at outer leaf) b = with_front-within lines (Member T i) (step coding (inner_path path T i) outer leaf at b)
+member_goes coding path T i (Fault lines at kind S) b = refl
 
 -- octets
 
@@ -162,105 +161,132 @@ pad_end at n h = go (at % n) refl
     go : (r : ℕ) → at % n ≡ r → padding (at + padding at n) n ≡ 0
     go r e = is (at / n) r (rw (← e) (sym (div-add-mod' at n))) (rw (← e) (mod-lt at h))
 
-pub number_waits : (n at : ℕ) (s : List ℕ) → length s < padding at n → number n at s ≡ Waiting [] (at + length s)
+-- padding counted from an origin
+pad_none : (n : ℕ) → 0 < n → padding 0 n ≡ 0
+pad_none n h = let e : 0 * n ≡ 0 = omega arith in subst (λ x. padding x n ≡ 0) e (pad_at_multiple 0 n h)
+
+pub pad_more_from : (o at k n : ℕ) → 0 < n → k < padding (at - o) n → 0 < padding ((at + k) - o) n
+pad_more_from o at k n h l = go (cases_lt at o)
+  where
+    go : (at < o) ⊎ (o ≤ at) → 0 < padding ((at + k) - o) n
+    go (inl below) =
+        let e : at - o ≡ 0 = omega arith in
+        absurd (omega (arith, pad_none n h, rw e at l))
+    go (inr above) =
+        let e : (at + k) - o ≡ (at - o) + k = omega arith in
+        rw e (pad_more (at - o) k n h l)
+
+pub pad_end_from : (o at n : ℕ) → 0 < n → padding ((at + padding (at - o) n) - o) n ≡ 0
+pad_end_from o at n h = go (cases_lt at o)
+  where
+    go : (at < o) ⊎ (o ≤ at) → padding ((at + padding (at - o) n) - o) n ≡ 0
+    go (inl below) =
+        let e : at - o ≡ 0 = omega arith in
+        let none : (at + padding (at - o) n) - o ≡ 0 = rw (e, pad_none n h) (omega arith) in
+        rw none (pad_none n h)
+    go (inr above) =
+        let e : (at + padding (at - o) n) - o ≡ (at - o) + padding (at - o) n = omega arith in
+        rw e (pad_end (at - o) n h)
+
+pub number_waits : (o n at : ℕ) (s : List ℕ) → length s < padding (at - o) n → number o n at s ≡ Waiting [] (at + length s)
 unfolding number
-number_waits n at s h = rw lt-ltb refl
+number_waits o n at s h = rw lt-ltb refl
 
-pub number_blocks : (n at : ℕ) (s : List ℕ) → padding at n ≤ length s → number n at s ≡ block n (at + padding at n) (drop (padding at n) s)
+pub number_blocks : (o n at : ℕ) (s : List ℕ) → padding (at - o) n ≤ length s → number o n at s ≡ block n (at + padding (at - o) n) (drop (padding (at - o) n) s)
 unfolding number
-number_blocks n at s h = rw le-ltb refl
+number_blocks o n at s h = rw le-ltb refl
 
-pub number_step_pads : (n at b : ℕ) → 0 < padding at n → number_step n at [] b ≡ Waiting [] (at + 1)
+pub number_step_pads : (o n at b : ℕ) → 0 < padding (at - o) n → number_step o n at [] b ≡ Waiting [] (at + 1)
 unfolding number_step
-number_step_pads n at b h = rw lt-ltb refl
+number_step_pads o n at b h = rw lt-ltb refl
 
-pub number_step_blocks : (n at : ℕ) (carry : List ℕ) (b : ℕ) → (0 < length carry) ⊎ (padding at n ≡ 0) → number_step n at carry b ≡ block_step n at carry b
+pub number_step_blocks : (o n at : ℕ) (carry : List ℕ) (b : ℕ) → (0 < length carry) ⊎ (padding (at - o) n ≡ 0) → number_step o n at carry b ≡ block_step n at carry b
 unfolding number_step
-number_step_blocks n at [] b (inl h) = absurd (omega arith)
-number_step_blocks n at (x ∷ xs) b (inl h) = refl
-number_step_blocks n at [] b (inr h) = rw h refl
-number_step_blocks n at (x ∷ xs) b (inr h) = refl
+number_step_blocks o n at [] b (inl h) = absurd (omega arith)
+number_step_blocks o n at (x ∷ xs) b (inl h) = refl
+number_step_blocks o n at [] b (inr h) = rw h refl
+number_step_blocks o n at (x ∷ xs) b (inr h) = refl
 
-pub number_goes : (n at : ℕ) (s : List ℕ) (b : ℕ) → 0 < n → number n at (s ++ b ∷ []) ≡ more_of (number_step n) (number n at s) b
-number_goes n at s b pos = go (cases_lt (length s) (padding at n)) (cases_lt (length s + 1) (padding at n))
+pub number_goes : (o n at : ℕ) (s : List ℕ) (b : ℕ) → 0 < n → number o n at (s ++ b ∷ []) ≡ more_of (number_step o n) (number o n at s) b
+number_goes o n at s b pos = go (cases_lt (length s) (padding (at - o) n)) (cases_lt (length s + 1) (padding (at - o) n))
   where
     -- past the padding, a block's step is the number's
-    same : (t : List ℕ) → (length t < n) ⊎ (n ≤ length t) → more_of (block_step n) (block n (at + padding at n) t) b ≡ more_of (number_step n) (block n (at + padding at n) t) b
-    same [] (inl h) = rw (block_waits n (at + padding at n) [] h, add-zero) (sym (number_step_blocks n (at + padding at n) [] b (inr (pad_end at n pos))))
-    same (x ∷ t) (inl h) = rw (block_waits n (at + padding at n) (x ∷ t) h) (sym (number_step_blocks n _ (x ∷ t) b (inl (omega arith))))
-    same t (inr h) = rw (block_got n (at + padding at n) t h) refl
+    same : (t : List ℕ) → (length t < n) ⊎ (n ≤ length t) → more_of (block_step n) (block n (at + padding (at - o) n) t) b ≡ more_of (number_step o n) (block n (at + padding (at - o) n) t) b
+    same [] (inl h) = rw (block_waits n (at + padding (at - o) n) [] h, add-zero) (sym (number_step_blocks o n (at + padding (at - o) n) [] b (inr (pad_end_from o at n pos))))
+    same (x ∷ t) (inl h) = rw (block_waits n (at + padding (at - o) n) (x ∷ t) h) (sym (number_step_blocks o n _ (x ∷ t) b (inl (omega arith))))
+    same t (inr h) = rw (block_got n (at + padding (at - o) n) t h) refl
 
-    go : (length s < padding at n) ⊎ (padding at n ≤ length s) → (length s + 1 < padding at n) ⊎ (padding at n ≤ length s + 1) → number n at (s ++ b ∷ []) ≡ more_of (number_step n) (number n at s) b
+    go : (length s < padding (at - o) n) ⊎ (padding (at - o) n ≤ length s) → (length s + 1 < padding (at - o) n) ⊎ (padding (at - o) n ≤ length s + 1) → number o n at (s ++ b ∷ []) ≡ more_of (number_step o n) (number o n at s) b
     go (inl h) (inl k) =
-        let l : length (s ++ b ∷ []) < padding at n = rw length_one_more k in
-        rw (number_waits n at s h, number_waits n at (s ++ b ∷ []) l, number_step_pads n (at + length s) b (pad_more at (length s) n pos h), length_one_more, add_assoc) refl
+        let l : length (s ++ b ∷ []) < padding (at - o) n = rw length_one_more k in
+        rw (number_waits o n at s h, number_waits o n at (s ++ b ∷ []) l, number_step_pads o n (at + length s) b (pad_more_from o at (length s) n pos h), length_one_more, add_assoc) refl
     go (inl h) (inr k) =
-        let l : padding at n ≡ length (s ++ b ∷ []) = omega (arith, length_one_more s b) in
-        rw (number_waits n at s h, number_blocks n at (s ++ b ∷ []) (le_of_eq l), number_step_pads n (at + length s) b (pad_more at (length s) n pos h), drop_all (padding at n) (s ++ b ∷ []) (le_of_eq (sym l)), block_waits n (at + padding at n) [] pos) (ap (Waiting []) (omega (arith, length_one_more s b)))
+        let l : padding (at - o) n ≡ length (s ++ b ∷ []) = omega (arith, length_one_more s b) in
+        rw (number_waits o n at s h, number_blocks o n at (s ++ b ∷ []) (le_of_eq l), number_step_pads o n (at + length s) b (pad_more_from o at (length s) n pos h), drop_all (padding (at - o) n) (s ++ b ∷ []) (le_of_eq (sym l)), block_waits n (at + padding (at - o) n) [] pos) (ap (Waiting []) (omega (arith, length_one_more s b)))
     go (inr h) _ =
-        let l : padding at n ≤ length (s ++ b ∷ []) = omega (arith, length_one_more s b) in
-        rw (number_blocks n at s h, number_blocks n at (s ++ b ∷ []) l, drop-append-le)
-        (block_goes n (at + padding at n) (drop (padding at n) s) b ∙ same (drop (padding at n) s) (cases_lt (length (drop (padding at n) s)) n))
+        let l : padding (at - o) n ≤ length (s ++ b ∷ []) = omega (arith, length_one_more s b) in
+        rw (number_blocks o n at s h, number_blocks o n at (s ++ b ∷ []) l, drop-append-le)
+        (block_goes n (at + padding (at - o) n) (drop (padding (at - o) n) s) b ∙ same (drop (padding (at - o) n) s) (cases_lt (length (drop (padding (at - o) n) s)) n))
 
 -- content
 
-pub unless_goes : (order : Order) (path : List Seg) (T : Ty) (why : Option Kind) (at : ℕ) (r : Read) (b : ℕ) → unless T why at (advance order path r b) ≡ advance order path (unless T why at r) b
-unless_goes order path T None at r b = refl
-unless_goes order path T (Some kind) at r b = refl
+pub unless_goes : (coding : Coding) (path : List Seg) (T : Ty) (why : Option Kind) (at : ℕ) (r : Read) (b : ℕ) → unless T why at (advance coding path r b) ≡ advance coding path (unless T why at r) b
+unless_goes coding path T None at r b = refl
+unless_goes coding path T (Some kind) at r b = refl
 
-last_piece_goes : (order : Order) (path : List Seg) (T : Ty) (total offset : ℕ) → total - offset ≤ 32 → (g : Grab) (b : ℕ) →
-    last_piece T path total offset (more_of (block_step (total - offset + tail T)) g b) ≡ advance order path (last_piece T path total offset g) b
-last_piece_goes order path T total offset h (Waiting piece at) b =
+last_piece_goes : (coding : Coding) (path : List Seg) (T : Ty) (total offset : ℕ) → total - offset ≤ 32 → (g : Grab) (b : ℕ) →
+    last_piece T path total offset (more_of (block_step (total - offset + tail T)) g b) ≡ advance coding path (last_piece T path total offset g) b
+last_piece_goes coding path T total offset h (Waiting piece at) b =
     rw (le-ltb, with_front_none (last_piece T path total offset (block_step (total - offset + tail T) at piece b))) refl
-last_piece_goes order path T total offset h (Got xs at rest) b =
-    unless_goes order path T (ends T (total - offset) xs) at (Done (line at path (Piece T offset (take (total - offset) xs) false) ∷ []) at rest) b
+last_piece_goes coding path T total offset h (Got xs at rest) b =
+    unless_goes coding path T (ends T (total - offset) xs) at (Done (line at path (Piece T offset (take (total - offset) xs) false) ∷ []) at rest) b
 
-full_piece_goes : (order : Order) (path : List Seg) (T : Ty) (total offset full : ℕ) → suc full ≡ full_pieces (total - offset) →
-    Goes order path (content T path total full (offset + 32)) → (g : Grab) (b : ℕ) →
+full_piece_goes : (coding : Coding) (path : List Seg) (T : Ty) (total offset full : ℕ) → suc full ≡ full_pieces (total - offset) →
+    Goes coding path (content T path total full (offset + 32)) → (g : Grab) (b : ℕ) →
     full_piece T path total offset (content T path total full (offset + 32)) (more_of (block_step 32) g b)
-    ≡ advance order path (full_piece T path total offset (content T path total full (offset + 32)) g) b
-full_piece_goes order path T total offset full is goes (Waiting piece at) b =
+    ≡ advance coding path (full_piece T path total offset (content T path total full (offset + 32)) g) b
+full_piece_goes coding path T total offset full is goes (Waiting piece at) b =
     let more : 32 < total - offset = omega arith in
     let rest : full_pieces (total - (offset + 32)) ≡ full = omega arith in
     rw (lt-ltb, rest, with_front_none (full_piece T path total offset (content T path total full (offset + 32)) (block_step 32 at piece b))) refl
-full_piece_goes order path T total offset full is goes (Got xs at rest) b =
+full_piece_goes coding path T total offset full is goes (Got xs at rest) b =
     let front = line at path (Piece T offset xs true) ∷ [] in
-    ap (with_front front) (goes at rest b) ∙ with_front-advance order path front (content T path total full (offset + 32) at rest) b
+    ap (with_front front) (goes at rest b) ∙ with_front-advance coding path front (content T path total full (offset + 32) at rest) b
 
-pub content_goes : (order : Order) (path : List Seg) (T : Ty) (total full offset : ℕ) → full ≡ full_pieces (total - offset) → Goes order path (content T path total full offset)
-content_goes order path T total zero offset is at s b =
+pub content_goes : (coding : Coding) (path : List Seg) (T : Ty) (total full offset : ℕ) → full ≡ full_pieces (total - offset) → Goes coding path (content T path total full offset)
+content_goes coding path T total zero offset is at s b =
     ap (last_piece T path total offset) (block_goes (total - offset + tail T) at s b)
-    ∙ last_piece_goes order path T total offset (omega arith) (block (total - offset + tail T) at s) b
-content_goes order path T total (suc full) offset is at s b =
+    ∙ last_piece_goes coding path T total offset (omega arith) (block (total - offset + tail T) at s) b
+content_goes coding path T total (suc full) offset is at s b =
     ap (full_piece T path total offset (content T path total full (offset + 32))) (block_goes 32 at s b)
-    ∙ full_piece_goes order path T total offset full is (content_goes order path T total full (offset + 32) (omega arith)) (block 32 at s) b
+    ∙ full_piece_goes coding path T total offset full is (content_goes coding path T total full (offset + 32) (omega arith)) (block 32 at s) b
 
-pub text_goes : (order : Order) (path : List Seg) (bound : Option ℕ) (n : ℕ) → Goes order path (text bound path n)
-text_goes order path bound zero at s b = refl
-text_goes order path bound (suc n) at s b =
-    ap (unless (Text bound) (over bound n) at) (content_goes order path (Text bound) n (full_pieces n) 0 (omega arith) at s b)
-    ∙ unless_goes order path (Text bound) (over bound n) at (content (Text bound) path n (full_pieces n) 0 at s) b
+pub text_goes : (coding : Coding) (path : List Seg) (bound : Option ℕ) (n : ℕ) → Goes coding path (text bound path n)
+text_goes coding path bound zero at s b = refl
+text_goes coding path bound (suc n) at s b =
+    ap (unless (Text bound) (over bound n) at) (content_goes coding path (Text bound) n (full_pieces n) 0 (omega arith) at s b)
+    ∙ unless_goes coding path (Text bound) (over bound n) at (content (Text bound) path n (full_pieces n) 0 at s) b
 
-pub octets_goes : (order : Order) (path : List Seg) (bound : Option ℕ) (n : ℕ) → Goes order path (octets bound path n)
-octets_goes order path bound n at s b =
-    ap (unless (Octets bound) (over bound n) at) (content_goes order path (Octets bound) n (full_pieces n) 0 (omega arith) at s b)
-    ∙ unless_goes order path (Octets bound) (over bound n) at (content (Octets bound) path n (full_pieces n) 0 at s) b
+pub octets_goes : (coding : Coding) (path : List Seg) (bound : Option ℕ) (n : ℕ) → Goes coding path (octets bound path n)
+octets_goes coding path bound n at s b =
+    ap (unless (Octets bound) (over bound n) at) (content_goes coding path (Octets bound) n (full_pieces n) 0 (omega arith) at s b)
+    ∙ unless_goes coding path (Octets bound) (over bound n) at (content (Octets bound) path n (full_pieces n) 0 at s) b
 
 -- what begins with a number
 
-pub headed_goes : (order : Order) (path : List Seg) (T : Ty) → 0 < head_width T → ((n : ℕ) → Goes order path (after order path T n)) →
-    Goes order path (λ at s. headed T (λ xs at rest. after order path T (num order xs) at rest) (number (head_width T) at s))
-headed_goes order path T pos goes at s b =
-    ap (headed T (λ xs at rest. after order path T (num order xs) at rest)) (number_goes (head_width T) at s b pos)
-    ∙ go (number (head_width T) at s)
+pub headed_goes : (coding : Coding) (path : List Seg) (T : Ty) → 0 < head_width T → ((n : ℕ) → Goes coding path (after coding path T n)) →
+    Goes coding path (λ at s. headed T (λ xs at rest. after coding path T (num coding.order xs) at rest) (number coding.origin (head_width T) at s))
+headed_goes coding path T pos goes at s b =
+    ap (headed T (λ xs at rest. after coding path T (num coding.order xs) at rest)) (number_goes coding.origin (head_width T) at s b pos)
+    ∙ go (number coding.origin (head_width T) at s)
   where
-    go : (g : Grab) → headed T (λ xs at rest. after order path T (num order xs) at rest) (more_of (number_step (head_width T)) g b)
-        ≡ advance order path (headed T (λ xs at rest. after order path T (num order xs) at rest) g) b
-    go (Waiting carry at) = sym (with_front_none (headed T (λ xs at rest. after order path T (num order xs) at rest) (number_step (head_width T) at carry b)))
-    go (Got xs at rest) = goes (num order xs) at rest b
+    go : (g : Grab) → headed T (λ xs at rest. after coding path T (num coding.order xs) at rest) (more_of (number_step coding.origin (head_width T)) g b)
+        ≡ advance coding path (headed T (λ xs at rest. after coding path T (num coding.order xs) at rest) g) b
+    go (Waiting carry at) = sym (with_front_none (headed T (λ xs at rest. after coding path T (num coding.order xs) at rest) (number_step coding.origin (head_width T) at carry b)))
+    go (Got xs at rest) = goes (num coding.order xs) at rest b
 
-pub single_goes : (order : Order) (path inner : List Seg) (scalar : Scalar) (n : ℕ) → Goes order path (single inner scalar n)
-single_goes order path inner scalar n at s b = unless_goes order path (Single scalar) (wrong scalar n) at (Done (line at inner (Spine.Number scalar n) ∷ []) at s) b
+pub single_goes : (coding : Coding) (path inner : List Seg) (scalar : Scalar) (n : ℕ) → Goes coding path (single inner scalar n)
+single_goes coding path inner scalar n at s b = unless_goes coding path (Single scalar) (wrong scalar n) at (Done (line at inner (Spine.Number scalar n) ∷ []) at s) b
 
 pub size_pos : (p : Primitive) → 0 < size_of p
 size_pos prims.Octet = lit< tt
@@ -279,48 +305,48 @@ pub width_pos : (scalar : Scalar) → 0 < width scalar
 width_pos (Plain p) = size_pos p
 width_pos (Enum count names) = lit< tt
 
-pub counted_goes : (order : Order) (path : List Seg) (bound : Option ℕ) (T : Ty) (n : ℕ) →
-    Goes order path (parts_from (part_at order path (Sequence bound T) n) n 0) → Goes order path (after order path (Sequence bound T) n)
-counted_goes order path bound T n goes at s b =
+pub counted_goes : (coding : Coding) (path : List Seg) (bound : Option ℕ) (T : Ty) (n : ℕ) →
+    Goes coding path (parts_from (part_at coding path (Sequence bound T) n) n 0) → Goes coding path (after coding path (Sequence bound T) n)
+counted_goes coding path bound T n goes at s b =
     let front = line at path (Count n) ∷ [] in
-    let elements = parts_from (part_at order path (Sequence bound T) n) n 0 in
+    let elements = parts_from (part_at coding path (Sequence bound T) n) n 0 in
     ap (λ r. unless (Sequence bound T) (over bound n) at (with_front front r)) (goes at s b)
-    ∙ (ap (unless (Sequence bound T) (over bound n) at) (with_front-advance order path front (elements at s) b)
-    ∙ unless_goes order path (Sequence bound T) (over bound n) at (with_front front (elements at s)) b)
+    ∙ (ap (unless (Sequence bound T) (over bound n) at) (with_front-advance coding path front (elements at s) b)
+    ∙ unless_goes coding path (Sequence bound T) (over bound n) at (with_front front (elements at s)) b)
 
-pub selected_goes : (order : Order) (path : List Seg) (T : Ty) (selected : Selected) →
-    ((i : ℕ) → Goes order (inner_path path T i) (read order (inner_path path T i) (part_of T i))) →
-    Goes order path (member selected (λ i at s. within (Member T i) (read order (inner_path path T i) (part_of T i) at s)))
-selected_goes order path T (Case i) each at s b =
-    ap (within (Member T i)) (each i at s b) ∙ member_goes order path T i (read order (inner_path path T i) (part_of T i) at s) b
-selected_goes order path T Nothing each at s b = refl
-selected_goes order path T Refused each at s b = refl
+pub selected_goes : (coding : Coding) (path : List Seg) (T : Ty) (selected : Selected) →
+    ((i : ℕ) → Goes coding (inner_path path T i) (read coding (inner_path path T i) (part_of T i))) →
+    Goes coding path (member selected (λ i at s. within (Member T i) (read coding (inner_path path T i) (part_of T i) at s)))
+selected_goes coding path T (Case i) each at s b =
+    ap (within (Member T i)) (each i at s b) ∙ member_goes coding path T i (read coding (inner_path path T i) (part_of T i) at s) b
+selected_goes coding path T Nothing each at s b = refl
+selected_goes coding path T Refused each at s b = refl
 
-pub union_goes : (order : Order) (path : List Seg) (count : ℕ) (scalar : Scalar) (select : ℕ → Selected) (names : ℕ → List ℕ) (cases : ℕ → Ty) (n : ℕ) →
-    ((i : ℕ) → Goes order (path ++ Name (names i) ∷ []) (read order (path ++ Name (names i) ∷ []) (cases i))) →
-    Goes order path (after order path (Union count scalar select names cases) n)
-union_goes order path count scalar select names cases n each at s b =
+pub union_goes : (coding : Coding) (path : List Seg) (count : ℕ) (scalar : Scalar) (select : ℕ → Selected) (names : ℕ → List ℕ) (cases : ℕ → Ty) (n : ℕ) →
+    ((i : ℕ) → Goes coding (path ++ Name (names i) ∷ []) (read coding (path ++ Name (names i) ∷ []) (cases i))) →
+    Goes coding path (after coding path (Union count scalar select names cases) n)
+union_goes coding path count scalar select names cases n each at s b =
     let T = Union count scalar select names cases in
-    let next : ℕ → List ℕ → Read = member (select n) (λ i at' s'. within (Member T i) (read order (inner_path path T i) (part_of T i) at' s')) in
+    let next : ℕ → List ℕ → Read = member (select n) (λ i at' s'. within (Member T i) (read coding (inner_path path T i) (part_of T i) at' s')) in
     let front : List Line = line at (path ++ Switch ∷ []) (Spine.Number scalar n) ∷ [] in
-    ap (λ r. unless T (wrong scalar n) at (unless T (refused (select n)) at (with_front front r))) (selected_goes order path T (select n) each at s b)
-    ∙ (ap (λ r. unless T (wrong scalar n) at (unless T (refused (select n)) at r)) (with_front-advance order path front (next at s) b)
-    ∙ (ap (unless T (wrong scalar n) at) (unless_goes order path T (refused (select n)) at (with_front front (next at s)) b)
-    ∙ unless_goes order path T (wrong scalar n) at (unless T (refused (select n)) at (with_front front (next at s))) b))
+    ap (λ r. unless T (wrong scalar n) at (unless T (refused (select n)) at (with_front front r))) (selected_goes coding path T (select n) each at s b)
+    ∙ (ap (λ r. unless T (wrong scalar n) at (unless T (refused (select n)) at r)) (with_front-advance coding path front (next at s) b)
+    ∙ (ap (unless T (wrong scalar n) at) (unless_goes coding path T (refused (select n)) at (with_front front (next at s)) b)
+    ∙ unless_goes coding path T (wrong scalar n) at (unless T (refused (select n)) at (with_front front (next at s))) b))
 
 -- any type
 
-pub read_goes : (order : Order) (path : List Seg) (T : Ty) → Goes order path (read order path T)
-read_goes order path (Single scalar) = headed_goes order path (Single scalar) (width_pos scalar) (λ n. single_goes order path path scalar n)
-read_goes order path (Text bound) = headed_goes order path (Text bound) (lit< tt) (λ n. text_goes order path bound n)
-read_goes order path (Octets bound) = headed_goes order path (Octets bound) (lit< tt) (λ n. octets_goes order path bound n)
-read_goes order path (Struct count names parts) =
-    parts_go order path (Struct count names parts) count (λ i. read_goes order (path ++ Name (names i) ∷ []) (parts i)) count 0 (omega arith)
-read_goes order path (Array count T) =
-    parts_go order path (Array count T) count (λ i. read_goes order (path ++ Index i ∷ []) T) count 0 (omega arith)
-read_goes order path (Sequence bound T) =
-    headed_goes order path (Sequence bound T) (lit< tt) (λ n. counted_goes order path bound T n
-    (parts_go order path (Sequence bound T) n (λ i. read_goes order (path ++ Index i ∷ []) T) n 0 (omega arith)))
-read_goes order path (Union count scalar select names cases) =
-    headed_goes order path (Union count scalar select names cases) (width_pos scalar) (λ n. union_goes order path count scalar select names cases n
-    (λ i. read_goes order (path ++ Name (names i) ∷ []) (cases i)))
+pub read_goes : (coding : Coding) (path : List Seg) (T : Ty) → Goes coding path (read coding path T)
+read_goes coding path (Single scalar) = headed_goes coding path (Single scalar) (width_pos scalar) (λ n. single_goes coding path path scalar n)
+read_goes coding path (Text bound) = headed_goes coding path (Text bound) (lit< tt) (λ n. text_goes coding path bound n)
+read_goes coding path (Octets bound) = headed_goes coding path (Octets bound) (lit< tt) (λ n. octets_goes coding path bound n)
+read_goes coding path (Struct count names parts) =
+    parts_go coding path (Struct count names parts) count (λ i. read_goes coding (path ++ Name (names i) ∷ []) (parts i)) count 0 (omega arith)
+read_goes coding path (Array count T) =
+    parts_go coding path (Array count T) count (λ i. read_goes coding (path ++ Index i ∷ []) T) count 0 (omega arith)
+read_goes coding path (Sequence bound T) =
+    headed_goes coding path (Sequence bound T) (lit< tt) (λ n. counted_goes coding path bound T n
+    (parts_go coding path (Sequence bound T) n (λ i. read_goes coding (path ++ Index i ∷ []) T) n 0 (omega arith)))
+read_goes coding path (Union count scalar select names cases) =
+    headed_goes coding path (Union count scalar select names cases) (width_pos scalar) (λ n. union_goes coding path count scalar select names cases n
+    (λ i. read_goes coding (path ++ Name (names i) ∷ []) (cases i)))

@@ -3,11 +3,10 @@ use Rattle.std.proofs.Common.{◌≡◌, ℕ, zero, suc, ◌+◌, ◌-◌, ◌<�
 use Rattle.std.proofs.lemmas.Bool.{cases_lt}
 use Rattle.giop_cdr.specs.Alignment.{padding}
 use Rattle.giop_cdr.specs.Numbers.{num}
-use Rattle.giop_cdr.specs.declared.order.Order.{Order}
 use Rattle.giop_decode.specs.Fits.{leaf_ty, Sound, FitsIn, HasCase, HasContent, HasHead, IsOpen, OpenFrom}
 use Rattle.giop_decode.specs.Pieces.{Got, Grab, Waiting, content, full_pieces, tail}
 use Rattle.giop_decode.specs.Reading.{headed, parts_from}
-use Rattle.giop_decode.specs.Spine.{Content, Head, Leaf, Member, Part, Place, Seg, within}
+use Rattle.giop_decode.specs.Spine.{Coding, Content, Head, Leaf, Member, Part, Place, Seg, within}
 use Rattle.giop_decode.specs.Steps.{after, block_step, content_step, head_width, leaf_step, number_step, part_at, seg_of, step}
 use Rattle.giop_sig.specs.Fits.{IsFit}
 use Rattle.giop_sig.specs.Types.{Array, Octets, Sequence, Single, Struct, Text, Ty, Union, part_of}
@@ -64,19 +63,19 @@ block_step_takes n at held b room = go (cases_lt (length held + 1) n)
     go (inl h) = rw (block_step_waits n at held b h) (refl, omega (arith, length_one_more held b))
     go (inr h) = rw (block_step_got n at held b h) (omega arith, omega (arith, length_one_more held b))
 
-number_step_takes : (n at : ℕ) (carry : List ℕ) (b : ℕ) → length carry < n → Takes n (at + 1) (number_step n at carry b)
-number_step_takes n at [] b room = go (cases_lt 0 (padding at n))
+number_step_takes : (o n at : ℕ) (carry : List ℕ) (b : ℕ) → length carry < n → Takes n (at + 1) (number_step o n at carry b)
+number_step_takes o n at [] b room = go (cases_lt 0 (padding (at - o) n))
   where
-    go : (0 < padding at n) ⊎ (padding at n ≤ 0) → Takes n (at + 1) (number_step n at [] b)
-    go (inl h) = rw (number_step_pads n at b h) (refl, room)
-    go (inr h) = rw (number_step_blocks n at [] b (inr (omega arith))) (block_step_takes n at [] b room)
-number_step_takes n at (x ∷ xs) b room = rw (number_step_blocks n at (x ∷ xs) b (inl (omega arith))) (block_step_takes n at (x ∷ xs) b room)
+    go : (0 < padding (at - o) n) ⊎ (padding (at - o) n ≤ 0) → Takes n (at + 1) (number_step o n at [] b)
+    go (inl h) = rw (number_step_pads o n at b h) (refl, room)
+    go (inr h) = rw (number_step_blocks o n at [] b (inr (omega arith))) (block_step_takes n at [] b room)
+number_step_takes o n at (x ∷ xs) b room = rw (number_step_blocks o n at (x ∷ xs) b (inl (omega arith))) (block_step_takes n at (x ∷ xs) b room)
 
-headed_sound : (d : ℕ) (order : Order) (path : List Seg) (T : Ty) (end : ℕ) → IsFit d T → HasHead T → (g : Grab) → Takes (head_width T) end g →
-    Sound T end (headed T (λ xs at rest. after order path T (num order xs) at rest) g)
-headed_sound d order path T end fit kind (Waiting carry at) h = (h.0, record { same = refl; kind = kind; room = h.1 })
-headed_sound d order path T end fit kind (Got xs at rest) h =
-    subst (λ e. Sound T e (after order path T (num order xs) at rest)) h.0 (after_keeps d order path T (num order xs) fit at rest)
+headed_sound : (d : ℕ) (coding : Coding) (path : List Seg) (T : Ty) (end : ℕ) → IsFit d T → HasHead T → (g : Grab) → Takes (head_width T) end g →
+    Sound T end (headed T (λ xs at rest. after coding path T (num coding.order xs) at rest) g)
+headed_sound d coding path T end fit kind (Waiting carry at) h = (h.0, record { same = refl; kind = kind; room = h.1 })
+headed_sound d coding path T end fit kind (Got xs at rest) h =
+    subst (λ e. Sound T e (after coding path T (num coding.order xs) at rest)) h.0 (after_keeps d coding path T (num coding.order xs) fit at rest)
 
 content_step_sound : (T : Ty) (path : List Seg) (total offset at : ℕ) (piece : List ℕ) (b : ℕ) → HasContent T → offset ≤ total →
     (32 < total - offset → length piece < 32) → (total - offset ≤ 32 → length piece < total - offset + tail T) → Sound T (at + 1) (content_step T path total offset at piece b)
@@ -88,26 +87,26 @@ content_step_sound T path total offset at piece b kind ahead room_full room_last
     go (inr h) = rw le-ltb (last_piece_sound T path total offset (at + 1) kind h ahead (block_step (total - offset + tail T) at piece b)
         (block_step_takes (total - offset + tail T) at piece b (room_last h)))
 
-leaf_step_sound : (d : ℕ) (order : Order) (path : List Seg) (T : Ty) (leaf : Leaf) (at b : ℕ) → IsFit d T → FitsIn T [] leaf → Sound T (at + 1) (leaf_step order path leaf at b)
-leaf_step_sound d order path T (Head U carry) at b fit fits =
-    rw fits.same (headed_sound d order path T (at + 1) fit fits.kind (number_step (head_width T) at carry b) (number_step_takes (head_width T) at carry b fits.room))
-leaf_step_sound d order path T (Content U total offset piece) at b fit fits =
+leaf_step_sound : (d : ℕ) (coding : Coding) (path : List Seg) (T : Ty) (leaf : Leaf) (at b : ℕ) → IsFit d T → FitsIn T [] leaf → Sound T (at + 1) (leaf_step coding path leaf at b)
+leaf_step_sound d coding path T (Head U carry) at b fit fits =
+    rw fits.same (headed_sound d coding path T (at + 1) fit fits.kind (number_step coding.origin (head_width T) at carry b) (number_step_takes coding.origin (head_width T) at carry b fits.room))
+leaf_step_sound d coding path T (Content U total offset piece) at b fit fits =
     rw fits.same (content_step_sound T path total offset at piece b fits.kind fits.ahead fits.room_full fits.room_last)
 
 -- What one octet more leaves fits as well.
-pub step_keeps : (d : ℕ) (order : Order) (path : List Seg) (T : Ty) (outer : List Place) (leaf : Leaf) (at b : ℕ) → IsFit d T → FitsIn T outer leaf →
-    Sound T (at + 1) (step order path outer leaf at b)
-step_keeps d order path T [] leaf at b fit fits = leaf_step_sound d order path T leaf at b fit fits
-step_keeps zero order path T (Part U i count ∷ outer) leaf at b fit fits = absurd (fit_none T fit)
-step_keeps (suc d) order path T (Part U i count ∷ outer) leaf at b fit fits =
-    let inner = step order (path ++ seg_of T i ∷ []) outer leaf at b in
+pub step_keeps : (d : ℕ) (coding : Coding) (path : List Seg) (T : Ty) (outer : List Place) (leaf : Leaf) (at b : ℕ) → IsFit d T → FitsIn T outer leaf →
+    Sound T (at + 1) (step coding path outer leaf at b)
+step_keeps d coding path T [] leaf at b fit fits = leaf_step_sound d coding path T leaf at b fit fits
+step_keeps zero coding path T (Part U i count ∷ outer) leaf at b fit fits = absurd (fit_none T fit)
+step_keeps (suc d) coding path T (Part U i count ∷ outer) leaf at b fit fits =
+    let inner = step coding (path ++ seg_of T i ∷ []) outer leaf at b in
     let part_fits : (j : ℕ) → j < count → IsFit d (part_of T j) = λ j below. fit_part d T j count fit fits.0.kind below in
-    rw fits.0.same (sound_followed T (at + 1) (within (Part T i count) inner) (parts_from (part_at order path T count) (count - suc i) (suc i))
+    rw fits.0.same (sound_followed T (at + 1) (within (Part T i count) inner) (parts_from (part_at coding path T count) (count - suc i) (suc i))
     (sound_part T (at + 1) i count inner fits.0.kind fits.0.below
-    (step_keeps d order (path ++ seg_of T i ∷ []) (part_of T i) outer leaf at b (part_fits i fits.0.below) fits.1))
-    (parts_keep order path T count fits.0.kind (λ j below. read_keeps d order (path ++ seg_of T j ∷ []) (part_of T j) (part_fits j below)) (count - suc i) (suc i) refl))
-step_keeps zero order path T (Member U i ∷ outer) leaf at b fit fits = absurd (fit_none T fit)
-step_keeps (suc d) order path T (Member U i ∷ outer) leaf at b fit fits =
-    let inner = step order (path ++ seg_of T i ∷ []) outer leaf at b in
+    (step_keeps d coding (path ++ seg_of T i ∷ []) (part_of T i) outer leaf at b (part_fits i fits.0.below) fits.1))
+    (parts_keep coding path T count fits.0.kind (λ j below. read_keeps d coding (path ++ seg_of T j ∷ []) (part_of T j) (part_fits j below)) (count - suc i) (suc i) refl))
+step_keeps zero coding path T (Member U i ∷ outer) leaf at b fit fits = absurd (fit_none T fit)
+step_keeps (suc d) coding path T (Member U i ∷ outer) leaf at b fit fits =
+    let inner = step coding (path ++ seg_of T i ∷ []) outer leaf at b in
     rw fits.0.same (sound_member T (at + 1) i inner fits.0.kind
-    (step_keeps d order (path ++ seg_of T i ∷ []) (part_of T i) outer leaf at b (fit_case d T i fit fits.0.kind) fits.1))
+    (step_keeps d coding (path ++ seg_of T i ∷ []) (part_of T i) outer leaf at b (fit_case d T i fit fits.0.kind) fits.1))

@@ -3,13 +3,12 @@ use Rattle.std.proofs.Common.{◌≡◌, ℕ, zero, suc, ◌+◌, ◌&&◌, Bool
 use Rattle.std.specs.Prelude.{cond, flat_map, codes}
 use Rattle.std.specs.List.{cons_option, last_or}
 use Rattle.std.proofs.lemmas.List.{take-append-drop}
-use Rattle.giop_cdr.specs.declared.order.Order.{Order}
 use Rattle.giop_cdr.specs.declared.prim.Primitive.TheVariants as prims
 use Rattle.giop_decode.specs.Heard.{Heard, first_of, hear, hear_value, heard, heard_of, hushed, in_string, is_member, name_if, nothing}
 use Rattle.giop_decode.specs.Memories.{TextPiece, first_in, enum_of, enums, ulong_of, id_of, request_ids, text_of, text_pieces, cut_from, pieces_of, Strings, name_of, IsLeft}
 use Rattle.giop_decode.specs.Pieces.{full_pieces}
 use Rattle.giop_decode.specs.Reading.{read}
-use Rattle.giop_decode.specs.Spine.{Seg, Value, Number, Piece, Line, Read, lines_of}
+use Rattle.giop_decode.specs.Spine.{Coding, Seg, Value, Number, Piece, Line, Read, lines_of}
 use Rattle.giop_sig.specs.Types.{Plain, Enum, Ty, Text}
 use Rattle.giop_decode.proofs.WholeStrings.{read_strings}
 
@@ -134,6 +133,6 @@ is_left is_header r strings = record {
     name false e = outside_name is_header r strings e
 
 -- What is left in mind of any reading.
-pub read_left : (is_header : Bool) (order : Order) (path : List Seg) (T : Ty) (at : ℕ) (s : List ℕ) →
-    IsLeft is_header (read order path T at s) (heard_of is_header (read order path T at s))
-read_left is_header order path T at s = is_left is_header (read order path T at s) (read_strings order path T at s)
+pub read_left : (is_header : Bool) (coding : Coding) (path : List Seg) (T : Ty) (at : ℕ) (s : List ℕ) →
+    IsLeft is_header (read coding path T at s) (heard_of is_header (read coding path T at s))
+read_left is_header coding path T at s = is_left is_header (read coding path T at s) (read_strings coding path T at s)

@@ -5,10 +5,9 @@ use Rattle.std.specs.List.{AllByRecursion as Each}
 use Rattle.std.proofs.lemmas.Bool.{cases_lt, lt-ltb, le-ltb}
 use Rattle.giop_cdr.specs.Alignment.{padding}
 use Rattle.giop_cdr.specs.Numbers.{num}
-use Rattle.giop_cdr.specs.declared.order.Order.{Order}
 use Rattle.giop_decode.specs.Pieces.{Got, Grab, Waiting, block, content, ends, full_piece, full_pieces, last_piece, number, over, tail, unless}
 use Rattle.giop_decode.specs.Reading.{headed, member, parts_from, read, refused, single, wrong}
-use Rattle.giop_decode.specs.Spine.{Content, Count, Done, Fault, Head, Index, Leaf, Line, Member, Name, Part, Piece, Place, Read, Seg, Short, Switch, followed, line, with_front, within}
+use Rattle.giop_decode.specs.Spine.{Coding, Content, Count, Done, Fault, Head, Index, Leaf, Line, Member, Name, Part, Piece, Place, Read, Seg, Short, Switch, followed, line, with_front, within}
 use Rattle.giop_decode.specs.Steps.{OneAt, Now, Quiet, inner_path, after, around, block_step, head_width, leaf_step, number_step, part_at, path_in, seg_of, step}
 use Rattle.giop_decode.specs.declared.progress.Kind.{Kind}
 use Rattle.giop_sig.specs.Types.{Array, Octets, Scalar, Sequence, Single, Struct, Text, Ty, Union, part_of, width}
@@ -65,35 +64,35 @@ now_unless n T (Some kind) r h = (refl, refl)
 
 -- no octets
 
-pub number_none : (w n : ℕ) → 0 < w → number w n [] ≡ Waiting [] n
-number_none w n pos = go (cases_lt 0 (padding n w))
+pub number_none : (o w n : ℕ) → 0 < w → number o w n [] ≡ Waiting [] n
+number_none o w n pos = go (cases_lt 0 (padding (n - o) w))
   where
-    go : (0 < padding n w) ⊎ (padding n w ≤ 0) → number w n [] ≡ Waiting [] n
-    go (inl h) = rw (number_waits w n [] h, add-zero) refl
-    go (inr h) = let e : padding n w ≡ 0 = omega arith in rw (number_blocks w n [] h, e, block_waits w (n + 0) [] pos, add-zero, add-zero) refl
+    go : (0 < padding (n - o) w) ⊎ (padding (n - o) w ≤ 0) → number o w n [] ≡ Waiting [] n
+    go (inl h) = rw (number_waits o w n [] h, add-zero) refl
+    go (inr h) = let e : padding (n - o) w ≡ 0 = omega arith in rw (number_blocks o w n [] h, e, block_waits w (n + 0) [] pos, add-zero, add-zero) refl
 
 pub quiet_parts : (n : ℕ) (part : ℕ → ℕ → List ℕ → Read) → ((i : ℕ) → Quiet n (part i n [])) → (more i : ℕ) → Quiet n (parts_from part more i n [])
 quiet_parts n part h zero i = (refl, refl, refl)
 quiet_parts n part h (suc more) i = quiet_followed n (part i n []) (parts_from part more (suc i)) (h i) (quiet_parts n part h more (suc i))
 
-pub read_quiet : (order : Order) (path : List Seg) (T : Ty) (n : ℕ) → Quiet n (read order path T n [])
-read_quiet order path (Single scalar) n = rw (number_none (width scalar) n (width_pos scalar)) (refl, refl)
-read_quiet order path (Text bound) n = rw (number_none 4 n (lit< tt)) (refl, refl)
-read_quiet order path (Octets bound) n = rw (number_none 4 n (lit< tt)) (refl, refl)
-read_quiet order path (Struct count names parts) n =
-    quiet_parts n (part_at order path (Struct count names parts) count)
-    (λ i. quiet_within n (Part (Struct count names parts) i count) (read order (path ++ Name (names i) ∷ []) (parts i) n []) (read_quiet order (path ++ Name (names i) ∷ []) (parts i) n)) count 0
-read_quiet order path (Array count T) n =
-    quiet_parts n (part_at order path (Array count T) count)
-    (λ i. quiet_within n (Part (Array count T) i count) (read order (path ++ Index i ∷ []) T n []) (read_quiet order (path ++ Index i ∷ []) T n)) count 0
-read_quiet order path (Sequence bound T) n = rw (number_none 4 n (lit< tt)) (refl, refl)
-read_quiet order path (Union count scalar select names cases) n = rw (number_none (width scalar) n (width_pos scalar)) (refl, refl)
+pub read_quiet : (coding : Coding) (path : List Seg) (T : Ty) (n : ℕ) → Quiet n (read coding path T n [])
+read_quiet coding path (Single scalar) n = rw (number_none coding.origin (width scalar) n (width_pos scalar)) (refl, refl)
+read_quiet coding path (Text bound) n = rw (number_none coding.origin 4 n (lit< tt)) (refl, refl)
+read_quiet coding path (Octets bound) n = rw (number_none coding.origin 4 n (lit< tt)) (refl, refl)
+read_quiet coding path (Struct count names parts) n =
+    quiet_parts n (part_at coding path (Struct count names parts) count)
+    (λ i. quiet_within n (Part (Struct count names parts) i count) (read coding (path ++ Name (names i) ∷ []) (parts i) n []) (read_quiet coding (path ++ Name (names i) ∷ []) (parts i) n)) count 0
+read_quiet coding path (Array count T) n =
+    quiet_parts n (part_at coding path (Array count T) count)
+    (λ i. quiet_within n (Part (Array count T) i count) (read coding (path ++ Index i ∷ []) T n []) (read_quiet coding (path ++ Index i ∷ []) T n)) count 0
+read_quiet coding path (Sequence bound T) n = rw (number_none coding.origin 4 n (lit< tt)) (refl, refl)
+read_quiet coding path (Union count scalar select names cases) n = rw (number_none coding.origin (width scalar) n (width_pos scalar)) (refl, refl)
 
-pub part_quiet : (order : Order) (path : List Seg) (T : Ty) (count n i : ℕ) → Quiet n (part_at order path T count i n [])
-part_quiet order path T count n i = quiet_within n (Part T i count) (read order (inner_path path T i) (part_of T i) n []) (read_quiet order (inner_path path T i) (part_of T i) n)
+pub part_quiet : (coding : Coding) (path : List Seg) (T : Ty) (count n i : ℕ) → Quiet n (part_at coding path T count i n [])
+part_quiet coding path T count n i = quiet_within n (Part T i count) (read coding (inner_path path T i) (part_of T i) n []) (read_quiet coding (inner_path path T i) (part_of T i) n)
 
-pub parts_quiet : (order : Order) (path : List Seg) (T : Ty) (count n more i : ℕ) → Quiet n (parts_from (part_at order path T count) more i n [])
-parts_quiet order path T count n more i = quiet_parts n (part_at order path T count) (part_quiet order path T count n) more i
+pub parts_quiet : (coding : Coding) (path : List Seg) (T : Ty) (count n more i : ℕ) → Quiet n (parts_from (part_at coding path T count) more i n [])
+parts_quiet coding path T count n more i = quiet_parts n (part_at coding path T count) (part_quiet coding path T count n) more i
 
 -- one octet
 
@@ -121,10 +120,10 @@ number_by : (w at : ℕ) (test : Bool) (b : ℕ) → GrabNow (at + 1) (cond test
 number_by w at true b = refl
 number_by w at false b = block_now w at [] b
 
-number_now : (w at : ℕ) (carry : List ℕ) (b : ℕ) → GrabNow (at + 1) (number_step w at carry b)
+number_now : (o w at : ℕ) (carry : List ℕ) (b : ℕ) → GrabNow (at + 1) (number_step o w at carry b)
 unfolding number_step
-number_now w at [] b = number_by w at (ltb 0 (padding at w)) b
-number_now w at (x ∷ carry) b = block_now w at (x ∷ carry) b
+number_now o w at [] b = number_by w at (ltb 0 (padding (at - o) w)) b
+number_now o w at (x ∷ carry) b = block_now w at (x ∷ carry) b
 
 last_now : (n : ℕ) (T : Ty) (path : List Seg) (total offset : ℕ) (g : Grab) → GrabNow n g → Now n (last_piece T path total offset g)
 last_now n T path total offset (Waiting piece at) h = (tt, h)
@@ -147,37 +146,37 @@ content_now n T path total (suc full) offset = rw (block_waits 32 n [] (lit< tt)
 single_now : (n : ℕ) (path : List Seg) (scalar : Scalar) (k : ℕ) → Now n (single path scalar k n [])
 single_now n path scalar k = now_unless n (Single scalar) (wrong scalar k) (Done (line n path (Spine.Number scalar k) ∷ []) n []) (refl, refl, refl)
 
-member_quiet : (n : ℕ) (order : Order) (path : List Seg) (T : Ty) (selected : Selected) →
-    Quiet n (member selected (λ i at s. within (Member T i) (read order (inner_path path T i) (part_of T i) at s)) n [])
-member_quiet n order path T (Case i) = quiet_within n (Member T i) (read order (inner_path path T i) (part_of T i) n []) (read_quiet order (inner_path path T i) (part_of T i) n)
-member_quiet n order path T Nothing = (refl, refl, refl)
-member_quiet n order path T Refused = (refl, refl, refl)
+member_quiet : (n : ℕ) (coding : Coding) (path : List Seg) (T : Ty) (selected : Selected) →
+    Quiet n (member selected (λ i at s. within (Member T i) (read coding (inner_path path T i) (part_of T i) at s)) n [])
+member_quiet n coding path T (Case i) = quiet_within n (Member T i) (read coding (inner_path path T i) (part_of T i) n []) (read_quiet coding (inner_path path T i) (part_of T i) n)
+member_quiet n coding path T Nothing = (refl, refl, refl)
+member_quiet n coding path T Refused = (refl, refl, refl)
 
-after_now : (n : ℕ) (order : Order) (path : List Seg) (T : Ty) (k : ℕ) → Now n (after order path T k n [])
-after_now n order path (Single scalar) k = single_now n path scalar k
-after_now n order path (Text bound) zero = (refl, refl, refl)
-after_now n order path (Text bound) (suc k) = now_unless n (Text bound) (over bound k) (content (Text bound) path k (full_pieces k) 0 n []) (content_now n (Text bound) path k (full_pieces k) 0)
-after_now n order path (Octets bound) k = now_unless n (Octets bound) (over bound k) (content (Octets bound) path k (full_pieces k) 0 n []) (content_now n (Octets bound) path k (full_pieces k) 0)
-after_now n order path (Struct count names parts) k = (tt, refl, refl)
-after_now n order path (Array count T) k = (tt, refl, refl)
-after_now n order path (Sequence bound T) k =
-    let elements = parts_from (part_at order path (Sequence bound T) k) k 0 n [] in
+after_now : (n : ℕ) (coding : Coding) (path : List Seg) (T : Ty) (k : ℕ) → Now n (after coding path T k n [])
+after_now n coding path (Single scalar) k = single_now n path scalar k
+after_now n coding path (Text bound) zero = (refl, refl, refl)
+after_now n coding path (Text bound) (suc k) = now_unless n (Text bound) (over bound k) (content (Text bound) path k (full_pieces k) 0 n []) (content_now n (Text bound) path k (full_pieces k) 0)
+after_now n coding path (Octets bound) k = now_unless n (Octets bound) (over bound k) (content (Octets bound) path k (full_pieces k) 0 n []) (content_now n (Octets bound) path k (full_pieces k) 0)
+after_now n coding path (Struct count names parts) k = (tt, refl, refl)
+after_now n coding path (Array count T) k = (tt, refl, refl)
+after_now n coding path (Sequence bound T) k =
+    let elements = parts_from (part_at coding path (Sequence bound T) k) k 0 n [] in
     now_unless n (Sequence bound T) (over bound k) (with_front (line n path (Count k) ∷ []) elements)
-    (now_front n (line n path (Count k) ∷ []) elements refl (parts_quiet order path (Sequence bound T) k n k 0))
-after_now n order path (Union count scalar select names cases) k =
+    (now_front n (line n path (Count k) ∷ []) elements refl (parts_quiet coding path (Sequence bound T) k n k 0))
+after_now n coding path (Union count scalar select names cases) k =
     let T = Union count scalar select names cases in
-    let next : ℕ → List ℕ → Read = member (select k) (λ i at s. within (Member T i) (read order (inner_path path T i) (part_of T i) at s)) in
+    let next : ℕ → List ℕ → Read = member (select k) (λ i at s. within (Member T i) (read coding (inner_path path T i) (part_of T i) at s)) in
     let front : List Line = line n (path ++ Switch ∷ []) (Spine.Number scalar k) ∷ [] in
     now_unless n T (wrong scalar k) (unless T (refused (select k)) n (with_front front (next n [])))
-    (now_unless n T (refused (select k)) (with_front front (next n [])) (now_front n front (next n []) refl (member_quiet n order path T (select k))))
+    (now_unless n T (refused (select k)) (with_front front (next n [])) (now_front n front (next n []) refl (member_quiet n coding path T (select k))))
 
-headed_now : (n : ℕ) (order : Order) (path : List Seg) (T : Ty) (g : Grab) → GrabNow n g → Now n (headed T (λ xs at rest. after order path T (num order xs) at rest) g)
-headed_now n order path T (Waiting carry at) h = (tt, h)
-headed_now n order path T (Got xs at rest) h = rw (h.0, h.1) (after_now n order path T (num order xs))
+headed_now : (n : ℕ) (coding : Coding) (path : List Seg) (T : Ty) (g : Grab) → GrabNow n g → Now n (headed T (λ xs at rest. after coding path T (num coding.order xs) at rest) g)
+headed_now n coding path T (Waiting carry at) h = (tt, h)
+headed_now n coding path T (Got xs at rest) h = rw (h.0, h.1) (after_now n coding path T (num coding.order xs))
 
-leaf_now : (order : Order) (path : List Seg) (leaf : Leaf) (at b : ℕ) → Now (at + 1) (leaf_step order path leaf at b)
-leaf_now order path (Head T carry) at b = headed_now (at + 1) order path T (number_step (head_width T) at carry b) (number_now (head_width T) at carry b)
-leaf_now order path (Content T total offset piece) at b = go (cases_lt 32 (total - offset))
+leaf_now : (coding : Coding) (path : List Seg) (leaf : Leaf) (at b : ℕ) → Now (at + 1) (leaf_step coding path leaf at b)
+leaf_now coding path (Head T carry) at b = headed_now (at + 1) coding path T (number_step coding.origin (head_width T) at carry b) (number_now coding.origin (head_width T) at carry b)
+leaf_now coding path (Content T total offset piece) at b = go (cases_lt 32 (total - offset))
   where
     full : Read
     full = full_piece T path total offset (content T path total (full_pieces (total - (offset + 32))) (offset + 32)) (block_step 32 at piece b)
@@ -190,16 +189,16 @@ leaf_now order path (Content T total offset piece) at b = go (cases_lt 32 (total
         (block_now 32 at piece b) (content_quiet (at + 1) T path total (full_pieces (total - (offset + 32))) (offset + 32) (omega arith)))
     go (inr h) = rw (le-ltb 32 (total - offset) h) (last_now (at + 1) T path total offset (block_step (total - offset + tail T) at piece b) (block_now (total - offset + tail T) at piece b))
 
-around_now : (n : ℕ) (order : Order) (path : List Seg) (outer : List Place) (r : Read) → Now n r → Now n (around order path outer r)
-around_now n order path [] r h = h
-around_now n order path (Part T i count ∷ outer) r h =
-    let inner = around order (path ++ seg_of T i ∷ []) outer r in
-    now_followed n (within (Part T i count) inner) (parts_from (part_at order path T count) (count - suc i) (suc i))
-    (now_within n (Part T i count) inner (around_now n order (path ++ seg_of T i ∷ []) outer r h))
-    (parts_quiet order path T count n (count - suc i) (suc i))
-around_now n order path (Member T i ∷ outer) r h =
-    let inner = around order (path ++ seg_of T i ∷ []) outer r in
-    now_within n (Member T i) inner (around_now n order (path ++ seg_of T i ∷ []) outer r h)
+around_now : (n : ℕ) (coding : Coding) (path : List Seg) (outer : List Place) (r : Read) → Now n r → Now n (around coding path outer r)
+around_now n coding path [] r h = h
+around_now n coding path (Part T i count ∷ outer) r h =
+    let inner = around coding (path ++ seg_of T i ∷ []) outer r in
+    now_followed n (within (Part T i count) inner) (parts_from (part_at coding path T count) (count - suc i) (suc i))
+    (now_within n (Part T i count) inner (around_now n coding (path ++ seg_of T i ∷ []) outer r h))
+    (parts_quiet coding path T count n (count - suc i) (suc i))
+around_now n coding path (Member T i ∷ outer) r h =
+    let inner = around coding (path ++ seg_of T i ∷ []) outer r in
+    now_within n (Member T i) inner (around_now n coding (path ++ seg_of T i ∷ []) outer r h)
 
-pub step_now : (order : Order) (path : List Seg) (outer : List Place) (leaf : Leaf) (at b : ℕ) → Now (at + 1) (step order path outer leaf at b)
-step_now order path outer leaf at b = around_now (at + 1) order path outer (leaf_step order (path_in path outer) leaf at b) (leaf_now order (path_in path outer) leaf at b)
+pub step_now : (coding : Coding) (path : List Seg) (outer : List Place) (leaf : Leaf) (at b : ℕ) → Now (at + 1) (step coding path outer leaf at b)
+step_now coding path outer leaf at b = around_now (at + 1) coding path outer (leaf_step coding (path_in path outer) leaf at b) (leaf_now coding (path_in path outer) leaf at b)

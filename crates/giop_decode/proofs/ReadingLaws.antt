@@ -2,10 +2,9 @@
 -- proved in the file that it names. No other file of this crate's proofs can be cited from outside.
 use Rattle.std.specs.List.{AllByRecursion as Each}
 use Rattle.std.proofs.Common.{◌≡◌, ℕ, suc, ◌+◌, ◌<◌, Bool, false, List, [], ◌∷◌, ◌++◌, length}
-use Rattle.giop_cdr.specs.declared.order.Order.{Order}
 use Rattle.giop_sig.specs.Fits.{IsFit}
 use Rattle.giop_sig.specs.Types.{Scalar, Ty, part_of, width}
-use Rattle.giop_decode.specs.Spine.{Seg, Switch, Line, Place, Part, Leaf, Read, Done, Short, with_front, within, lines_of}
+use Rattle.giop_decode.specs.Spine.{Coding, Seg, Switch, Line, Place, Part, Leaf, Read, Done, Short, with_front, within, lines_of}
 use Rattle.giop_decode.specs.Pieces.{Waiting, block, number}
 use Rattle.giop_decode.specs.Reading.{parts_from, read}
 use Rattle.giop_decode.specs.Begins.{start_outer, start_leaf}
@@ -20,18 +19,18 @@ use Rattle.giop_decode.proofs.Resuming as resuming
 use Rattle.giop_decode.proofs.Hearing as hearing
 
 -- The laws of `reading_laws`: one octet more is one step;
-pub read_goes : (order : Order) (path : List Seg) (T : Ty) (at : ℕ) (s : List ℕ) (b : ℕ) →
-    read order path T at (s ++ b ∷ []) ≡ advance order path (read order path T at s) b
-read_goes order path T at s b = law.read_goes order path T at s b
+pub read_goes : (coding : Coding) (path : List Seg) (T : Ty) (at : ℕ) (s : List ℕ) (b : ℕ) →
+    read coding path T at (s ++ b ∷ []) ≡ advance coding path (read coding path T at s) b
+read_goes coding path T at s b = law.read_goes coding path T at s b
 
 -- a step has at most one line, which stands at its octet;
-pub step_now : (order : Order) (path : List Seg) (outer : List Place) (leaf : Leaf) (at b : ℕ) → Now (at + 1) (step order path outer leaf at b)
-step_now order path outer leaf at b = now.step_now order path outer leaf at b
+pub step_now : (coding : Coding) (path : List Seg) (outer : List Place) (leaf : Leaf) (at b : ℕ) → Now (at + 1) (step coding path outer leaf at b)
+step_now coding path outer leaf at b = now.step_now coding path outer leaf at b
 
 -- the parts begun fit in the type.
-pub read_keeps : (d : ℕ) (order : Order) (path : List Seg) (T : Ty) → IsFit d T → (at : ℕ) (s : List ℕ) →
-    Sound T (at + length s) (read order path T at s)
-read_keeps d order path T fit at s = sound.read_keeps d order path T fit at s
+pub read_keeps : (d : ℕ) (coding : Coding) (path : List Seg) (T : Ty) → IsFit d T → (at : ℕ) (s : List ℕ) →
+    Sound T (at + length s) (read coding path T at s)
+read_keeps d coding path T fit at s = sound.read_keeps d coding path T fit at s
 
 -- Lines in front, and what they leave in mind.
 
@@ -47,8 +46,8 @@ switch_member name path = hearing.switch_member name path
 
 -- No octets: nothing is said of a value, of its parts, or of those from a place on.
 
-pub read_quiet : (order : Order) (path : List Seg) (T : Ty) (n : ℕ) → Quiet n (read order path T n [])
-read_quiet order path T n = now.read_quiet order path T n
+pub read_quiet : (coding : Coding) (path : List Seg) (T : Ty) (n : ℕ) → Quiet n (read coding path T n [])
+read_quiet coding path T n = now.read_quiet coding path T n
 
 pub quiet_within : (n : ℕ) (place : Place) (r : Read) → Quiet n r → Quiet n (within place r)
 quiet_within n place r h = now.quiet_within n place r h
@@ -57,28 +56,28 @@ pub quiet_parts : (n : ℕ) (part : ℕ → ℕ → List ℕ → Read) → ((i :
     Quiet n (parts_from part more i n [])
 quiet_parts n part h more i = now.quiet_parts n part h more i
 
-pub part_quiet : (order : Order) (path : List Seg) (T : Ty) (count n i : ℕ) → Quiet n (part_at order path T count i n [])
-part_quiet order path T count n i = now.part_quiet order path T count n i
+pub part_quiet : (coding : Coding) (path : List Seg) (T : Ty) (count n i : ℕ) → Quiet n (part_at coding path T count i n [])
+part_quiet coding path T count n i = now.part_quiet coding path T count n i
 
-pub parts_quiet : (order : Order) (path : List Seg) (T : Ty) (count n more i : ℕ) →
-    Quiet n (parts_from (part_at order path T count) more i n [])
-parts_quiet order path T count n more i = now.parts_quiet order path T count n more i
+pub parts_quiet : (coding : Coding) (path : List Seg) (T : Ty) (count n more i : ℕ) →
+    Quiet n (parts_from (part_at coding path T count) more i n [])
+parts_quiet coding path T count n more i = now.parts_quiet coding path T count n more i
 
 -- A number, and a block of octets, of which some are to come.
 
 pub width_pos : (scalar : Scalar) → 0 < width scalar
 width_pos scalar = law.width_pos scalar
 
-pub number_none : (w n : ℕ) → 0 < w → number w n [] ≡ Waiting [] n
-number_none w n pos = now.number_none w n pos
+pub number_none : (o w n : ℕ) → 0 < w → number o w n [] ≡ Waiting [] n
+number_none o w n pos = now.number_none o w n pos
 
 pub block_waits : (n at : ℕ) (s : List ℕ) → length s < n → block n at s ≡ Waiting s (at + length s)
 block_waits n at s h = law.block_waits n at s h
 
 -- Where a part has ended and another follows, that one is begun.
-pub next_part : (order : Order) (path : List Seg) (d : ℕ) (T : Ty) (i count at : ℕ) → IsFit (suc d) T → HasParts T count → suc i < count →
-    resumed order path (Part T i count) (Done [] at []) ≡ Short [] at (Part T (suc i) count ∷ start_outer (part_of T (suc i))) (start_leaf (part_of T (suc i)))
-next_part order path d T i count at fit kind below = around.next_part order path d T i count at fit kind below
+pub next_part : (coding : Coding) (path : List Seg) (d : ℕ) (T : Ty) (i count at : ℕ) → IsFit (suc d) T → HasParts T count → suc i < count →
+    resumed coding path (Part T i count) (Done [] at []) ≡ Short [] at (Part T (suc i) count ∷ start_outer (part_of T (suc i))) (start_leaf (part_of T (suc i)))
+next_part coding path d T i count at fit kind below = around.next_part coding path d T i count at fit kind below
 
 -- On lists.
 

@@ -1,7 +1,6 @@
 -- What an innermost part has come to, inside its places.
 use Rattle.std.proofs.Common.{◌≡◌, ℕ, zero, suc, pred, ◌<◌, List, [], ◌∷◌, ◌++◌, sym, ◌∙◌, ap, append_assoc, append-nil}
-use Rattle.giop_cdr.specs.declared.order.Order.{Order}
-use Rattle.giop_decode.specs.Spine.{Seg, Line, Place, Leaf, Done, Short, with_front}
+use Rattle.giop_decode.specs.Spine.{Coding, Seg, Line, Place, Leaf, Done, Short, with_front}
 use Rattle.giop_decode.specs.Steps.{around}
 use Rattle.giop_decode.specs.Fits.{HasParts, HasCase}
 use Rattle.giop_decode.proofs.Around.{fit_part, around-short, around-front}
@@ -19,13 +18,13 @@ unfolding IsFit
 fit_selected zero T i fit kind = absurd fit
 fit_selected (suc d) T i fit kind = fit_case d T i fit kind
 
-module _ (order : Order) (path : List Seg) (ps : List Place) (lines : List Line) (at : ℕ) where
-  pub around_done : around order path ps (Done lines at []) ≡ with_front lines (around order path ps (Done [] at []))
-  around_done = ap (λ ls. around order path ps (Done ls at [])) (sym (append-nil lines)) ∙ around-front order path ps lines (Done [] at [])
+module _ (coding : Coding) (path : List Seg) (ps : List Place) (lines : List Line) (at : ℕ) where
+  pub around_done : around coding path ps (Done lines at []) ≡ with_front lines (around coding path ps (Done [] at []))
+  around_done = ap (λ ls. around coding path ps (Done ls at [])) (sym (append-nil lines)) ∙ around-front coding path ps lines (Done [] at [])
 
-  pub around_more : (leaf : Leaf) → around order path ps (Short lines at [] leaf) ≡ Short lines at ps leaf
-  around_more leaf = around-short order path ps lines at [] leaf ∙ ap (λ qs. Short lines at qs leaf) (append-nil ps)
+  pub around_more : (leaf : Leaf) → around coding path ps (Short lines at [] leaf) ≡ Short lines at ps leaf
+  around_more leaf = around-short coding path ps lines at [] leaf ∙ ap (λ qs. Short lines at qs leaf) (append-nil ps)
 
-  pub around_opened : (place : Place) (inner : List Place) (leaf : Leaf) → around order path ps (Short lines at (place ∷ inner) leaf) ≡ Short lines at ((ps ++ place ∷ []) ++ inner) leaf
+  pub around_opened : (place : Place) (inner : List Place) (leaf : Leaf) → around coding path ps (Short lines at (place ∷ inner) leaf) ≡ Short lines at ((ps ++ place ∷ []) ++ inner) leaf
   around_opened place inner leaf =
-      around-short order path ps lines at (place ∷ inner) leaf ∙ ap (λ qs. Short lines at qs leaf) (sym (append_assoc ps (place ∷ []) inner))
+      around-short coding path ps lines at (place ∷ inner) leaf ∙ ap (λ qs. Short lines at qs leaf) (sym (append_assoc ps (place ∷ []) inner))

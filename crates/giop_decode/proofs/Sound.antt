@@ -3,12 +3,11 @@ use Rattle.std.proofs.Common.{◌≡◌, ℕ, zero, suc, ◌+◌, ◌-◌, ◌<�
 use Rattle.std.proofs.lemmas.Bool.{cases_lt}
 use Rattle.giop_cdr.specs.Alignment.{padding}
 use Rattle.giop_cdr.specs.Numbers.{num}
-use Rattle.giop_cdr.specs.declared.order.Order.{Order}
 use Rattle.giop_decode.specs.Fits.{Sound, HasCase, HasContent, HasHead, HasParts}
 use Rattle.giop_decode.specs.Pieces.{Got, Grab, Waiting, block, content, ends, full_piece, full_pieces, last_piece, number, octets, over, tail, text, unless}
 use Rattle.giop_decode.specs.Reading.{headed, member, parts_from, read, refused, single, wrong}
 use Rattle.giop_decode.specs.Spine
-use Rattle.giop_decode.specs.Spine.{Count, Done, Fault, Index, Line, Member, Name, Part, Piece, Read, Seg, Short, Switch, followed, line, with_front, within}
+use Rattle.giop_decode.specs.Spine.{Coding, Count, Done, Fault, Index, Line, Member, Name, Part, Piece, Read, Seg, Short, Switch, followed, line, with_front, within}
 use Rattle.giop_decode.specs.Steps.{inner_path, after, head_width, part_at}
 use Rattle.giop_decode.specs.declared.progress.Kind.{Kind}
 use Rattle.giop_sig.specs.Fits.{IsFit, SelectsBelow}
@@ -57,32 +56,32 @@ block_takes n at s = go (cases_lt (length s) n)
     go (inl h) = rw (block_waits n at s h) (refl, h)
     go (inr h) = rw (block_got n at s h) (omega (arith, length-drop n s), length-take-le n s h)
 
-number_takes : (n at : ℕ) (s : List ℕ) → 0 < n → Takes n (at + length s) (number n at s)
-number_takes n at s pos = go (cases_lt (length s) (padding at n))
+number_takes : (o n at : ℕ) (s : List ℕ) → 0 < n → Takes n (at + length s) (number o n at s)
+number_takes o n at s pos = go (cases_lt (length s) (padding (at - o) n))
   where
-    go : (length s < padding at n) ⊎ (padding at n ≤ length s) → Takes n (at + length s) (number n at s)
-    go (inl h) = rw (number_waits n at s h) (refl, pos)
+    go : (length s < padding (at - o) n) ⊎ (padding (at - o) n ≤ length s) → Takes n (at + length s) (number o n at s)
+    go (inl h) = rw (number_waits o n at s h) (refl, pos)
     go (inr h) =
-        let e : (at + padding at n) + length (drop (padding at n) s) ≡ at + length s = omega (arith, length-drop (padding at n) s) in
-        rw (number_blocks n at s h) (subst (λ end. Takes n end (block n (at + padding at n) (drop (padding at n) s))) e (block_takes n (at + padding at n) (drop (padding at n) s)))
+        let e : (at + padding (at - o) n) + length (drop (padding (at - o) n) s) ≡ at + length s = omega (arith, length-drop (padding (at - o) n) s) in
+        rw (number_blocks o n at s h) (subst (λ end. Takes n end (block n (at + padding (at - o) n) (drop (padding (at - o) n) s))) e (block_takes n (at + padding (at - o) n) (drop (padding (at - o) n) s)))
 
-pub parts_keep : (order : Order) (path : List Seg) (T : Ty) (count : ℕ) → HasParts T count →
-    ((i : ℕ) → i < count → Keeps (part_of T i) (read order (inner_path path T i) (part_of T i))) →
-    (more i : ℕ) → more ≡ count - i → Keeps T (parts_from (part_at order path T count) more i)
-parts_keep order path T count kind each zero i is at s = refl
-parts_keep order path T count kind each (suc more) i is at s =
+pub parts_keep : (coding : Coding) (path : List Seg) (T : Ty) (count : ℕ) → HasParts T count →
+    ((i : ℕ) → i < count → Keeps (part_of T i) (read coding (inner_path path T i) (part_of T i))) →
+    (more i : ℕ) → more ≡ count - i → Keeps T (parts_from (part_at coding path T count) more i)
+parts_keep coding path T count kind each zero i is at s = refl
+parts_keep coding path T count kind each (suc more) i is at s =
     let below : i < count = omega arith in
-    sound_followed T (at + length s) _ (parts_from (part_at order path T count) more (suc i))
-    (sound_part T (at + length s) i count (read order (inner_path path T i) (part_of T i) at s) kind below (each i below at s))
-    (parts_keep order path T count kind each more (suc i) (omega arith))
+    sound_followed T (at + length s) _ (parts_from (part_at coding path T count) more (suc i))
+    (sound_part T (at + length s) i count (read coding (inner_path path T i) (part_of T i) at s) kind below (each i below at s))
+    (parts_keep coding path T count kind each more (suc i) (omega arith))
 
-headed_keeps : (order : Order) (path : List Seg) (T : Ty) → HasHead T → 0 < head_width T → ((n : ℕ) → Keeps T (after order path T n)) →
-    Keeps T (λ at s. headed T (λ xs at rest. after order path T (num order xs) at rest) (number (head_width T) at s))
-headed_keeps order path T kind pos keeps at s = go (number (head_width T) at s) (number_takes (head_width T) at s pos)
+headed_keeps : (coding : Coding) (path : List Seg) (T : Ty) → HasHead T → 0 < head_width T → ((n : ℕ) → Keeps T (after coding path T n)) →
+    Keeps T (λ at s. headed T (λ xs at rest. after coding path T (num coding.order xs) at rest) (number coding.origin (head_width T) at s))
+headed_keeps coding path T kind pos keeps at s = go (number coding.origin (head_width T) at s) (number_takes coding.origin (head_width T) at s pos)
   where
-    go : (g : Grab) → Takes (head_width T) (at + length s) g → Sound T (at + length s) (headed T (λ xs at rest. after order path T (num order xs) at rest) g)
+    go : (g : Grab) → Takes (head_width T) (at + length s) g → Sound T (at + length s) (headed T (λ xs at rest. after coding path T (num coding.order xs) at rest) g)
     go (Waiting carry at') h = (h.0, record { same = refl; kind = kind; room = h.1 })
-    go (Got xs at' rest) h = subst (λ e. Sound T e (after order path T (num order xs) at' rest)) h.0 (keeps (num order xs) at' rest)
+    go (Got xs at' rest) h = subst (λ e. Sound T e (after coding path T (num coding.order xs) at' rest)) h.0 (keeps (num coding.order xs) at' rest)
 
 pub last_piece_sound : (T : Ty) (path : List Seg) (total offset end : ℕ) → HasContent T → total - offset ≤ 32 → offset ≤ total → (g : Grab) →
     Takes (total - offset + tail T) end g → Sound T end (last_piece T path total offset g)
@@ -117,55 +116,55 @@ octets_keeps path bound n at s =
 single_keeps : (T : Ty) (path : List Seg) (scalar : Scalar) (n : ℕ) → Keeps T (single path scalar n)
 single_keeps T path scalar n at s = sound_unless T (at + length s) _ (wrong scalar n) at _ refl
 
-selected_keeps : (order : Order) (path : List Seg) (T : Ty) (selected : Selected) → ((i : ℕ) → selected ≡ Case i → HasCase T i) →
-    ((i : ℕ) → HasCase T i → Keeps (part_of T i) (read order (inner_path path T i) (part_of T i))) →
-    Keeps T (member selected (λ i at s. within (Member T i) (read order (inner_path path T i) (part_of T i) at s)))
-selected_keeps order path T (Case i) kind each at s =
-    sound_member T (at + length s) i (read order (inner_path path T i) (part_of T i) at s) (kind i refl) (each i (kind i refl) at s)
-selected_keeps order path T Nothing kind each at s = refl
-selected_keeps order path T Refused kind each at s = refl
+selected_keeps : (coding : Coding) (path : List Seg) (T : Ty) (selected : Selected) → ((i : ℕ) → selected ≡ Case i → HasCase T i) →
+    ((i : ℕ) → HasCase T i → Keeps (part_of T i) (read coding (inner_path path T i) (part_of T i))) →
+    Keeps T (member selected (λ i at s. within (Member T i) (read coding (inner_path path T i) (part_of T i) at s)))
+selected_keeps coding path T (Case i) kind each at s =
+    sound_member T (at + length s) i (read coding (inner_path path T i) (part_of T i) at s) (kind i refl) (each i (kind i refl) at s)
+selected_keeps coding path T Nothing kind each at s = refl
+selected_keeps coding path T Refused kind each at s = refl
 
 -- what follows a number, where the parts' readings keep
-pub elements_keep : (order : Order) (path : List Seg) (bound : Option ℕ) (T : Ty) (n : ℕ) → ((i : ℕ) → Keeps T (read order (path ++ Index i ∷ []) T)) →
-    Keeps (Sequence bound T) (after order path (Sequence bound T) n)
-elements_keep order path bound T n each at s = sound_unless (Sequence bound T) (at + length s) _ (over bound n) at _
+pub elements_keep : (coding : Coding) (path : List Seg) (bound : Option ℕ) (T : Ty) (n : ℕ) → ((i : ℕ) → Keeps T (read coding (path ++ Index i ∷ []) T)) →
+    Keeps (Sequence bound T) (after coding path (Sequence bound T) n)
+elements_keep coding path bound T n each at s = sound_unless (Sequence bound T) (at + length s) _ (over bound n) at _
     (sound_front (Sequence bound T) (at + length s) (line at path (Count n) ∷ []) _
-    (parts_keep order path (Sequence bound T) n tt (λ i below. each i) n 0 (omega arith) at s))
+    (parts_keep coding path (Sequence bound T) n tt (λ i below. each i) n 0 (omega arith) at s))
 
-pub cases_keep : (order : Order) (path : List Seg) (count : ℕ) (scalar : Scalar) (select : ℕ → Selected) (names : ℕ → List ℕ) (cases : ℕ → Ty) (n : ℕ) →
-    SelectsBelow count select → ((i : ℕ) → i < count → Keeps (cases i) (read order (path ++ Name (names i) ∷ []) (cases i))) →
-    Keeps (Union count scalar select names cases) (after order path (Union count scalar select names cases) n)
-cases_keep order path count scalar select names cases n below each at s =
+pub cases_keep : (coding : Coding) (path : List Seg) (count : ℕ) (scalar : Scalar) (select : ℕ → Selected) (names : ℕ → List ℕ) (cases : ℕ → Ty) (n : ℕ) →
+    SelectsBelow count select → ((i : ℕ) → i < count → Keeps (cases i) (read coding (path ++ Name (names i) ∷ []) (cases i))) →
+    Keeps (Union count scalar select names cases) (after coding path (Union count scalar select names cases) n)
+cases_keep coding path count scalar select names cases n below each at s =
     let T = Union count scalar select names cases in
     sound_unless T (at + length s) T (wrong scalar n) at _
     (sound_unless T (at + length s) T (refused (select n)) at _
     (sound_front T (at + length s) (line at (path ++ Switch ∷ []) (Spine.Number scalar n) ∷ []) _
-    (selected_keeps order path T (select n) (λ i e. below n i e) each at s)))
+    (selected_keeps coding path T (select n) (λ i e. below n i e) each at s)))
 
-pub read_keeps : (d : ℕ) (order : Order) (path : List Seg) (T : Ty) → IsFit d T → Keeps T (read order path T)
+pub read_keeps : (d : ℕ) (coding : Coding) (path : List Seg) (T : Ty) → IsFit d T → Keeps T (read coding path T)
 unfolding IsFit
-read_keeps zero order path T fit = absurd fit
-read_keeps (suc d) order path (Single scalar) fit = headed_keeps order path (Single scalar) tt (width_pos scalar) (λ n. single_keeps (Single scalar) path scalar n)
-read_keeps (suc d) order path (Text bound) fit = headed_keeps order path (Text bound) tt (lit< tt) (λ n. text_keeps path bound n)
-read_keeps (suc d) order path (Octets bound) fit = headed_keeps order path (Octets bound) tt (lit< tt) (λ n. octets_keeps path bound n)
-read_keeps (suc d) order path (Struct count names parts) fit =
-    parts_keep order path (Struct count names parts) count refl (λ i below. read_keeps d order (path ++ Name (names i) ∷ []) (parts i) (fit.1 i below)) count 0 (omega arith)
-read_keeps (suc d) order path (Array count T) fit =
-    parts_keep order path (Array count T) count refl (λ i below. read_keeps d order (path ++ Index i ∷ []) T fit.1) count 0 (omega arith)
-read_keeps (suc d) order path (Sequence bound T) fit =
-    headed_keeps order path (Sequence bound T) tt (lit< tt) (λ n. elements_keep order path bound T n (λ i. read_keeps d order (path ++ Index i ∷ []) T fit))
-read_keeps (suc d) order path (Union count scalar select names cases) fit =
-    headed_keeps order path (Union count scalar select names cases) tt (width_pos scalar) (λ n. cases_keep order path count scalar select names cases n fit.0
-    (λ i below. read_keeps d order (path ++ Name (names i) ∷ []) (cases i) (fit.1 i below)))
+read_keeps zero coding path T fit = absurd fit
+read_keeps (suc d) coding path (Single scalar) fit = headed_keeps coding path (Single scalar) tt (width_pos scalar) (λ n. single_keeps (Single scalar) path scalar n)
+read_keeps (suc d) coding path (Text bound) fit = headed_keeps coding path (Text bound) tt (lit< tt) (λ n. text_keeps path bound n)
+read_keeps (suc d) coding path (Octets bound) fit = headed_keeps coding path (Octets bound) tt (lit< tt) (λ n. octets_keeps path bound n)
+read_keeps (suc d) coding path (Struct count names parts) fit =
+    parts_keep coding path (Struct count names parts) count refl (λ i below. read_keeps d coding (path ++ Name (names i) ∷ []) (parts i) (fit.1 i below)) count 0 (omega arith)
+read_keeps (suc d) coding path (Array count T) fit =
+    parts_keep coding path (Array count T) count refl (λ i below. read_keeps d coding (path ++ Index i ∷ []) T fit.1) count 0 (omega arith)
+read_keeps (suc d) coding path (Sequence bound T) fit =
+    headed_keeps coding path (Sequence bound T) tt (lit< tt) (λ n. elements_keep coding path bound T n (λ i. read_keeps d coding (path ++ Index i ∷ []) T fit))
+read_keeps (suc d) coding path (Union count scalar select names cases) fit =
+    headed_keeps coding path (Union count scalar select names cases) tt (width_pos scalar) (λ n. cases_keep coding path count scalar select names cases n fit.0
+    (λ i below. read_keeps d coding (path ++ Name (names i) ∷ []) (cases i) (fit.1 i below)))
 
-pub after_keeps : (d : ℕ) (order : Order) (path : List Seg) (T : Ty) (n : ℕ) → IsFit d T → Keeps T (after order path T n)
+pub after_keeps : (d : ℕ) (coding : Coding) (path : List Seg) (T : Ty) (n : ℕ) → IsFit d T → Keeps T (after coding path T n)
 unfolding IsFit
-after_keeps zero order path T n fit = absurd fit
-after_keeps (suc d) order path (Single scalar) n fit = single_keeps (Single scalar) path scalar n
-after_keeps (suc d) order path (Text bound) n fit = text_keeps path bound n
-after_keeps (suc d) order path (Octets bound) n fit = octets_keeps path bound n
-after_keeps (suc d) order path (Struct count names parts) n fit = λ at s. refl
-after_keeps (suc d) order path (Array count T) n fit = λ at s. refl
-after_keeps (suc d) order path (Sequence bound T) n fit = elements_keep order path bound T n (λ i. read_keeps d order (path ++ Index i ∷ []) T fit)
-after_keeps (suc d) order path (Union count scalar select names cases) n fit =
-    cases_keep order path count scalar select names cases n fit.0 (λ i below. read_keeps d order (path ++ Name (names i) ∷ []) (cases i) (fit.1 i below))
+after_keeps zero coding path T n fit = absurd fit
+after_keeps (suc d) coding path (Single scalar) n fit = single_keeps (Single scalar) path scalar n
+after_keeps (suc d) coding path (Text bound) n fit = text_keeps path bound n
+after_keeps (suc d) coding path (Octets bound) n fit = octets_keeps path bound n
+after_keeps (suc d) coding path (Struct count names parts) n fit = λ at s. refl
+after_keeps (suc d) coding path (Array count T) n fit = λ at s. refl
+after_keeps (suc d) coding path (Sequence bound T) n fit = elements_keep coding path bound T n (λ i. read_keeps d coding (path ++ Index i ∷ []) T fit)
+after_keeps (suc d) coding path (Union count scalar select names cases) n fit =
+    cases_keep coding path count scalar select names cases n fit.0 (λ i below. read_keeps d coding (path ++ Name (names i) ∷ []) (cases i) (fit.1 i below))

@@ -8,7 +8,7 @@ use Rattle.giop_decode.specs.Fits.{Sound}
 use Rattle.giop_decode.specs.Heard.{nothing}
 use Rattle.giop_decode.specs.Holding.{Fits, Reads, Recalls, standing_in}
 use Rattle.giop_decode.specs.Reading.{read}
-use Rattle.giop_decode.specs.Spine.{Head, Short}
+use Rattle.giop_decode.specs.Spine.{plain, Head, Short}
 use Rattle.giop_decode.specs.Turns.{places, AreKnown, Link}
 use Rattle.giop_decode.proofs.Around.{read_none}
 use Rattle.giop_decode.proofs.Hearing.{minds_by}
@@ -29,7 +29,7 @@ module _ (C : Table) (T : Ty) (order : Order) (at message : ℕ) (root : Root) (
       by_type (Struct zero names parts) e = record {
         lines = [];
         is = sym (ap (λ l. standing_in C d l [] (at + 0)) none ∙ rw (add-zero at) refl);
-        minds = minds_by root d (read order [] (Struct zero names parts) at []) (λ asked. recalls);
+        minds = minds_by root d (read (plain order) [] (Struct zero names parts) at []) (λ asked. recalls);
         same_order = same_order;
         same_message = same_message;
         same_root = same_root;
@@ -47,11 +47,11 @@ module _ (C : Table) (T : Ty) (order : Order) (at message : ℕ) (root : Root) (
   pub first_reads : (first : TypeId) → IsFit 24 T → d.leaf ≡ Some (innermost.Number first) → d.carry ≡ [] → places C d.outer.items ≡ start_outer T → start_leaf T ≡ Head (tree C first.0) [] →
       Recalls d.memory nothing → d.order ≡ order → d.message ≡ message → d.root ≡ root → d.at ≡ at % 8 → Reads C T order at message root d []
   first_reads first fit goes_on empty are leaf recalls same_order same_message same_root offset =
-      let none : read order [] T at [] ≡ Short [] at (start_outer T) (Head (tree C first.0) []) = read_none order [] 24 T at fit ∙ ap (Short [] at (start_outer T)) leaf in
+      let none : read (plain order) [] T at [] ≡ Short [] at (start_outer T) (Head (tree C first.0) []) = read_none (plain order) [] 24 T at fit ∙ ap (Short [] at (start_outer T)) leaf in
       record {
         lines = [];
         is = none ∙ sym (ap (λ l. standing_in C d l [] (at + 0)) goes_on ∙ rw (add-zero at, are, empty) refl);
-        minds = minds_by root d (read order [] T at []) (λ asked. rw none recalls);
+        minds = minds_by root d (read (plain order) [] T at []) (λ asked. rw none recalls);
         same_order = same_order;
         same_message = same_message;
         same_root = same_root;
@@ -64,7 +64,7 @@ pub first_fits : (C : Table) (of : ℕ) (d : Decoder) (first : TypeId) → of < 
 first_fits C of d first known_root fit goes_on empty none are leaf link known_outer known at =
     let T = tree C of in
     let sound : Sound T (0 + 0) (Short [] 0 (start_outer T) (start_leaf T)) =
-    subst (Sound T (0 + 0)) (read_none d.order [] 24 T 0 fit) (read_keeps 24 d.order [] T fit 0 []) in
+    subst (Sound T (0 + 0)) (read_none (plain d.order) [] 24 T 0 fit) (read_keeps 24 (plain d.order) [] T fit 0 []) in
     record {
       leaf = innermost.Number first;
       goes_on = goes_on;

@@ -10,7 +10,7 @@ use Rattle.giop_decode.specs.Heard.{is_header_root, names_operation}
 use Rattle.giop_decode.specs.Holding.{Fits, Reads, Takes, Minds, IsAnswer, IsFault, IsDone, due, standing, standing_in}
 use Rattle.giop_decode.specs.Moves.{stepped, leaf_in, Comes, progressed}
 use Rattle.giop_decode.specs.Reading.{read}
-use Rattle.giop_decode.specs.Spine.{Line, Read, Short, lines_of, with_front}
+use Rattle.giop_decode.specs.Spine.{plain, Line, Read, Short, lines_of, with_front}
 use Rattle.giop_decode.specs.Steps.{step, advance}
 use Rattle.giop_decode.specs.Turns.{places, leaf_of}
 use Rattle.giop_decode.proofs.Law.{read_goes, length_one_more}
@@ -55,22 +55,22 @@ done C d (progress.Fault kind) at r c e = cc
 
 -- one octet more is one step on the decoder's fields
 pub read_more : (C : Table) (T : Ty) (order : Order) (at message : ℕ) (root : Root) (d : Decoder) (s : List ℕ) (b : ℕ) → Fits C d → (r : Reads C T order at message root d s) →
-    read order [] T at (s ++ b ∷ []) ≡ with_front r.lines (stepped C d (at + length s) b)
+    read (plain order) [] T at (s ++ b ∷ []) ≡ with_front r.lines (stepped C d (at + length s) b)
 read_more C T order at message root d s b f r =
     let here = at + length s in
     let stands : standing C d r.lines here ≡ Short r.lines here (places C d.outer.items) (leaf_of C f.leaf d.carry d.piece.items) = ap (λ l. standing_in C d l r.lines here) f.goes_on in
-    let steps : step d.order [] (places C d.outer.items) (leaf_of C f.leaf d.carry d.piece.items) here b ≡ stepped C d here b =
-    ap (λ l. step d.order [] (places C d.outer.items) (leaf_in C d l) here b) (sym f.goes_on) in
-    read_goes order [] T at s b
-    ∙ (ap (λ x. advance order [] x b) (r.is ∙ stands)
-    ∙ (ap (λ o. with_front r.lines (step o [] (places C d.outer.items) (leaf_of C f.leaf d.carry d.piece.items) here b)) (sym r.same_order) ∙ ap (with_front r.lines) steps))
+    let steps : step (plain d.order) [] (places C d.outer.items) (leaf_of C f.leaf d.carry d.piece.items) here b ≡ stepped C d here b =
+    ap (λ l. step (plain d.order) [] (places C d.outer.items) (leaf_in C d l) here b) (sym f.goes_on) in
+    read_goes (plain order) [] T at s b
+    ∙ (ap (λ x. advance (plain order) [] x b) (r.is ∙ stands)
+    ∙ (ap (λ o. with_front r.lines (step (plain o) [] (places C d.outer.items) (leaf_of C f.leaf d.carry d.piece.items) here b)) (sym r.same_order) ∙ ap (with_front r.lines) steps))
 
 pub due_is : (C : Table) (T : Ty) (order : Order) (at message : ℕ) (root : Root) (d : Decoder) (s : List ℕ) (b : ℕ) → Fits C d → (r : Reads C T order at message root d s) →
     due order T at s b ≡ lines_of (stepped C d (at + length s) b)
 due_is C T order at message root d s b f r =
     let st = stepped C d (at + length s) b in
-    let old : lines_of (read order [] T at s) ≡ r.lines = ap lines_of r.is ∙ lines_standing C d d.leaf r.lines (at + length s) in
-    let new : lines_of (read order [] T at (s ++ b ∷ [])) ≡ r.lines ++ lines_of st = ap lines_of (read_more C T order at message root d s b f r) ∙ lines_front r.lines st in
+    let old : lines_of (read (plain order) [] T at s) ≡ r.lines = ap lines_of r.is ∙ lines_standing C d d.leaf r.lines (at + length s) in
+    let new : lines_of (read (plain order) [] T at (s ++ b ∷ [])) ≡ r.lines ++ lines_of st = ap lines_of (read_more C T order at message root d s b f r) ∙ lines_front r.lines st in
     rw (old, new) (drop-append_seam r.lines (lines_of st))
 
 module _ (C : Table) (T : Ty) (order : Order) (at message : ℕ) (root : Root) (old new : Decoder) (s : List ℕ) (b : ℕ) (p : Progress) where
@@ -86,7 +86,7 @@ module _ (C : Table) (T : Ty) (order : Order) (at message : ℕ) (root : Root) (
       let end : here + 1 ≡ at + length (s ++ b ∷ []) = omega (arith, length_one_more s b) in
       let named : names_operation (is_header_root new.root) c.0 ≡ names_operation (is_header_root root) (due order T at s b) =
       rw (due_is C T order at message root old s b f r, lines_progressed C new _ p c.0 (here + 1) st c.1, same_root, r.same_root) refl in
-      let minds : Minds root new (read order [] T at (s ++ b ∷ [])) =
+      let minds : Minds root new (read (plain order) [] T at (s ++ b ∷ [])) =
       rw more (subst (λ k. Minds k new (with_front r.lines st)) r.same_root
       (hears here r.lines (sym r.offset) (subst (λ k. Minds k old (standing C old r.lines here)) (sym r.same_root) (rw r.is at r.minds)))) in
       record {

@@ -13,7 +13,7 @@ use Rattle.giop_decode.specs.declared.leaf.Turn.TheVariants as turns
 use Rattle.giop_decode.specs.declared.progress.Kind.TheVariants as kinds
 use Rattle.giop_decode.specs.declared.leaf.Spoken.TheVariants as spokens
 use Rattle.giop_decode.specs.Spine
-use Rattle.giop_decode.specs.Spine.{Seg, Switch, line, Count, Piece, Part, Member, Content, Done, Short, with_front, within}
+use Rattle.giop_decode.specs.Spine.{Coding, Seg, Switch, line, Count, Piece, Part, Member, Content, Done, Short, with_front, within}
 use Rattle.giop_decode.specs.Pieces.{over, full_pieces, tail, content}
 use Rattle.giop_decode.specs.Reading.{wrong}
 use Rattle.giop_decode.specs.Steps.{inner_path, after, head_width}
@@ -81,33 +81,33 @@ number_switch T p order octets number u is taken whole are = number_prim (switch
 abbrev pub number_enum : (T : Ty) (count : ℕ) (names : ℕ → List ℕ) (n : ℕ) → T ≡ Single (Enum count names) → n < count → n < 256 ^ 4 → IsNumberOf T (numbers.Unsigned n)
 number_enum T count names n is below within = record { scalar = Enum count names; n = n; is = is; right = rw lt-ltb refl; taken = refl; within = within }
 
-module _ (C : Table) (order : Order) (path : List Seg) (T : Ty) (at : ℕ) where
-  pub turns_number : (number : Taken) (is : IsNumberOf T number) → Turns C T turns.Ended (spokens.Number number) [] [] path at (after order path T is.n at [])
+module _ (C : Table) (coding : Coding) (path : List Seg) (T : Ty) (at : ℕ) where
+  pub turns_number : (number : Taken) (is : IsNumberOf T number) → Turns C T turns.Ended (spokens.Number number) [] [] path at (after coding path T is.n at [])
   turns_number number is = record {
     lines = line at path (Spine.Number is.scalar is.n) ∷ [];
     comes = rw (is.is, is.right) refl;
     says = (is, refl);
   }
 
-  pub text_open : (bound : Option ℕ) (n : ℕ) → T ≡ Text bound → over bound n ≡ over_by false → after order path T (suc n) at [] ≡ Short [] at [] (Content T n 0 [])
+  pub text_open : (bound : Option ℕ) (n : ℕ) → T ≡ Text bound → over bound n ≡ over_by false → after coding path T (suc n) at [] ≡ Short [] at [] (Content T n 0 [])
   text_open bound n is ok = rw (is, ok) (content_none path (Text bound) n (full_pieces n) 0 at (omega arith))
 
-  pub octets_empty : (bound : Option ℕ) (n : ℕ) → T ≡ Octets bound → over bound n ≡ over_by false → n ≡ 0 → after order path T n at [] ≡ Done (line at path (Piece T 0 [] false) ∷ []) at []
+  pub octets_empty : (bound : Option ℕ) (n : ℕ) → T ≡ Octets bound → over bound n ≡ over_by false → n ≡ 0 → after coding path T n at [] ≡ Done (line at path (Piece T 0 [] false) ∷ []) at []
   octets_empty bound n is ok none = rw (none, is, rw none at ok, block_got 0 at [] (omega arith), add-zero) refl
 
-  pub octets_open : (bound : Option ℕ) (n : ℕ) → T ≡ Octets bound → over bound n ≡ over_by false → 0 < n → after order path T n at [] ≡ Short [] at [] (Content T n 0 [])
+  pub octets_open : (bound : Option ℕ) (n : ℕ) → T ≡ Octets bound → over bound n ≡ over_by false → 0 < n → after coding path T n at [] ≡ Short [] at [] (Content T n 0 [])
   octets_open bound n is ok pos = rw (is, ok) (content_none path (Octets bound) n (full_pieces n) 0 at (omega arith))
 
-  pub sequence_empty : (bound : Option ℕ) (E : Ty) (n : ℕ) → T ≡ Sequence bound E → over bound n ≡ over_by false → n ≡ 0 → after order path T n at [] ≡ Done (line at path (Count n) ∷ []) at []
+  pub sequence_empty : (bound : Option ℕ) (E : Ty) (n : ℕ) → T ≡ Sequence bound E → over bound n ≡ over_by false → n ≡ 0 → after coding path T n at [] ≡ Done (line at path (Count n) ∷ []) at []
   sequence_empty bound E n is ok none = rw (is, ok, none) refl
 
   pub sequence_open : (d : ℕ) (bound : Option ℕ) (E : Ty) (n : ℕ) → IsFit d T → T ≡ Sequence bound E → over bound n ≡ over_by false → 0 < n →
-      after order path T n at [] ≡ Short (line at path (Count n) ∷ []) at (Part T 0 n ∷ start_outer (part_of T 0)) (start_leaf (part_of T 0))
+      after coding path T n at [] ≡ Short (line at path (Count n) ∷ []) at (Part T 0 n ∷ start_outer (part_of T 0)) (start_leaf (part_of T 0))
   unfolding IsFit
   sequence_open zero bound E n fit is ok pos = absurd fit
   sequence_open (suc d) bound E zero fit is ok pos = absurd (omega arith)
   sequence_open (suc d) bound E (suc n) fit is ok pos =
-      rw (is, ok) (ap (with_front (line at path (Count (suc n)) ∷ [])) (first_part order path (Sequence bound E) (suc n) n 0 at (read_none order (inner_path path (Sequence bound E) 0) d E at (rw is at fit))))
+      rw (is, ok) (ap (with_front (line at path (Count (suc n)) ∷ [])) (first_part coding path (Sequence bound E) (suc n) n 0 at (read_none coding (inner_path path (Sequence bound E) 0) d E at (rw is at fit))))
 
 pub member_case : (T : Ty) (i : ℕ) → IsUnion (shape_in T) → HasMember (shape_in T) i → HasCase T i
 member_case (Union n scalar select names cases) i u h = h
@@ -120,9 +120,9 @@ member_case (Text bound) i u h = absurd u
 member_case (Octets bound) i u h = absurd u
 
 -- a union behind a discriminator that is a value
-module _ (C : Table) (order : Order) (path : List Seg) (at : ℕ) (number : Taken) where
+module _ (C : Table) (coding : Coding) (path : List Seg) (at : ℕ) (number : Taken) where
   pub turns_case : (d : ℕ) (T : Ty) (i : ℕ) (is : IsNumberOf (switch_of T) number) → IsFit d T → IsUnion (shape_in T) → select_in T is.n ≡ Case i → HasCase T i →
-      Turns C T (turns.Selected i) (spokens.Switch number) [] [] path at (after order path T is.n at [])
+      Turns C T (turns.Selected i) (spokens.Switch number) [] [] path at (after coding path T is.n at [])
   unfolding IsFit
   turns_case zero T i is fit u e h = absurd fit
   turns_case (suc d) (Union n scalar select names cases) i is fit u e h =
@@ -130,7 +130,7 @@ module _ (C : Table) (order : Order) (path : List Seg) (at : ℕ) (number : Take
       let w : wrong scalar is.n ≡ None = rw s is.right in
       record {
         lines = line at (path ++ Switch ∷ []) (Spine.Number is.scalar is.n) ∷ [];
-        comes = rw (w, e, read_none order (inner_path path (Union n scalar select names cases) i) d (cases i) at (fit.1 i h)) (ap (λ k. Short (line at (path ++ Switch ∷ []) (Spine.Number k is.n) ∷ []) at
+        comes = rw (w, e, read_none coding (inner_path path (Union n scalar select names cases) i) d (cases i) at (fit.1 i h)) (ap (λ k. Short (line at (path ++ Switch ∷ []) (Spine.Number k is.n) ∷ []) at
             (Member (Union n scalar select names cases) i ∷ start_outer (cases i)) (start_leaf (cases i))) s);
         says = (is, refl);
       }
@@ -143,7 +143,7 @@ module _ (C : Table) (order : Order) (path : List Seg) (at : ℕ) (number : Take
   turns_case (suc d) (Octets bound) i is fit u e h = absurd u
 
   pub turns_nothing : (T : Ty) (is : IsNumberOf (switch_of T) number) → IsUnion (shape_in T) → select_in T is.n ≡ Nothing →
-      Turns C T turns.Ended (spokens.Switch number) [] [] path at (after order path T is.n at [])
+      Turns C T turns.Ended (spokens.Switch number) [] [] path at (after coding path T is.n at [])
   turns_nothing (Union n scalar select names cases) is u e =
       let s : scalar ≡ is.scalar = same_scalar scalar is.scalar is.is in
       let w : wrong scalar is.n ≡ None = rw s is.right in
@@ -161,7 +161,7 @@ module _ (C : Table) (order : Order) (path : List Seg) (at : ℕ) (number : Take
   turns_nothing (Octets bound) is u e = absurd u
 
   pub turns_refused : (T : Ty) (is : IsNumberOf (switch_of T) number) → IsUnion (shape_in T) → select_in T is.n ≡ Refused →
-      Turns C T (turns.Refused kinds.Disposition) spokens.Nothing [] [] path at (after order path T is.n at [])
+      Turns C T (turns.Refused kinds.Disposition) spokens.Nothing [] [] path at (after coding path T is.n at [])
   turns_refused (Union n scalar select names cases) is u e =
       let s : scalar ≡ is.scalar = same_scalar scalar is.scalar is.is in
       let w : wrong scalar is.n ≡ None = rw s is.right in

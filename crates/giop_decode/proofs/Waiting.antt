@@ -1,14 +1,13 @@
 -- An octet that only adds to what is held.
 use Rattle.std.proofs.Common.{◌≡◌, ℕ, ◌+◌, ◌%◌, List, [], Some, refl, sym, ◌∙◌, ap, subst, append-nil}
 use Rattle.arrayvec.specs.ArrayVec.{ArrayVec}
-use Rattle.giop_cdr.specs.declared.order.Order.{Order}
 use Rattle.giop_decode.specs.declared.decoder.Decoder.{Decoder}
 use Rattle.giop_decode.specs.declared.leaf.Leaf.{Leaf as Innermost}
 use Rattle.giop_decode.specs.declared.progress.Progress.TheVariants as progress
 use Rattle.giop_decode.specs.Heard.{heard_of, is_header_root}
 use Rattle.giop_decode.specs.Holding.{Fits, Minds, Recalls, standing, standing_in}
 use Rattle.giop_decode.specs.Moves.{stepped, leaf_in, Comes}
-use Rattle.giop_decode.specs.Spine.{Line, Seg, Short, with_front}
+use Rattle.giop_decode.specs.Spine.{plain, Line, Seg, Short, with_front}
 use Rattle.giop_decode.specs.Steps.{around, leaf_step, path_in, step}
 use Rattle.giop_decode.specs.Turns.{places, leaf_of, IsClean}
 use Rattle.giop_decode.proofs.Advancing.{same_some, step_fits}
@@ -33,17 +32,17 @@ held_in d carry piece at = record {
 
 -- the octet leaves the innermost part at its place, with what is now held
 abbrev pub Holds : Table → Decoder → Decoder → Innermost → ℕ → ℕ → Type 0
-Holds C d new leaf here octet = (order : Order) (path : List Seg) →
-    leaf_step order path (leaf_of C leaf d.carry d.piece.items) here octet ≡ Short [] (here + 1) [] (leaf_of C leaf new.carry new.piece.items)
+Holds C d new leaf here octet = (path : List Seg) →
+    leaf_step (plain d.order) path (leaf_of C leaf d.carry d.piece.items) here octet ≡ Short [] (here + 1) [] (leaf_of C leaf new.carry new.piece.items)
 
 module _ (C : Table) (d new : Decoder) (leaf : Innermost) (octet : ℕ) where
   pub step_held : (here : ℕ) → d.leaf ≡ Some leaf → new.leaf ≡ Some leaf → new.outer ≡ d.outer → Holds C d new leaf here octet →
       stepped C d here octet ≡ Short [] (here + 1) (places C new.outer.items) (leaf_of C leaf new.carry new.piece.items)
   step_held here e e' same holds =
       let ps = places C d.outer.items in
-      ap (λ l. step d.order [] ps (leaf_in C d l) here octet) e
-      ∙ (ap (around d.order [] ps) (holds d.order (path_in [] ps))
-      ∙ (around_more d.order [] ps [] (here + 1) (leaf_of C leaf new.carry new.piece.items)
+      ap (λ l. step (plain d.order) [] ps (leaf_in C d l) here octet) e
+      ∙ (ap (around (plain d.order) [] ps) (holds (path_in [] ps))
+      ∙ (around_more (plain d.order) [] ps [] (here + 1) (leaf_of C leaf new.carry new.piece.items)
       ∙ ap (λ (o : _). Short [] (here + 1) (places C o.items) (leaf_of C leaf new.carry new.piece.items)) (sym same)))
 
   held_stands : (here : ℕ) → d.leaf ≡ Some leaf → new.leaf ≡ Some leaf → new.outer ≡ d.outer → Holds C d new leaf here octet → stepped C d here octet ≡ standing C new [] (here + 1)

@@ -8,12 +8,11 @@ use Rattle.std.proofs.lemmas.List.{length-take-le, take_at}
 use Rattle.std.proofs.lemmas.List.Elements.{filter_map-append}
 use Rattle.std.proofs.Math.Seq.{drop-append_seam}
 use Rattle.giop_cdr.specs.Numbers.{num}
-use Rattle.giop_cdr.specs.declared.order.Order.{Order}
 use Rattle.giop_decode.specs.Heard.{in_string}
 use Rattle.giop_decode.specs.Memories.{piece, text_of, text_pieces, cut_from, pieces_of, Strings}
 use Rattle.giop_decode.specs.Pieces.{Got, Grab, Waiting, block, content, ends, full_piece, full_pieces, last_piece, number, octets, over, text, unless}
 use Rattle.giop_decode.specs.Reading.{headed, member, parts_from, read, refused, single, wrong}
-use Rattle.giop_decode.specs.Spine.{Count, Done, Fault, Index, Line, Member, Name, Number, Part, Piece, Place, Read, Seg, Short, Switch, followed, line, with_front, within, lines_of}
+use Rattle.giop_decode.specs.Spine.{Coding, Count, Done, Fault, Index, Line, Member, Name, Number, Part, Piece, Place, Read, Seg, Short, Switch, followed, line, with_front, within, lines_of}
 use Rattle.giop_decode.specs.declared.progress.Kind.{Kind}
 use Rattle.giop_sig.specs.Types.{Array, Octets, Scalar, Sequence, Single, Struct, Text, Ty, Union, width}
 use Rattle.giop_sig.specs.declared.types.Selected.{Selected}
@@ -183,36 +182,36 @@ member_strings Nothing case h at s = no_strings (Done [] at s) refl
 member_strings Refused case h at s = no_strings (Done [] at s) refl
 
 -- The strings of any reading.
-pub read_strings : (order : Order) (path : List Seg) (T : Ty) (at : ℕ) (s : List ℕ) →
-    Strings (read order path T at s)
-read_strings order path (Single scalar) at s =
-    headed_strings (Single scalar) (λ xs at rest. single path scalar (num order xs) at rest) (λ xs at rest. single_strings path scalar (num order xs) at rest) (number (width scalar) at s)
-read_strings order path (Text bound) at s =
-    headed_strings (Text bound) (λ xs at rest. text bound path (num order xs) at rest) (λ xs at rest. text_strings bound path (num order xs) at rest) (number 4 at s)
-read_strings order path (Octets bound) at s =
-    headed_strings (Octets bound) (λ xs at rest. octets bound path (num order xs) at rest) (λ xs at rest. octets_strings bound path (num order xs) at rest) (number 4 at s)
-read_strings order path (Struct count names parts) at s =
-    parts_strings (λ i at s. within (Part (Struct count names parts) i count) (read order (path ++ Name (names i) ∷ []) (parts i) at s))
-    (λ i at s. within_strings (Part (Struct count names parts) i count) (read order (path ++ Name (names i) ∷ []) (parts i) at s) (read_strings order (path ++ Name (names i) ∷ []) (parts i) at s)) count 0 at s
-read_strings order path (Array count T) at s =
-    parts_strings (λ i at s. within (Part (Array count T) i count) (read order (path ++ Index i ∷ []) T at s))
-    (λ i at s. within_strings (Part (Array count T) i count) (read order (path ++ Index i ∷ []) T at s) (read_strings order (path ++ Index i ∷ []) T at s)) count 0 at s
-read_strings order path (Sequence bound T) at s =
+pub read_strings : (coding : Coding) (path : List Seg) (T : Ty) (at : ℕ) (s : List ℕ) →
+    Strings (read coding path T at s)
+read_strings coding path (Single scalar) at s =
+    headed_strings (Single scalar) (λ xs at rest. single path scalar (num coding.order xs) at rest) (λ xs at rest. single_strings path scalar (num coding.order xs) at rest) (number coding.origin (width scalar) at s)
+read_strings coding path (Text bound) at s =
+    headed_strings (Text bound) (λ xs at rest. text bound path (num coding.order xs) at rest) (λ xs at rest. text_strings bound path (num coding.order xs) at rest) (number coding.origin 4 at s)
+read_strings coding path (Octets bound) at s =
+    headed_strings (Octets bound) (λ xs at rest. octets bound path (num coding.order xs) at rest) (λ xs at rest. octets_strings bound path (num coding.order xs) at rest) (number coding.origin 4 at s)
+read_strings coding path (Struct count names parts) at s =
+    parts_strings (λ i at s. within (Part (Struct count names parts) i count) (read coding (path ++ Name (names i) ∷ []) (parts i) at s))
+    (λ i at s. within_strings (Part (Struct count names parts) i count) (read coding (path ++ Name (names i) ∷ []) (parts i) at s) (read_strings coding (path ++ Name (names i) ∷ []) (parts i) at s)) count 0 at s
+read_strings coding path (Array count T) at s =
+    parts_strings (λ i at s. within (Part (Array count T) i count) (read coding (path ++ Index i ∷ []) T at s))
+    (λ i at s. within_strings (Part (Array count T) i count) (read coding (path ++ Index i ∷ []) T at s) (read_strings coding (path ++ Index i ∷ []) T at s)) count 0 at s
+read_strings coding path (Sequence bound T) at s =
     headed_strings (Sequence bound T) _ (λ xs at rest.
-    let elements = parts_from (λ i at s. within (Part (Sequence bound T) i (num order xs)) (read order (path ++ Index i ∷ []) T at s)) (num order xs) 0 at rest in
-    unless_strings (Sequence bound T) (over bound (num order xs)) at (with_front (line at path (Count (num order xs)) ∷ []) elements)
-    (then_strings (line at path (Count (num order xs)) ∷ []) elements refl
-    (parts_strings (λ i at s. within (Part (Sequence bound T) i (num order xs)) (read order (path ++ Index i ∷ []) T at s))
-    (λ i at s. within_strings (Part (Sequence bound T) i (num order xs)) (read order (path ++ Index i ∷ []) T at s) (read_strings order (path ++ Index i ∷ []) T at s)) (num order xs) 0 at rest)))
-    (number 4 at s)
-read_strings order path (Union count scalar select names cases) at s =
+    let elements = parts_from (λ i at s. within (Part (Sequence bound T) i (num coding.order xs)) (read coding (path ++ Index i ∷ []) T at s)) (num coding.order xs) 0 at rest in
+    unless_strings (Sequence bound T) (over bound (num coding.order xs)) at (with_front (line at path (Count (num coding.order xs)) ∷ []) elements)
+    (then_strings (line at path (Count (num coding.order xs)) ∷ []) elements refl
+    (parts_strings (λ i at s. within (Part (Sequence bound T) i (num coding.order xs)) (read coding (path ++ Index i ∷ []) T at s))
+    (λ i at s. within_strings (Part (Sequence bound T) i (num coding.order xs)) (read coding (path ++ Index i ∷ []) T at s) (read_strings coding (path ++ Index i ∷ []) T at s)) (num coding.order xs) 0 at rest)))
+    (number coding.origin 4 at s)
+read_strings coding path (Union count scalar select names cases) at s =
     headed_strings (Union count scalar select names cases) _ (λ xs at rest.
     let T = Union count scalar select names cases in
-    let n = num order xs in
-    let case : ℕ → ℕ → List ℕ → Read = λ i at s. within (Member T i) (read order (path ++ Name (names i) ∷ []) (cases i) at s) in
+    let n = num coding.order xs in
+    let case : ℕ → ℕ → List ℕ → Read = λ i at s. within (Member T i) (read coding (path ++ Name (names i) ∷ []) (cases i) at s) in
     let front : List Line = line at (path ++ Switch ∷ []) (Number scalar n) ∷ [] in
     unless_strings T (wrong scalar n) at (unless T (refused (select n)) at (with_front front (member (select n) case at rest)))
     (unless_strings T (refused (select n)) at (with_front front (member (select n) case at rest))
     (then_strings front (member (select n) case at rest) refl
-    (member_strings (select n) case (λ i at s. within_strings (Member T i) (read order (path ++ Name (names i) ∷ []) (cases i) at s) (read_strings order (path ++ Name (names i) ∷ []) (cases i) at s)) at rest))))
-    (number (width scalar) at s)
+    (member_strings (select n) case (λ i at s. within_strings (Member T i) (read coding (path ++ Name (names i) ∷ []) (cases i) at s) (read_strings coding (path ++ Name (names i) ∷ []) (cases i) at s)) at rest))))
+    (number coding.origin (width scalar) at s)

@@ -8,7 +8,7 @@ use Rattle.giop_decode.specs.declared.memory.Buffer.{Buffer}
 use Rattle.giop_decode.specs.declared.memory.Buffer.TheVariants as buffers
 use Rattle.giop_decode.specs.declared.progress.Progress.{Progress}
 use Rattle.giop_decode.specs.declared.progress.Progress.TheVariants as progress
-use Rattle.giop_decode.specs.Spine.{Line, Read, Done, Short, Fault, lines_of}
+use Rattle.giop_decode.specs.Spine.{plain, Line, Read, Done, Short, Fault, lines_of}
 use Rattle.giop_decode.specs.Reading.{read}
 use Rattle.giop_decode.specs.Fits.{FitsIn}
 use Rattle.giop_decode.specs.Heard.{Heard, heard_of, is_header_root, names_operation}
@@ -70,8 +70,8 @@ Minds root d r = Recalls d.memory (heard_of (is_header_root root) r)
 -- The decoder's fields are what reading the list has begun and not ended, and what it leaves in mind.
 pub record Reads (C : Table) (T : Ty) (order : Order) (at message : ℕ) (root : Root) (d : Decoder) (s : List ℕ) : Type 0 where
   pub lines : List Line
-  pub is : read order [] T at s ≡ standing C d lines (at + length s)
-  pub minds : Minds root d (read order [] T at s)
+  pub is : read (plain order) [] T at s ≡ standing C d lines (at + length s)
+  pub minds : Minds root d (read (plain order) [] T at s)
   pub same_order : d.order ≡ order
   pub same_message : d.message ≡ message
   pub same_root : d.root ≡ root
@@ -81,7 +81,7 @@ pub record Reads (C : Table) (T : Ty) (order : Order) (at message : ℕ) (root :
 
 -- the lines that it gives
 abbrev pub due : Order → Ty → ℕ → List ℕ → ℕ → List Line
-due order T at s octet = drop (length (lines_of (read order [] T at s))) (lines_of (read order [] T at (s ++ octet ∷ [])))
+due order T at s octet = drop (length (lines_of (read (plain order) [] T at s))) (lines_of (read (plain order) [] T at (s ++ octet ∷ [])))
 
 -- What has come of a list that ends at this offset, and whose last octet does or doesn't name an operation: the value goes on,
 -- has ended at its last octet, or is faulted there.
@@ -103,6 +103,6 @@ IsFault p = ⊥
 
 -- A decoder that read a list has come to this with one octet more: it reads the longer list, unless that is faulted.
 pub record Takes (C : Table) (T : Ty) (order : Order) (at message : ℕ) (root : Root) (d : Decoder) (s : List ℕ) (octet : ℕ) (p : Progress) : Type 0 where
-  pub answer : IsAnswer (at + length (s ++ octet ∷ [])) (names_operation (is_header_root root) (due order T at s octet)) p (read order [] T at (s ++ octet ∷ []))
+  pub answer : IsAnswer (at + length (s ++ octet ∷ [])) (names_operation (is_header_root root) (due order T at s octet)) p (read (plain order) [] T at (s ++ octet ∷ []))
   pub reads : (IsFault p → ⊥) → Reads C T order at message root d (s ++ octet ∷ [])
-  pub minds : Minds root d (read order [] T at (s ++ octet ∷ []))
+  pub minds : Minds root d (read (plain order) [] T at (s ++ octet ∷ []))

@@ -6,7 +6,7 @@ use Rattle.giop_decode.specs.declared.leaf.Turn.{Turn}
 use Rattle.giop_decode.specs.declared.leaf.Turn.TheVariants as turns
 use Rattle.giop_decode.specs.declared.progress.Progress.{Progress}
 use Rattle.giop_decode.specs.declared.progress.Progress.TheVariants as progress
-use Rattle.giop_decode.specs.Spine.{Line, Leaf, Head, Read, Fault}
+use Rattle.giop_decode.specs.Spine.{plain, Line, Leaf, Head, Read, Fault}
 use Rattle.giop_decode.specs.Steps.{step}
 use Rattle.giop_decode.specs.Heard.{is_header_root, names_operation}
 use Rattle.giop_decode.specs.Holding.{standing}
@@ -27,7 +27,7 @@ leaf_in C d (Some leaf) = leaf_of C leaf d.carry d.piece.items
 
 -- one octet more, on a decoder's fields
 abbrev pub stepped : Table → Decoder → ℕ → ℕ → Read
-stepped C d here octet = step d.order [] (places C d.outer.items) (leaf_in C d d.leaf) here octet
+stepped C d here octet = step (plain d.order) [] (places C d.outer.items) (leaf_in C d d.leaf) here octet
 
 -- a step with these lines has left the decoder so; it goes on by that name, or another
 abbrev pub progressed : Table → Decoder → Bool → Progress → List Line → ℕ → Read → Type 0

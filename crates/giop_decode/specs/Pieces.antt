@@ -15,9 +15,10 @@ pub data Grab : Type 0 where
 unfoldable pub block : ℕ → ℕ → List ℕ → Grab
 block n at s = cond (ltb (length s) n) (Waiting s (at + length s)) (Got (take n s) (at + n) (drop n s))
 
--- a number of n octets, after its padding
-unfoldable pub number : ℕ → ℕ → List ℕ → Grab
-number n at s = cond (ltb (length s) (padding at n)) (Waiting [] (at + length s)) (block n (at + padding at n) (drop (padding at n) s))
+-- a number of n octets, after its padding, which is counted from an origin
+unfoldable pub number : ℕ → ℕ → ℕ → List ℕ → Grab
+number origin n at s = cond (ltb (length s) (padding (at - origin) n)) (Waiting [] (at + length s))
+    (block n (at + padding (at - origin) n) (drop (padding (at - origin) n) s))
 
 -- a fault takes the place of a value
 abbrev pub unless : Ty → Option Kind → ℕ → Read → Read

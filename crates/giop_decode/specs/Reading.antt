@@ -1,11 +1,10 @@
 -- Reading a value of a type from a whole list of octets, by recursion on the type (CDR Transfer Syntax; meaning).
 use Rattle.std.specs.Prelude.{ℕ, zero, suc, cond, ltb, List, [], ◌∷◌, ◌++◌, Option, Some, None}
 use Rattle.giop_cdr.specs.Numbers.{num}
-use Rattle.giop_cdr.specs.declared.order.Order.{Order}
 use Rattle.giop_cdr.specs.declared.prim.Primitive.TheVariants as prims
 use Rattle.giop_decode.specs.declared.progress.Kind.{Kind}
 use Rattle.giop_decode.specs.declared.progress.Kind.TheVariants as kinds
-use Rattle.giop_decode.specs.Spine.{Seg, Name, Index, Switch, Number, Count, line, Part, Member, Head, Read, Done, Short, with_front, followed, within}
+use Rattle.giop_decode.specs.Spine.{Coding, Seg, Name, Index, Switch, Number, Count, line, Part, Member, Head, Read, Done, Short, with_front, followed, within}
 use Rattle.giop_decode.specs.Pieces.{Grab, Waiting, Got, number, unless, over, text, octets}
 use Rattle.giop_sig.specs.Types.{Scalar, Plain, Enum, width, Ty, Single, Text, Octets, Struct, Union, Sequence, Array}
 use Rattle.giop_sig.specs.declared.types.Selected.{Selected}
@@ -45,24 +44,24 @@ abbrev pub chosen : List Seg → Ty → Scalar → Selected → ℕ → (ℕ →
 chosen path T scalar selected n case at rest = unless T (wrong scalar n) at (unless T (refused selected) at
     (with_front (line at (path ++ Switch ∷ []) (Number scalar n) ∷ []) (member selected case at rest)))
 
--- read order path T at s: a value of T from the list s, whose first octet stands at that offset of the message
-abbrev pub read : Order → List Seg → Ty → ℕ → List ℕ → Read
-read order path (Single scalar) at s =
-    headed (Single scalar) (λ xs at rest. single path scalar (num order xs) at rest) (number (width scalar) at s)
-read order path (Text bound) at s =
-    headed (Text bound) (λ xs at rest. text bound path (num order xs) at rest) (number 4 at s)
-read order path (Octets bound) at s =
-    headed (Octets bound) (λ xs at rest. octets bound path (num order xs) at rest) (number 4 at s)
-read order path (Struct count names parts) at s =
-    parts_from (λ i at s. within (Part (Struct count names parts) i count) (read order (path ++ Name (names i) ∷ []) (parts i) at s)) count 0 at s
-read order path (Array count T) at s =
-    parts_from (λ i at s. within (Part (Array count T) i count) (read order (path ++ Index i ∷ []) T at s)) count 0 at s
-read order path (Sequence bound T) at s =
-    headed (Sequence bound T) (λ xs at rest. unless (Sequence bound T) (over bound (num order xs)) at
-    (with_front (line at path (Count (num order xs)) ∷ [])
-    (parts_from (λ i at s. within (Part (Sequence bound T) i (num order xs)) (read order (path ++ Index i ∷ []) T at s)) (num order xs) 0 at rest)))
-    (number 4 at s)
-read order path (Union count scalar select names cases) at s =
-    headed (Union count scalar select names cases) (λ xs at rest. chosen path (Union count scalar select names cases) scalar (select (num order xs)) (num order xs)
-    (λ i at s. within (Member (Union count scalar select names cases) i) (read order (path ++ Name (names i) ∷ []) (cases i) at s)) at rest)
-    (number (width scalar) at s)
+-- read coding path T at s: a value of T from the list s, whose first octet stands at that offset of the message
+abbrev pub read : Coding → List Seg → Ty → ℕ → List ℕ → Read
+read coding path (Single scalar) at s =
+    headed (Single scalar) (λ xs at rest. single path scalar (num coding.order xs) at rest) (number coding.origin (width scalar) at s)
+read coding path (Text bound) at s =
+    headed (Text bound) (λ xs at rest. text bound path (num coding.order xs) at rest) (number coding.origin 4 at s)
+read coding path (Octets bound) at s =
+    headed (Octets bound) (λ xs at rest. octets bound path (num coding.order xs) at rest) (number coding.origin 4 at s)
+read coding path (Struct count names parts) at s =
+    parts_from (λ i at s. within (Part (Struct count names parts) i count) (read coding (path ++ Name (names i) ∷ []) (parts i) at s)) count 0 at s
+read coding path (Array count T) at s =
+    parts_from (λ i at s. within (Part (Array count T) i count) (read coding (path ++ Index i ∷ []) T at s)) count 0 at s
+read coding path (Sequence bound T) at s =
+    headed (Sequence bound T) (λ xs at rest. unless (Sequence bound T) (over bound (num coding.order xs)) at
+    (with_front (line at path (Count (num coding.order xs)) ∷ [])
+    (parts_from (λ i at s. within (Part (Sequence bound T) i (num coding.order xs)) (read coding (path ++ Index i ∷ []) T at s)) (num coding.order xs) 0 at rest)))
+    (number coding.origin 4 at s)
+read coding path (Union count scalar select names cases) at s =
+    headed (Union count scalar select names cases) (λ xs at rest. chosen path (Union count scalar select names cases) scalar (select (num coding.order xs)) (num coding.order xs)
+    (λ i at s. within (Member (Union count scalar select names cases) i) (read coding (path ++ Name (names i) ∷ []) (cases i) at s)) at rest)
+    (number coding.origin (width scalar) at s)

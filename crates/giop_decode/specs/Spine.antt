@@ -1,5 +1,6 @@
 -- What the reading of a value says, and what it leaves: its lines, and the parts that it has begun and not ended (meaning).
 use Rattle.std.specs.Prelude.{ℕ, Bool, List, ◌∷◌, ◌++◌}
+use Rattle.giop_cdr.specs.declared.order.Order.{Order}
 use Rattle.giop_decode.specs.declared.progress.Kind.{Kind}
 use Rattle.giop_sig.specs.Types.{Scalar, Ty}
 
@@ -27,6 +28,20 @@ pub record Line : Type 0 where
 
 abbrev pub line : ℕ → List Seg → Value → Line
 line at path value = record { at = at; path = path; value = value }
+
+-- ---- how octets are taken
+
+-- in which byte order numbers are read, and from which offset on they are aligned
+pub record Coding : Type 0 where
+  pub order : Order
+  pub origin : ℕ
+
+abbrev pub coded : Order → ℕ → Coding
+coded order origin = record { order = order; origin = origin }
+
+-- that of a message: alignment is counted from its first octet
+abbrev pub plain : Order → Coding
+plain order = coded order 0
 
 -- ---- parts begun and not ended
 

@@ -4,14 +4,14 @@ ghost use Rattle.std.specs.Prelude.{◌≡◌, ℕ, ◌+◌, ◌-◌, ◌%◌, �
 ghost use Rattle.std.specs.Option.{option_map};
 ghost use Rattle.giop_cdr.specs.declared.order.Order.{Order as ByteOrder};
 ghost use Rattle.giop_decode.specs.declared.leaf.Leaf.{Leaf as Innermost};
-ghost use Rattle.giop_decode.specs.Spine.{Seg, Line, Read, lines_of, with_front};
+ghost use Rattle.giop_decode.specs.Spine.{Coding, Seg, Line, Read, lines_of, with_front};
 ghost use Rattle.giop_decode.specs.Spelling.{lines_text};
 ghost use Rattle.giop_print.specs.Output.{Writes};
 ghost use Rattle.giop_print.specs.declared.path.Root.{Root as PathRoot};
 ghost use Rattle.giop_decode.specs.Steps.{around};
 ghost use Rattle.giop_decode.specs.Fits.{OpenFrom};
 ghost use Rattle.giop_decode.specs.Turns.{places, AreKnown, Link, TurnsIn, turned, leaf_type, IsClean};
-ghost use Rattle.giop_decode.specs.Heard.{heard_of, is_header_root, in_string};
+ghost use Rattle.giop_decode.specs.Heard.{heard_of, in_string};
 ghost use Rattle.giop_decode.specs.Recalling.{turn_in_string};
 ghost use Rattle.giop_decode.specs.Holding.{Fits, IsDone, Reads, Takes, Minds, GoesOn, standing, due};
 ghost use Rattle.giop_decode.specs.Moves.{settled, stepped, Comes, IsProgress, IsGoing, IsMoved};
@@ -165,8 +165,8 @@ impl Decoder {
         ensures inside { (at : ℕ) (lines : List Line) →
             in_string (settled catalogue.now (tree catalogue.now of.0) self.new turn lines at)
             ≡ turn_in_string (tree catalogue.now of.0) turn }
-        ensures settles { (order : ByteOrder) (path : List Seg) (at : ℕ) (lines : List Line) →
-            around order path (places catalogue.now self.old.outer.items)
+        ensures settles { (coding : Coding) (path : List Seg) (at : ℕ) (lines : List Line) →
+            around coding path (places catalogue.now self.old.outer.items)
             (turned catalogue.now (tree catalogue.now of.0) turn self.old.carry self.old.piece.items lines at)
             ≡ settled catalogue.now (tree catalogue.now of.0) self.new turn lines at }
     {

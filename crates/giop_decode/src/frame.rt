@@ -3,8 +3,7 @@
 ghost use Rattle.std.specs.Prelude.{◌≡◌, ℕ, ◌+◌, ◌-◌, ◌<◌, List, [], ◌++◌, length, ◌↔◌, IsTrue, IfSome, IfNone};
 ghost use Rattle.std.specs.Option.{option_map};
 ghost use Rattle.arrayvec.specs.ArrayVec.{array_vec_len};
-ghost use Rattle.giop_cdr.specs.declared.order.Order.{Order as ByteOrder};
-ghost use Rattle.giop_decode.specs.Spine.{Seg, Head, Done};
+ghost use Rattle.giop_decode.specs.Spine.{Coding, Seg, Head, Done};
 ghost use Rattle.giop_decode.specs.Steps.{around};
 ghost use Rattle.giop_decode.specs.Fits.{HasHead, OpenFrom};
 ghost use Rattle.giop_decode.specs.Begins.{start_outer, start_leaf};
@@ -104,8 +103,8 @@ pub(crate) fn go_on(catalogue: &Catalogue, outer: &mut ArrayVec<Frame, 24>) -> O
     requires open { OpenFrom 24 (places catalogue.now outer.old.items) }
     ensures known { IfSome result (λ t. t.0 < length catalogue.now.types) }
     ensures known_outer { AreKnown catalogue.now outer.new.items }
-    ensures gone { (order : ByteOrder) (path : List Seg) (at : ℕ) →
-        around order path (places catalogue.now outer.old.items) (Done [] at [])
+    ensures gone { (coding : Coding) (path : List Seg) (at : ℕ) →
+        around coding path (places catalogue.now outer.old.items) (Done [] at [])
         ≡ gone_on catalogue.now at outer.new.items (option_map (λ t. t.0) result) }
     ensures linked { IfSome result (λ t. (root inner : ℕ) → Link catalogue.now root outer.old.items inner →
         Link catalogue.now root outer.new.items t.0) }

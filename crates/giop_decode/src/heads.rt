@@ -3,8 +3,7 @@
 ghost use Rattle.std.specs.Prelude.{◌≡◌, ℕ, ◌+◌, ◌-◌, ◌%◌, ◌<◌, List, [], length, IsTrue, false};
 ghost use Rattle.giop_cdr.specs.Alignment.{IsAlignment, padding};
 ghost use Rattle.giop_cdr.specs.Numbers.{num};
-ghost use Rattle.giop_cdr.specs.declared.order.Order.{Order as ByteOrder};
-ghost use Rattle.giop_decode.specs.Spine.{Seg};
+ghost use Rattle.giop_decode.specs.Spine.{Coding, Seg};
 ghost use Rattle.giop_decode.specs.Pieces.{over};
 ghost use Rattle.giop_decode.specs.Recalling.{Voices};
 ghost use Rattle.giop_decode.specs.Steps.{after, head_width, number_step};
@@ -43,8 +42,8 @@ pub(crate) fn hold_number(carry: &mut Carry, at: u8, width: u8, octet: u8) -> bo
     requires room { length carry.old < width }
     ensures left { result ≡ false → carry.new ≡ carry.old }
     ensures last { result ≡ false → (length carry.old + 1 ≡ width) × (carry.old ≡ [] → padding at width ≡ 0) }
-    ensures holds { IsTrue result → (here : ℕ) → here % 8 ≡ at →
-        number_step width here carry.old octet ≡ grab_of false carry.new (here + 1) }
+    ensures holds { IsTrue result → (origin here : ℕ) → (here - origin) % 8 ≡ at →
+        number_step origin width here carry.old octet ≡ grab_of false carry.new (here + 1) }
 {
     if carry.is_empty() && pad(u64::from(at), width) > 0 {
         return true;
@@ -62,8 +61,8 @@ pub(crate) fn take_number(carry: &mut Carry, at: u8, width: u8, octet: u8) -> bo
     requires width { IsAlignment width }
     requires room { length carry.old < width }
     ensures whole { IsTrue result → length carry.new ≡ width }
-    ensures takes { (here : ℕ) → here % 8 ≡ at →
-        number_step width here carry.old octet ≡ grab_of result carry.new (here + 1) }
+    ensures takes { (origin here : ℕ) → (here - origin) % 8 ≡ at →
+        number_step origin width here carry.old octet ≡ grab_of result carry.new (here + 1) }
 {
     if hold_number(carry, at, width, octet) {
         return false;
@@ -81,9 +80,9 @@ pub(crate) fn take_value(catalogue: &Catalogue, order: Order, of: TypeId, carry:
     ensures turns_in { TurnsIn (tree catalogue.now of.0) of.0 result.turn [] [] }
     ensures speaks { CanSpeak (tree catalogue.now of.0) result.spoken }
     ensures voices { Voices (tree catalogue.now of.0) false result.turn result.spoken }
-    ensures turns { (path : List Seg) (at : ℕ) →
+    ensures turns { (coding : Coding) (path : List Seg) (at : ℕ) →
         Turns catalogue.now (tree catalogue.now of.0) result.turn result.spoken [] [] path at
-        (after order path (tree catalogue.now of.0) (num order carry.now) at []) }
+        (after coding path (tree catalogue.now of.0) (num order carry.now) at []) }
 {
     match catalogue.shape(of) {
         Shape::Prim(prim) => match carry.value(order, prim) {
@@ -121,9 +120,9 @@ fn take_switch(catalogue: &Catalogue, order: Order, of: TypeId, carry: &Carry) -
     ensures turns_in { TurnsIn (tree catalogue.now of.0) of.0 result.turn [] [] }
     ensures speaks { CanSpeak (tree catalogue.now of.0) result.spoken }
     ensures voices { Voices (tree catalogue.now of.0) false result.turn result.spoken }
-    ensures turns { (path : List Seg) (at : ℕ) →
+    ensures turns { (coding : Coding) (path : List Seg) (at : ℕ) →
         Turns catalogue.now (tree catalogue.now of.0) result.turn result.spoken [] [] path at
-        (after order path (tree catalogue.now of.0) (num order carry.now) at []) }
+        (after coding path (tree catalogue.now of.0) (num order carry.now) at []) }
 {
     match catalogue.shape(catalogue.switch_type(of)) {
         Shape::Prim(prim) => match carry.value(order, prim) {
@@ -150,9 +149,9 @@ fn take_selected(catalogue: &Catalogue, of: TypeId, number: Number) -> Step
     ensures turns_in { TurnsIn (tree catalogue.now of.0) of.0 result.turn [] [] }
     ensures speaks { CanSpeak (tree catalogue.now of.0) result.spoken }
     ensures voices { Voices (tree catalogue.now of.0) false result.turn result.spoken }
-    ensures turns { (is : IsNumberOf (switch_of (tree catalogue.now of.0)) number) (order : ByteOrder) (path : List Seg) (at : ℕ) →
+    ensures turns { (is : IsNumberOf (switch_of (tree catalogue.now of.0)) number) (coding : Coding) (path : List Seg) (at : ℕ) →
         Turns catalogue.now (tree catalogue.now of.0) result.turn result.spoken [] [] path at
-        (after order path (tree catalogue.now of.0) is.n at []) }
+        (after coding path (tree catalogue.now of.0) is.n at []) }
 {
     match catalogue.select(of, number) {
         Selected::Case(i) => Step {
@@ -173,9 +172,9 @@ fn take_length(catalogue: &Catalogue, of: TypeId, bound: Option<u32>, n: u32) ->
     ensures turns_in { TurnsIn (tree catalogue.now of.0) of.0 result.turn [] [] }
     ensures speaks { CanSpeak (tree catalogue.now of.0) result.spoken }
     ensures voices { Voices (tree catalogue.now of.0) false result.turn result.spoken }
-    ensures turns { (order : ByteOrder) (path : List Seg) (at : ℕ) →
+    ensures turns { (coding : Coding) (path : List Seg) (at : ℕ) →
         Turns catalogue.now (tree catalogue.now of.0) result.turn result.spoken [] [] path at
-        (after order path (tree catalogue.now of.0) n at []) }
+        (after coding path (tree catalogue.now of.0) n at []) }
 {
     let _types = catalogue;
     if n == 0 {
@@ -206,9 +205,9 @@ fn take_size(catalogue: &Catalogue, of: TypeId, bound: Option<u32>, n: u32) -> S
     ensures turns_in { TurnsIn (tree catalogue.now of.0) of.0 result.turn [] [] }
     ensures speaks { CanSpeak (tree catalogue.now of.0) result.spoken }
     ensures voices { Voices (tree catalogue.now of.0) false result.turn result.spoken }
-    ensures turns { (order : ByteOrder) (path : List Seg) (at : ℕ) →
+    ensures turns { (coding : Coding) (path : List Seg) (at : ℕ) →
         Turns catalogue.now (tree catalogue.now of.0) result.turn result.spoken [] [] path at
-        (after order path (tree catalogue.now of.0) n at []) }
+        (after coding path (tree catalogue.now of.0) n at []) }
 {
     let _types = catalogue;
     if exceeds(bound, n) {
@@ -237,9 +236,9 @@ fn take_count(catalogue: &Catalogue, of: TypeId, bound: Option<u32>, n: u32) -> 
     ensures turns_in { TurnsIn (tree catalogue.now of.0) of.0 result.turn [] [] }
     ensures speaks { CanSpeak (tree catalogue.now of.0) result.spoken }
     ensures voices { Voices (tree catalogue.now of.0) false result.turn result.spoken }
-    ensures turns { (order : ByteOrder) (path : List Seg) (at : ℕ) →
+    ensures turns { (coding : Coding) (path : List Seg) (at : ℕ) →
         Turns catalogue.now (tree catalogue.now of.0) result.turn result.spoken [] [] path at
-        (after order path (tree catalogue.now of.0) n at []) }
+        (after coding path (tree catalogue.now of.0) n at []) }
 {
     let _types = catalogue;
     let _type = of;

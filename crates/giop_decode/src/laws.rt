@@ -1,10 +1,9 @@
 //! The laws of reading: what one octet more, or many, do to the reading of a list, and what a reading leaves in mind.
 
 ghost use Rattle.std.specs.Prelude.{◌≡◌, ℕ, ◌+◌, Bool, List, [], ◌∷◌, ◌++◌, length, flat_map};
-ghost use Rattle.giop_cdr.specs.declared.order.Order.{Order as ByteOrder};
 ghost use Rattle.giop_sig.specs.Types.{Ty};
 ghost use Rattle.giop_sig.specs.Fits.{IsFit};
-ghost use Rattle.giop_decode.specs.Spine.{Seg, Line, Place, Leaf, Short, lines_of};
+ghost use Rattle.giop_decode.specs.Spine.{Coding, Seg, Line, Place, Leaf, Short, lines_of};
 ghost use Rattle.giop_decode.specs.Reading.{read};
 ghost use Rattle.giop_decode.specs.Begins.{start_outer, start_leaf};
 ghost use Rattle.giop_decode.specs.Steps.{step, advance, resumes, Now};
@@ -17,33 +16,33 @@ ghost use Rattle.giop_decode.specs.Memories.{TextPiece, pieces_of, AreUnended, I
 
 pub fn reading_laws()
     // One octet more is one step on those parts.
-    ensures step { (order : ByteOrder) (path : List Seg) (T : Ty) (at : ℕ) (s : List ℕ) (b : ℕ) →
-        read order path T at (s ++ b ∷ []) ≡ advance order path (read order path T at s) b }
+    ensures step { (coding : Coding) (path : List Seg) (T : Ty) (at : ℕ) (s : List ℕ) (b : ℕ) →
+        read coding path T at (s ++ b ∷ []) ≡ advance coding path (read coding path T at s) b }
     // Many octets more are as many steps: a reading may be left and resumed anywhere.
-    ensures resumption { (order : ByteOrder) (path : List Seg) (T : Ty) (at : ℕ) (s t : List ℕ) →
-        read order path T at (s ++ t) ≡ resumes order path (read order path T at s) t }
+    ensures resumption { (coding : Coding) (path : List Seg) (T : Ty) (at : ℕ) (s t : List ℕ) →
+        read coding path T at (s ++ t) ≡ resumes coding path (read coding path T at s) t }
     // The lines of a longer list begin with those of a shorter.
-    ensures lines { (order : ByteOrder) (path : List Seg) (T : Ty) (at : ℕ) (s t : List ℕ) →
-        (more : List Line) × (lines_of (read order path T at (s ++ t)) ≡ lines_of (read order path T at s) ++ more) }
+    ensures lines { (coding : Coding) (path : List Seg) (T : Ty) (at : ℕ) (s t : List ℕ) →
+        (more : List Line) × (lines_of (read coding path T at (s ++ t)) ≡ lines_of (read coding path T at s) ++ more) }
     // A step has at most one line, which stands at its octet, and none where that is refused.
-    ensures prompt { (order : ByteOrder) (path : List Seg) (outer : List Place) (leaf : Leaf) (at b : ℕ) →
-        Now (at + 1) (step order path outer leaf at b) }
+    ensures prompt { (coding : Coding) (path : List Seg) (outer : List Place) (leaf : Leaf) (at b : ℕ) →
+        Now (at + 1) (step coding path outer leaf at b) }
     // Where each part takes some octet, the parts begun before the first octet are those that stand first in their wholes.
-    ensures begins { (d : ℕ) (order : ByteOrder) (path : List Seg) (T : Ty) (at : ℕ) → IsFit d T →
-        read order path T at [] ≡ Short [] at (start_outer T) (start_leaf T) }
+    ensures begins { (d : ℕ) (coding : Coding) (path : List Seg) (T : Ty) (at : ℕ) → IsFit d T →
+        read coding path T at [] ≡ Short [] at (start_outer T) (start_leaf T) }
     // The parts begun and not ended fit in the type, each in the one before,
-    ensures sound { (d : ℕ) (order : ByteOrder) (path : List Seg) (T : Ty) (at : ℕ) (s : List ℕ) → IsFit d T →
-        Sound T (at + length s) (read order path T at s) }
+    ensures sound { (d : ℕ) (coding : Coding) (path : List Seg) (T : Ty) (at : ℕ) (s : List ℕ) → IsFit d T →
+        Sound T (at + length s) (read coding path T at s) }
     // and a step from any parts that fit leaves parts that fit.
-    ensures kept { (d : ℕ) (order : ByteOrder) (path : List Seg) (T : Ty) (outer : List Place) (leaf : Leaf) (at b : ℕ) → IsFit d T →
-        FitsIn T outer leaf → Sound T (at + 1) (step order path outer leaf at b) }
+    ensures kept { (d : ℕ) (coding : Coding) (path : List Seg) (T : Ty) (outer : List Place) (leaf : Leaf) (at b : ℕ) → IsFit d T →
+        FitsIn T outer leaf → Sound T (at + 1) (step coding path outer leaf at b) }
 {}
 
 /// What a reading leaves in mind is what its lines say last: of the values at the request id of a header, of the enums, and
 /// of the strings that are whole. It has no body, and is called for its contract.
 pub fn memory_laws()
-    ensures left { (is_header : Bool) (order : ByteOrder) (path : List Seg) (T : Ty) (at : ℕ) (s : List ℕ) →
-        IsLeft is_header (read order path T at s) (heard_of is_header (read order path T at s)) }
+    ensures left { (is_header : Bool) (coding : Coding) (path : List Seg) (T : Ty) (at : ℕ) (s : List ℕ) →
+        IsLeft is_header (read coding path T at s) (heard_of is_header (read coding path T at s)) }
     // Lines are the pieces of one list of contents at most.
     ensures one { (contents others : List (List ℕ)) (begun other : List TextPiece) →
         AreUnended begun → AreUnended other →

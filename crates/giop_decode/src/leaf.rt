@@ -1,8 +1,7 @@
 //! The innermost part that is begun and not ended, and what an octet turns it into.
 
 ghost use Rattle.std.specs.Prelude.{◌≡◌, ℕ, ◌+◌, ◌-◌, ◌%◌, ◌<◌, List, [], length, IsTrue, false};
-ghost use Rattle.giop_cdr.specs.declared.order.Order.{Order as ByteOrder};
-ghost use Rattle.giop_decode.specs.Spine.{Seg, Short};
+ghost use Rattle.giop_decode.specs.Spine.{Coding, Seg, Short};
 ghost use Rattle.giop_decode.specs.Recalling.{Voices, leaf_in_string};
 ghost use Rattle.giop_decode.specs.Steps.{leaf_step};
 ghost use Rattle.giop_decode.specs.Fits.{FitsIn};
@@ -119,8 +118,9 @@ pub(crate) fn hold(
     requires clean { IsClean leaf carry.old piece.old.items }
     ensures clean { IsClean leaf carry.new piece.new.items }
     ensures left { result ≡ false → (carry.new ≡ carry.old) × (piece.new ≡ piece.old) }
-    ensures holds { IsTrue result → (order : ByteOrder) (path : List Seg) (here : ℕ) → here % 8 ≡ at →
-        leaf_step order path (leaf_of catalogue.now leaf carry.old piece.old.items) here octet
+    ensures holds { IsTrue result → (coding : Coding) (path : List Seg) (here : ℕ) →
+        (here - coding.origin) % 8 ≡ at →
+        leaf_step coding path (leaf_of catalogue.now leaf carry.old piece.old.items) here octet
         ≡ Short [] (here + 1) [] (leaf_of catalogue.now leaf carry.new piece.new.items) }
 {
     match leaf {
@@ -149,10 +149,11 @@ pub(crate) fn take_octet(
     ensures speaks { CanSpeak (tree catalogue.now (leaf_type leaf)) result.spoken }
     ensures voices { Voices (tree catalogue.now (leaf_type leaf))
         (leaf_in_string (tree catalogue.now (leaf_type leaf)) leaf) result.turn result.spoken }
-    ensures turns { (path : List Seg) (here : ℕ) → here % 8 ≡ at →
+    ensures turns { (coding : Coding) (path : List Seg) (here : ℕ) →
+        coding.order ≡ order → (here - coding.origin) % 8 ≡ at →
         Turns catalogue.now (tree catalogue.now (leaf_type leaf)) result.turn result.spoken
         carry.new piece.new.items path (here + 1)
-        (leaf_step order path (leaf_of catalogue.now leaf carry.old piece.old.items) here octet) }
+        (leaf_step coding path (leaf_of catalogue.now leaf carry.old piece.old.items) here octet) }
 {
     match leaf {
         Leaf::Number(of) => {

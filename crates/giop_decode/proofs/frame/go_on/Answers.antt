@@ -48,7 +48,7 @@ begin-requires-clause-fit c =
     rw (← e, c.part-part.ensures.tree) (fit_part p.inner.left (tree t f.of.0) (f.index + 1) f.count n.fit n.parts (rw add-one below))
 
 pub returns-then-frame-last-clause-gone : goal.returns-then-frame-last-clause-gone
-returns-then-frame-last-clause-gone c order path at =
+returns-then-frame-last-clause-gone c coding path at =
     let t = c.args.catalogue.now in
     let f = c.in-Some.frame in
     let rest = c.pop.new.self.items in
@@ -56,9 +56,9 @@ returns-then-frame-last-clause-gone c order path at =
     let p = popped t c.loop-frame.outer.items rest f c.loop-frame.invariant.known c.loop-frame.invariant.are_open c.in-Some.ensures.items in
     let below : suc f.index < f.count = omega arith in
     let n = next_in (suc p.inner.left) T f.index f.count p.inner.«open» p.known.uncounted below in
-    c.loop-frame.invariant.same order path at
-    ∙ (ap (λ ps. around order path ps (Done [] at [])) (ap (places t) c.in-Some.ensures.items ∙ map_push (place t) rest f)
-    ∙ (goes_next order path (places t rest) T f.index f.count at p.inner.left n below
+    c.loop-frame.invariant.same coding path at
+    ∙ (ap (λ ps. around coding path ps (Done [] at [])) (ap (places t) c.in-Some.ensures.items ∙ map_push (place t) rest f)
+    ∙ (goes_next coding path (places t rest) T f.index f.count at p.inner.left n below
     ∙ rw (← c.begin.ensures.leaf, c.begin.ensures.places, c.push.ensures.items, map_push, c.part-part.ensures.tree, add-one f.index) refl))
 
 pub returns-then-frame-last-clause-linked : goal.returns-then-frame-last-clause-linked
@@ -79,8 +79,8 @@ loop-frame-preserved c =
     record {
       known = p.known_rest;
       are_open = p.inner.front;
-      same = λ order path at. c.loop-frame.invariant.same order path at
-          ∙ (ap (λ ps. around order path ps (Done [] at [])) (ap (places t) c.in-Some.ensures.items ∙ map_push (place t) rest f)
-          ∙ goes_out order path (places t rest) (tree t f.of.0) f.index f.count at (omega arith));
+      same = λ coding path at. c.loop-frame.invariant.same coding path at
+          ∙ (ap (λ ps. around coding path ps (Done [] at [])) (ap (places t) c.in-Some.ensures.items ∙ map_push (place t) rest f)
+          ∙ goes_out coding path (places t rest) (tree t f.of.0) f.index f.count at (omega arith));
       linked = λ root inner h. (let l = c.loop-frame.invariant.linked root inner h in (f.of.0, link_pop t root c.loop-frame.outer.items rest f l.0 c.in-Some.ensures.items l.1));
     }

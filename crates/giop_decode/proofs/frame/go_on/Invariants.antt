@@ -1,7 +1,6 @@
 use Rattle.std.proofs.Common.{◌≡◌, ℕ, List, []}
 use Rattle.arrayvec.specs.ArrayVec.{array_vec_len}
-use Rattle.giop_cdr.specs.declared.order.Order.{Order as ByteOrder}
-use Rattle.giop_decode.specs.Spine.{Seg, Done}
+use Rattle.giop_decode.specs.Spine.{Coding, Seg, Done}
 use Rattle.giop_decode.specs.Steps.{around}
 use Rattle.giop_decode.specs.Fits.{OpenFrom}
 use Rattle.giop_decode.specs.Turns.{places, AreKnown, Link}
@@ -11,8 +10,8 @@ abbrev pub invariant-loop-frame : goal.invariant-loop-frame
 invariant-loop-frame l = record {
   known : AreKnown l.catalogue l.outer.items;
   are_open : OpenFrom 24 (places l.catalogue l.outer.items);
-  same : (order : ByteOrder) (path : List Seg) (at : ℕ) →
-      around order path (places l.catalogue l.fn.outer.items) (Done [] at []) ≡ around order path (places l.catalogue l.outer.items) (Done [] at []);
+  same : (coding : Coding) (path : List Seg) (at : ℕ) →
+      around coding path (places l.catalogue l.fn.outer.items) (Done [] at []) ≡ around coding path (places l.catalogue l.outer.items) (Done [] at []);
   linked : (root inner : ℕ) → Link l.catalogue root l.fn.outer.items inner → (now : ℕ) × Link l.catalogue root l.outer.items now;
 }
 

@@ -12,7 +12,7 @@ returns c = record {
   resumption = read_resumes;
   lines = lines_begin;
   prompt = step_now;
-  begins = λ d order path T at fit. read_none order path d T at fit;
-  sound = λ d order path T at s fit. read_keeps d order path T fit at s;
+  begins = λ d coding path T at fit. read_none coding path d T at fit;
+  sound = λ d coding path T at s fit. read_keeps d coding path T fit at s;
   kept = step_keeps;
 }

@@ -1,4 +1,4 @@
-use Rattle.std.proofs.Common.{◌+◌, [], ap, subst, sym, ◌∙◌, arith}
+use Rattle.std.proofs.Common.{◌+◌, [], ap, subst, sym, ◌∙◌, arith, refl}
 use Rattle.giop_decode.proofs.Advancing.{stands_at, same_some, comes_by, goes, moved, step_fits, lines_turned}
 use Rattle.giop_print.proofs.Writing.{writes_failed}
 use Rattle.giop_decode.proofs.Hearing.{heard_on, leaf_inside, minds_by, recalls_by}
@@ -6,7 +6,7 @@ use Rattle.giop_decode.specs.Heard.{heard, hushed, in_string, is_header_root, no
 use Rattle.giop_decode.specs.Holding.{Recalls, standing}
 use Rattle.giop_decode.specs.Recalling.{leaf_in_string}
 use Rattle.giop_decode.specs.Moves.{stepped, leaf_in}
-use Rattle.giop_decode.specs.Spine.{lines_of, with_front}
+use Rattle.giop_decode.specs.Spine.{plain, lines_of, with_front}
 use Rattle.giop_decode.specs.Steps.{around, path_in, step}
 use Rattle.giop_decode.specs.Turns.{places, leaf_type}
 use Rattle.giop_sig.specs.Trees.{tree}
@@ -34,12 +34,12 @@ returns-clause-steps g c here h =
     let leaf = c.in-Some.leaf in
     let T = tree C (leaf_type leaf) in
     let ps = places C d.outer.items in
-    let t = c.take_octet-step.ensures.turns (path_in [] ps) here h in
-    let s = rw c.of-of.ensures at (c.settle.ensures.settles d.order [] (here + 1) t.lines) in
+    let t = c.take_octet-step.ensures.turns (plain d.order) (path_in [] ps) here refl (omega (arith, h)) in
+    let s = rw c.of-of.ensures at (c.settle.ensures.settles (plain d.order) [] (here + 1) t.lines) in
     let n = rw (c.of-of.ensures, c.as_slice-2.ensures.value) at (c.hear-named.ensures.named (here + 1) t.lines) in
     comes_by C T c.settle.new.self c.hear-named.result c.take_octet-step.result.turn t.lines (here + 1) c.progress_of.result (stepped C d here c.args.octet)
     (rw c.settle.ensures.root (n t.says))
-    (ap (λ l. step d.order [] ps (leaf_in C d l) here c.args.octet) c.in-Some.is ∙ (ap (around d.order [] ps) t.comes ∙ s))
+    (ap (λ l. step (plain d.order) [] ps (leaf_in C d l) here c.args.octet) c.in-Some.is ∙ (ap (around (plain d.order) [] ps) t.comes ∙ s))
     c.progress_of.ensures
 
 pub returns-in_err-say-clause-writes : goal.returns-in_err-say-clause-writes
@@ -49,9 +49,9 @@ returns-in_err-say-clause-writes g c here h =
     let leaf = c.in-Some.leaf in
     let T = tree C (leaf_type leaf) in
     let ps = places C d.outer.items in
-    let t = c.take_octet-step.ensures.turns (path_in [] ps) here h in
-    let e = ap (λ l. step d.order [] ps (leaf_in C d l) here c.args.octet) c.in-Some.is ∙ ap (around d.order [] ps) t.comes in
-    let ls = ap lines_of e ∙ lines_turned C d.order [] ps T c.take_octet-step.result.turn c.take_octet-step.new.carry c.take_octet-step.new.piece.items t.lines (here + 1) in
+    let t = c.take_octet-step.ensures.turns (plain d.order) (path_in [] ps) here refl (omega (arith, h)) in
+    let e = ap (λ l. step (plain d.order) [] ps (leaf_in C d l) here c.args.octet) c.in-Some.is ∙ ap (around (plain d.order) [] ps) t.comes in
+    let ls = ap lines_of e ∙ lines_turned C (plain d.order) [] ps T c.take_octet-step.result.turn c.take_octet-step.new.carry c.take_octet-step.new.piece.items t.lines (here + 1) in
     let w = rw (c.of-of.ensures, c.as_slice.ensures.value) at (c.in_err-say.ensures (here + 1) t.lines) in
     rw ls (writes_failed c.from_residual.result _ _ _ c.from_residual.ensures.0 (w t.says))
 
@@ -62,9 +62,9 @@ returns-clause-writes g c here h =
     let leaf = c.in-Some.leaf in
     let T = tree C (leaf_type leaf) in
     let ps = places C d.outer.items in
-    let t = c.take_octet-step.ensures.turns (path_in [] ps) here h in
-    let e = ap (λ l. step d.order [] ps (leaf_in C d l) here c.args.octet) c.in-Some.is ∙ ap (around d.order [] ps) t.comes in
-    let ls = ap lines_of e ∙ lines_turned C d.order [] ps T c.take_octet-step.result.turn c.take_octet-step.new.carry c.take_octet-step.new.piece.items t.lines (here + 1) in
+    let t = c.take_octet-step.ensures.turns (plain d.order) (path_in [] ps) here refl (omega (arith, h)) in
+    let e = ap (λ l. step (plain d.order) [] ps (leaf_in C d l) here c.args.octet) c.in-Some.is ∙ ap (around (plain d.order) [] ps) t.comes in
+    let ls = ap lines_of e ∙ lines_turned C (plain d.order) [] ps T c.take_octet-step.result.turn c.take_octet-step.new.carry c.take_octet-step.new.piece.items t.lines (here + 1) in
     let w = rw (c.of-of.ensures, c.as_slice.ensures.value) at (c.in_ok-say.ensures (here + 1) t.lines) in
     rw ls (w t.says)
 
@@ -90,10 +90,10 @@ returns-clause-minds g c here front h old =
     let header = is_header_root d.root in
     let turn = c.take_octet-step.result.turn in
     let spoken = c.take_octet-step.result.spoken in
-    let t = c.take_octet-step.ensures.turns (path_in [] ps) here h in
-    let e = ap (λ l. step d.order [] ps (leaf_in C d l) here c.args.octet) c.in-Some.is ∙ ap (around d.order [] ps) t.comes in
-    let ls = ap lines_of e ∙ lines_turned C d.order [] ps T turn c.take_octet-step.new.carry c.take_octet-step.new.piece.items t.lines (here + 1) in
-    let s = rw c.of-of.ensures at (c.settle.ensures.settles d.order [] (here + 1) t.lines) in
+    let t = c.take_octet-step.ensures.turns (plain d.order) (path_in [] ps) here refl (omega (arith, h)) in
+    let e = ap (λ l. step (plain d.order) [] ps (leaf_in C d l) here c.args.octet) c.in-Some.is ∙ ap (around (plain d.order) [] ps) t.comes in
+    let ls = ap lines_of e ∙ lines_turned C (plain d.order) [] ps T turn c.take_octet-step.new.carry c.take_octet-step.new.piece.items t.lines (here + 1) in
+    let s = rw c.of-of.ensures at (c.settle.ensures.settles (plain d.order) [] (here + 1) t.lines) in
     let i = rw c.of-of.ensures at (c.settle.ensures.inside (here + 1) t.lines) in
     minds_by d.root c.settle.new.self (with_front front (stepped C d here c.args.octet)) (λ asked.
     let before : Recalls d.memory (hushed (leaf_in_string T leaf) (heard header nothing front)) =

@@ -32,48 +32,48 @@ begin-requires-in-Selected-clause-fit c =
     rw (← e, c.part-part-in-Selected.ensures.tree) (fit_selected (24 - length c.args.self.now.outer.items) T c.in-Selected.index c.requires.fit case)
 
 pub returns-in-More-clause-settles : goal.returns-in-More-clause-settles
-returns-in-More-clause-settles c order path at lines =
+returns-in-More-clause-settles c coding path at lines =
     let C = c.args.catalogue.now in
-    rw c.in-More.is (around_more order path (places C c.args.self.now.outer.items) lines at (leaf_of C c.in-More.leaf c.args.self.now.carry c.args.self.now.piece.items))
+    rw c.in-More.is (around_more coding path (places C c.args.self.now.outer.items) lines at (leaf_of C c.in-More.leaf c.args.self.now.carry c.args.self.now.piece.items))
 
 pub returns-in-Refused-clause-settles : goal.returns-in-Refused-clause-settles
-returns-in-Refused-clause-settles c order path at lines =
+returns-in-Refused-clause-settles c coding path at lines =
     let C = c.args.catalogue.now in
-    rw c.in-Refused.is (around-fault order path (places C c.args.self.now.outer.items) lines at _ (tree C c.args.of.0))
+    rw c.in-Refused.is (around-fault coding path (places C c.args.self.now.outer.items) lines at _ (tree C c.args.of.0))
 
 pub returns-in-Opened-clause-settles : goal.returns-in-Opened-clause-settles
-returns-in-Opened-clause-settles c order path at lines =
+returns-in-Opened-clause-settles c coding path at lines =
     let C = c.args.catalogue.now in
     let T = tree C c.args.of.0 in
     let ps = places C c.args.self.now.outer.items in
     let opens = rw c.in-Opened.is at c.requires.turns_in in
     rw (c.in-Opened.is, c.clear.ensures, ← c.begin.ensures.leaf, c.begin.ensures.places, c.push.ensures.items, map_push, c.part-part.ensures.tree, place_part T 0 c.in-Opened.count opens.0)
-    (around_opened order path ps lines at (Part T 0 c.in-Opened.count) (start_outer (part_of T 0)) (start_leaf (part_of T 0)))
+    (around_opened coding path ps lines at (Part T 0 c.in-Opened.count) (start_outer (part_of T 0)) (start_leaf (part_of T 0)))
 
 pub returns-in-Selected-clause-settles : goal.returns-in-Selected-clause-settles
-returns-in-Selected-clause-settles c order path at lines =
+returns-in-Selected-clause-settles c coding path at lines =
     let C = c.args.catalogue.now in
     let T = tree C c.args.of.0 in
     let ps = places C c.args.self.now.outer.items in
     let case = rw c.in-Selected.is at c.requires.turns_in in
     let i = c.in-Selected.index in
     rw (c.in-Selected.is, c.clear-in-Selected.ensures, ← c.begin-in-Selected.ensures.leaf, c.begin-in-Selected.ensures.places, c.push-in-Selected.ensures.items, map_push, c.part-part-in-Selected.ensures.tree, place_case T i 0 case)
-    (around_opened order path ps lines at (Member T i) (start_outer (part_of T i)) (start_leaf (part_of T i)))
+    (around_opened coding path ps lines at (Member T i) (start_outer (part_of T i)) (start_leaf (part_of T i)))
 
 pub returns-in-Some-clause-settles : goal.returns-in-Some-clause-settles
-returns-in-Some-clause-settles c order path at lines =
+returns-in-Some-clause-settles c coding path at lines =
     let C = c.args.catalogue.now in
     rw (c.in-Ended.is, c.clear-in-Ended.ensures)
-    (around_done order path (places C c.args.self.now.outer.items) lines at
-    ∙ (ap (with_front lines) (c.in-Some.ensures.gone order path at)
+    (around_done coding path (places C c.args.self.now.outer.items) lines at
+    ∙ (ap (with_front lines) (c.in-Some.ensures.gone coding path at)
     ∙ ap (λ ls. Short ls at (places C c.go_on.new.outer.items) (Head (tree C c.in-Some.next.0) [])) (append-nil lines)))
 
 pub returns-in-None-clause-settles : goal.returns-in-None-clause-settles
-returns-in-None-clause-settles c order path at lines =
+returns-in-None-clause-settles c coding path at lines =
     let C = c.args.catalogue.now in
     rw c.in-Ended.is
-    (around_done order path (places C c.args.self.now.outer.items) lines at
-    ∙ (ap (with_front lines) (c.in-None.ensures.gone order path at) ∙ ap (λ ls. Done ls at []) (append-nil lines)))
+    (around_done coding path (places C c.args.self.now.outer.items) lines at
+    ∙ (ap (with_front lines) (c.in-None.ensures.gone coding path at) ∙ ap (λ ls. Done ls at []) (append-nil lines)))
 
 pub returns-in-Opened-clause-link : goal.returns-in-Opened-clause-link
 returns-in-Opened-clause-link c root leaf moved h e =
