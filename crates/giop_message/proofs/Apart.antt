@@ -5,7 +5,7 @@ use Rattle.std.proofs.Math.Seq.{drop-append_seam}
 use Rattle.giop_cdr.specs.Alignment.{padding}
 use Rattle.giop_print.specs.declared.path.Root.{Root}
 use Rattle.giop_print.specs.declared.path.Root.TheVariants as roots
-use Rattle.giop_decode.specs.Spine.{Line, Place, Leaf, Read, Done, Short, Fault as Faulted}
+use Rattle.giop_decode.specs.Spine.{plain, Line, Place, Leaf, Read, Done, Short, Fault as Faulted}
 use Rattle.giop_decode.specs.Steps as decoder
 use Rattle.giop_decode.specs.Steps.{Now}
 use Rattle.giop_decode.specs.Heard.{Heard, nothing, heard, is_header_root}
@@ -70,7 +70,7 @@ step_settles : (S : Signatures) (header : List ℕ) (at : ℕ) (stage : Stage) (
     Settles (message_step S header at stage b)
 unfolding message_step rest_step
 step_settles S header at (In_header k outer leaf) b =
-    passes_settles roots.Header (is_request header) In_header (after_header S header) (at + 1) (λ k. after_header_silent S header k (at + 1)) k (decoder.step (order header) [] outer leaf at b) (step_now (order header) [] outer leaf at b)
+    passes_settles roots.Header (is_request header) In_header (after_header S header) (at + 1) (λ k. after_header_silent S header k (at + 1)) k (decoder.step (plain (order header)) [] outer leaf at b) (step_now (plain (order header)) [] outer leaf at b)
 step_settles S header at (In_padding t) b = go (nat_lt 1 (padding at 8))
   where
     go : (test : Bool) →
@@ -78,9 +78,9 @@ step_settles S header at (In_padding t) b = go (nat_lt 1 (padding at 8))
     go true = (λ e. absurd cc, λ e. absurd cc)
     go false = silent_settles (at + 1) (body S header t (at + 1) []) (body_silent S header t (at + 1))
 step_settles S header at (In_exception k outer leaf) b =
-    passes_settles roots.Exception false In_exception (after_exception S header) (at + 1) (λ k. after_exception_silent S header k (at + 1)) k (decoder.step (order header) [] outer leaf at b) (step_now (order header) [] outer leaf at b)
+    passes_settles roots.Exception false In_exception (after_exception S header) (at + 1) (λ k. after_exception_silent S header k (at + 1)) k (decoder.step (plain (order header)) [] outer leaf at b) (step_now (plain (order header)) [] outer leaf at b)
 step_settles S header at (In_body outer leaf) b =
-    passes_settles roots.Body false (λ h. In_body) (λ h. rest) (at + 1) (λ k. rest_silent (at + 1)) nothing (decoder.step (order header) [] outer leaf at b) (step_now (order header) [] outer leaf at b)
+    passes_settles roots.Body false (λ h. In_body) (λ h. rest) (at + 1) (λ k. rest_silent (at + 1)) nothing (decoder.step (plain (order header)) [] outer leaf at b) (step_now (plain (order header)) [] outer leaf at b)
 step_settles S header at (In_rest offset held) b = rest_settles offset (held ++ b ∷ []) (at + 1) (length (held ++ b ∷ []) == 32)
 step_settles S header at Over b = (λ e. absurd cc, λ e. absurd cc)
 

@@ -8,7 +8,7 @@ use Rattle.giop_sig.specs.Headers.{fixed_type}
 use Rattle.giop_decode.specs.declared.progress.Kind.{Kind}
 use Rattle.giop_decode.specs.declared.progress.Progress.{Progress}
 use Rattle.giop_decode.specs.declared.progress.Progress.TheVariants as progress
-use Rattle.giop_decode.specs.Spine.{Place, Leaf, Read}
+use Rattle.giop_decode.specs.Spine.{plain, Place, Leaf, Read}
 use Rattle.giop_decode.specs.Reading.{read}
 use Rattle.giop_decode.specs.Heard.{Heard, heard_of}
 use Rattle.giop_decode.specs.Steps as decoder
@@ -28,12 +28,12 @@ use Rattle.giop_message.proofs.Followings.{exception_no_id, body_no_id}
 use Rattle.giop_message.proofs.Opened.{reads_it, text_it, on_it, took_on, done_it, fault_it}
 
 body_steps : (C : Table) (kept : Kept) (header : List ℕ) (h : Heard) (outer : List Place) (leaf : Leaf) (at b : ℕ) →
-    message_step (said_by C kept) header at (In_body outer leaf) b ≡ passes roots.Body false (λ h. In_body) (λ h. rest) h (decoder.step (order header) [] outer leaf at b)
+    message_step (said_by C kept) header at (In_body outer leaf) b ≡ passes roots.Body false (λ h. In_body) (λ h. rest) h (decoder.step (plain (order header)) [] outer leaf at b)
 unfolding message_step
-body_steps C kept header h outer leaf at b = sym (passes_body h (decoder.step (order header) [] outer leaf at b))
+body_steps C kept header h outer leaf at b = sym (passes_body h (decoder.step (plain (order header)) [] outer leaf at b))
 
 exception_steps : (C : Table) (kept : Kept) (header : List ℕ) (h : Heard) (outer : List Place) (leaf : Leaf) (at b : ℕ) →
-    message_step (said_by C kept) header at (In_exception h outer leaf) b ≡ passes roots.Exception false In_exception (after_exception (said_by C kept) header) h (decoder.step (order header) [] outer leaf at b)
+    message_step (said_by C kept) header at (In_exception h outer leaf) b ≡ passes roots.Exception false In_exception (after_exception (said_by C kept) header) h (decoder.step (plain (order header)) [] outer leaf at b)
 unfolding message_step
 exception_steps C kept header h outer leaf at b = refl
 
@@ -45,7 +45,7 @@ body_open C kept number header m s f is = subst (Stands C kept number header m s
 module _ (C : Table) (kept : Kept) (number : ℕ) (header : List ℕ) (m : Struct_of) (s : List ℕ) (f : Follows C kept number header m s) (T : Ty) (e : Decodes C (said_by C kept) number header roots.Body (λ h. In_body) (λ h. rest) T m.decoder s)
     (fits : decoders.Fits C m.decoder) (b : ℕ) where
   abbrev pub body_read : Read
-  body_read = read (order header) [] T (12 + length e.front) (e.octets ++ b ∷ [])
+  body_read = read (plain (order header)) [] T (12 + length e.front) (e.octets ++ b ∷ [])
 
   pub body_reads : decoders.Reads C T (order header) (12 + length e.front) m.number roots.Body m.decoder e.octets
   body_reads = reads_it C kept number header roots.Body (λ h. In_body) (λ h. rest) (λ h. rest_goes (said_by C kept) header) (body_steps C kept header) (λ h. rest_silent) (body_no_id false) m s f T e fits b
@@ -77,7 +77,7 @@ exception_open C kept number header m s f is = subst (Stands C kept number heade
 module _ (C : Table) (kept : Kept) (number : ℕ) (header : List ℕ) (m : Struct_of) (s : List ℕ) (f : Follows C kept number header m s) (e : Decodes C (said_by C kept) number header roots.Exception In_exception (after_exception (said_by C kept) header) (fixed_type ExceptionId) m.decoder s)
     (fits : decoders.Fits C m.decoder) (b : ℕ) where
   abbrev pub exception_read : Read
-  exception_read = read (order header) [] (fixed_type ExceptionId) (12 + length e.front) (e.octets ++ b ∷ [])
+  exception_read = read (plain (order header)) [] (fixed_type ExceptionId) (12 + length e.front) (e.octets ++ b ∷ [])
 
   pub exception_reads : decoders.Reads C (fixed_type ExceptionId) (order header) (12 + length e.front) m.number roots.Exception m.decoder e.octets
   exception_reads = reads_it C kept number header roots.Exception In_exception (after_exception (said_by C kept) header) (after_exception_goes (said_by C kept) header) (exception_steps C kept header) (after_exception_silent (said_by C kept) header) (exception_no_id false) m s f (fixed_type ExceptionId) e fits b

@@ -9,7 +9,7 @@ use Rattle.giop_cdr.specs.declared.order.Order.{Order}
 use Rattle.giop_print.specs.declared.path.Root.{Root}
 use Rattle.giop_print.specs.declared.path.Root.TheVariants as roots
 use Rattle.giop_sig.specs.Types.{Ty}
-use Rattle.giop_decode.specs.Spine.{Seg, Value as Valued, Line, Place, Leaf, Read, Done, Short, Fault}
+use Rattle.giop_decode.specs.Spine.{plain, Seg, Value as Valued, Line, Place, Leaf, Read, Done, Short, Fault}
 use Rattle.giop_decode.specs.Reading.{read}
 use Rattle.giop_decode.specs.Steps as decoder
 use Rattle.giop_decode.specs.Steps.{Quiet, OneAt, Now}
@@ -100,7 +100,7 @@ rest_silent n = (refl, add-zero n)
 
 pub typed_silent : (o : Order) (T : Ty) (n : ℕ) → Silent n (typed o T n [])
 unfolding typed
-typed_silent o T n = passes_silent roots.Body false (λ k. In_body) (λ k. rest) n (λ k. rest_silent n) nothing (read o [] T n []) (read_quiet o [] T n)
+typed_silent o T n = passes_silent roots.Body false (λ k. In_body) (λ k. rest) n (λ k. rest_silent n) nothing (read (plain o) [] T n []) (read_quiet (plain o) [] T n)
 
 pub option_silent : (o : Order) (found : Option Ty) (n : ℕ) → Silent n (option_typed o found n [])
 unfolding option_typed
@@ -116,7 +116,7 @@ unfolding body
 body_silent S header Untyped n = rest_silent n
 body_silent S header (Typed T) n = typed_silent (order header) T n
 body_silent S header Raised n =
-    passes_silent roots.Exception false In_exception (after_exception S header) n (λ k. after_exception_silent S header k n) nothing (read (order header) [] S.exception_id n []) (read_quiet (order header) [] S.exception_id n)
+    passes_silent roots.Exception false In_exception (after_exception S header) n (λ k. after_exception_silent S header k n) nothing (read (plain (order header)) [] S.exception_id n []) (read_quiet (plain (order header)) [] S.exception_id n)
 
 pub padded_silent : (S : Signatures) (header : List ℕ) (t : BodyType) (n : ℕ) → Silent n (padded S header t n [])
 unfolding padded
@@ -139,7 +139,7 @@ pub of_header_silent : (S : Signatures) (header : List ℕ) (found : Option Ty) 
 unfolding of_header
 of_header_silent S header None n = rest_silent n
 of_header_silent S header (Some T) n =
-    passes_silent roots.Header (is_request header) In_header (after_header S header) n (λ k. after_header_silent S header k n) nothing (read (order header) [] T n []) (read_quiet (order header) [] T n)
+    passes_silent roots.Header (is_request header) In_header (after_header S header) n (λ k. after_header_silent S header k n) nothing (read (plain (order header)) [] T n []) (read_quiet (plain (order header)) [] T n)
 
 rest_by : (offset : ℕ) (held : List ℕ) (n : ℕ) (test : Bool) → Prompt n (if test then Comes (tell n (Left offset held) ∷ []) n (In_rest (offset + 32) []) else Comes [] n (In_rest offset held))
 unfolding tell saying_of
@@ -149,16 +149,16 @@ rest_by offset held n false = ((tt, inl refl), inl refl)
 pub step_prompt : (S : Signatures) (header : List ℕ) (at : ℕ) (stage : Stage) (b : ℕ) → Prompt (at + 1) (message_step S header at stage b)
 unfolding message_step rest_step
 step_prompt S header at (In_header k outer leaf) b =
-    passes_prompt roots.Header (is_request header) In_header (after_header S header) (at + 1) (λ k. after_header_silent S header k (at + 1)) k (decoder.step (order header) [] outer leaf at b) (step_now (order header) [] outer leaf at b)
+    passes_prompt roots.Header (is_request header) In_header (after_header S header) (at + 1) (λ k. after_header_silent S header k (at + 1)) k (decoder.step (plain (order header)) [] outer leaf at b) (step_now (plain (order header)) [] outer leaf at b)
 step_prompt S header at (In_padding t) b = go (nat_lt 1 (padding at 8))
   where
     go : (test : Bool) → Prompt (at + 1) (if test then Comes [] (at + 1) (In_padding t) else body S header t (at + 1) [])
     go true = ((tt, inl refl), inl refl)
     go false = silent_prompt (at + 1) (body S header t (at + 1) []) (body_silent S header t (at + 1))
 step_prompt S header at (In_exception k outer leaf) b =
-    passes_prompt roots.Exception false In_exception (after_exception S header) (at + 1) (λ k. after_exception_silent S header k (at + 1)) k (decoder.step (order header) [] outer leaf at b) (step_now (order header) [] outer leaf at b)
+    passes_prompt roots.Exception false In_exception (after_exception S header) (at + 1) (λ k. after_exception_silent S header k (at + 1)) k (decoder.step (plain (order header)) [] outer leaf at b) (step_now (plain (order header)) [] outer leaf at b)
 step_prompt S header at (In_body outer leaf) b =
-    passes_prompt roots.Body false (λ k. In_body) (λ k. rest) (at + 1) (λ k. rest_silent (at + 1)) nothing (decoder.step (order header) [] outer leaf at b) (step_now (order header) [] outer leaf at b)
+    passes_prompt roots.Body false (λ k. In_body) (λ k. rest) (at + 1) (λ k. rest_silent (at + 1)) nothing (decoder.step (plain (order header)) [] outer leaf at b) (step_now (plain (order header)) [] outer leaf at b)
 step_prompt S header at (In_rest offset held) b = rest_by offset (held ++ b ∷ []) (at + 1) (length (held ++ b ∷ []) == 32)
 step_prompt S header at Over b = ((tt, inl refl), inr refl)
 

@@ -10,7 +10,7 @@ use Rattle.giop_sig.specs.declared.types.Shape.TheVariants as shapes
 use Rattle.giop_sig.specs.Types.{Ty, Plain, Enum, Single, Text, Octets, Struct, Union, Sequence, Array, shape_in}
 use Rattle.giop_sig.specs.Table.{Table}
 use Rattle.giop_decode.specs.declared.decoder.Decoder.{Decoder}
-use Rattle.giop_decode.specs.Spine.{Place, Leaf, Read}
+use Rattle.giop_decode.specs.Spine.{plain, Place, Leaf, Read}
 use Rattle.giop_decode.specs.Reading.{read}
 use Rattle.giop_decode.specs.Heard.{Heard, nothing, heard, is_header_root}
 use Rattle.giop_decode.specs.Holding as decoders
@@ -89,7 +89,7 @@ module _ (C : Table) (kept : Kept) (number : ℕ) (header : List ℕ) (m : Struc
   unfolding close said_by
   header_short is =
       let x = subst (Stands C kept number header m s) is f.stands in
-      let g = part_stage roots.Header (is_request header) In_header (after_header (said_by C kept) header) C m.decoder (subst (FitsPart C m.decoder) is fits) [] (read (order header) [] x.0 12 s) x.2.lines (12 + length s)
+      let g = part_stage roots.Header (is_request header) In_header (after_header (said_by C kept) header) C m.decoder (subst (FitsPart C m.decoder) is fits) [] (read (plain (order header)) [] x.0 12 s) x.2.lines (12 + length s)
       (message (said_by C kept) header s) (header_message (said_by C kept) header s x.0 x.1) x.2.is in
       rw g.3 refl
 

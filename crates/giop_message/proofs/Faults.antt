@@ -7,7 +7,7 @@ use Rattle.giop_cdr.specs.declared.order.Order.{Order}
 use Rattle.giop_print.specs.declared.path.Root.{Root}
 use Rattle.giop_print.specs.declared.path.Root.TheVariants as roots
 use Rattle.giop_sig.specs.Types.{Ty}
-use Rattle.giop_decode.specs.Spine.{Line, Place, Leaf, Read, Done, Short, Fault}
+use Rattle.giop_decode.specs.Spine.{plain, Line, Place, Leaf, Read, Done, Short, Fault}
 use Rattle.giop_decode.specs.Reading.{read}
 use Rattle.giop_decode.specs.Heard.{Heard, nothing, hear, heard, is_header_root}
 use Rattle.giop_message.specs.Headers.{minor, kind, order}
@@ -62,7 +62,7 @@ all_rest at s = rest_tallies _ 0 at s
 
 typed_tallies : (o : Order) (T : Ty) (at : ℕ) (s : List ℕ) → Tallies (typed o T at s)
 unfolding typed is_over
-typed_tallies o T at s = passes_tallies roots.Body false (λ k. In_body) (λ k. rest) (λ k outer leaf. refl) (λ k. all_rest) nothing (read o [] T at s)
+typed_tallies o T at s = passes_tallies roots.Body false (λ k. In_body) (λ k. rest) (λ k outer leaf. refl) (λ k. all_rest) nothing (read (plain o) [] T at s)
 
 pub option_tallies : (o : Order) (found : Option Ty) (at : ℕ) (s : List ℕ) → Tallies (option_typed o found at s)
 unfolding option_typed
@@ -74,7 +74,7 @@ unfolding body after_exception is_over
 body_tallies S header Untyped at s = all_rest at s
 body_tallies S header (Typed T) at s = typed_tallies (order header) T at s
 body_tallies S header Raised at s =
-    passes_tallies roots.Exception false In_exception (after_exception S header) (λ k outer leaf. refl) (λ k. option_tallies (order header) (members_of S k.name)) nothing (read (order header) [] S.exception_id at s)
+    passes_tallies roots.Exception false In_exception (after_exception S header) (λ k outer leaf. refl) (λ k. option_tallies (order header) (members_of S k.name)) nothing (read (plain (order header)) [] S.exception_id at s)
 
 padded_tallies : (S : Signatures) (header : List ℕ) (t : BodyType) (at : ℕ) (s : List ℕ) → Tallies (padded S header t at s)
 unfolding padded is_over
@@ -97,7 +97,7 @@ header_tallies : (S : Signatures) (header : List ℕ) (found : Option Ty) (at : 
 unfolding of_header is_over
 header_tallies S header None at s = all_rest at s
 header_tallies S header (Some T) at s =
-    passes_tallies roots.Header (is_request header) In_header (after_header S header) (λ k outer leaf. refl) (after_tallies S header) nothing (read (order header) [] T at s)
+    passes_tallies roots.Header (is_request header) In_header (after_header S header) (λ k outer leaf. refl) (after_tallies S header) nothing (read (plain (order header)) [] T at s)
 
 over_of : (m : Message) → Tallies m → is_over (stage_of m) ≡ list_any is_wrong (told_of m)
 unfolding stage_of told_of

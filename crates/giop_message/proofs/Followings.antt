@@ -9,7 +9,7 @@ use Rattle.giop_sig.specs.Types.{Plain, Enum, Ty, Text, Octets, Single, Struct, 
 use Rattle.giop_sig.specs.Table.{Table}
 use Rattle.giop_decode.specs.declared.decoder.Decoder.{Decoder}
 use Rattle.giop_decode.specs.declared.leaf.Leaf.{Leaf as Innermost}
-use Rattle.giop_decode.specs.Spine.{Seg, Value, Number, Count, Piece, Line, Place, Leaf, Read, Done, Short, Fault, lines_of}
+use Rattle.giop_decode.specs.Spine.{plain, Seg, Value, Number, Count, Piece, Line, Place, Leaf, Read, Done, Short, Fault, lines_of}
 use Rattle.giop_decode.specs.Spine as spine
 use Rattle.giop_decode.proofs.ReadingLaws.{lines_front, heard-append, length_one_more}
 use Rattle.giop_decode.specs.Reading.{read}
@@ -52,7 +52,7 @@ module _ (root : Root) (is : Bool) (stage : Heard → List Place → Leaf → St
       ∙ (ap (λ r. is_over (stage_of (passes root is stage next nothing r))) f ∙ standing_over C d d.leaf lines at))
 
 pub header_message : (S : Signatures) (header s : List ℕ) (T : Ty) → S.header (minor header) (kind header) ≡ Some T →
-    message S header s ≡ with_front [] (passes roots.Header (is_request header) In_header (after_header S header) nothing (read (order header) [] T 12 s))
+    message S header s ≡ with_front [] (passes roots.Header (is_request header) In_header (after_header S header) nothing (read (plain (order header)) [] T 12 s))
 unfolding message of_header
 header_message S header s T e = rw (e, front_none) refl
 
@@ -67,7 +67,7 @@ follows_goes C kept number header m s f = go m.part f.stands
     go : (p : Part) → Stands C kept number header m s p → is_over (stage_of (message (said_by C kept) header s)) ≡ false
     go parts.Header (T, found, reads) =
         part_over roots.Header (is_request header) In_header (after_header (said_by C kept) header) (λ h outer leaf. refl) (after_header_silent (said_by C kept) header) (λ h n. after_tallies (said_by C kept) header h n [])
-        C m.decoder [] (read (order header) [] T 12 s) reads.lines (12 + length s) (message (said_by C kept) header s) (header_message (said_by C kept) header s T found) reads.is
+        C m.decoder [] (read (plain (order header)) [] T 12 s) reads.lines (12 + length s) (message (said_by C kept) header s) (header_message (said_by C kept) header s T found) reads.is
     go (parts.Padding wanted) (told, e) = rw e refl
     go parts.Exception e =
         part_over roots.Exception false In_exception (after_exception (said_by C kept) header) (λ h outer leaf. refl) (after_exception_silent (said_by C kept) header) (exception_tallies (said_by C kept) header)

@@ -9,7 +9,7 @@ use Rattle.giop_print.specs.declared.path.Root.{Root}
 use Rattle.giop_print.specs.declared.path.Root.TheVariants as roots
 use Rattle.giop_sig.specs.Types.{Ty}
 use Rattle.giop_decode.specs.Spine
-use Rattle.giop_decode.specs.Spine.{Line, Place, Leaf, Read, Done, Short, Fault}
+use Rattle.giop_decode.specs.Spine.{plain, Line, Place, Leaf, Read, Done, Short, Fault}
 use Rattle.giop_decode.specs.Reading.{read}
 use Rattle.giop_decode.specs.Steps as decoder
 use Rattle.giop_decode.specs.Heard.{Heard, nothing, hear, heard, is_header_root}
@@ -64,13 +64,13 @@ module _ (root : Root) (is : Bool) (stage : Heard → List Place → Leaf → St
 
   -- a typed part, where what follows it goes on and the step of its stage is that of the decoder
   pub passes_go : (S : Signatures) (header : List ℕ) → ((h : Heard) → Goes S header (next h)) →
-      ((h : Heard) (outer : List Place) (leaf : Leaf) (at b : ℕ) → message_step S header at (stage h outer leaf) b ≡ passes root is stage next h (decoder.step (order header) [] outer leaf at b)) →
-      (h : Heard) (r : Read) (b : ℕ) → passes root is stage next h (decoder.advance (order header) [] r b) ≡ advance S header (passes root is stage next h r) b
+      ((h : Heard) (outer : List Place) (leaf : Leaf) (at b : ℕ) → message_step S header at (stage h outer leaf) b ≡ passes root is stage next h (decoder.step (plain (order header)) [] outer leaf at b)) →
+      (h : Heard) (r : Read) (b : ℕ) → passes root is stage next h (decoder.advance (plain (order header)) [] r b) ≡ advance S header (passes root is stage next h r) b
   unfolding passes with_front advance
   passes_go S header goes step h (Done lines at s) b =
       ap (with_front (tells root is h lines)) (goes (heard (is_header_root root) h lines) at s b) ∙ front_advance S header (tells root is h lines) (next (heard (is_header_root root) h lines) at s) b
   passes_go S header goes step h (Short lines at outer leaf) b =
-      passes_front h lines (decoder.step (order header) [] outer leaf at b)
+      passes_front h lines (decoder.step (plain (order header)) [] outer leaf at b)
       ∙ ap (with_front (tells root is h lines)) (sym (step (heard (is_header_root root) h lines) outer leaf at b))
   passes_go S header goes step h (Fault lines at why T) b = stays S header (tells root is h lines ++ tell at (Wrong why) ∷ []) at b
 
@@ -130,8 +130,8 @@ passes_body h (Fault lines at why T) = rw (tells_body h nothing lines) refl
 pub typed_goes : (S : Signatures) (header : List ℕ) (T : Ty) → Goes S header (typed (order header) T)
 unfolding typed message_step
 typed_goes S header T at s b =
-    ap (passes roots.Body false (λ h. In_body) (λ h. rest) nothing) (read_goes (order header) [] T at s b)
-    ∙ passes_go roots.Body false (λ h. In_body) (λ h. rest) S header (λ h. rest_goes S header) (λ h outer leaf at b. sym (passes_body h (decoder.step (order header) [] outer leaf at b))) nothing (read (order header) [] T at s) b
+    ap (passes roots.Body false (λ h. In_body) (λ h. rest) nothing) (read_goes (plain (order header)) [] T at s b)
+    ∙ passes_go roots.Body false (λ h. In_body) (λ h. rest) S header (λ h. rest_goes S header) (λ h outer leaf at b. sym (passes_body h (decoder.step (plain (order header)) [] outer leaf at b))) nothing (read (plain (order header)) [] T at s) b
 
 pub option_typed_goes : (S : Signatures) (header : List ℕ) (found : Option Ty) → Goes S header (option_typed (order header) found)
 unfolding option_typed
@@ -147,8 +147,8 @@ unfolding body message_step
 body_goes S header Untyped = rest_goes S header
 body_goes S header (Typed T) = typed_goes S header T
 body_goes S header Raised = λ at s b.
-    ap (passes roots.Exception false In_exception (after_exception S header) nothing) (read_goes (order header) [] S.exception_id at s b)
-    ∙ passes_go roots.Exception false In_exception (after_exception S header) S header (after_exception_goes S header) (λ h outer leaf at b. refl) nothing (read (order header) [] S.exception_id at s) b
+    ap (passes roots.Exception false In_exception (after_exception S header) nothing) (read_goes (plain (order header)) [] S.exception_id at s b)
+    ∙ passes_go roots.Exception false In_exception (after_exception S header) S header (after_exception_goes S header) (λ h outer leaf at b. refl) nothing (read (plain (order header)) [] S.exception_id at s) b
 
 -- ---- the padding
 
@@ -210,8 +210,8 @@ pub of_header_goes : (S : Signatures) (header : List ℕ) (found : Option Ty) �
 unfolding of_header message_step
 of_header_goes S header None = rest_goes S header
 of_header_goes S header (Some T) = λ at s b.
-    ap (passes roots.Header (is_request header) In_header (after_header S header) nothing) (read_goes (order header) [] T at s b)
-    ∙ passes_go roots.Header (is_request header) In_header (after_header S header) S header (after_header_goes S header) (λ h outer leaf at b. refl) nothing (read (order header) [] T at s) b
+    ap (passes roots.Header (is_request header) In_header (after_header S header) nothing) (read_goes (plain (order header)) [] T at s b)
+    ∙ passes_go roots.Header (is_request header) In_header (after_header S header) S header (after_header_goes S header) (λ h outer leaf at b. refl) nothing (read (plain (order header)) [] T at s) b
 
 -- One octet more is one step.
 pub message_goes : (S : Signatures) (header s : List ℕ) (b : ℕ) → message S header (s ++ b ∷ []) ≡ advance S header (message S header s) b

@@ -13,7 +13,7 @@ use Rattle.giop_decode.specs.declared.progress.Kind.{Kind}
 use Rattle.giop_decode.specs.declared.progress.Progress.{Progress}
 use Rattle.giop_decode.specs.declared.progress.Progress.TheVariants as progress
 use Rattle.giop_decode.specs.Spine
-use Rattle.giop_decode.specs.Spine.{Line, Place, Leaf, Read, Done, Short, Fault, lines_of}
+use Rattle.giop_decode.specs.Spine.{plain, Line, Place, Leaf, Read, Done, Short, Fault, lines_of}
 use Rattle.giop_decode.specs.Reading.{read}
 use Rattle.giop_decode.specs.Fits.{FitsIn, Sound}
 use Rattle.giop_decode.specs.Steps as decoder
@@ -118,7 +118,7 @@ module _ (C : Table) (kept : Kept) (number : ℕ) (header : List ℕ) (m : Struc
   S_found = found
 
   head_steps : (h : Heard) (outer : List Place) (leaf : Leaf) (at b : ℕ) →
-      message_step (said_by C kept) header at (In_header h outer leaf) b ≡ passes roots.Header (is_request header) In_header (after_header (said_by C kept) header) h (decoder.step (order header) [] outer leaf at b)
+      message_step (said_by C kept) header at (In_header h outer leaf) b ≡ passes roots.Header (is_request header) In_header (after_header (said_by C kept) header) h (decoder.step (plain (order header)) [] outer leaf at b)
   unfolding message_step
   head_steps h outer leaf at b = refl
 
@@ -130,7 +130,7 @@ module _ (C : Table) (kept : Kept) (number : ℕ) (header : List ℕ) (m : Struc
 
   -- what it comes to
   abbrev pub header_read : Read
-  header_read = read (order header) [] T 12 (s ++ b ∷ [])
+  header_read = read (plain (order header)) [] T 12 (s ++ b ∷ [])
 
   pub header_reads : decoders.Reads C T (order header) 12 m.number roots.Header m.decoder s
   header_reads = subst (λ n. decoders.Reads C T (order header) 12 n roots.Header m.decoder s) (sym f.same_number) reads
@@ -160,7 +160,7 @@ module _ (C : Table) (kept : Kept) (number : ℕ) (header : List ℕ) (m : Struc
 
   -- the last octet of a Request's header ends no operation
   fits_in : FitsIn T (outer_in C (order header) T 12 number roots.Header m.decoder s reads fits b) (leaf_in C (order header) T 12 number roots.Header m.decoder s reads fits b)
-  fits_in = (subst (Sound T (12 + length s)) (read_short C (order header) T 12 number roots.Header m.decoder s reads fits b) (read_keeps 24 (order header) [] T (header_fit (minor header) (kind header) T found) 12 s)).1
+  fits_in = (subst (Sound T (12 + length s)) (read_short C (order header) T 12 number roots.Header m.decoder s reads fits b) (read_keeps 24 (plain (order header)) [] T (header_fit (minor header) (kind header) T found) 12 s)).1
 
   ends_by : (is : Bool) → is_request header ≡ is → done_test St ≡ true → Each (λ l. ends_operation is l ≡ false) (lines_of St)
   unfolding is_request
@@ -172,7 +172,7 @@ module _ (C : Table) (kept : Kept) (number : ℕ) (header : List ℕ) (m : Struc
   ends_by true e done =
       let zero_kind : kind header ≡ 0 = eqb-true (kind header) 0 e in
       let ends : EndsOtherwise T = subst (λ o. IfSome o EndsOtherwise) (subst (λ k. header_type (minor header) k ≡ Some T) zero_kind found) (request_ends (minor header)) in
-      last_no_call (order header) true T _ _ (12 + length s) b ends (header_fit (minor header) (kind header) T found) fits_in done
+      last_no_call (plain (order header)) true T _ _ (12 + length s) b ends (header_fit (minor header) (kind header) T found) fits_in done
 
   done_is : (end : ℕ) (named : Bool) (p : Progress) (st : Read) (lines : List Line) → p ≡ progress.Done → decoders.IsAnswer end named p (Spine.with_front lines st) → done_test st ≡ true
   done_is end named p (Done ls at rest) lines e answer = refl
@@ -210,7 +210,7 @@ module _ (C : Table) (kept : Kept) (number : ℕ) (header : List ℕ) (m : Struc
       let more = read_more C (order header) T 12 number roots.Header m.decoder s reads fits b in
       let now = stepped_now C (order header) T 12 number roots.Header m.decoder s reads fits b in
       let x = named_line ((12 + length s) + 1) (lines_of St) (one_of ((12 + length s) + 1) St now) (subst (λ ls. names_operation true ls ≡ true) (lines_due C (order header) T 12 number roots.Header m.decoder s reads fits b) named) in
-      let h : heard_of true header_read ≡ hear true Hd x.0 = ap (heard_of true) more ∙ muted reads.lines St x.0 (step_closed (order header) [] (outer_in C (order header) T 12 number roots.Header m.decoder s reads fits b) (leaf_in C (order header) T 12 number roots.Header m.decoder s reads fits b) (12 + length s) b) x.1 x.2 in
+      let h : heard_of true header_read ≡ hear true Hd x.0 = ap (heard_of true) more ∙ muted reads.lines St x.0 (step_closed (plain (order header)) [] (outer_in C (order header) T 12 number roots.Header m.decoder s reads fits b) (leaf_in C (order header) T 12 number roots.Header m.decoder s reads fits b) (12 + length s) b) x.1 x.2 in
       rw (f.same_number, f.same_header, h)
       (all_text place ∙ ap (λ call. (lines_text number roots.Header (decoders.due (order header) T 12 s b) ++ fault_text number (place + 1) header_read) ++ call)
       (ap (λ ls. told_text number place (12 + length s) (first_call roots.Header (is_request header) Hd ls)) x.1

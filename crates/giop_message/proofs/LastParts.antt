@@ -6,7 +6,6 @@ use Rattle.std.specs.Option.{option_map}
 use Rattle.std.specs.Str.{bytes_eq}
 use Rattle.std.proofs.lemmas.Bool.{false≢true, cases_lt}
 use Rattle.std.proofs.lemmas.List.Elements.{All-from_recursion}
-use Rattle.giop_cdr.specs.declared.order.Order.{Order}
 use Rattle.giop_sig.specs.Types.{Ty, Struct}
 use Rattle.giop_sig.specs.Fits.{IsFit}
 use Rattle.giop_sig.specs.Trees.{trees_after, type_in}
@@ -14,7 +13,7 @@ use Rattle.giop_sig.specs.Builtin.{builtin_types, builtin_table}
 use Rattle.giop_sig.specs.Headers.{header_type, header_number, IsTable, IsCall, IsRaised}
 use Rattle.giop_sig.proofs.Builtins.{builtin_are, builtin_fit, header_built_in}
 use Rattle.giop_decode.specs.Spine
-use Rattle.giop_decode.specs.Spine.{Seg, Name, Switch, Line, Place, Part, Member, Leaf, Head, Content, Read, Done, Short, Fault, lines_of, with_front}
+use Rattle.giop_decode.specs.Spine.{Coding, Seg, Name, Switch, Line, Place, Part, Member, Leaf, Head, Content, Read, Done, Short, Fault, lines_of, with_front}
 use Rattle.giop_decode.specs.Reading.{parts_from}
 use Rattle.giop_decode.specs.Steps.{Now, part_at, path_in, seg_of, seg_in, step, resumed}
 use Rattle.giop_decode.specs.Fits.{FitsIn}
@@ -91,43 +90,43 @@ short_front front (Short lines at outer leaf) at' outer' leaf' e = refl
 short_front front (Fault lines at why T) at' outer' leaf' e = refl
 
 -- a struct goes on behind a part that isn't its last
-goes_on : (order : Order) (d n : ℕ) (names : ℕ → List ℕ) (parts : ℕ → Ty) (i at : ℕ) (inner : Read) → IsFit (suc d) (Struct (suc n) names parts) → suc i < suc n → Now at inner →
-    done_test (resumed order [] (Part (Struct (suc n) names parts) i (suc n)) inner) ≡ false
-goes_on order d n names parts i at (Short lines at' outer leaf) fit below now = refl
-goes_on order d n names parts i at (Fault lines at' why T) fit below now = refl
-goes_on order d n names parts i at (Done lines at' rest) fit below now =
+goes_on : (coding : Coding) (d n : ℕ) (names : ℕ → List ℕ) (parts : ℕ → Ty) (i at : ℕ) (inner : Read) → IsFit (suc d) (Struct (suc n) names parts) → suc i < suc n → Now at inner →
+    done_test (resumed coding [] (Part (Struct (suc n) names parts) i (suc n)) inner) ≡ false
+goes_on coding d n names parts i at (Short lines at' outer leaf) fit below now = refl
+goes_on coding d n names parts i at (Fault lines at' why T) fit below now = refl
+goes_on coding d n names parts i at (Done lines at' rest) fit below now =
     let T = Struct (suc n) names parts in
-    rw (now.1, now.2) (short_front lines (parts_from (part_at order [] T (suc n)) (suc n - suc i) (suc i) at []) at _ _ (next_part order [] d T i (suc n) at fit refl below))
+    rw (now.1, now.2) (short_front lines (parts_from (part_at coding [] T (suc n)) (suc n - suc i) (suc i) at []) at _ _ (next_part coding [] d T i (suc n) at fit refl below))
 
 -- in the last part, or in one whose end goes on to the next
-module _ (order : Order) (is : Bool) (n : ℕ) (names : ℕ → List ℕ) (parts : ℕ → Ty) (fit : IsFit 24 (Struct (suc n) names parts)) (other : bytes_eq (codes "operation") (names n) ≡ false) (at b : ℕ) where
+module _ (coding : Coding) (is : Bool) (n : ℕ) (names : ℕ → List ℕ) (parts : ℕ → Ty) (fit : IsFit 24 (Struct (suc n) names parts)) (other : bytes_eq (codes "operation") (names n) ≡ false) (at b : ℕ) where
   abbrev NoCalls : List Place → Leaf → Type 0
-  NoCalls outer leaf = Each (λ l. ends_operation is l ≡ false) (lines_of (step order [] outer leaf at b))
+  NoCalls outer leaf = Each (λ l. ends_operation is l ≡ false) (lines_of (step coding [] outer leaf at b))
 
-  in_part : (i : ℕ) (leaf : Leaf) → FitsIn (parts i) [] leaf → i < suc n → done_test (step order [] (Part (Struct (suc n) names parts) i (suc n) ∷ []) leaf at b) ≡ true →
+  in_part : (i : ℕ) (leaf : Leaf) → FitsIn (parts i) [] leaf → i < suc n → done_test (step coding [] (Part (Struct (suc n) names parts) i (suc n) ∷ []) leaf at b) ≡ true →
       NoCalls (Part (Struct (suc n) names parts) i (suc n) ∷ []) leaf
   in_part i leaf fits below done = go (cases_lt (suc i) (suc n))
     where
       go : (suc i < suc n) ⊎ (suc n ≤ suc i) → NoCalls (Part (Struct (suc n) names parts) i (suc n) ∷ []) leaf
-      go (inl more) = absurd (false≢true (sym (goes_on order 23 n names parts i (at + 1) (step order (Name (names i) ∷ []) [] leaf at b) fit more (step_now order (Name (names i) ∷ []) [] leaf at b)) ∙ done))
+      go (inl more) = absurd (false≢true (sym (goes_on coding 23 n names parts i (at + 1) (step coding (Name (names i) ∷ []) [] leaf at b) fit more (step_now coding (Name (names i) ∷ []) [] leaf at b)) ∙ done))
       go (inr last) =
           let e : i ≡ n = omega (arith, below) in
-          no_ends is (Name (names i) ∷ []) _ (step_of order [] (Part (Struct (suc n) names parts) i (suc n) ∷ []) leaf at b) (ap (λ k. bytes_eq (codes "operation") (names k)) e ∙ other)
+          no_ends is (Name (names i) ∷ []) _ (step_of coding [] (Part (Struct (suc n) names parts) i (suc n) ∷ []) leaf at b) (ap (λ k. bytes_eq (codes "operation") (names k)) e ∙ other)
 
-  in_struct : (outer : List Place) (leaf : Leaf) → FitsIn (Struct (suc n) names parts) outer leaf → done_test (step order [] outer leaf at b) ≡ true → NoCalls outer leaf
+  in_struct : (outer : List Place) (leaf : Leaf) → FitsIn (Struct (suc n) names parts) outer leaf → done_test (step coding [] outer leaf at b) ≡ true → NoCalls outer leaf
   in_struct [] (Head U carry) fits done = absurd fits.kind
   in_struct [] (Content U total offset piece) fits done = absurd fits.kind
   in_struct (Member U i ∷ outer) leaf fits done = absurd fits.0.kind
   in_struct (Part U i count ∷ []) leaf fits done =
       let same : Part U i count ≡ Part (Struct (suc n) names parts) i (suc n) = rw (fits.0.same, fits.0.kind) refl in
       subst (λ p. NoCalls (p ∷ []) leaf) (sym same)
-      (in_part i leaf fits.1 (rw fits.0.kind at fits.0.below) (subst (λ p. done_test (step order [] (p ∷ []) leaf at b) ≡ true) same done))
+      (in_part i leaf fits.1 (rw fits.0.kind at fits.0.below) (subst (λ p. done_test (step coding [] (p ∷ []) leaf at b) ≡ true) same done))
   in_struct (Part U i count ∷ place ∷ outer) leaf fits done =
-      no_ends is (path_in (seg_of U i ∷ seg_in place ∷ []) outer) _ (step_of order [] (Part U i count ∷ place ∷ outer) leaf at b)
+      no_ends is (path_in (seg_of U i ∷ seg_in place ∷ []) outer) _ (step_of coding [] (Part U i count ∷ place ∷ outer) leaf at b)
       (deep_member (codes "operation") (seg_of U i) (seg_in place) [] outer)
 
 -- What ends a header that ends otherwise calls nothing.
-pub last_no_call : (order : Order) (is : Bool) (T : Ty) (outer : List Place) (leaf : Leaf) (at b : ℕ) → EndsOtherwise T → IsFit 24 T → FitsIn T outer leaf →
-    done_test (step order [] outer leaf at b) ≡ true → Each (λ l. ends_operation is l ≡ false) (lines_of (step order [] outer leaf at b))
-last_no_call order is T outer leaf at b (n, names, parts, same, other) fit fits done =
-    in_struct order is n names parts (subst (IsFit 24) same fit) other at b outer leaf (subst (λ U. FitsIn U outer leaf) same fits) done
+pub last_no_call : (coding : Coding) (is : Bool) (T : Ty) (outer : List Place) (leaf : Leaf) (at b : ℕ) → EndsOtherwise T → IsFit 24 T → FitsIn T outer leaf →
+    done_test (step coding [] outer leaf at b) ≡ true → Each (λ l. ends_operation is l ≡ false) (lines_of (step coding [] outer leaf at b))
+last_no_call coding is T outer leaf at b (n, names, parts, same, other) fit fits done =
+    in_struct coding is n names parts (subst (IsFit 24) same fit) other at b outer leaf (subst (λ U. FitsIn U outer leaf) same fits) done

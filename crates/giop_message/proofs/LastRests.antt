@@ -4,7 +4,7 @@ use Rattle.std.specs.Prelude.{nat_lt, ◌==◌, if◌then◌else◌}
 use Rattle.giop_cdr.specs.Alignment.{padding}
 use Rattle.giop_print.specs.declared.path.Root.{Root}
 use Rattle.giop_print.specs.declared.path.Root.TheVariants as roots
-use Rattle.giop_decode.specs.Spine.{Line, Place, Leaf, Read, Done, Short, Fault as Faulty}
+use Rattle.giop_decode.specs.Spine.{plain, Line, Place, Leaf, Read, Done, Short, Fault as Faulty}
 use Rattle.giop_decode.specs.Heard.{Heard, nothing, heard, is_header_root}
 use Rattle.giop_decode.specs.Steps as decoder
 use Rattle.giop_decode.specs.Steps.{OneAt, Now}
@@ -61,16 +61,16 @@ rest_by offset held n false = λ e f. absurd cc
 step_ends : (S : Signatures) (header : List ℕ) (at : ℕ) (stage : Stage) (b : ℕ) → NoMore (message_step S header at stage b)
 unfolding message_step rest_step
 step_ends S header at (In_header k outer leaf) b =
-    by_told _ (passes_none roots.Header (is_request header) In_header (after_header S header) (at + 1) (λ k. after_header_silent S header k (at + 1)) k (decoder.step (order header) [] outer leaf at b) (step_now (order header) [] outer leaf at b))
+    by_told _ (passes_none roots.Header (is_request header) In_header (after_header S header) (at + 1) (λ k. after_header_silent S header k (at + 1)) k (decoder.step (plain (order header)) [] outer leaf at b) (step_now (plain (order header)) [] outer leaf at b))
 step_ends S header at (In_padding t) b = go (nat_lt 1 (padding at 8))
   where
     go : (test : Bool) → NoMore (if test then Comes [] (at + 1) (In_padding t) else body S header t (at + 1) [])
     go true = λ e f. absurd cc
     go false = by_told (body S header t (at + 1) []) (silent_told (at + 1) (body S header t (at + 1) []) (body_silent S header t (at + 1)))
 step_ends S header at (In_exception k outer leaf) b =
-    by_told _ (passes_none roots.Exception false In_exception (after_exception S header) (at + 1) (λ k. after_exception_silent S header k (at + 1)) k (decoder.step (order header) [] outer leaf at b) (step_now (order header) [] outer leaf at b))
+    by_told _ (passes_none roots.Exception false In_exception (after_exception S header) (at + 1) (λ k. after_exception_silent S header k (at + 1)) k (decoder.step (plain (order header)) [] outer leaf at b) (step_now (plain (order header)) [] outer leaf at b))
 step_ends S header at (In_body outer leaf) b =
-    by_told _ (passes_none roots.Body false (λ k. In_body) (λ k. rest) (at + 1) (λ k. rest_silent (at + 1)) nothing (decoder.step (order header) [] outer leaf at b) (step_now (order header) [] outer leaf at b))
+    by_told _ (passes_none roots.Body false (λ k. In_body) (λ k. rest) (at + 1) (λ k. rest_silent (at + 1)) nothing (decoder.step (plain (order header)) [] outer leaf at b) (step_now (plain (order header)) [] outer leaf at b))
 step_ends S header at (In_rest offset held) b = rest_by offset (held ++ b ∷ []) (at + 1) (length (held ++ b ∷ []) == 32)
 step_ends S header at Over b = λ e f. absurd cc
 

@@ -13,7 +13,7 @@ use Rattle.giop_sig.specs.Table.{Table}
 use Rattle.giop_sig.specs.Headers.{BeginsWithId, IdStandsFirst, header_type}
 use Rattle.giop_sig.proofs.HeaderLaws.{id_first}
 use Rattle.giop_decode.specs.Spine as spine
-use Rattle.giop_decode.specs.Spine.{Seg, Name, Line, Number, line, Place, Leaf, Part, Read, Done, Short, followed, within}
+use Rattle.giop_decode.specs.Spine.{plain, Seg, Name, Line, Number, line, Place, Leaf, Part, Read, Done, Short, followed, within}
 use Rattle.giop_decode.specs.Pieces.{block, number}
 use Rattle.giop_decode.specs.Reading.{read, parts_from}
 use Rattle.giop_decode.specs.Steps.{Quiet, part_at}
@@ -73,33 +73,33 @@ unfolding tells calls
 tells_id is path n = rw (number_no_operation is path n) refl
 
 module _ (o : Order) (path : List Seg) where
-  read_four : (a b c d : ℕ) → read o path (Single (Plain prims.ULong)) 12 (a ∷ b ∷ c ∷ d ∷ []) ≡ Done (line 16 path (Number (Plain prims.ULong) (num o (a ∷ b ∷ c ∷ d ∷ []))) ∷ []) 16 []
+  read_four : (a b c d : ℕ) → read (plain o) path (Single (Plain prims.ULong)) 12 (a ∷ b ∷ c ∷ d ∷ []) ≡ Done (line 16 path (Number (Plain prims.ULong) (num o (a ∷ b ∷ c ∷ d ∷ []))) ∷ []) 16 []
   unfolding number block padding
   read_four a b c d = refl
 
 -- the first part, where it is an unsigned long
 module _ (o : Order) (n : ℕ) (of : ℕ → List ℕ) (parts : ℕ → Ty) (is : parts 0 ≡ Single (Plain prims.ULong)) where
   next : ℕ → List ℕ → Read
-  next = parts_from (part_at o [] (Struct (suc n) of parts) (suc n)) n 1
+  next = parts_from (part_at (plain o) [] (Struct (suc n) of parts) (suc n)) n 1
 
-  first_part : (xs : List ℕ) → read o [] (Struct (suc n) of parts) 12 xs ≡ followed (within (Part (Struct (suc n) of parts) 0 (suc n)) (read o (Name (of 0) ∷ []) (Single (Plain prims.ULong)) 12 xs)) next
+  first_part : (xs : List ℕ) → read (plain o) [] (Struct (suc n) of parts) 12 xs ≡ followed (within (Part (Struct (suc n) of parts) 0 (suc n)) (read (plain o) (Name (of 0) ∷ []) (Single (Plain prims.ULong)) 12 xs)) next
   unfolding next
-  first_part xs = ap (λ P. followed (within (Part (Struct (suc n) of parts) 0 (suc n)) (read o (Name (of 0) ∷ []) P 12 xs)) next) is
+  first_part xs = ap (λ P. followed (within (Part (Struct (suc n) of parts) 0 (suc n)) (read (plain o) (Name (of 0) ∷ []) P 12 xs)) next) is
 
   id_line : List ℕ → Line
   id_line xs = line 16 (Name (of 0) ∷ []) (Number (Plain prims.ULong) (num o xs))
 
-  first_four : (a b c d : ℕ) → read o [] (Struct (suc n) of parts) 12 (a ∷ b ∷ c ∷ d ∷ []) ≡ spine.with_front (id_line (a ∷ b ∷ c ∷ d ∷ []) ∷ []) (next 16 [])
+  first_four : (a b c d : ℕ) → read (plain o) [] (Struct (suc n) of parts) 12 (a ∷ b ∷ c ∷ d ∷ []) ≡ spine.with_front (id_line (a ∷ b ∷ c ∷ d ∷ []) ∷ []) (next 16 [])
   unfolding id_line
   first_four a b c d =
       first_part (a ∷ b ∷ c ∷ d ∷ []) ∙ ap (λ r. followed (within (Part (Struct (suc n) of parts) 0 (suc n)) r) next) (read_four o (Name (of 0) ∷ []) a b c d)
 
   next_quiet : Quiet 16 (next 16 [])
   unfolding next
-  next_quiet = quiet_parts 16 (part_at o [] (Struct (suc n) of parts) (suc n)) (part_quiet o [] (Struct (suc n) of parts) (suc n) 16) n 1
+  next_quiet = quiet_parts 16 (part_at (plain o) [] (Struct (suc n) of parts) (suc n)) (part_quiet (plain o) [] (Struct (suc n) of parts) (suc n) 16) n 1
 
   module _ (is_req : Bool) (onward : Heard → ℕ → List ℕ → Message) (silent : (h : Heard) → Silent 16 (onward h 16 [])) where
-    told_few : (xs : List ℕ) → length xs < 4 → told_of (passes roots.Header is_req In_header onward nothing (read o [] (Struct (suc n) of parts) 12 xs)) ≡ []
+    told_few : (xs : List ℕ) → length xs < 4 → told_of (passes roots.Header is_req In_header onward nothing (read (plain o) [] (Struct (suc n) of parts) 12 xs)) ≡ []
     unfolding number block padding passes tells told_of
     told_few [] h = ap (λ r. told_of (passes roots.Header is_req In_header onward nothing r)) (first_part [])
     told_few (a ∷ []) h = ap (λ r. told_of (passes roots.Header is_req In_header onward nothing r)) (first_part (a ∷ []))
@@ -107,7 +107,7 @@ module _ (o : Order) (n : ℕ) (of : ℕ → List ℕ) (parts : ℕ → Ty) (is 
     told_few (a ∷ b ∷ c ∷ []) h = ap (λ r. told_of (passes roots.Header is_req In_header onward nothing r)) (first_part (a ∷ b ∷ c ∷ []))
     told_few (a ∷ b ∷ c ∷ d ∷ xs) h = absurd (omega arith)
 
-    told_four : (a b c d : ℕ) → told_of (passes roots.Header is_req In_header onward nothing (read o [] (Struct (suc n) of parts) 12 (a ∷ b ∷ c ∷ d ∷ [])))
+    told_four : (a b c d : ℕ) → told_of (passes roots.Header is_req In_header onward nothing (read (plain o) [] (Struct (suc n) of parts) 12 (a ∷ b ∷ c ∷ d ∷ [])))
         ≡ tell 16 (Said roots.Header (Name (of 0) ∷ []) (Number (Plain prims.ULong) (num o (a ∷ b ∷ c ∷ d ∷ [])))) ∷ []
     unfolding id_line
     told_four a b c d =

@@ -5,7 +5,7 @@ use Rattle.std.proofs.lemmas.List.Concat.{flat_map-append}
 use Rattle.giop_print.specs.declared.path.Root.{Root}
 use Rattle.giop_sig.specs.Types.{Ty}
 use Rattle.giop_decode.specs.Spine
-use Rattle.giop_decode.specs.Spine.{Line, Place, Leaf, Read, Done, Short, Fault, lines_of}
+use Rattle.giop_decode.specs.Spine.{plain, Line, Place, Leaf, Read, Done, Short, Fault, lines_of}
 use Rattle.giop_decode.specs.Reading.{read}
 use Rattle.giop_decode.specs.Steps as decoder
 use Rattle.giop_decode.specs.Steps.{Now, OneAt}
@@ -56,15 +56,15 @@ told_silent n (Comes told at stage) h = h.0
 module _ (S : Signatures) (header : List ℕ) (root : Root) (is : Bool) (stage : Heard → List Place → Leaf → Stage) (next : Heard → ℕ → List ℕ → Message) where
   -- the message goes on as the part does
   pub part_goes : ((h : Heard) → Goes S header (next h)) →
-      ((h : Heard) (outer : List Place) (leaf : Leaf) (at b : ℕ) → message_step S header at (stage h outer leaf) b ≡ passes root is stage next h (decoder.step (order header) [] outer leaf at b)) →
+      ((h : Heard) (outer : List Place) (leaf : Leaf) (at b : ℕ) → message_step S header at (stage h outer leaf) b ≡ passes root is stage next h (decoder.step (plain (order header)) [] outer leaf at b)) →
       (before : List Told) (T : Ty) (at : ℕ) (s octets : List ℕ) (b : ℕ) →
-      message S header s ≡ with_front before (passes root is stage next nothing (read (order header) [] T at octets)) →
-      message S header (s ++ b ∷ []) ≡ with_front before (passes root is stage next nothing (read (order header) [] T at (octets ++ b ∷ [])))
+      message S header s ≡ with_front before (passes root is stage next nothing (read (plain (order header)) [] T at octets)) →
+      message S header (s ++ b ∷ []) ≡ with_front before (passes root is stage next nothing (read (plain (order header)) [] T at (octets ++ b ∷ [])))
   part_goes goes step before T at s octets b e =
       message_goes S header s b ∙ (ap (λ m. advance S header m b) e
-      ∙ (sym (front_advance S header before (passes root is stage next nothing (read (order header) [] T at octets)) b)
-      ∙ ap (with_front before) (sym (passes_go root is stage next S header goes step nothing (read (order header) [] T at octets) b)
-      ∙ ap (passes root is stage next nothing) (sym (read_goes (order header) [] T at octets b)))))
+      ∙ (sym (front_advance S header before (passes root is stage next nothing (read (plain (order header)) [] T at octets)) b)
+      ∙ ap (with_front before) (sym (passes_go root is stage next S header goes step nothing (read (plain (order header)) [] T at octets) b)
+      ∙ ap (passes root is stage next nothing) (sym (read_goes (plain (order header)) [] T at octets b)))))
 
   -- what was heard of the lines
   abbrev pub heard_in : List Line → Heard

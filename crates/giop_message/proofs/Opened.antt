@@ -6,7 +6,7 @@ use Rattle.giop_sig.specs.Table.{Table}
 use Rattle.giop_decode.specs.declared.progress.Kind.{Kind}
 use Rattle.giop_decode.specs.declared.progress.Progress.{Progress}
 use Rattle.giop_decode.specs.declared.progress.Progress.TheVariants as progress
-use Rattle.giop_decode.specs.Spine.{Line, Place, Leaf, Read, lines_of}
+use Rattle.giop_decode.specs.Spine.{plain, Line, Place, Leaf, Read, lines_of}
 use Rattle.giop_decode.specs.Reading.{read}
 use Rattle.giop_decode.specs.Heard.{Heard, nothing, hear, heard, heard_of, is_header_root}
 use Rattle.giop_decode.specs.Steps as decoder
@@ -47,14 +47,14 @@ at_more number header m k s b same_number same_header at e f g = record {
 
 module _ (C : Table) (kept : Kept) (number : ℕ) (header : List ℕ) (root : Root) (stage : Heard → List Place → Leaf → Stage) (next : Heard → ℕ → List ℕ → Message)
     (goes : (h : Heard) → Goes (said_by C kept) header (next h))
-    (step : (h : Heard) (outer : List Place) (leaf : Leaf) (at b : ℕ) → message_step (said_by C kept) header at (stage h outer leaf) b ≡ passes root false stage next h (decoder.step (order header) [] outer leaf at b))
+    (step : (h : Heard) (outer : List Place) (leaf : Leaf) (at b : ℕ) → message_step (said_by C kept) header at (stage h outer leaf) b ≡ passes root false stage next h (decoder.step (plain (order header)) [] outer leaf at b))
     (silent : (h : Heard) (n : ℕ) → Silent n (next h n []))
     (none_said : (h : Heard) (r : Read) → id_said (tells root false h (lines_of r) ++ wrongs r) ≡ None)
     (m : Struct_of) (s : List ℕ) (f : Follows C kept number header m s) (T : Ty) (e : Decodes C (said_by C kept) number header root stage next T m.decoder s)
     (fits : decoders.Fits C m.decoder) (b : ℕ) where
   -- what it comes to
   abbrev pub read_it : Read
-  read_it = read (order header) [] T (12 + length e.front) (e.octets ++ b ∷ [])
+  read_it = read (plain (order header)) [] T (12 + length e.front) (e.octets ++ b ∷ [])
 
   abbrev stepped_it : Read
   stepped_it = stepped C (order header) T (12 + length e.front) number root m.decoder e.octets e.reads fits b

@@ -4,13 +4,12 @@ use Rattle.std.specs.Prelude.{cond, ltb}
 use Rattle.std.specs.List.{AllByRecursion as Each}
 use Rattle.std.proofs.lemmas.Bool.{cases_lt, lt-ltb, le-ltb}
 use Rattle.giop_cdr.specs.Numbers.{num}
-use Rattle.giop_cdr.specs.declared.order.Order.{Order}
 use Rattle.giop_sig.specs.Types.{Ty, Single, Text, Octets, Struct, Union, Sequence, Array, part_of, width}
 use Rattle.giop_sig.specs.declared.types.Selected.{Selected}
 use Rattle.giop_sig.specs.declared.types.Selected.TheVariants.{Case, Nothing, Refused}
 use Rattle.giop_decode.specs.declared.progress.Kind.{Kind}
 use Rattle.giop_decode.specs.Spine
-use Rattle.giop_decode.specs.Spine.{Seg, Name, Index, Switch, Line, Count, Piece, line, Place, Part, Member, Leaf, Head, Content, Read, Done, Short, Fault, lines_of, with_front, followed, within}
+use Rattle.giop_decode.specs.Spine.{Coding, Seg, Name, Index, Switch, Line, Count, Piece, line, Place, Part, Member, Leaf, Head, Content, Read, Done, Short, Fault, lines_of, with_front, followed, within}
 use Rattle.giop_decode.specs.Pieces.{Grab, Waiting, Got, unless, over, block, content, full_piece, full_pieces, last_piece, tail, ends}
 use Rattle.giop_decode.specs.Reading.{read, headed, wrong, refused, member, parts_from}
 use Rattle.giop_decode.specs.Steps.{inner_path, Quiet, Now, after, block_step, head_width, leaf_step, number_step, part_at, seg_of, step}
@@ -39,21 +38,21 @@ mute_parts : (n : ℕ) (part : ℕ → ℕ → List ℕ → Read) → ((i : ℕ)
 mute_parts n part quiet h zero i = refl
 mute_parts n part quiet h (suc more) i = mute_followed n (part i n []) (parts_from part more (suc i)) (quiet i) (h i) (mute_parts n part quiet h more (suc i))
 
-pub read_mute : (order : Order) (path : List Seg) (T : Ty) (n : ℕ) → in_string (read order path T n []) ≡ false
-read_mute order path (Single scalar) n = rw (number_none (width scalar) n (width_pos scalar)) refl
-read_mute order path (Text bound) n = rw (number_none 4 n (lit< tt)) refl
-read_mute order path (Octets bound) n = rw (number_none 4 n (lit< tt)) refl
-read_mute order path (Struct count names parts) n =
-    mute_parts n (part_at order path (Struct count names parts) count) (part_quiet order path (Struct count names parts) count n)
-    (λ i. mute_within (Part (Struct count names parts) i count) (read order (path ++ Name (names i) ∷ []) (parts i) n []) ∙ read_mute order (path ++ Name (names i) ∷ []) (parts i) n) count 0
-read_mute order path (Array count T) n =
-    mute_parts n (part_at order path (Array count T) count) (part_quiet order path (Array count T) count n)
-    (λ i. mute_within (Part (Array count T) i count) (read order (path ++ Index i ∷ []) T n []) ∙ read_mute order (path ++ Index i ∷ []) T n) count 0
-read_mute order path (Sequence bound T) n = rw (number_none 4 n (lit< tt)) refl
-read_mute order path (Union count scalar select names cases) n = rw (number_none (width scalar) n (width_pos scalar)) refl
+pub read_mute : (coding : Coding) (path : List Seg) (T : Ty) (n : ℕ) → in_string (read coding path T n []) ≡ false
+read_mute coding path (Single scalar) n = rw (number_none coding.origin (width scalar) n (width_pos scalar)) refl
+read_mute coding path (Text bound) n = rw (number_none coding.origin 4 n (lit< tt)) refl
+read_mute coding path (Octets bound) n = rw (number_none coding.origin 4 n (lit< tt)) refl
+read_mute coding path (Struct count names parts) n =
+    mute_parts n (part_at coding path (Struct count names parts) count) (part_quiet coding path (Struct count names parts) count n)
+    (λ i. mute_within (Part (Struct count names parts) i count) (read coding (path ++ Name (names i) ∷ []) (parts i) n []) ∙ read_mute coding (path ++ Name (names i) ∷ []) (parts i) n) count 0
+read_mute coding path (Array count T) n =
+    mute_parts n (part_at coding path (Array count T) count) (part_quiet coding path (Array count T) count n)
+    (λ i. mute_within (Part (Array count T) i count) (read coding (path ++ Index i ∷ []) T n []) ∙ read_mute coding (path ++ Index i ∷ []) T n) count 0
+read_mute coding path (Sequence bound T) n = rw (number_none coding.origin 4 n (lit< tt)) refl
+read_mute coding path (Union count scalar select names cases) n = rw (number_none coding.origin (width scalar) n (width_pos scalar)) refl
 
-part_mute : (order : Order) (path : List Seg) (T : Ty) (count n i : ℕ) → in_string (part_at order path T count i n []) ≡ false
-part_mute order path T count n i = mute_within (Part T i count) (read order (inner_path path T i) (part_of T i) n []) ∙ read_mute order (inner_path path T i) (part_of T i) n
+part_mute : (coding : Coding) (path : List Seg) (T : Ty) (count n i : ℕ) → in_string (part_at coding path T count i n []) ≡ false
+part_mute coding path T count n i = mute_within (Part T i count) (read coding (inner_path path T i) (part_of T i) n []) ∙ read_mute coding (inner_path path T i) (part_of T i) n
 
 -- ---- no line ends a string, or none has begun
 
@@ -104,36 +103,36 @@ begun_closed : (T : Ty) (path : List Seg) (total full n : ℕ) → Closed (conte
 begun_closed T path total zero n = last_closed T path total 0 (block (total - 0 + tail T) n [])
 begun_closed T path total (suc full) n = rw (block_waits 32 n [] (lit< tt)) (inl tt)
 
-after_closed : (order : Order) (path : List Seg) (T : Ty) (k n : ℕ) → Closed (after order path T k n [])
-after_closed order path (Single scalar) k n = closed_unless (Single scalar) (wrong scalar k) n (Done (line n path (Spine.Number scalar k) ∷ []) n []) (inr refl)
-after_closed order path (Text bound) zero n = inr refl
-after_closed order path (Text bound) (suc k) n = closed_unless (Text bound) (over bound k) n (content (Text bound) path k (full_pieces k) 0 n []) (begun_closed (Text bound) path k (full_pieces k) n)
-after_closed order path (Octets bound) k n = closed_unless (Octets bound) (over bound k) n (content (Octets bound) path k (full_pieces k) 0 n []) (begun_closed (Octets bound) path k (full_pieces k) n)
-after_closed order path (Struct count names parts) k n = inr refl
-after_closed order path (Array count T) k n = inr refl
-after_closed order path (Sequence bound T) k n =
-    let elements = parts_from (part_at order path (Sequence bound T) k) k 0 n [] in
+after_closed : (coding : Coding) (path : List Seg) (T : Ty) (k n : ℕ) → Closed (after coding path T k n [])
+after_closed coding path (Single scalar) k n = closed_unless (Single scalar) (wrong scalar k) n (Done (line n path (Spine.Number scalar k) ∷ []) n []) (inr refl)
+after_closed coding path (Text bound) zero n = inr refl
+after_closed coding path (Text bound) (suc k) n = closed_unless (Text bound) (over bound k) n (content (Text bound) path k (full_pieces k) 0 n []) (begun_closed (Text bound) path k (full_pieces k) n)
+after_closed coding path (Octets bound) k n = closed_unless (Octets bound) (over bound k) n (content (Octets bound) path k (full_pieces k) 0 n []) (begun_closed (Octets bound) path k (full_pieces k) n)
+after_closed coding path (Struct count names parts) k n = inr refl
+after_closed coding path (Array count T) k n = inr refl
+after_closed coding path (Sequence bound T) k n =
+    let elements = parts_from (part_at coding path (Sequence bound T) k) k 0 n [] in
     closed_unless (Sequence bound T) (over bound k) n (with_front (line n path (Count k) ∷ []) elements)
-    (inl (no_ends_front (line n path (Count k) ∷ []) elements (refl, tt) (no_ends_quiet n elements (parts_quiet order path (Sequence bound T) k n k 0))))
-after_closed order path (Union count scalar select names cases) k n =
+    (inl (no_ends_front (line n path (Count k) ∷ []) elements (refl, tt) (no_ends_quiet n elements (parts_quiet coding path (Sequence bound T) k n k 0))))
+after_closed coding path (Union count scalar select names cases) k n =
     let T = Union count scalar select names cases in
-    let next : ℕ → List ℕ → Read = member (select k) (λ i at s. within (Member T i) (read order (inner_path path T i) (part_of T i) at s)) in
+    let next : ℕ → List ℕ → Read = member (select k) (λ i at s. within (Member T i) (read coding (inner_path path T i) (part_of T i) at s)) in
     let front : List Line = line n (path ++ Switch ∷ []) (Spine.Number scalar k) ∷ [] in
     closed_unless T (wrong scalar k) n (unless T (refused (select k)) n (with_front front (next n [])))
     (closed_unless T (refused (select k)) n (with_front front (next n [])) (inl (no_ends_front front (next n []) (refl, tt) (chosen (select k)))))
   where
-    chosen : (selected : Selected) → NoEnds (member selected (λ i at s. within (Member (Union count scalar select names cases) i) (read order (inner_path path (Union count scalar select names cases) i) (cases i) at s)) n [])
-    chosen (Case i) = no_ends_quiet n _ (quiet_within n (Member (Union count scalar select names cases) i) (read order (inner_path path (Union count scalar select names cases) i) (cases i) n []) (read_quiet order (inner_path path (Union count scalar select names cases) i) (cases i) n))
+    chosen : (selected : Selected) → NoEnds (member selected (λ i at s. within (Member (Union count scalar select names cases) i) (read coding (inner_path path (Union count scalar select names cases) i) (cases i) at s)) n [])
+    chosen (Case i) = no_ends_quiet n _ (quiet_within n (Member (Union count scalar select names cases) i) (read coding (inner_path path (Union count scalar select names cases) i) (cases i) n []) (read_quiet coding (inner_path path (Union count scalar select names cases) i) (cases i) n))
     chosen Nothing = tt
     chosen Refused = tt
 
-headed_closed : (order : Order) (path : List Seg) (T : Ty) (g : Grab) → IsAll g → Closed (headed T (λ xs at rest. after order path T (num order xs) at rest) g)
-headed_closed order path T (Waiting carry at) h = inl tt
-headed_closed order path T (Got xs at rest) h = rw h (after_closed order path T (num order xs) at)
+headed_closed : (coding : Coding) (path : List Seg) (T : Ty) (g : Grab) → IsAll g → Closed (headed T (λ xs at rest. after coding path T (num coding.order xs) at rest) g)
+headed_closed coding path T (Waiting carry at) h = inl tt
+headed_closed coding path T (Got xs at rest) h = rw h (after_closed coding path T (num coding.order xs) at)
 
-leaf_closed : (order : Order) (path : List Seg) (leaf : Leaf) (at b : ℕ) → Closed (leaf_step order path leaf at b)
-leaf_closed order path (Head T carry) at b = headed_closed order path T (number_step (head_width T) at carry b) (number_all (head_width T) at carry b)
-leaf_closed order path (Content T total offset piece) at b = go (cases_lt 32 (total - offset))
+leaf_closed : (coding : Coding) (path : List Seg) (leaf : Leaf) (at b : ℕ) → Closed (leaf_step coding path leaf at b)
+leaf_closed coding path (Head T carry) at b = headed_closed coding path T (number_step coding.origin (head_width T) at carry b) (number_all coding.origin (head_width T) at carry b)
+leaf_closed coding path (Content T total offset piece) at b = go (cases_lt 32 (total - offset))
   where
     full : Read
     full = full_piece T path total offset (content T path total (full_pieces (total - (offset + 32))) (offset + 32)) (block_step 32 at piece b)
@@ -158,13 +157,13 @@ closed_followed n (Short lines at outer leaf) next now mute h = h
 closed_followed n (Fault lines at why T) next now mute h = h
 
 -- Where a line ends a string no other has begun.
-pub step_closed : (order : Order) (path : List Seg) (outer : List Place) (leaf : Leaf) (at b : ℕ) → Closed (step order path outer leaf at b)
-step_closed order path [] leaf at b = leaf_closed order path leaf at b
-step_closed order path (Part T i count ∷ outer) leaf at b =
-    let inner = step order (path ++ seg_of T i ∷ []) outer leaf at b in
-    closed_followed (at + 1) (within (Part T i count) inner) (parts_from (part_at order path T count) (count - suc i) (suc i))
-    (now_within (at + 1) (Part T i count) inner (step_now order (path ++ seg_of T i ∷ []) outer leaf at b))
-    (mute_parts (at + 1) (part_at order path T count) (part_quiet order path T count (at + 1)) (part_mute order path T count (at + 1)) (count - suc i) (suc i))
-    (closed_within (Part T i count) inner (step_closed order (path ++ seg_of T i ∷ []) outer leaf at b))
-step_closed order path (Member T i ∷ outer) leaf at b =
-    closed_within (Member T i) (step order (path ++ seg_of T i ∷ []) outer leaf at b) (step_closed order (path ++ seg_of T i ∷ []) outer leaf at b)
+pub step_closed : (coding : Coding) (path : List Seg) (outer : List Place) (leaf : Leaf) (at b : ℕ) → Closed (step coding path outer leaf at b)
+step_closed coding path [] leaf at b = leaf_closed coding path leaf at b
+step_closed coding path (Part T i count ∷ outer) leaf at b =
+    let inner = step coding (path ++ seg_of T i ∷ []) outer leaf at b in
+    closed_followed (at + 1) (within (Part T i count) inner) (parts_from (part_at coding path T count) (count - suc i) (suc i))
+    (now_within (at + 1) (Part T i count) inner (step_now coding (path ++ seg_of T i ∷ []) outer leaf at b))
+    (mute_parts (at + 1) (part_at coding path T count) (part_quiet coding path T count (at + 1)) (part_mute coding path T count (at + 1)) (count - suc i) (suc i))
+    (closed_within (Part T i count) inner (step_closed coding (path ++ seg_of T i ∷ []) outer leaf at b))
+step_closed coding path (Member T i ∷ outer) leaf at b =
+    closed_within (Member T i) (step coding (path ++ seg_of T i ∷ []) outer leaf at b) (step_closed coding (path ++ seg_of T i ∷ []) outer leaf at b)

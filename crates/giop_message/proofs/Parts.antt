@@ -10,7 +10,7 @@ use Rattle.giop_decode.specs.declared.progress.Kind.{Kind}
 use Rattle.giop_decode.specs.declared.progress.Progress.{Progress}
 use Rattle.giop_decode.specs.declared.progress.Progress.TheVariants as progress
 use Rattle.giop_decode.specs.Spine
-use Rattle.giop_decode.specs.Spine.{Line, Place, Leaf, Read, Done, Short, Fault, lines_of}
+use Rattle.giop_decode.specs.Spine.{plain, Line, Place, Leaf, Read, Done, Short, Fault, lines_of}
 use Rattle.giop_decode.specs.Reading.{read}
 use Rattle.giop_decode.specs.Steps as decoder
 use Rattle.giop_decode.specs.Steps.{Now}
@@ -41,16 +41,16 @@ module _ (C : Table) (o : Order) (T : Ty) (A number : ℕ) (root : Root) (d : De
 
   -- what the octet comes to
   abbrev pub stepped : Read
-  stepped = decoder.step o [] outer_in leaf_in (A + length octets) b
+  stepped = decoder.step (plain o) [] outer_in leaf_in (A + length octets) b
 
-  pub read_short : read o [] T A octets ≡ Short reads.lines (A + length octets) outer_in leaf_in
+  pub read_short : read (plain o) [] T A octets ≡ Short reads.lines (A + length octets) outer_in leaf_in
   read_short = reads.is ∙ ap (λ leaf. decoders.standing_in C d leaf reads.lines (A + length octets)) fits.goes_on
 
-  pub read_more : read o [] T A (octets ++ b ∷ []) ≡ Spine.with_front reads.lines stepped
-  read_more = read_goes o [] T A octets b ∙ ap (λ r. decoder.advance o [] r b) read_short
+  pub read_more : read (plain o) [] T A (octets ++ b ∷ []) ≡ Spine.with_front reads.lines stepped
+  read_more = read_goes (plain o) [] T A octets b ∙ ap (λ r. decoder.advance (plain o) [] r b) read_short
 
   pub stepped_now : Now ((A + length octets) + 1) stepped
-  stepped_now = step_now o [] outer_in leaf_in (A + length octets) b
+  stepped_now = step_now (plain o) [] outer_in leaf_in (A + length octets) b
 
   pub lines_due : decoders.due o T A octets b ≡ lines_of stepped
   lines_due = rw (read_short, read_more, lines_front reads.lines stepped) (drop-append_seam reads.lines (lines_of stepped))
@@ -73,10 +73,10 @@ here_is front octets s e = omega (arith, ap length e, length-append front octets
 
 module _ (S : Signatures) (header : List ℕ) (root : Root) (is : Bool) (stage : Heard → List Place → Leaf → Stage) (next : Heard → ℕ → List ℕ → Message)
     (goes : (h : Heard) → Goes S header (next h))
-    (step : (h : Heard) (outer : List Place) (leaf : Leaf) (at b : ℕ) → message_step S header at (stage h outer leaf) b ≡ passes root is stage next h (decoder.step (order header) [] outer leaf at b))
+    (step : (h : Heard) (outer : List Place) (leaf : Leaf) (at b : ℕ) → message_step S header at (stage h outer leaf) b ≡ passes root is stage next h (decoder.step (plain (order header)) [] outer leaf at b))
     (silent : (h : Heard) (n : ℕ) → Silent n (next h n []))
     (C : Table) (number : ℕ) (before : List Told) (front octets s : List ℕ) (since : s ≡ front ++ octets) (T : Ty)
-    (told : message S header s ≡ with_front before (passes root is stage next nothing (read (order header) [] T (12 + length front) octets)))
+    (told : message S header s ≡ with_front before (passes root is stage next nothing (read (plain (order header)) [] T (12 + length front) octets)))
     (d : Decoder) (reads : decoders.Reads C T (order header) (12 + length front) number root d octets) (fits : decoders.Fits C d) (b : ℕ) where
   abbrev pub stepped_here : Read
   stepped_here = stepped C (order header) T (12 + length front) number root d octets reads fits b
@@ -84,7 +84,7 @@ module _ (S : Signatures) (header : List ℕ) (root : Root) (is : Bool) (stage :
   abbrev pub heard_here : Heard
   heard_here = heard (is_header_root root) nothing reads.lines
 
-  pub goes_more : message S header (s ++ b ∷ []) ≡ with_front before (passes root is stage next nothing (read (order header) [] T (12 + length front) (octets ++ b ∷ [])))
+  pub goes_more : message S header (s ++ b ∷ []) ≡ with_front before (passes root is stage next nothing (read (plain (order header)) [] T (12 + length front) (octets ++ b ∷ [])))
   goes_more = part_goes S header root is stage next goes step before T (12 + length front) s octets b told
 
   pub due_here : due S header s (b ∷ []) ≡ tells root is heard_here (lines_of stepped_here) ++ wrongs stepped_here
@@ -98,7 +98,7 @@ module _ (S : Signatures) (header : List ℕ) (root : Root) (is : Bool) (stage :
 
   -- the text of the octet: its line or its fault, and its call
   pub text_here : (place : ℕ) → due_text S number place header s (b ∷ []) ≡
-      (lines_text number root (decoders.due (order header) T (12 + length front) octets b) ++ fault_text number (place + 1) (read (order header) [] T (12 + length front) (octets ++ b ∷ [])))
+      (lines_text number root (decoders.due (order header) T (12 + length front) octets b) ++ fault_text number (place + 1) (read (plain (order header)) [] T (12 + length front) (octets ++ b ∷ [])))
       ++ told_text number place (12 + length s) (first_call root is heard_here (lines_of stepped_here))
   unfolding due_text
   text_here place =
@@ -129,7 +129,7 @@ module _ (S : Signatures) (header : List ℕ) (root : Root) (is : Bool) (stage :
   fault_by end named kind (Fault lines at why U) answer = refl
 
   abbrev pub read_here : Read
-  read_here = read (order header) [] T (12 + length front) (octets ++ b ∷ [])
+  read_here = read (plain (order header)) [] T (12 + length front) (octets ++ b ∷ [])
 
   ends_here : EndsAt (12 + length (s ++ b ∷ [])) read_here
   ends_here =

@@ -3,13 +3,12 @@ use Rattle.std.proofs.Common.{◌≡◌, ℕ, zero, suc, ◌+◌, ◌-◌, ◌�
 use Rattle.std.specs.Prelude.{cond, ltb}
 use Rattle.std.specs.List.{AllByRecursion as Each}
 use Rattle.giop_cdr.specs.Numbers.{num}
-use Rattle.giop_cdr.specs.declared.order.Order.{Order}
 use Rattle.giop_sig.specs.Types.{Scalar, Ty, Single, Text, Octets, Struct, Union, Sequence, Array, part_of}
 use Rattle.giop_sig.specs.declared.types.Selected.{Selected}
 use Rattle.giop_sig.specs.declared.types.Selected.TheVariants.{Case, Nothing, Refused}
 use Rattle.giop_decode.specs.declared.progress.Kind.{Kind}
 use Rattle.giop_decode.specs.Spine
-use Rattle.giop_decode.specs.Spine.{Seg, Switch, Line, Count, Piece, line, Place, Part, Member, Leaf, Head, Content, Read, Done, Short, Fault, lines_of, with_front, followed, within}
+use Rattle.giop_decode.specs.Spine.{Coding, Seg, Switch, Line, Count, Piece, line, Place, Part, Member, Leaf, Head, Content, Read, Done, Short, Fault, lines_of, with_front, followed, within}
 use Rattle.giop_cdr.specs.Alignment.{padding}
 use Rattle.giop_decode.specs.Pieces.{Grab, Waiting, Got, block, unless, over, content, full_piece, full_pieces, last_piece, tail, ends, text}
 use Rattle.giop_decode.specs.Reading.{read, headed, single, wrong, refused, member, parts_from}
@@ -61,30 +60,30 @@ text_of : (path : List Seg) (bound : Option ℕ) (n at : ℕ) (s : List ℕ) →
 text_of path bound zero at s = (at_path path at (Piece (Text bound) 0 [] false), tt)
 text_of path bound (suc n) at s = unless_of path (Text bound) (over bound n) at (content (Text bound) path n (full_pieces n) 0 at s) (λ e. content_of path (Text bound) n (full_pieces n) 0 at s)
 
-member_of : (n : ℕ) (order : Order) (path : List Seg) (T : Ty) (selected : Selected) →
-    AreOf path (member selected (λ i at s. within (Member T i) (read order (inner_path path T i) (part_of T i) at s)) n [])
-member_of n order path T (Case i) = quiet_of path n (within (Member T i) (read order (inner_path path T i) (part_of T i) n [])) (quiet_within n (Member T i) (read order (inner_path path T i) (part_of T i) n []) (read_quiet order (inner_path path T i) (part_of T i) n))
-member_of n order path T Nothing = tt
-member_of n order path T Refused = tt
+member_of : (n : ℕ) (coding : Coding) (path : List Seg) (T : Ty) (selected : Selected) →
+    AreOf path (member selected (λ i at s. within (Member T i) (read coding (inner_path path T i) (part_of T i) at s)) n [])
+member_of n coding path T (Case i) = quiet_of path n (within (Member T i) (read coding (inner_path path T i) (part_of T i) n [])) (quiet_within n (Member T i) (read coding (inner_path path T i) (part_of T i) n []) (read_quiet coding (inner_path path T i) (part_of T i) n))
+member_of n coding path T Nothing = tt
+member_of n coding path T Refused = tt
 
 -- what follows a number, with no octets behind it
-after_of : (order : Order) (path : List Seg) (T : Ty) (n at : ℕ) → AreOf path (after order path T n at [])
-after_of order path (Single scalar) n at = single_of path scalar n at []
-after_of order path (Text bound) n at = text_of path bound n at []
-after_of order path (Octets bound) n at = unless_of path (Octets bound) (over bound n) at (content (Octets bound) path n (full_pieces n) 0 at []) (λ e. content_of path (Octets bound) n (full_pieces n) 0 at [])
-after_of order path (Struct count names parts) n at = tt
-after_of order path (Array count T) n at = tt
-after_of order path (Sequence bound T) n at =
-    let elements = parts_from (part_at order path (Sequence bound T) n) n 0 at [] in
+after_of : (coding : Coding) (path : List Seg) (T : Ty) (n at : ℕ) → AreOf path (after coding path T n at [])
+after_of coding path (Single scalar) n at = single_of path scalar n at []
+after_of coding path (Text bound) n at = text_of path bound n at []
+after_of coding path (Octets bound) n at = unless_of path (Octets bound) (over bound n) at (content (Octets bound) path n (full_pieces n) 0 at []) (λ e. content_of path (Octets bound) n (full_pieces n) 0 at [])
+after_of coding path (Struct count names parts) n at = tt
+after_of coding path (Array count T) n at = tt
+after_of coding path (Sequence bound T) n at =
+    let elements = parts_from (part_at coding path (Sequence bound T) n) n 0 at [] in
     unless_of path (Sequence bound T) (over bound n) at (with_front (line at path (Count n) ∷ []) elements)
-    (λ e. front_of path (line at path (Count n) ∷ []) elements (at_path path at (Count n), tt) (quiet_of path at elements (parts_quiet order path (Sequence bound T) n at n 0)))
-after_of order path (Union count scalar select names cases) n at =
+    (λ e. front_of path (line at path (Count n) ∷ []) elements (at_path path at (Count n), tt) (quiet_of path at elements (parts_quiet coding path (Sequence bound T) n at n 0)))
+after_of coding path (Union count scalar select names cases) n at =
     let T = Union count scalar select names cases in
-    let next : ℕ → List ℕ → Read = member (select n) (λ i at s. within (Member T i) (read order (inner_path path T i) (part_of T i) at s)) in
+    let next : ℕ → List ℕ → Read = member (select n) (λ i at s. within (Member T i) (read coding (inner_path path T i) (part_of T i) at s)) in
     let front : List Line = line at (path ++ Switch ∷ []) (Spine.Number scalar n) ∷ [] in
     unless_of path T (wrong scalar n) at (unless T (refused (select n)) at (with_front front (next at [])))
     (λ e. unless_of path T (refused (select n)) at (with_front front (next at []))
-    (λ f. front_of path front (next at []) (record { stands = inr refl }, tt) (member_of at order path T (select n))))
+    (λ f. front_of path front (next at []) (record { stands = inr refl }, tt) (member_of at coding path T (select n))))
 
 -- octets of which none are left
 abbrev pub IsAll : Grab → Type 0
@@ -103,18 +102,18 @@ number_by : (w at : ℕ) (test : Bool) (b : ℕ) → IsAll (cond test (Waiting [
 number_by w at true b = tt
 number_by w at false b = block_all w at [] b
 
-pub number_all : (w at : ℕ) (carry : List ℕ) (b : ℕ) → IsAll (number_step w at carry b)
+pub number_all : (o w at : ℕ) (carry : List ℕ) (b : ℕ) → IsAll (number_step o w at carry b)
 unfolding number_step
-number_all w at [] b = number_by w at (ltb 0 (padding at w)) b
-number_all w at (x ∷ carry) b = block_all w at (x ∷ carry) b
+number_all o w at [] b = number_by w at (ltb 0 (padding (at - o) w)) b
+number_all o w at (x ∷ carry) b = block_all w at (x ∷ carry) b
 
-headed_of : (order : Order) (path : List Seg) (T : Ty) (g : Grab) → IsAll g → AreOf path (headed T (λ xs at rest. after order path T (num order xs) at rest) g)
-headed_of order path T (Waiting carry at) h = tt
-headed_of order path T (Got xs at rest) h = rw h (after_of order path T (num order xs) at)
+headed_of : (coding : Coding) (path : List Seg) (T : Ty) (g : Grab) → IsAll g → AreOf path (headed T (λ xs at rest. after coding path T (num coding.order xs) at rest) g)
+headed_of coding path T (Waiting carry at) h = tt
+headed_of coding path T (Got xs at rest) h = rw h (after_of coding path T (num coding.order xs) at)
 
-leaf_of : (order : Order) (path : List Seg) (leaf : Leaf) (at b : ℕ) → AreOf path (leaf_step order path leaf at b)
-leaf_of order path (Head T carry) at b = headed_of order path T (number_step (head_width T) at carry b) (number_all (head_width T) at carry b)
-leaf_of order path (Content T total offset piece) at b = go (ltb 32 (total - offset))
+leaf_of : (coding : Coding) (path : List Seg) (leaf : Leaf) (at b : ℕ) → AreOf path (leaf_step coding path leaf at b)
+leaf_of coding path (Head T carry) at b = headed_of coding path T (number_step coding.origin (head_width T) at carry b) (number_all coding.origin (head_width T) at carry b)
+leaf_of coding path (Content T total offset piece) at b = go (ltb 32 (total - offset))
   where
     full : Read
     full = full_piece T path total offset (content T path total (full_pieces (total - (offset + 32))) (offset + 32)) (block_step 32 at piece b)
@@ -148,17 +147,17 @@ now_within n place (Done lines at rest) h = h
 now_within n place (Short lines at outer leaf) h = h
 now_within n place (Fault lines at why S) h = h
 
-lines_step : (order : Order) (path : List Seg) (outer : List Place) (leaf : Leaf) (at b : ℕ) → lines_of (step order path outer leaf at b) ≡ lines_of (leaf_step order (path_in path outer) leaf at b)
-lines_step order path [] leaf at b = refl
-lines_step order path (Part T i count ∷ outer) leaf at b =
-    let inner = step order (path ++ seg_of T i ∷ []) outer leaf at b in
-    lines_followed (at + 1) (within (Part T i count) inner) (parts_from (part_at order path T count) (count - suc i) (suc i))
-    (now_within (at + 1) (Part T i count) inner (step_now order (path ++ seg_of T i ∷ []) outer leaf at b)) (parts_quiet order path T count (at + 1) (count - suc i) (suc i))
-    ∙ (lines_within (Part T i count) inner ∙ lines_step order (path ++ seg_of T i ∷ []) outer leaf at b)
-lines_step order path (Member T i ∷ outer) leaf at b =
-    lines_within (Member T i) (step order (path ++ seg_of T i ∷ []) outer leaf at b) ∙ lines_step order (path ++ seg_of T i ∷ []) outer leaf at b
+lines_step : (coding : Coding) (path : List Seg) (outer : List Place) (leaf : Leaf) (at b : ℕ) → lines_of (step coding path outer leaf at b) ≡ lines_of (leaf_step coding (path_in path outer) leaf at b)
+lines_step coding path [] leaf at b = refl
+lines_step coding path (Part T i count ∷ outer) leaf at b =
+    let inner = step coding (path ++ seg_of T i ∷ []) outer leaf at b in
+    lines_followed (at + 1) (within (Part T i count) inner) (parts_from (part_at coding path T count) (count - suc i) (suc i))
+    (now_within (at + 1) (Part T i count) inner (step_now coding (path ++ seg_of T i ∷ []) outer leaf at b)) (parts_quiet coding path T count (at + 1) (count - suc i) (suc i))
+    ∙ (lines_within (Part T i count) inner ∙ lines_step coding (path ++ seg_of T i ∷ []) outer leaf at b)
+lines_step coding path (Member T i ∷ outer) leaf at b =
+    lines_within (Member T i) (step coding (path ++ seg_of T i ∷ []) outer leaf at b) ∙ lines_step coding (path ++ seg_of T i ∷ []) outer leaf at b
 
 -- The lines of a step are of its innermost part.
-pub step_of : (order : Order) (path : List Seg) (outer : List Place) (leaf : Leaf) (at b : ℕ) → AreOf (path_in path outer) (step order path outer leaf at b)
-step_of order path outer leaf at b =
-    subst (λ ls. Each (IsOf (path_in path outer)) ls) (sym (lines_step order path outer leaf at b)) (leaf_of order (path_in path outer) leaf at b)
+pub step_of : (coding : Coding) (path : List Seg) (outer : List Place) (leaf : Leaf) (at b : ℕ) → AreOf (path_in path outer) (step coding path outer leaf at b)
+step_of coding path outer leaf at b =
+    subst (λ ls. Each (IsOf (path_in path outer)) ls) (sym (lines_step coding path outer leaf at b)) (leaf_of coding (path_in path outer) leaf at b)

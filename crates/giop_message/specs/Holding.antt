@@ -9,7 +9,7 @@ use Rattle.giop_sig.specs.Trees.{tree}
 use Rattle.giop_sig.specs.Headers.{header_type, fixed_type}
 use Rattle.giop_sig.specs.RequestList.{Entry, IsOf}
 use Rattle.giop_decode.specs.declared.decoder.Decoder.{Decoder}
-use Rattle.giop_decode.specs.Spine.{Place, Leaf}
+use Rattle.giop_decode.specs.Spine.{plain, Place, Leaf}
 use Rattle.giop_decode.specs.Reading.{read}
 use Rattle.giop_decode.specs.Heard.{Heard, nothing}
 use Rattle.giop_decode.specs.Holding as decoder
@@ -100,7 +100,7 @@ pub record Decodes (C : Table) (S : Signatures) (number : ℕ) (header : List �
   pub front : List ℕ
   pub octets : List ℕ
   pub since : s ≡ front ++ octets
-  pub is : message S header s ≡ with_front before (passes root false stage next nothing (read (order header) [] T (12 + length front) octets))
+  pub is : message S header s ≡ with_front before (passes root false stage next nothing (read (plain (order header)) [] T (12 + length front) octets))
   pub reads : decoder.Reads C T (order header) (12 + length front) number root d octets
 
 -- where a message stands, by the part that the next octet belongs to

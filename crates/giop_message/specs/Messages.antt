@@ -8,7 +8,7 @@ use Rattle.giop_print.specs.declared.path.Root.{Root}
 use Rattle.giop_print.specs.declared.path.Root.TheVariants as roots
 use Rattle.giop_sig.specs.Types.{Ty, Struct}
 use Rattle.giop_decode.specs.declared.progress.Kind.{Kind}
-use Rattle.giop_decode.specs.Spine.{Seg, Value, Line, Place, Leaf, Read, Done, Short, Fault}
+use Rattle.giop_decode.specs.Spine.{plain, Seg, Value, Line, Place, Leaf, Read, Done, Short, Fault}
 use Rattle.giop_decode.specs.Reading.{read}
 use Rattle.giop_decode.specs.Heard.{Heard, nothing, hear, heard, ends_operation, is_header_root}
 use Rattle.giop_message.specs.Headers.{minor, kind, order}
@@ -105,7 +105,7 @@ rest at s = rest_in (length s / 32) 0 at s
 -- ---- bodies
 
 unfoldable pub typed : Order → Ty → ℕ → List ℕ → Message
-typed o T at s = passes roots.Body false (λ h. In_body) (λ h. rest) nothing (read o [] T at s)
+typed o T at s = passes roots.Body false (λ h. In_body) (λ h. rest) nothing (read (plain o) [] T at s)
 
 unfoldable pub option_typed : Order → Option Ty → ℕ → List ℕ → Message
 option_typed o None at s = rest at s
@@ -122,7 +122,7 @@ after_exception S header h = option_typed (order header) (members_of S h.name)
 unfoldable pub body : Signatures → List ℕ → BodyType → ℕ → List ℕ → Message
 body S header Untyped at s = rest at s
 body S header (Typed T) at s = typed (order header) T at s
-body S header Raised at s = passes roots.Exception false In_exception (after_exception S header) nothing (read (order header) [] S.exception_id at s)
+body S header Raised at s = passes roots.Exception false In_exception (after_exception S header) nothing (read (plain (order header)) [] S.exception_id at s)
 
 unfoldable pub type_if : Option Ty → BodyType
 type_if None = Untyped
@@ -175,7 +175,7 @@ after_header S header h at s =
 
 unfoldable pub of_header : Signatures → List ℕ → Option Ty → ℕ → List ℕ → Message
 of_header S header None at s = rest at s
-of_header S header (Some T) at s = passes roots.Header (is_request header) In_header (after_header S header) nothing (read (order header) [] T at s)
+of_header S header (Some T) at s = passes roots.Header (is_request header) In_header (after_header S header) nothing (read (plain (order header)) [] T at s)
 
 -- of this header of 12 octets and these octets after it
 unfoldable pub message : Signatures → List ℕ → List ℕ → Message

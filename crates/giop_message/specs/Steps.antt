@@ -2,6 +2,7 @@
 use Rattle.std.specs.Prelude.{ℕ, ◌+◌, false, List, [], ◌∷◌, ◌++◌, length, ◌==◌, nat_lt, if◌then◌else◌}
 use Rattle.giop_cdr.specs.Alignment.{padding}
 use Rattle.giop_print.specs.declared.path.Root.TheVariants as roots
+use Rattle.giop_decode.specs.Spine.{plain}
 use Rattle.giop_decode.specs.Steps as decoder
 use Rattle.giop_decode.specs.Heard.{nothing}
 use Rattle.giop_message.specs.Headers.{order}
@@ -15,13 +16,13 @@ rest_step offset held at =
 -- The octet comes at that offset. A part that ends hands over to the reading of no octets of what follows it.
 unfoldable pub message_step : Signatures → List ℕ → ℕ → Stage → ℕ → Message
 message_step S header at (In_header h outer leaf) b =
-    passes roots.Header (is_request header) In_header (after_header S header) h (decoder.step (order header) [] outer leaf at b)
+    passes roots.Header (is_request header) In_header (after_header S header) h (decoder.step (plain (order header)) [] outer leaf at b)
 message_step S header at (In_padding t) b =
     if nat_lt 1 (padding at 8) then Comes [] (at + 1) (In_padding t) else body S header t (at + 1) []
 message_step S header at (In_exception h outer leaf) b =
-    passes roots.Exception false In_exception (after_exception S header) h (decoder.step (order header) [] outer leaf at b)
+    passes roots.Exception false In_exception (after_exception S header) h (decoder.step (plain (order header)) [] outer leaf at b)
 message_step S header at (In_body outer leaf) b =
-    passes roots.Body false (λ h. In_body) (λ h. rest) nothing (decoder.step (order header) [] outer leaf at b)
+    passes roots.Body false (λ h. In_body) (λ h. rest) nothing (decoder.step (plain (order header)) [] outer leaf at b)
 message_step S header at (In_rest offset held) b = rest_step offset (held ++ b ∷ []) (at + 1)
 message_step S header at Over b = Comes [] at Over
 

@@ -18,7 +18,7 @@ impl Message {
     ghost use Rattle.giop_cdr.specs.declared.order.Order.{Order as ByteOrder};
     ghost use Rattle.giop_print.specs.declared.path.Root.{Root as PathRoot};
     ghost use Rattle.giop_sig.specs.Types.{Ty};
-    ghost use Rattle.giop_decode.specs.Spine.{Read as Reading};
+    ghost use Rattle.giop_decode.specs.Spine.{plain, Read as Reading};
     ghost use Rattle.giop_decode.specs.Reading.{read};
     ghost use Rattle.giop_decode.specs.Heard.{heard_of};
     ghost use Rattle.giop_decode.specs.Spelling.{lines_text};
@@ -51,7 +51,7 @@ impl Message {
             Writes result (O.log out.old) (O.log out.new)
             (lines_text self.old.number root
             (due_lines o T at s octet) ++ fault_text self.old.number (place + 1)
-            (read o [] T at (s ++ octet ∷ []))) }
+            (read (plain o) [] T at (s ++ octet ∷ []))) }
         ensures takes { IfOk result (λ p. (T : Ty) (o : ByteOrder) (at : ℕ) (root : PathRoot)
             (s : List ℕ) →
             Reads catalogue.now T o at self.old.number root self.old.decoder s →
