@@ -22,4 +22,5 @@ mod WholeStrings
 mod OneCut
 mod Left
 mod Taking
+mod Runs
 pub mod ReadingLaws

@@ -10,6 +10,7 @@ mod leaf;
 mod line;
 mod memory;
 mod progress;
+mod run;
 
 pub use decoder::Decoder;
 pub use laws::{memory_laws, reading_laws};

@@ -1,0 +1,145 @@
+-- A run of octets, taken in parts.
+use Rattle.std.proofs.Common.{◌≡◌, Result, Ok, Err, IsErr, ℕ, ◌+◌, ◌<◌, List, [], ◌∷◌, ◌++◌, length, take, drop, get_or, refl, sym, ◌∙◌, ap, subst, append-nil, append_assoc, add-one}
+use Rattle.std.proofs.Math.Seq.{drop-append_seam, take-suc}
+use Rattle.std.proofs.lemmas.List.{take-append-drop}
+use Rattle.std.proofs.lemmas.Bool.{false≢true}
+use Rattle.giop_cdr.specs.declared.order.Order.{Order}
+use Rattle.giop_decode.specs.declared.progress.Progress.{Progress}
+use Rattle.giop_decode.specs.declared.progress.Progress.TheVariants as progress
+use Rattle.giop_decode.specs.Spine.{Line, lines_of}
+use Rattle.giop_decode.specs.Reading.{read}
+use Rattle.giop_decode.specs.declared.decoder.Decoder.{Decoder}
+use Rattle.giop_decode.specs.Holding.{Reads, Takes, Minds, due}
+use Rattle.giop_decode.specs.Runs.{dues, Answers, AreAnswered, TakesRun, BreaksOff, WritesRun}
+use Rattle.giop_decode.specs.Spelling.{line_text, lines_text}
+use Rattle.giop_decode.proofs.Resuming.{lines_begin}
+use Rattle.giop_print.proofs.Writing.{wrote-front}
+use Rattle.giop_print.specs.Output.{OutLog, Wrote, WroteFront}
+use Rattle.giop_print.specs.declared.path.Root.{Root}
+use Rattle.giop_sig.specs.Types.{Ty}
+use Rattle.giop_sig.specs.Table.{Table}
+
+-- ---- their lines
+
+lines_text_both : (message : ℕ) (root : Root) (xs ys : List Line) →
+    lines_text message root (xs ++ ys) ≡ lines_text message root xs ++ lines_text message root ys
+unfolding lines_text
+lines_text_both message root [] ys = refl
+lines_text_both message root (x ∷ xs) ys =
+    ap (λ z. line_text message root x ++ z) (lines_text_both message root xs ys)
+    ∙ sym (append_assoc (line_text message root x) (lines_text message root xs) (lines_text message root ys))
+
+dues_begin : (order : Order) (T : Ty) (at : ℕ) (s xs : List ℕ) →
+    lines_of (read order [] T at (s ++ xs)) ≡ lines_of (read order [] T at s) ++ dues order T at s xs
+dues_begin order T at s xs =
+    let front = lines_of (read order [] T at s) in
+    let more = lines_begin order [] T at s xs in
+    more.1 ∙ ap (λ z. front ++ z) (sym (ap (drop (length front)) more.1 ∙ drop-append_seam front more.0))
+
+pub dues_both : (order : Order) (T : Ty) (at : ℕ) (s xs ys : List ℕ) →
+    dues order T at s (xs ++ ys) ≡ dues order T at s xs ++ dues order T at (s ++ xs) ys
+dues_both order T at s xs ys =
+    let front = lines_of (read order [] T at s) in
+    let first = dues order T at s xs in
+    let second = dues order T at (s ++ xs) ys in
+    let e : lines_of (read order [] T at (s ++ (xs ++ ys))) ≡ front ++ (first ++ second) =
+    ap (λ z. lines_of (read order [] T at z)) (sym (append_assoc s xs ys)) ∙ (dues_begin order T at (s ++ xs) ys
+    ∙ (ap (λ z. z ++ second) (dues_begin order T at s xs) ∙ append_assoc front first second)) in
+    ap (drop (length front)) e ∙ drop-append_seam front (first ++ second)
+
+pub text_none : (message : ℕ) (root : Root) (order : Order) (T : Ty) (at : ℕ) (s : List ℕ) →
+    lines_text message root (dues order T at s []) ≡ []
+unfolding lines_text
+text_none message root order T at s =
+    let front = lines_of (read order [] T at s) in
+    let none : dues order T at s [] ≡ [] =
+    ap (λ z. drop (length front) (lines_of (read order [] T at z))) (append-nil s)
+    ∙ (ap (drop (length front)) (sym (append-nil front)) ∙ drop-append_seam front []) in
+    ap (lines_text message root) none
+
+pub text_both : (message : ℕ) (root : Root) (order : Order) (T : Ty) (at : ℕ) (s xs ys : List ℕ) →
+    lines_text message root (dues order T at s (xs ++ ys))
+    ≡ lines_text message root (dues order T at s xs) ++ lines_text message root (dues order T at (s ++ xs) ys)
+text_both message root order T at s xs ys =
+    ap (lines_text message root) (dues_both order T at s xs ys)
+    ∙ lines_text_both message root (dues order T at s xs) (dues order T at (s ++ xs) ys)
+
+-- ---- what has come of them
+
+pub answered_both : (order : Order) (T : Ty) (at : ℕ) (root : Root) (s xs ys : List ℕ) (p : Progress) →
+    AreAnswered order T at root s xs progress.More → AreAnswered order T at root (s ++ xs) ys p →
+    AreAnswered order T at root s (xs ++ ys) p
+answered_both order T at root s [] ys p h k = subst (λ z. AreAnswered order T at root z ys p) (append-nil s) k
+answered_both order T at root s (x ∷ []) [] p h k = subst (Answers order T at root s x) (sym k) h
+answered_both order T at root s (x ∷ []) (y ∷ ys) p h k = (h, k)
+answered_both order T at root s (x ∷ x' ∷ xs) ys p h k = (
+  h.0,
+  answered_both order T at root (s ++ x ∷ []) (x' ∷ xs) ys p h.1
+      (subst (λ z. AreAnswered order T at root z ys p) (sym (append_assoc s (x ∷ []) (x' ∷ xs))) k),
+)
+
+pub takes_one : (C : Table) (T : Ty) (order : Order) (at message : ℕ) (root : Root) (d : Decoder) (s : List ℕ) (octet : ℕ)
+    (p : Progress) → Takes C T order at message root d s octet p → TakesRun C T order at message root d s (octet ∷ []) p
+takes_one C T order at message root d s octet p t = record { answers = t.answer; reads = t.reads; minds = t.minds }
+
+pub takes_both : (C : Table) (T : Ty) (order : Order) (at message : ℕ) (root : Root) (d : Decoder) (s xs ys : List ℕ)
+    (p : Progress) → AreAnswered order T at root s xs progress.More →
+    TakesRun C T order at message root d (s ++ xs) ys p → TakesRun C T order at message root d s (xs ++ ys) p
+takes_both C T order at message root d s xs ys p h t =
+    let e : (s ++ xs) ++ ys ≡ s ++ (xs ++ ys) = append_assoc s xs ys in
+    record {
+      answers = answered_both order T at root s xs ys p h t.answers;
+      reads = λ unfaulty. subst (Reads C T order at message root d) e (t.reads unfaulty);
+      minds = subst (λ z. Minds root d (read order [] T at z)) e t.minds;
+    }
+
+-- ---- the octets so far, and one more
+
+pub take_more : (xs : List ℕ) (i : ℕ) → i < length xs → take (i + 1) xs ≡ take i xs ++ get_or xs i 0 ∷ []
+take_more xs i h = rw add-one (take-suc xs i 0 h)
+
+pub one_further : (s octets : List ℕ) (i : ℕ) → i < length octets →
+    (s ++ take i octets) ++ get_or octets i 0 ∷ [] ≡ s ++ take (i + 1) octets
+one_further s octets i h =
+    append_assoc s (take i octets) (get_or octets i 0 ∷ []) ∙ ap (λ xs. s ++ xs) (sym (take_more octets i h))
+
+pub text_more : (message : ℕ) (root : Root) (order : Order) (T : Ty) (at : ℕ) (s octets : List ℕ) (i : ℕ) →
+    i < length octets → lines_text message root (dues order T at s (take (i + 1) octets))
+    ≡ lines_text message root (dues order T at s (take i octets))
+    ++ lines_text message root (due order T at (s ++ take i octets) (get_or octets i 0))
+text_more message root order T at s octets i h =
+    ap (λ xs. lines_text message root (dues order T at s xs)) (take_more octets i h)
+    ∙ text_both message root order T at s (take i octets) (get_or octets i 0 ∷ [])
+
+pub takes_more : (C : Table) (T : Ty) (order : Order) (at message : ℕ) (root : Root) (d : Decoder) (s octets : List ℕ)
+    (i : ℕ) (p : Progress) → i < length octets → AreAnswered order T at root s (take i octets) progress.More →
+    Takes C T order at message root d (s ++ take i octets) (get_or octets i 0) p →
+    TakesRun C T order at message root d s (take (i + 1) octets) p
+takes_more C T order at message root d s octets i p below h t =
+    rw (take_more octets i below)
+    (takes_both C T order at message root d s (take i octets) (get_or octets i 0 ∷ []) p h
+    (takes_one C T order at message root d (s ++ take i octets) (get_or octets i 0) p t))
+
+pub breaks_off : (T : Ty) (order : Order) (at message : ℕ) (root : Root) (s octets : List ℕ) (i : ℕ) (a b c : OutLog) →
+    i < length octets → AreAnswered order T at root s (take i octets) progress.More →
+    Wrote a b (lines_text message root (dues order T at s (take i octets))) →
+    WroteFront b c (lines_text message root (due order T at (s ++ take i octets) (get_or octets i 0))) →
+    BreaksOff T order at message root s octets a c
+breaks_off T order at message root s octets i a b c below h v w =
+    record {
+      front = take i octets;
+      octet = get_or octets i 0;
+      rest = drop (i + 1) octets;
+      all = sym (take-append-drop (i + 1) octets)
+          ∙ (ap (λ xs. xs ++ drop (i + 1) octets) (take_more octets i below)
+          ∙ append_assoc (take i octets) (get_or octets i 0 ∷ []) (drop (i + 1) octets));
+      answers = h;
+      wrote = rw (text_both message root order T at s (take i octets) (get_or octets i 0 ∷ []))
+          (wrote-front a b c _ _ v w);
+    }
+
+pub writes_broken : {E : Type 0} (r : Result (ℕ × Progress) E) (T : Ty) (order : Order) (at message : ℕ) (root : Root)
+    (s octets : List ℕ) (a b : OutLog) → IsErr r → BreaksOff T order at message root s octets a b →
+    WritesRun r T order at message root s octets a b
+writes_broken (Ok v) T order at message root s octets a b e h = absurd (false≢true e)
+writes_broken (Err e) T order at message root s octets a b _ h = h

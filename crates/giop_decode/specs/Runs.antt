@@ -1,0 +1,60 @@
+-- What a decoder that reads a list does with more octets, taken as a run (state).
+use Rattle.std.specs.Prelude.{◌≡◌, ℕ, ◌+◌, List, [], ◌∷◌, ◌++◌, length, take, drop, Result, MatchResult}
+use Rattle.giop_cdr.specs.declared.order.Order.{Order}
+use Rattle.giop_decode.specs.declared.decoder.Decoder.{Decoder}
+use Rattle.giop_decode.specs.declared.progress.Progress.{Progress}
+use Rattle.giop_decode.specs.declared.progress.Progress.TheVariants as progress
+use Rattle.giop_decode.specs.Spine.{Line, lines_of}
+use Rattle.giop_decode.specs.Reading.{read}
+use Rattle.giop_decode.specs.Heard.{is_header_root, names_operation}
+use Rattle.giop_decode.specs.Holding.{Reads, Minds, IsAnswer, IsFault, due}
+use Rattle.giop_decode.specs.Spelling.{lines_text}
+use Rattle.giop_print.specs.Output.{OutLog, Wrote, WroteFront}
+use Rattle.giop_print.specs.declared.path.Root.{Root}
+use Rattle.giop_sig.specs.Types.{Ty}
+use Rattle.giop_sig.specs.Table.{Table}
+
+-- the lines that octets more give
+abbrev pub dues : Order → Ty → ℕ → List ℕ → List ℕ → List Line
+dues order T at s octets =
+    drop (length (lines_of (read order [] T at s))) (lines_of (read order [] T at (s ++ octets)))
+
+-- what has come of a list with one octet more
+abbrev pub Answers : Order → Ty → ℕ → Root → List ℕ → ℕ → Progress → Type 0
+Answers order T at root s octet p =
+    IsAnswer (at + length (s ++ octet ∷ [])) (names_operation (is_header_root root) (due order T at s octet)) p
+    (read order [] T at (s ++ octet ∷ []))
+
+-- Octets more, one after another: behind each but the last the value goes on, and no operation has ended there.
+abbrev pub AreAnswered : Order → Ty → ℕ → Root → List ℕ → List ℕ → Progress → Type 0
+AreAnswered order T at root s [] p = p ≡ progress.More
+AreAnswered order T at root s (octet ∷ []) p = Answers order T at root s octet p
+AreAnswered order T at root s (octet ∷ next ∷ more) p =
+    Answers order T at root s octet progress.More
+    × AreAnswered order T at root (s ++ octet ∷ []) (next ∷ more) p
+
+-- A decoder that read a list has come to this with these octets more: it reads the longer list, unless that is faulted.
+pub record TakesRun (C : Table) (T : Ty) (order : Order) (at message : ℕ) (root : Root) (d : Decoder)
+    (s octets : List ℕ) (p : Progress) : Type 0 where
+  pub answers : AreAnswered order T at root s octets p
+  pub reads : (IsFault p → ⊥) → Reads C T order at message root d (s ++ octets)
+  pub minds : Minds root d (read order [] T at (s ++ octets))
+
+-- A put failed at one of these octets, before which the value went on: a front of the lines up to it
+-- was written.
+pub record BreaksOff (T : Ty) (order : Order) (at message : ℕ) (root : Root) (s octets : List ℕ)
+    (before after : OutLog) : Type 0 where
+  pub front : List ℕ
+  pub octet : ℕ
+  pub rest : List ℕ
+  pub all : octets ≡ front ++ octet ∷ rest
+  pub answers : AreAnswered order T at root s front progress.More
+  pub wrote : WroteFront before after (lines_text message root (dues order T at s (front ++ octet ∷ [])))
+
+-- the lines of the octets that a run took, or those up to the octet at which a put failed
+abbrev pub WritesRun : {E : Type 0} → Result (ℕ × Progress) E → Ty → Order → ℕ → ℕ → Root → List ℕ → List ℕ →
+    OutLog → OutLog → Type 0
+WritesRun result T order at message root s octets before after =
+    MatchResult result
+    (λ taken. Wrote before after (lines_text message root (dues order T at s (take taken.0 octets))))
+    (λ _. BreaksOff T order at message root s octets before after)

@@ -1,0 +1,49 @@
+//! Octets taken together: a run of them, up to the one behind which its caller has something to do.
+
+ghost use Rattle.std.specs.Prelude.{◌≡◌, ℕ, ◌<◌, ◌≤◌, List, length, take, IfOk};
+ghost use Rattle.giop_cdr.specs.declared.order.Order.{Order as ByteOrder};
+ghost use Rattle.giop_decode.specs.Holding.{Fits, GoesOn, IsDone, Reads};
+ghost use Rattle.giop_decode.specs.Runs.{TakesRun, WritesRun};
+ghost use Rattle.giop_print.specs.declared.path.Root.{Root as PathRoot};
+ghost use Rattle.giop_sig.specs.Types.{Ty};
+
+use crate::decoder::Decoder;
+use crate::progress::Progress;
+use giop_print::{Out, OutFault};
+use giop_sig::Catalogue;
+
+impl Decoder {
+    /// Takes octets of the value, and writes what they give to say: all of them, or as many as there are up to one that
+    /// ends an operation or the value, or breaks a rule. Answers how many it took, and what the last of them came to;
+    /// no octets leave the value as it is. A decoder that is done or faulted takes no more.
+    pub fn take_run<O: Out>(
+        &mut self,
+        catalogue: &Catalogue,
+        octets: &[u8],
+        out: &mut O,
+    ) -> Result<(usize, Progress), OutFault>
+        requires { Fits catalogue.now self.old }
+        ensures writes { (T : Ty) (order : ByteOrder) (at message : ℕ) (root : PathRoot) (s : List ℕ) →
+            Reads catalogue.now T order at message root self.old s →
+            WritesRun result T order at message root s octets.now (O.log out.old) (O.log out.new) }
+        ensures takes { IfOk result (λ taken. (T : Ty) (order : ByteOrder) (at message : ℕ)
+            (root : PathRoot) (s : List ℕ) →
+            Reads catalogue.now T order at message root self.old s →
+            TakesRun catalogue.now T order at message root self.new s (take taken.0 octets.now) taken.1) }
+        ensures within { IfOk result (λ taken. taken.0 ≤ length octets.now) }
+        ensures all { IfOk result (λ taken. taken.1 ≡ Progress.More → taken.0 ≡ length octets.now) }
+        ensures fits { IfOk result (λ taken. GoesOn taken.1 → Fits catalogue.now self.new) }
+        ensures done { IfOk result (λ taken. taken.1 ≡ Progress.Done → IsDone self.new) }
+    {
+        let mut taken: usize = 0;
+        for octet in octets {
+            let progress = self.take(catalogue, *octet, out)?;
+            taken += 1;
+            match progress {
+                Progress::More => {}
+                _ => return Ok((taken, progress)),
+            }
+        }
+        Ok((taken, Progress::More))
+    }
+}
