@@ -16,7 +16,7 @@ use Rattle.giop_stream.specs.State.{octets_of}
 use Rattle.giop_stream.specs.Machine.{utters_kept}
 use Rattle.giop_stream.specs.Plays.{Scene, Play, lines_of, octets_then, plays, one_play, starts, with_octet, stage}
 use Rattle.giop_stream.proofs.Lists.{by_growth, each_filter}
-use Rattle.giop_stream.proofs.Cutting.{settle, header_case, next, of_parts, cut_grows}
+use Rattle.giop_stream.proofs.Cutting.{settle, header_case, next, of_parts, parts_by, cut_grows}
 use Rattle.giop_stream.proofs.Bridge.{next_stopped, next_limit, next_payload, next_front, cut_nothing, sound}
 use Rattle.giop_stream.proofs.Accepted.{named_accepted}
 use Rattle.giop_stream.proofs.InPlace.{own_then}
@@ -158,10 +158,6 @@ alive_front R causal laws p x st cur room None true e f ec st' m cur' name few =
     ∙ (ap (octets_of R (p ++ x ∷ [])) (sym number)
     ∙ (alive_header R causal laws p x st cur room e (omega (arith, length_push held x)) name' s.lacks
     ∙ ap (λ (n : Message). Some n.payload) (sym s.same)))
-
-pub parts_by : (c : Cut) (current : Option Message) (found : Option (ℕ × StreamFault)) → c.current ≡ current → c.stop ≡ found → c ≡ of_parts c.whole current c.held found
-unfolding of_parts
-parts_by c current found e f = λ j. record { whole = c.whole; current = e j; held = c.held; stop = f j }
 
 alive_by : (R : Reading) → IsCausal R → IsInTurn R → (p : List ℕ) (x : ℕ) → IsAlive R p → (current : Option Message) (found : Option (ℕ × StreamFault)) → (cut p).current ≡ current → (cut p).stop ≡ found → (b : Bool) → nat_lt limit (suc (length p)) ≡ b → IsAlive R (p ++ x ∷ [])
 unfolding of_parts

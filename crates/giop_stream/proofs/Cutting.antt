@@ -244,6 +244,10 @@ above_is p h = rw (lt-ltb limit (length p) h) refl
 unfoldable pub of_parts : List Message → Option Message → List ℕ → Option (ℕ × StreamFault) → Cut
 of_parts whole current held stop = record { whole = whole; current = current; held = held; stop = stop }
 
+pub parts_by : (c : Cut) (current : Option Message) (found : Option (ℕ × StreamFault)) → c.current ≡ current → c.stop ≡ found → c ≡ of_parts c.whole current c.held found
+unfolding of_parts
+parts_by c current found e f = λ j. record { whole = c.whole; current = e j; held = c.held; stop = f j }
+
 limited_stop_at : (whole : List Message) (current : Option Message) (held : List ℕ) (stop : Option (ℕ × StreamFault)) (n x : ℕ) → next n x (limited true (of_parts whole current held stop)) ≡ limited true (of_parts whole current held stop)
 unfolding limited next of_parts
 limited_stop_at whole current held (Some found) n x = refl

@@ -1,9 +1,8 @@
--- What is remembered of a stream is what the fields show of its state.
+-- What the slots keep of a stream's messages is what the fields show of its state.
 use Rattle.std.proofs.Common.{◌≡◌, ℕ, zero, suc, ◌-◌, ◌<◌, Bool, true, false, not, List, [], ◌∷◌, length, refl, sym, ap, ◌∙◌, Option, Some, None, arith}
 use Rattle.std.specs.Prelude.{◌==◌, ◌&&◌, ◌||◌, nat_lt, nat_le, slice_get, is_some, option_map, IfSome, if◌then◌else◌}
 use Rattle.std.specs.List.{AllByRecursion as Each}
 use Rattle.std.proofs.lemmas.Bool.{lt-ltb, le-ltb, lt-leb, le-leb, eq-eqb, false≢true}
-use Rattle.giop_cdr.specs.Numbers.{AreOctets}
 use Rattle.giop_sig.specs.Table.{Table}
 use Rattle.giop_message.specs.declared.message.Message.{Message as Kept_message}
 use Rattle.giop_message.specs.Headers.{size, is_fragment}
@@ -16,22 +15,21 @@ use Rattle.giop_stream.specs.declared.slots.Payload.{Payload}
 use Rattle.giop_stream.specs.declared.slots.Payload.TheVariants as payload
 use Rattle.giop_stream.specs.Framing.{Message, Cut, cut, fault_of}
 use Rattle.giop_stream.specs.Events.{Title, Open, Rising, title, id, opener_of, has_named}
+use Rattle.giop_stream.specs.Stream.{tally}
 use Rattle.giop_stream.specs.State.{Slot, Kept, is_open, slots_of}
 use Rattle.giop_stream.specs.Plays.{Scene, stage}
 use Rattle.giop_stream.specs.Keeping.{IsKept, IsWhose}
-use Rattle.giop_stream.specs.Whose.{opener_title, whose, whose_in}
+use Rattle.giop_stream.specs.Whose.{Knows, opener_title, whose, whose_in}
 use Rattle.giop_stream.specs.Octet.{Now, now_of, header_of, come_of}
-use Rattle.giop_stream.specs.Engine.{State, Own, unless, left_of, is_named, own_for, owner_for, own_in, owner_in, state_of}
+use Rattle.giop_stream.specs.Engine.{State, Own, unless, left_of, is_named, own_for, owner_for, state_of}
 use Rattle.giop_stream.specs.Remembering.{Memory}
-use Rattle.giop_stream.specs.Holding.{Remembers}
 use Rattle.giop_stream.specs.Showing.{IsOwn, IsOwner, IsTurn, Shows, come_in, comes_itself}
 use Rattle.giop_stream.proofs.Lists.{each_weaker}
 use Rattle.giop_stream.proofs.InPlace.{at_index}
 use Rattle.giop_stream.proofs.Parts.{in_turn}
 use Rattle.giop_stream.proofs.Soundness.{CurrentFits, IsSound}
 use Rattle.giop_stream.proofs.Acts.{found_in}
-use Rattle.giop_stream.proofs.Idle.{none_stops}
-use Rattle.giop_stream.proofs.Owning.{own_open, own_named, own_else, owner_named, owner_open, Tells}
+use Rattle.giop_stream.proofs.Owning.{own_open, own_named, own_else, owner_named, owner_open, Tells, own_known, owner_known}
 use Rattle.giop_stream.proofs.EngineLaws.{sound}
 use Rattle.giop_stream.proofs.Titled.{IsTitled, title_is}
 
@@ -60,7 +58,7 @@ itself_by None st None held come e h short = rw (lt-leb 12 (length held) short) 
 itself_by None st (Some m) held come e h short = rw (e, le-leb 12 (length m.header) (omega (arith, h.0))) refl
 
 module _ (R : Reading) (p : List ℕ) (so : IsSound R p) where
-  come_state : come_in (state_of R p) ≡ unless (cut p).stop 0 (come_of (cut p).current)
+  pub come_state : come_in (state_of R p) ≡ unless (cut p).stop 0 (come_of (cut p).current)
   unfolding come_in state_of
   come_state = come_by (cut p).stop (cut p).current (cut p).held (λ st. fits_of (length p) (cut p) (cut p).current (so.fits st).current) (λ st. (so.fits st).short)
 
@@ -213,7 +211,7 @@ module _ (C : Table) (l : Listed) (s : State) (c : Scene) (own : Option Kept_mes
 
 -- ---- Of a stream.
 
-module _ (C : Table) (l : Listed) (m : Memory) (p : List ℕ) where
+module _ (C : Table) (l : Listed) (p : List ℕ) where
   abbrev R : Reading
   R = message_reading C l
 
@@ -224,29 +222,28 @@ module _ (C : Table) (l : Listed) (m : Memory) (p : List ℕ) where
   unfolding state_of stage
   tells = record { slots = refl; own = refl; owner = refl }
 
-  pub shows_it : Remembers C l m p → Shows C l m (state_of R p)
+  -- by the stream's cut, where the reading goes on
+  pub shows_by : (m : Memory) (c : Cut) → cut p ≡ c → c.stop ≡ None → m.totals ≡ tally R p → m.stopped ≡ None → m.header ≡ header_of c.current c.held → m.come ≡ come_of c.current → Knows C l m.slots p → Shows C l m (state_of R p)
   unfolding state_of stage
-  shows_it h = record {
-    totals = h.totals;
-    stopped = h.stopped;
-    header = h.header;
-    come = h.come ∙ sym (come_state R p so);
-    slots = h.slots;
-    own = h.own;
-    owner = h.owner;
-    turn = λ free. let st = none_stops (cut p).stop free in turns C l (state_of R p) (stage R p) m.slots.own m.slots.payload (cut p).current tells (itself_state R p so st) (h.whose st);
-  }
+  shows_by m c e st totals stopped header come knows =
+      let goes_on : (cut p).stop ≡ None = ap (λ (d : Cut). d.stop) e ∙ st in
+      let same : unless (cut p).stop [] (header_of (cut p).current (cut p).held) ≡ header_of c.current c.held = rw (e, st) refl in
+      let many : unless (cut p).stop 0 (come_of (cut p).current) ≡ come_of c.current = rw (e, st) refl in
+      record {
+        totals = totals;
+        stopped = stopped ∙ ap fault_of (sym goes_on);
+        header = header ∙ sym same;
+        come = come ∙ sym (come_state R p so ∙ many);
+        slots = knows.slots;
+        own = own_known C l (stage R p) m.slots.own m.slots.payload (cut p).current knows.payload;
+        owner = owner_known C l (state_of R p) (stage R p) m.slots.own m.slots.payload (cut p).current tells knows.payload;
+        turn = λ free. turns C l (state_of R p) (stage R p) m.slots.own m.slots.payload (cut p).current tells (itself_state R p so goes_on) knows.payload;
+      }
 
-  pub remembers_it : AreOctets p → Shows C l m (state_of R p) → Remembers C l m p
+  -- and what the slots keep then
+  pub knows_it : (m : Memory) → (cut p).stop ≡ None → Shows C l m (state_of R p) → Knows C l m.slots p
   unfolding state_of stage
-  remembers_it octets h = record {
-    octets = octets;
-    totals = h.totals;
-    stopped = h.stopped;
-    header = h.header;
-    come = h.come ∙ come_state R p so;
+  knows_it m st h = record {
     slots = h.slots;
-    own = h.own;
-    whose = λ st. back C l (state_of R p) (stage R p) m.slots.own m.slots.payload (cut p).current tells (itself_state R p so st) so.rising (λ c cur. title_is R (is_causal (said_by C l)) (in_turn C l) p st c cur) h.own h.owner (h.turn (ap fault_of st));
-    owner = h.owner;
+    payload = back C l (state_of R p) (stage R p) m.slots.own m.slots.payload (cut p).current tells (itself_state R p so st) so.rising (λ c cur. title_is R (is_causal (said_by C l)) (in_turn C l) p st c cur) h.own h.owner (h.turn (ap fault_of st));
   }

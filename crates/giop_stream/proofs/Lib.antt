@@ -36,14 +36,12 @@ mod Ending
 mod Taken
 mod Parts
 mod Headed
-mod Staged
 mod Adding
 mod Sizes
 mod Idle
-mod Begun
+mod Doing
 mod Further
 mod OfOctets
-mod Paying
 mod Running
 mod Closing
 mod Runs

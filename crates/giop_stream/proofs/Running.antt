@@ -1,20 +1,18 @@
--- Octets that are of a message's contents alone, all at once: what is known of the stream with them, what they add to its
--- text, and what is remembered then.
+-- Octets that are of a message's contents alone, all at once: what is known of the stream with them, and that the code does
+-- their steps.
 use Rattle.std.proofs.Common.{◌≡◌, ℕ, suc, ◌+◌, ◌-◌, ◌^◌, ◌<◌, ◌≤◌, List, [], ◌∷◌, ◌++◌, length, get_or, refl, sym, ap, subst, ◌∙◌, append_assoc, append-nil, length-append, Option, Some, None, Result, Ok, Err, arith}
+use Rattle.std.specs.Prelude.{OnOk}
 use Rattle.std.specs.Result.{OkIff, result_unwrap_or}
 use Rattle.std.proofs.lemmas.Bool.{le-ltb, ne_eqb}
 use Rattle.std.proofs.lemmas.List.{length_push, get_or_push}
-use Rattle.std.proofs.lemmas.List.Elements.{All-append}
-use Rattle.giop_cdr.specs.Numbers.{AreOctets}
+use Rattle.giop_print.specs.Output.{OutLog, Writes}
 use Rattle.giop_sig.specs.Table.{Table}
 use Rattle.giop_message.specs.Headers.{size}
 use Rattle.giop_message.specs.Signatures.{Kept as Listed, said_by}
 use Rattle.giop_message.specs.MessageReading.{message_reading}
-use Rattle.giop_message.specs.Reading.{Reading, IsCausal}
+use Rattle.giop_message.specs.Reading.{Reading, IsCausal, IsInTurn}
 use Rattle.giop_message.proofs.MessageLaws.{is_causal}
-use Rattle.giop_stream.specs.declared.status.Totals.{Totals}
 use Rattle.giop_stream.specs.declared.slots.Slots.{Slots}
-use Rattle.giop_stream.specs.Headers.{offence}
 use Rattle.giop_stream.specs.Framing.{Message, Cut, with_payload, limit, cut, messages, read_of}
 use Rattle.giop_stream.specs.Events.{Takes, Title, Open, Rising, happens, at_octet, changed, open_after}
 use Rattle.giop_stream.specs.Lines.{Line, lines}
@@ -25,23 +23,24 @@ use Rattle.giop_stream.specs.Keeping.{Keeps, scene_to, lines_to}
 use Rattle.giop_stream.specs.Runs.{run_scene, run_lines}
 use Rattle.giop_stream.specs.Whose.{Knows, whose, whose_in}
 use Rattle.giop_stream.specs.Remembering.{Memory}
-use Rattle.giop_stream.specs.Holding.{Remembers, added}
+use Rattle.giop_stream.specs.Engine.{State, state_of}
+use Rattle.giop_stream.specs.Step.{runs}
+use Rattle.giop_stream.specs.Showing.{IsReached, Shows, Does}
 use Rattle.giop_stream.specs.Octet.{header_of, come_of}
-use Rattle.giop_stream.proofs.Cutting.{next, of_parts, cut_grows}
+use Rattle.giop_stream.proofs.Cutting.{settle, next, of_parts, parts_by, cut_grows}
 use Rattle.giop_stream.proofs.Grown.{count_append}
 use Rattle.giop_stream.proofs.Soundness.{CurrentFits}
 use Rattle.giop_stream.proofs.StepCases.{place_more}
-use Rattle.giop_stream.proofs.Bridge.{next_payload, starts_are, rising_open, sound}
+use Rattle.giop_stream.proofs.Bridge.{next_payload}
 use Rattle.giop_stream.proofs.Dealing.{if_some}
-use Rattle.giop_stream.proofs.Growing.{Grows, payload_grows}
-use Rattle.giop_stream.proofs.Beginning.{parts_by}
 use Rattle.giop_stream.proofs.Ending.{DoesTo}
 use Rattle.giop_stream.proofs.Taken.{whose_elsewhere}
 use Rattle.giop_stream.proofs.Parts.{in_turn, octet_does, whose_next}
-use Rattle.giop_stream.proofs.Adding.{added_by}
-use Rattle.giop_stream.proofs.Idle.{runs, octets_are, header_at, come_at, knows_at, remembers_by}
-use Rattle.giop_stream.proofs.OfOctets.{header_octets, size_fits}
-use Rattle.giop_stream.proofs.Paying.{goes_on}
+use Rattle.giop_stream.proofs.OneOctet.{Adds, paid_is}
+use Rattle.giop_stream.proofs.EngineStep.{read_all}
+use Rattle.giop_stream.proofs.EngineLaws.{sound}
+use Rattle.giop_stream.proofs.Held.{shows_by}
+use Rattle.giop_stream.proofs.Doing.{does_run, runs_on, all_read, knows_at, faults_at, header_is, come_is, number_is, size_few, goes_on}
 
 -- ---- One of them.
 
@@ -90,7 +89,7 @@ module _ (C : Table) (l : Listed) where
 
   module _ (p : List ℕ) (m : Message) (x n : ℕ) (h : Within p m (suc n)) where
     at_hand : CurrentFits (length p) (cut p) m
-    at_hand = if_some (CurrentFits (length p) (cut p)) (cut p).current m h.current ((sound (message_reading C l) (is_causal (said_by C l)) p).fits h.free).current
+    at_hand = if_some (CurrentFits (length p) (cut p)) (cut p).current m h.current ((sound (message_reading C l) (is_causal (said_by C l)) (in_turn C l) p).fits h.free).current
 
     octet_takes : DoesTo C l (suc (length p)) (stage (message_reading C l) p) (whose (open_after p) m) (Takes x) (plays (message_reading C l) (stage (message_reading C l) p) (happens (open_after p) (with_octet m x)))
     unfolding stage
@@ -99,14 +98,14 @@ module _ (C : Table) (l : Listed) where
         let alone = comes_alone (open_after p) (with_octet m x) (omega (arith, h.named, length_push m.payload x)) (omega (arith, h.before_last, length_push m.payload x)) in
         rw (alone, ← whose_next (open_after p) m x) (octet_does C l (stage (message_reading C l) p) (with_octet m x) x (suc (length p)) last (place_more m x (length p) at_hand.place_is))
 
-    octet_grows : Grows (message_reading C l) p (p ++ x ∷ []) (happens (open_after p) (with_octet m x))
-    octet_grows = payload_grows (message_reading C l) (is_causal (said_by C l)) (in_turn C l) p m x h.free h.current (omega (arith, h.room))
+    octet_adds : (let play = plays (message_reading C l) (stage (message_reading C l) p) (happens (open_after p) (with_octet m x)) in Adds (message_reading C l) p (p ++ x ∷ []) (settle (cut p).whole (with_octet m x)) play.lines play.scene)
+    octet_adds = paid_is (message_reading C l) (is_causal (said_by C l)) (in_turn C l) p x (sound (message_reading C l) (is_causal (said_by C l)) (in_turn C l) p) m h.free h.current (le-ltb limit (suc (length p)) (omega (arith, h.room)))
 
     octet_lines : lines (message_reading C l) (p ++ x ∷ []) ≡ lines (message_reading C l) p ++ lines_to C l (suc (length p)) (stage (message_reading C l) p) (whose (open_after p) m) (Takes x)
-    octet_lines = octet_grows.lines ∙ ap (λ (ls : List Line). lines (message_reading C l) p ++ ls) octet_takes.lines
+    octet_lines = octet_adds.lines ∙ ap (λ (ls : List Line). lines (message_reading C l) p ++ ls) octet_takes.lines
 
     octet_stage : stage (message_reading C l) (p ++ x ∷ []) ≡ scene_to C l (suc (length p)) (stage (message_reading C l) p) (whose (open_after p) m) (Takes x)
-    octet_stage = octet_grows.stage ∙ octet_takes.scene
+    octet_stage = octet_adds.stage ∙ octet_takes.scene
 
     octet_whose : whose (open_after (p ++ x ∷ [])) (with_octet m x) ≡ whose (open_after p) m
     unfolding stage
@@ -153,7 +152,7 @@ module _ (C : Table) (l : Listed) where
         whose = (λ j. whose (open_after (sym all j)) (with_payload m (sym payload j))) ∙ (more.whose ∙ who);
       }
 
--- ---- What is remembered with them.
+-- ---- What the fields show with them.
 
 -- so many octets as a size counts fit a number of 32 bits
 pub number_fits : {E : Type 0} (r : Result ℕ E) (n other : ℕ) → n < 2 ^ 32 → OkIff r (n < 2 ^ 32) n → result_unwrap_or r other ≡ n
@@ -161,96 +160,79 @@ number_fits (Ok k) n other less h = h.1
 number_fits (Err e) n other less h = absurd (h less)
 
 -- the current message is the one that started last
-started_last : (R : Reading) → IsCausal R → (p : List ℕ) (m : Message) → (cut p).stop ≡ None → (cut p).current ≡ Some m → start_count (lines R p) ≡ m.number
+started_last : (R : Reading) → IsCausal R → IsInTurn R → (p : List ℕ) (m : Message) → (cut p).stop ≡ None → (cut p).current ≡ Some m → start_count (lines R p) ≡ m.number
 unfolding messages
-started_last R causal p m free current =
-    let at_hand = if_some (CurrentFits (length p) (cut p)) (cut p).current m current ((sound R causal p).fits free).current in
+started_last R causal laws p m free current =
+    let so = sound R causal laws p in
+    let at_hand = if_some (CurrentFits (length p) (cut p)) (cut p).current m current (so.fits free).current in
     let count : length (messages (cut p)) ≡ length (cut p).whole + 1 = rw current (length_push (cut p).whole m) in
-    omega (arith, starts_are R causal p, count, at_hand.number_is)
+    omega (arith, so.starts, count, at_hand.number_is)
 
-module _ (C : Table) (l : Listed) (m : Memory) (p q : List ℕ) (h : Remembers C l m p) (c : Message) (current : (cut p).current ≡ Some c) (free : m.stopped ≡ None) (named : 4 ≤ m.come) (before_last : m.come + length q < size m.header) (room : m.totals.octets + length q ≤ 2 ^ 48) where
-  come_is : m.come ≡ length c.payload
-  come_is = come_at C l m p h free ∙ ap come_of current
+module _ (C : Table) (l : Listed) (s : State) (reached : IsReached C l s) (m : Memory) (h : Shows C l m s) (free : m.stopped ≡ None) (c : Message) (current : (cut reached.stream).current ≡ Some c) (q : List ℕ) (named : 4 ≤ m.come) (before_last : m.come + length q < size m.header) (room : m.totals.octets + length q ≤ 2 ^ 48) where
+  abbrev R : Reading
+  R = message_reading C l
 
-  header_is : m.header ≡ c.header
-  header_is = header_at C l m p h free ∙ ap (λ (o : Option Message). header_of o (cut p).held) current
+  abbrev p : List ℕ
+  p = reached.stream
 
-  all_read : m.totals.octets ≡ length p
-  all_read = octets_are C l m p h free
+  all : m.totals.octets ≡ length p
+  all = all_read C l s reached m h free
 
   begins : Within p c (length q)
   unfolding limit
-  begins = record {
-    free = runs C l m p h free;
-    current = current;
-    named = omega (arith, named, come_is);
-    before_last = omega (arith, before_last, come_is, ap size header_is);
-    room = omega (arith, room, all_read);
-  }
+  begins =
+      let come = come_is C l s reached m h free c current in
+      record {
+        free = runs_on C l s reached m h free;
+        current = current;
+        named = omega (arith, named, come);
+        before_last = omega (arith, before_last, come, ap size (header_is C l s reached m h free c current));
+        room = omega (arith, room, all);
+      }
 
   -- there is room to count them
   pub run_fits : m.come + length q < 2 ^ 32
-  run_fits =
-      let at_hand = if_some (CurrentFits (length p) (cut p)) (cut p).current c current ((sound (message_reading C l) (is_causal (said_by C l)) p).fits begins.free).current in
-      let right = if_some (λ c. AreOctets c.header × (offence c.header ≡ None)) (cut p).current c current (header_octets p h.octets) in
-      omega (arith, before_last, ap size header_is, size_fits c.header right.0 at_hand.twelve)
+  run_fits = omega (arith, before_last, size_few C l s reached m h free c current)
 
   run : IsRun C l p c q
   run = run_is C l q p c begins
 
   -- their lines, and the scene then
   abbrev pub run_text : List Line
-  run_text = run_lines C l m.totals.octets (stage (message_reading C l) p) (whose (open_after p) c) q
+  run_text = run_lines C l m.totals.octets (stage R p) (whose (open_after p) c) q
 
   abbrev pub run_stage : Scene
-  run_stage = run_scene C l m.totals.octets (stage (message_reading C l) p) (whose (open_after p) c) q
+  run_stage = run_scene C l m.totals.octets (stage R p) (whose (open_after p) c) q
 
-  grows_by_run : lines (message_reading C l) (p ++ q) ≡ lines (message_reading C l) p ++ run_text
-  grows_by_run = rw all_read run.lines
+  grows_by_run : lines R (p ++ q) ≡ lines R p ++ run_text
+  grows_by_run = rw all run.lines
 
   -- what the slots keep before them
-  pub run_keeps : Keeps C l m.slots (stage (message_reading C l) p) (whose (open_after p) c)
-  run_keeps = subst (λ (o : Option Message). Keeps C l m.slots (stage (message_reading C l) p) (whose_in (open_after p) o)) current (knows_at C l m p h free)
+  pub run_keeps : Keeps C l m.slots (stage R p) (whose (open_after p) c)
+  run_keeps = subst (λ (o : Option Message). Keeps C l m.slots (stage R p) (whose_in (open_after p) o)) current (knows_at C l s reached m h free)
 
-  pub run_rises : Rising (stage (message_reading C l) p).live
+  pub run_rises : Rising (stage R p).live
   unfolding stage
-  run_rises = rising_open p
+  run_rises = (sound R (is_causal (said_by C l)) (in_turn C l) p).rising
 
-  pub run_adds : added (message_reading C l) p q ≡ lines_text run_text
-  run_adds = added_by (message_reading C l) p q run_text grows_by_run
-
-  counted_so : m.totals.messages ≡ start_count (lines (message_reading C l) (p ++ q))
-  unfolding tally
-  counted_so =
-      let R = message_reading C l in
-      let causal = is_causal (said_by C l) in
-      ap (λ (t : Totals). t.messages) h.totals
-      ∙ (started_last R causal p c begins.free current ∙ sym (started_last R causal (p ++ q) (with_payload c (c.payload ++ q)) run.within.free run.within.current))
-
-  faulted_so : (faults : ℕ) → faults ≡ m.totals.faults + fault_count run_text → faults ≡ fault_count (lines (message_reading C l) (p ++ q))
-  unfolding tally
-  faulted_so faults e =
-      let R = message_reading C l in
-      let was : m.totals.faults ≡ fault_count (lines R p) = ap (λ (t : Totals). t.faults) h.totals in
-      let now : fault_count (lines R (p ++ q)) ≡ fault_count (lines R p) + fault_count run_text = ap fault_count grows_by_run ∙ count_append (lines R p) run_text in
-      omega (arith, was, now, e)
-
-  read_so : m.totals.octets + length q ≡ read_of (p ++ q) (cut (p ++ q)).stop
-  unfolding read_of
-  read_so = let all : m.totals.octets + length q ≡ length (p ++ q) = omega (arith, all_read, length-append p q) in all ∙ ap (read_of (p ++ q)) (sym run.within.free)
+  pub run_does : {A E : Type 0} (result : Result A E) (before after : OutLog) (f : Memory) → Writes result before after (lines_text run_text) → OnOk result (Shows C l f (state_of R (p ++ q))) → Does C l result before after f (runs R s q)
+  run_does result before after f text shows = does_run C l s reached m h q run_text result before after f grows_by_run text shows
 
   knows_so : (slots : Slots) → Keeps C l slots run_stage (whose (open_after p) c) → Knows C l slots (p ++ q)
   knows_so slots k =
-      let R = message_reading C l in
-      let scene : run_stage ≡ stage R (p ++ q) = rw all_read (sym run.stage) in
+      let scene : run_stage ≡ stage R (p ++ q) = rw all (sym run.stage) in
       let who : whose (open_after p) c ≡ whose_in (open_after (p ++ q)) (cut (p ++ q)).current = sym (ap (whose_in (open_after (p ++ q))) run.within.current ∙ run.whose) in
       subst (Keeps C l slots (stage R (p ++ q))) who (subst (λ (s : Scene). Keeps C l slots s (whose (open_after p) c)) scene k)
 
-  pub run_remembers : (faults come : ℕ) (slots : Slots) → AreOctets q → faults ≡ m.totals.faults + fault_count run_text → come ≡ m.come + length q → Keeps C l slots run_stage (whose (open_after p) c)
-      → Remembers C l (record { totals = record { messages = m.totals.messages; faults = faults; octets = m.totals.octets + length q }; stopped = m.stopped; header = m.header; come = come; slots = slots }) (p ++ q)
+  pub run_shows : (b : Memory) → b.totals.messages ≡ m.totals.messages → b.totals.faults ≡ m.totals.faults + fault_count run_text → b.totals.octets ≡ m.totals.octets + length q → b.stopped ≡ m.stopped → b.header ≡ m.header → b.come ≡ m.come + length q → Keeps C l b.slots run_stage (whose (open_after p) c)
+      → Shows C l b (state_of R (p ++ q))
   unfolding tally
-  run_remembers faults come slots octets faulted comes k =
+  run_shows b messages faults octets stopped header come keeps =
       let then = run.within.current in
-      let longer : come ≡ length (c.payload ++ q) = omega (arith, comes, come_is, length-append c.payload q) in
-      remembers_by C l _ (p ++ q) (cut (p ++ q)) refl run.within.free (All-append (λ x. x < 256) p q h.octets octets) (λ j. record { messages = counted_so j; faults = faulted_so faults faulted j; octets = read_so j }) free
-      (header_is ∙ ap (λ (o : Option Message). header_of o (cut (p ++ q)).held) (sym then)) (longer ∙ ap come_of (sym then)) (knows_so slots k)
+      let started : b.totals.messages ≡ start_count (lines R (p ++ q)) = messages ∙ (sym (number_is C l s reached m h free c current) ∙ sym (started_last R (is_causal (said_by C l)) (in_turn C l) (p ++ q) (with_payload c (c.payload ++ q)) run.within.free then)) in
+      let grown : fault_count (lines R (p ++ q)) ≡ fault_count (lines R p) + fault_count run_text = ap fault_count grows_by_run ∙ count_append (lines R p) run_text in
+      let faulted : b.totals.faults ≡ fault_count (lines R (p ++ q)) = omega (arith, faults, grown, faults_at C l s reached m h) in
+      let read : b.totals.octets ≡ read_of (p ++ q) (cut (p ++ q)).stop = omega (arith, octets, all, length-append p q) ∙ sym (read_all (p ++ q) run.within.free) in
+      shows_by C l (p ++ q) b (cut (p ++ q)) refl run.within.free (λ j. record { messages = started j; faults = faulted j; octets = read j }) (stopped ∙ free)
+      (header ∙ (header_is C l s reached m h free c current ∙ ap (λ (o : Option Message). header_of o (cut (p ++ q)).held) (sym then)))
+      (omega (arith, come, come_is C l s reached m h free c current, length-append c.payload q) ∙ ap come_of (sym then)) (knows_so b.slots keeps)

@@ -12,17 +12,10 @@ use Rattle.giop_stream.specs.declared.status.Status.{Status}
 use Rattle.giop_stream.specs.declared.status.Status.TheVariants.{Running, Stopped}
 use Rattle.giop_stream.specs.declared.fault.Stop.{Stop}
 use Rattle.giop_stream.specs.declared.fault.Stop.TheVariants as stop
-use Rattle.giop_stream.specs.Framing.{cut, fault_of}
-use Rattle.giop_stream.specs.Events.{open_after}
-use Rattle.giop_stream.specs.Stream.{text, tally}
-use Rattle.giop_stream.specs.State.{octets_of, slots_of}
-use Rattle.giop_stream.specs.Plays.{stage}
-use Rattle.giop_stream.specs.Keeping.{AreSlots, IsWhose}
-use Rattle.giop_stream.specs.Whose.{whose_in}
-use Rattle.giop_stream.specs.Octet.{header_of, come_of}
-use Rattle.giop_stream.specs.Engine.{unless, own_in, state_of}
-use Rattle.giop_stream.specs.Showing.{IsOwn, IsOwner, Shows}
-use Rattle.giop_stream.specs.Remembering.{Memory, EngineMemory}
+use Rattle.giop_stream.specs.Stream.{text}
+use Rattle.giop_stream.specs.Engine.{state_of}
+use Rattle.giop_stream.specs.Showing.{Shows}
+use Rattle.giop_stream.specs.Remembering.{EngineMemory}
 
 -- what is kept of a list of requests for the operations of this table
 abbrev pub AreOf : Table → Listed → Type 0
@@ -35,19 +28,6 @@ reading_of e = message_reading e.table e.listed
 -- what these octets add to the text of a stream
 unfoldable pub added : Reading → List ℕ → List ℕ → List ℕ
 added R p more = drop (length (text R p)) (text R (p ++ more))
-
--- This is remembered of the stream p: behind its fault no header, and no payload to come.
-pub record Remembers (C : Table) (l : Listed) (m : Memory) (p : List ℕ) : Type 0 where
-  pub octets : AreOctets p
-  pub totals : m.totals ≡ tally (message_reading C l) p
-  pub stopped : m.stopped ≡ fault_of (cut p).stop
-  pub header : m.header ≡ unless (cut p).stop [] (header_of (cut p).current (cut p).held)
-  pub come : m.come ≡ unless (cut p).stop 0 (come_of (cut p).current)
-  pub slots : AreSlots C l m.slots.slots.items (slots_of (octets_of (message_reading C l) p) (open_after p))
-  pub own : IsOwn C l m.slots.own (own_in (octets_of (message_reading C l) p) (open_after p) (cut p).current)
-  pub whose : (cut p).stop ≡ None →
-      IsWhose C l m.slots.payload m.slots.own (stage (message_reading C l) p) (whose_in (open_after p) (cut p).current)
-  pub owner : IsOwner m.slots.payload (state_of (message_reading C l) p)
 
 -- The engine holds the stream p: its fields show what there is to hold of it.
 pub record Holds (e : EngineMemory) (p : List ℕ) : Type 0 where

@@ -44,13 +44,16 @@ impl Framing {
     ghost use Rattle.giop_stream.specs.Text.{stop_text};
     ghost use Rattle.giop_stream.specs.Keeping.{AreReady, IsBare};
     ghost use Rattle.giop_stream.specs.Remembering.{Memory};
+    ghost use Rattle.giop_stream.specs.Engine.{State};
+    ghost use Rattle.giop_stream.specs.Step as one;
     ghost use Rattle.giop_stream.specs.Shown.{shown};
-    ghost use Rattle.giop_stream.specs.Holding.{AreOf, Remembers, added};
+    ghost use Rattle.giop_stream.specs.Showing.{Shows, IsReached, Does};
+    ghost use Rattle.giop_stream.specs.Holding.{AreOf};
     ghost use Rattle.giop_stream.specs.Steps.{held_on, stop, settle};
 
     /// Nothing read.
     pub fn new() -> Framing
-        ensures remembers { (C : Table) (l : Listed) → Remembers C l (shown result) [] }
+        ensures shows { (C : Table) (l : Listed) → Shows C l (shown result) one.fresh }
         ensures ready { (C : Table) → AreReady C (result.totals.octets + 1) result.slots }
     {
         let totals = Totals {
@@ -137,12 +140,11 @@ impl Framing {
         requires messages { self.old.totals.messages < self.old.totals.octets }
         requires faults { self.old.totals.faults + 3 ≤ 3 * self.old.totals.octets }
         requires ready { AreReady catalogue.now self.old.totals.octets self.old.slots }
-        ensures remembers { (l : Listed) (p : List ℕ) (m : Memory) (x : ℕ) → x < 256 →
-            shown self.old ≡ held_on m x → Remembers catalogue.now l m p →
-            OnOk result (Remembers catalogue.now l (shown self.new) (p ++ x ∷ [])) }
-        ensures text { (l : Listed) (p : List ℕ) (m : Memory) (x : ℕ) →
-            shown self.old ≡ held_on m x → Remembers catalogue.now l m p →
-            Writes result (O.log out.old) (O.log out.new) (added (message_reading catalogue.now l) p (x ∷ [])) }
+        // It does the step of the octet that was held last.
+        ensures does { (l : Listed) (s : State) (m : Memory) (x : ℕ) → IsReached catalogue.now l s →
+            Shows catalogue.now l m s → shown self.old ≡ held_on m x →
+            Does catalogue.now l result (O.log out.old) (O.log out.new) (shown self.new)
+            (one.step (message_reading catalogue.now l) s x) }
         ensures ready { OnOk result (AreReady catalogue.now (self.new.totals.octets + 1) self.new.slots) }
     {
         self.totals.messages += 1;
@@ -164,10 +166,10 @@ impl Framing {
         requires running { self.old.stopped ≡ None }
         requires limit { self.old.totals.octets < 2 ^ 48 }
         requires ready { AreReady catalogue.now (self.old.totals.octets + 1) self.old.slots }
-        ensures remembers { (l : Listed) (p : List ℕ) → Remembers catalogue.now l (shown self.old) p →
-            OnOk result (Remembers catalogue.now l (shown self.new) (p ++ octet ∷ [])) }
-        ensures text { (l : Listed) (p : List ℕ) → Remembers catalogue.now l (shown self.old) p →
-            Writes result (O.log out.old) (O.log out.new) (added (message_reading catalogue.now l) p (octet ∷ [])) }
+        ensures does { (l : Listed) (s : State) → IsReached catalogue.now l s →
+            Shows catalogue.now l (shown self.old) s →
+            Does catalogue.now l result (O.log out.old) (O.log out.new) (shown self.new)
+            (one.step (message_reading catalogue.now l) s octet) }
         ensures ready { OnOk result (AreReady catalogue.now (self.new.totals.octets + 1) self.new.slots) }
     {
         self.totals.octets += 1;
@@ -194,10 +196,10 @@ impl Framing {
         requires limit { self.old.totals.octets < 2 ^ 48 }
         requires of { AreOf catalogue.now requests.now }
         requires ready { AreReady catalogue.now (self.old.totals.octets + 1) self.old.slots }
-        ensures remembers { (p : List ℕ) → Remembers catalogue.now requests.now (shown self.old) p →
-            OnOk result (Remembers catalogue.now requests.now (shown self.new) (p ++ octet ∷ [])) }
-        ensures text { (p : List ℕ) → Remembers catalogue.now requests.now (shown self.old) p →
-            Writes result (O.log out.old) (O.log out.new) (added (message_reading catalogue.now requests.now) p (octet ∷ [])) }
+        ensures does { (s : State) → IsReached catalogue.now requests.now s →
+            Shows catalogue.now requests.now (shown self.old) s →
+            Does catalogue.now requests.now result (O.log out.old) (O.log out.new) (shown self.new)
+            (one.step (message_reading catalogue.now requests.now) s octet) }
         ensures ready { OnOk result (AreReady catalogue.now (self.new.totals.octets + 1) self.new.slots) }
     {
         self.totals.octets += 1;
@@ -219,10 +221,10 @@ impl Framing {
     ) -> Result<(), OutFault>
         requires of { AreOf catalogue.now requests.now }
         requires ready { AreReady catalogue.now (self.old.totals.octets + 1) self.old.slots }
-        ensures remembers { (p : List ℕ) → Remembers catalogue.now requests.now (shown self.old) p →
-            OnOk result (Remembers catalogue.now requests.now (shown self.new) (p ++ octet ∷ [])) }
-        ensures text { (p : List ℕ) → Remembers catalogue.now requests.now (shown self.old) p →
-            Writes result (O.log out.old) (O.log out.new) (added (message_reading catalogue.now requests.now) p (octet ∷ [])) }
+        ensures does { (s : State) → IsReached catalogue.now requests.now s →
+            Shows catalogue.now requests.now (shown self.old) s →
+            Does catalogue.now requests.now result (O.log out.old) (O.log out.new) (shown self.new)
+            (one.step (message_reading catalogue.now requests.now) s octet) }
         ensures ready { OnOk result (AreReady catalogue.now (self.new.totals.octets + 1) self.new.slots) }
     {
         if self.stopped.is_some() {

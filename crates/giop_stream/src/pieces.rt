@@ -12,8 +12,11 @@ impl Framing {
     ghost use Rattle.giop_message.specs.MessageReading.{message_reading};
     ghost use Rattle.giop_message.specs.Headers.{size};
     ghost use Rattle.giop_stream.specs.Keeping.{AreReady};
+    ghost use Rattle.giop_stream.specs.Engine.{State};
+    ghost use Rattle.giop_stream.specs.Step as one;
     ghost use Rattle.giop_stream.specs.Shown.{shown};
-    ghost use Rattle.giop_stream.specs.Holding.{AreOf, Remembers, added};
+    ghost use Rattle.giop_stream.specs.Showing.{Shows, IsReached, Does};
+    ghost use Rattle.giop_stream.specs.Holding.{AreOf};
 
     /// How many of so many octets are of a message's contents alone: they come behind its request id, and none of them is
     /// its last.
@@ -50,10 +53,10 @@ impl Framing {
         requires some { 0 < length octets.now }
         requires of { AreOf catalogue.now requests.now }
         requires ready { AreReady catalogue.now (self.old.totals.octets + 1) self.old.slots }
-        ensures remembers { (p : List ℕ) → Remembers catalogue.now requests.now (shown self.old) p →
-            OnOk result (Remembers catalogue.now requests.now (shown self.new) (p ++ octets.now)) }
-        ensures text { (p : List ℕ) → Remembers catalogue.now requests.now (shown self.old) p →
-            Writes result (O.log out.old) (O.log out.new) (added (message_reading catalogue.now requests.now) p octets.now) }
+        ensures does { (s : State) → IsReached catalogue.now requests.now s →
+            Shows catalogue.now requests.now (shown self.old) s →
+            Does catalogue.now requests.now result (O.log out.old) (O.log out.new) (shown self.new)
+            (one.runs (message_reading catalogue.now requests.now) s octets.now) }
         ensures ready { OnOk result (AreReady catalogue.now (self.new.totals.octets + 1) self.new.slots) }
     {
         let before = self.totals.octets;
@@ -79,10 +82,10 @@ impl Framing {
     ) -> Result<(), OutFault>
         requires of { AreOf catalogue.now requests.now }
         requires ready { AreReady catalogue.now (self.old.totals.octets + 1) self.old.slots }
-        ensures remembers { (p : List ℕ) → Remembers catalogue.now requests.now (shown self.old) p →
-            OnOk result (Remembers catalogue.now requests.now (shown self.new) (p ++ piece.now)) }
-        ensures text { (p : List ℕ) → Remembers catalogue.now requests.now (shown self.old) p →
-            Writes result (O.log out.old) (O.log out.new) (added (message_reading catalogue.now requests.now) p piece.now) }
+        ensures does { (s : State) → IsReached catalogue.now requests.now s →
+            Shows catalogue.now requests.now (shown self.old) s →
+            Does catalogue.now requests.now result (O.log out.old) (O.log out.new) (shown self.new)
+            (one.runs (message_reading catalogue.now requests.now) s piece.now) }
         ensures ready { OnOk result (AreReady catalogue.now (self.new.totals.octets + 1) self.new.slots) }
     {
         let mut rest = piece;

@@ -1,26 +1,52 @@
-use Rattle.std.proofs.Common.{◌++◌, ap, ◌∙◌}
-use Rattle.giop_stream.specs.Holding.{added, status_of}
-use Rattle.giop_stream.proofs.Held.{shows_it, remembers_it}
+use Rattle.std.proofs.Common.{◌++◌, ◌<◌, refl, sym, ap, ◌∙◌, arith}
+use Rattle.std.proofs.lemmas.List.Elements.{All-append, All-from_get_or}
+use Rattle.giop_message.specs.Signatures.{said_by}
+use Rattle.giop_message.specs.MessageReading.{message_reading}
+use Rattle.giop_message.proofs.MessageLaws.{is_causal}
+use Rattle.giop_stream.specs.Engine.{state_of}
+use Rattle.giop_stream.specs.Holding.{status_of}
+use Rattle.giop_stream.proofs.Parts.{in_turn}
+use Rattle.giop_stream.proofs.Adding.{added_text}
+use Rattle.giop_stream.proofs.EngineLaws.{run_holds, stop_is}
 use Rattle.giop_stream.proofs.engine.Engine.feed.Goals as goal
 
 pub returns-in-Ok-clause-held : goal.returns-in-Ok-clause-held
 returns-in-Ok-clause-held g c p h =
     let held = rw (← c.self.view_is) at h in
-    let now = c.in-Ok.ensures.remembers p (remembers_it _ _ _ p held.octets held.shows) in
-    record { sound = held.sound; octets = now.octets; shows = shows_it _ _ _ (p ++ c.args.piece.now) now }
+    let C = c.self.inside.catalogue.now in
+    let l = c.self.inside.requests.now in
+    let R = message_reading C l in
+    let does = c.in-Ok.ensures.does (state_of R p) (record { stream = p; octets = held.octets; held = refl }) held.shows in
+    record {
+      sound = held.sound;
+      octets = All-append (λ x. x < 256) p c.args.piece.now held.octets (All-from_get_or (λ x. x < 256) c.args.piece.now 0 (λ i below. omega (arith, c.type_inv.piece i)));
+      shows = rw (run_holds R (is_causal (said_by C l)) (in_turn C l) p c.args.piece.now) does.shows;
+    }
 
 pub returns-in-Ok-clause-status : goal.returns-in-Ok-clause-status
 returns-in-Ok-clause-status g c p h =
     let held = rw (← c.self.view_is) at h in
-    let now = c.in-Ok.ensures.remembers p (remembers_it _ _ _ p held.octets held.shows) in
-    c.status.ensures ∙ ap status_of now.stopped
+    let C = c.self.inside.catalogue.now in
+    let l = c.self.inside.requests.now in
+    let R = message_reading C l in
+    let does = c.in-Ok.ensures.does (state_of R p) (record { stream = p; octets = held.octets; held = refl }) held.shows in
+    let now = rw (← run_holds R (is_causal (said_by C l)) (in_turn C l) p c.args.piece.now) at does.shows in
+    c.status.ensures ∙ ap status_of (now.stopped ∙ stop_is R (p ++ c.args.piece.now))
 
 pub returns-in-Ok-clause-text : goal.returns-in-Ok-clause-text
 returns-in-Ok-clause-text g c p h =
     let held = rw (← c.self.view_is) at h in
-    rw (← c.self.view_is) (unfold added in c.in-Ok.ensures.text p (remembers_it _ _ _ p held.octets held.shows))
+    let C = c.self.inside.catalogue.now in
+    let l = c.self.inside.requests.now in
+    let R = message_reading C l in
+    let does = c.in-Ok.ensures.does (state_of R p) (record { stream = p; octets = held.octets; held = refl }) held.shows in
+    rw (← c.self.view_is, added_text R (is_causal (said_by C l)) (in_turn C l) p c.args.piece.now) does.text
 
 pub returns-in-Err-clause-text : goal.returns-in-Err-clause-text
 returns-in-Err-clause-text g c p h =
     let held = rw (← c.self.view_is) at h in
-    rw (← c.self.view_is) (unfold added in c.in-Err.ensures.text p (remembers_it _ _ _ p held.octets held.shows))
+    let C = c.self.inside.catalogue.now in
+    let l = c.self.inside.requests.now in
+    let R = message_reading C l in
+    let does = c.in-Err.ensures.does (state_of R p) (record { stream = p; octets = held.octets; held = refl }) held.shows in
+    rw (← c.self.view_is, added_text R (is_causal (said_by C l)) (in_turn C l) p c.args.piece.now) does.text

@@ -1,5 +1,7 @@
-use Rattle.std.proofs.Common.{[], refl}
-use Rattle.giop_stream.proofs.Held.{shows_it}
+use Rattle.std.proofs.Common.{◌<◌, refl}
+use Rattle.std.proofs.lemmas.List.Elements.{All-nil}
+use Rattle.giop_message.specs.MessageReading.{message_reading}
+use Rattle.giop_stream.proofs.EngineLaws.{start_is}
 use Rattle.giop_stream.proofs.engine.Engine.new.Goals as goal
 
 pub invariant_of-result : goal.invariant_of-result
@@ -7,5 +9,6 @@ invariant_of-result c = (c.requires.of, c.new.ensures.ready c.args.catalogue.now
 
 pub returns-clause-holds : goal.returns-clause-holds
 returns-clause-holds c =
-    let nothing = c.new.ensures.remembers c.args.catalogue.now c.args.requests.now in
-    record { sound = refl; octets = nothing.octets; shows = shows_it c.args.catalogue.now c.args.requests.now _ [] nothing }
+    let C = c.args.catalogue.now in
+    let l = c.args.requests.now in
+    record { sound = refl; octets = All-nil (λ x. x < 256); shows = rw (start_is (message_reading C l)) (c.new.ensures.shows C l) }

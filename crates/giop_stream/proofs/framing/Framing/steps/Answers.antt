@@ -1,81 +1,90 @@
-use Rattle.std.proofs.Common.{◌≡◌, ℕ, ◌-◌, List, [], ◌∷◌, ◌++◌, take, drop, length, refl, sym, ap, subst, ◌∙◌, append-nil, append_assoc, take_all, length-drop, arith}
+use Rattle.std.proofs.Common.{◌≡◌, ℕ, ◌-◌, ◌<◌, List, [], ◌∷◌, ◌++◌, take, drop, length, refl, sym, ap, ◌∙◌, take_all, length-drop, arith}
 use Rattle.std.proofs.lemmas.List.{take-append-drop}
-use Rattle.giop_print.proofs.Writing.{writes_err, wrote-append, wrote-front, wrote-nil}
-use Rattle.giop_message.specs.Signatures.{said_by}
+use Rattle.std.proofs.lemmas.List.Elements.{All-from_get_or}
+use Rattle.giop_print.proofs.Writing.{writes_err, wrote-append, wrote-front}
 use Rattle.giop_message.specs.MessageReading.{message_reading}
-use Rattle.giop_message.proofs.MessageLaws.{is_causal}
 use Rattle.giop_stream.specs.Shown.{shown}
-use Rattle.giop_stream.specs.Holding.{Remembers}
-use Rattle.giop_stream.proofs.Adding.{added_nil}
-use Rattle.giop_stream.proofs.Further.{added_both, added_within, further, first_of}
+use Rattle.giop_stream.specs.Engine.{State}
+use Rattle.giop_stream.specs.Step.{run, run_state}
+use Rattle.giop_stream.specs.Showing.{IsReached, Shows}
+use Rattle.giop_stream.proofs.Named.{nothing_text}
+use Rattle.giop_stream.proofs.Doing.{on_err, reached_on}
+use Rattle.giop_stream.proofs.Further.{first_of, further, octets_come, run_within, run_state_on, run_text_on, one_run}
 use Rattle.giop_stream.proofs.framing.Framing.steps.Goals as goal
 
 pub loop-octet-init : goal.loop-octet-init
-loop-octet-init g c =
-    let C = c.args.catalogue.now in
-    let kept = c.args.requests.now in
-    record {
-      come = [];
-      split = refl;
-      remembers = λ p h. subst (Remembers C kept (shown c.args.self.now)) (sym (append-nil p)) h;
-      text = λ p h. rw (added_nil (message_reading C kept) p) (wrote-nil _);
-      ready = c.requires.ready;
-    }
+unfolding run run_state
+loop-octet-init g c = record {
+  come = [];
+  split = refl;
+  shows = λ s r h. h;
+  text = λ s r h. nothing_text _;
+  ready = c.requires.ready;
+}
 
-pub returns-in_err-step-clause-text : goal.returns-in_err-step-clause-text
-returns-in_err-step-clause-text g c p h =
+pub returns-in_err-step-clause-does : goal.returns-in_err-step-clause-does
+returns-in_err-step-clause-does g c s r h =
     let C = c.args.catalogue.now in
     let kept = c.args.requests.now in
+    let R = message_reading C kept in
     let so_far = c.loop-octet.invariant in
     let octet = c.in-Some.octet.now in
-    let parts : c.loop-octet.rest.now ≡ octet ∷ drop 1 c.loop-octet.rest.now = first_of c.loop-octet.rest.now octet c.in-Some.ensures.value in
-    let split = added_within (message_reading C kept) (is_causal (said_by C kept)) p so_far.come (octet ∷ []) (drop 1 c.loop-octet.rest.now) c.args.piece.now (further so_far.come _ (octet ∷ []) _ c.args.piece.now so_far.split parts) in
-    rw split.1 (writes_err _ _ _ _ _ c.from_residual.ensures.0 (wrote-front _ _ _ _ _ (so_far.text p h) (c.in_err-step.ensures.text (p ++ so_far.come) (so_far.remembers p h))))
+    let rest = c.loop-octet.rest.now in
+    let octets = octets_come so_far.come rest c.args.piece.now so_far.split (All-from_get_or (λ x. x < 256) c.args.piece.now 0 (λ i below. omega (arith, c.type_inv.piece i))) in
+    let does = rw (← one_run R (run_state R s so_far.come) octet) at (c.in_err-step.ensures.does (run_state R s so_far.come) (reached_on C kept s so_far.come octets r) (so_far.shows s r h)) in
+    let split = run_within R s so_far.come (octet ∷ []) (drop 1 rest) c.args.piece.now (further so_far.come rest (octet ∷ []) _ c.args.piece.now so_far.split (first_of rest octet c.in-Some.ensures.value)) in
+    let failed = c.from_residual.ensures.0 in
+    record { text = rw split.1 (writes_err _ _ _ _ _ failed (wrote-front _ _ _ _ _ (so_far.text s r h) does.text)); shows = on_err _ c.from_residual.result failed }
 
 pub loop-octet-preserved-then-quiet-eq0 : goal.loop-octet-preserved-then-quiet-eq0
 loop-octet-preserved-then-quiet-eq0 g c =
     let C = c.args.catalogue.now in
     let kept = c.args.requests.now in
+    let R = message_reading C kept in
     let so_far = c.loop-octet.invariant in
     let octet = c.in-Some.octet.now in
     let rest = c.loop-octet.rest.now in
+    let octets = octets_come so_far.come rest c.args.piece.now so_far.split (All-from_get_or (λ x. x < 256) c.args.piece.now 0 (λ i below. omega (arith, c.type_inv.piece i))) in
     let left : drop 1 rest ≡ take (length rest - 1) (drop 1 rest) = sym (take_all (length rest - 1) (drop 1 rest) (omega (arith, length-drop 1 rest))) in
     let parts : rest ≡ octet ∷ take (length rest - 1) (drop 1 rest) = first_of rest octet c.in-Some.ensures.value ∙ ap (λ (z : List ℕ). octet ∷ z) left in
+    let next = λ (s : State) (r : IsReached C kept s) (h : Shows C kept (shown c.args.self.now) s). rw (← one_run R (run_state R s so_far.come) octet) at (c.in_ok-step.ensures.does (run_state R s so_far.come) (reached_on C kept s so_far.come octets r) (so_far.shows s r h)) in
     record {
       come = so_far.come ++ octet ∷ [];
-      split = further so_far.come _ (octet ∷ []) _ c.args.piece.now so_far.split parts;
-      remembers = λ p h. subst (Remembers C kept (shown c.step.new.self)) (append_assoc p so_far.come (octet ∷ [])) (c.in_ok-step.ensures.remembers (p ++ so_far.come) (so_far.remembers p h));
-      text = λ p h.
-          rw (added_both (message_reading C kept) (is_causal (said_by C kept)) p so_far.come (octet ∷ []))
-          (wrote-append _ _ _ _ _ (so_far.text p h) (c.in_ok-step.ensures.text (p ++ so_far.come) (so_far.remembers p h)));
+      split = further so_far.come rest (octet ∷ []) _ c.args.piece.now so_far.split parts;
+      shows = λ s r h. rw (run_state_on R s so_far.come (octet ∷ [])) (next s r h).shows;
+      text = λ s r h. rw (run_text_on R s so_far.come (octet ∷ [])) (wrote-append _ _ _ _ _ (so_far.text s r h) (next s r h).text);
       ready = c.in_ok-step.ensures.ready;
     }
 
-pub returns-in_err-run-clause-text : goal.returns-in_err-run-clause-text
-returns-in_err-run-clause-text g c p h =
+pub returns-in_err-run-clause-does : goal.returns-in_err-run-clause-does
+returns-in_err-run-clause-does g c s r h =
     let C = c.args.catalogue.now in
     let kept = c.args.requests.now in
+    let R = message_reading C kept in
     let so_far = c.loop-octet.invariant in
-    let octets = take c.quiet-quiet.result c.loop-octet.rest.now in
-    let left = drop c.quiet-quiet.result c.loop-octet.rest.now in
-    let split = added_within (message_reading C kept) (is_causal (said_by C kept)) p so_far.come octets left c.args.piece.now (further so_far.come _ octets left c.args.piece.now so_far.split (sym (take-append-drop c.quiet-quiet.result c.loop-octet.rest.now))) in
-    rw split.1 (writes_err _ _ _ _ _ c.from_residual-in_err-run.ensures.0 (wrote-front _ _ _ _ _ (so_far.text p h) (c.in_err-run.ensures.text (p ++ so_far.come) (so_far.remembers p h))))
+    let n = c.quiet-quiet.result in
+    let rest = c.loop-octet.rest.now in
+    let octets = octets_come so_far.come rest c.args.piece.now so_far.split (All-from_get_or (λ x. x < 256) c.args.piece.now 0 (λ i below. omega (arith, c.type_inv.piece i))) in
+    let does = c.in_err-run.ensures.does (run_state R s so_far.come) (reached_on C kept s so_far.come octets r) (so_far.shows s r h) in
+    let split = run_within R s so_far.come (take n rest) (drop n rest) c.args.piece.now (further so_far.come rest (take n rest) (drop n rest) c.args.piece.now so_far.split (sym (take-append-drop n rest))) in
+    let failed = c.from_residual-in_err-run.ensures.0 in
+    record { text = rw split.1 (writes_err _ _ _ _ _ failed (wrote-front _ _ _ _ _ (so_far.text s r h) does.text)); shows = on_err _ c.from_residual-in_err-run.result failed }
 
 pub loop-octet-preserved : goal.loop-octet-preserved
 loop-octet-preserved g c =
     let C = c.args.catalogue.now in
     let kept = c.args.requests.now in
+    let R = message_reading C kept in
     let so_far = c.loop-octet.invariant in
     let n = c.quiet-quiet.result in
     let rest = c.loop-octet.rest.now in
-    let octets = take n rest in
+    let octets = octets_come so_far.come rest c.args.piece.now so_far.split (All-from_get_or (λ x. x < 256) c.args.piece.now 0 (λ i below. omega (arith, c.type_inv.piece i))) in
     let left : drop n rest ≡ take (length rest - n) (drop n rest) = sym (take_all (length rest - n) (drop n rest) (omega (arith, length-drop n rest))) in
+    let next = λ (s : State) (r : IsReached C kept s) (h : Shows C kept (shown c.args.self.now) s). c.in_ok-run.ensures.does (run_state R s so_far.come) (reached_on C kept s so_far.come octets r) (so_far.shows s r h) in
     record {
-      come = so_far.come ++ octets;
-      split = further so_far.come rest octets _ c.args.piece.now so_far.split (sym (take-append-drop n rest) ∙ ap (λ (z : List ℕ). octets ++ z) left);
-      remembers = λ p h. subst (Remembers C kept (shown c.run.new.self)) (append_assoc p so_far.come octets) (c.in_ok-run.ensures.remembers (p ++ so_far.come) (so_far.remembers p h));
-      text = λ p h.
-          rw (added_both (message_reading C kept) (is_causal (said_by C kept)) p so_far.come octets)
-          (wrote-append _ _ _ _ _ (so_far.text p h) (c.in_ok-run.ensures.text (p ++ so_far.come) (so_far.remembers p h)));
+      come = so_far.come ++ take n rest;
+      split = further so_far.come rest (take n rest) _ c.args.piece.now so_far.split (sym (take-append-drop n rest) ∙ ap (λ (z : List ℕ). take n rest ++ z) left);
+      shows = λ s r h. rw (run_state_on R s so_far.come (take n rest)) (next s r h).shows;
+      text = λ s r h. rw (run_text_on R s so_far.come (take n rest)) (wrote-append _ _ _ _ _ (so_far.text s r h) (next s r h).text);
       ready = c.in_ok-run.ensures.ready;
     }

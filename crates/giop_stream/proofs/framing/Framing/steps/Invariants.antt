@@ -2,8 +2,11 @@ use Rattle.std.proofs.Common.{◌≡◌, ℕ, ◌+◌, List, ◌++◌, length}
 use Rattle.giop_print.specs.Output.{Wrote}
 use Rattle.giop_message.specs.MessageReading.{message_reading}
 use Rattle.giop_stream.specs.Keeping.{AreReady}
+use Rattle.giop_stream.specs.Engine.{State}
+use Rattle.giop_stream.specs.Step.{run, run_state}
+use Rattle.giop_stream.specs.Text.{lines_text}
 use Rattle.giop_stream.specs.Shown.{shown}
-use Rattle.giop_stream.specs.Holding.{Remembers, added}
+use Rattle.giop_stream.specs.Showing.{IsReached, Shows}
 use Rattle.giop_stream.proofs.framing.Framing.steps.Given as goal
 
 -- the octets before the rest have come
@@ -12,9 +15,9 @@ invariant-loop-octet g l =
     record {
       come : List ℕ;
       split : l.piece ≡ come ++ l.rest;
-      remembers : (p : List ℕ) → Remembers l.catalogue l.requests (shown l.initial.self) p → Remembers l.catalogue l.requests (shown l.self) (p ++ come);
-      text : (p : List ℕ) → Remembers l.catalogue l.requests (shown l.initial.self) p →
-          Wrote (g.O.Out.log l.initial.out) (g.O.Out.log l.out) (added (message_reading l.catalogue l.requests) p come);
+      shows : (s : State) → IsReached l.catalogue l.requests s → Shows l.catalogue l.requests (shown l.initial.self) s → Shows l.catalogue l.requests (shown l.self) (run_state (message_reading l.catalogue l.requests) s come);
+      text : (s : State) → IsReached l.catalogue l.requests s → Shows l.catalogue l.requests (shown l.initial.self) s →
+          Wrote (g.O.Out.log l.initial.out) (g.O.Out.log l.out) (lines_text (run (message_reading l.catalogue l.requests) s come));
       ready : AreReady l.catalogue (l.self.totals.octets + 1) l.self.slots;
     }
 
