@@ -6,7 +6,7 @@ use Rattle.std.proofs.lemmas.Bool.{false≢true}
 use Rattle.giop_cdr.specs.declared.order.Order.{Order}
 use Rattle.giop_decode.specs.declared.progress.Progress.{Progress}
 use Rattle.giop_decode.specs.declared.progress.Progress.TheVariants as progress
-use Rattle.giop_decode.specs.Spine.{Line, lines_of}
+use Rattle.giop_decode.specs.Spine.{plain, Line, lines_of}
 use Rattle.giop_decode.specs.Reading.{read}
 use Rattle.giop_decode.specs.declared.decoder.Decoder.{Decoder}
 use Rattle.giop_decode.specs.Holding.{Reads, Takes, Minds, due}
@@ -30,20 +30,20 @@ lines_text_both message root (x ∷ xs) ys =
     ∙ sym (append_assoc (line_text message root x) (lines_text message root xs) (lines_text message root ys))
 
 dues_begin : (order : Order) (T : Ty) (at : ℕ) (s xs : List ℕ) →
-    lines_of (read order [] T at (s ++ xs)) ≡ lines_of (read order [] T at s) ++ dues order T at s xs
+    lines_of (read (plain order) [] T at (s ++ xs)) ≡ lines_of (read (plain order) [] T at s) ++ dues order T at s xs
 dues_begin order T at s xs =
-    let front = lines_of (read order [] T at s) in
-    let more = lines_begin order [] T at s xs in
+    let front = lines_of (read (plain order) [] T at s) in
+    let more = lines_begin (plain order) [] T at s xs in
     more.1 ∙ ap (λ z. front ++ z) (sym (ap (drop (length front)) more.1 ∙ drop-append_seam front more.0))
 
 pub dues_both : (order : Order) (T : Ty) (at : ℕ) (s xs ys : List ℕ) →
     dues order T at s (xs ++ ys) ≡ dues order T at s xs ++ dues order T at (s ++ xs) ys
 dues_both order T at s xs ys =
-    let front = lines_of (read order [] T at s) in
+    let front = lines_of (read (plain order) [] T at s) in
     let first = dues order T at s xs in
     let second = dues order T at (s ++ xs) ys in
-    let e : lines_of (read order [] T at (s ++ (xs ++ ys))) ≡ front ++ (first ++ second) =
-    ap (λ z. lines_of (read order [] T at z)) (sym (append_assoc s xs ys)) ∙ (dues_begin order T at (s ++ xs) ys
+    let e : lines_of (read (plain order) [] T at (s ++ (xs ++ ys))) ≡ front ++ (first ++ second) =
+    ap (λ z. lines_of (read (plain order) [] T at z)) (sym (append_assoc s xs ys)) ∙ (dues_begin order T at (s ++ xs) ys
     ∙ (ap (λ z. z ++ second) (dues_begin order T at s xs) ∙ append_assoc front first second)) in
     ap (drop (length front)) e ∙ drop-append_seam front (first ++ second)
 
@@ -51,9 +51,9 @@ pub text_none : (message : ℕ) (root : Root) (order : Order) (T : Ty) (at : ℕ
     lines_text message root (dues order T at s []) ≡ []
 unfolding lines_text
 text_none message root order T at s =
-    let front = lines_of (read order [] T at s) in
+    let front = lines_of (read (plain order) [] T at s) in
     let none : dues order T at s [] ≡ [] =
-    ap (λ z. drop (length front) (lines_of (read order [] T at z))) (append-nil s)
+    ap (λ z. drop (length front) (lines_of (read (plain order) [] T at z))) (append-nil s)
     ∙ (ap (drop (length front)) (sym (append-nil front)) ∙ drop-append_seam front []) in
     ap (lines_text message root) none
 
@@ -90,7 +90,7 @@ takes_both C T order at message root d s xs ys p h t =
     record {
       answers = answered_both order T at root s xs ys p h t.answers;
       reads = λ unfaulty. subst (Reads C T order at message root d) e (t.reads unfaulty);
-      minds = subst (λ z. Minds root d (read order [] T at z)) e t.minds;
+      minds = subst (λ z. Minds root d (read (plain order) [] T at z)) e t.minds;
     }
 
 -- ---- the octets so far, and one more

@@ -4,7 +4,7 @@ use Rattle.giop_cdr.specs.declared.order.Order.{Order}
 use Rattle.giop_decode.specs.declared.decoder.Decoder.{Decoder}
 use Rattle.giop_decode.specs.declared.progress.Progress.{Progress}
 use Rattle.giop_decode.specs.declared.progress.Progress.TheVariants as progress
-use Rattle.giop_decode.specs.Spine.{Line, lines_of}
+use Rattle.giop_decode.specs.Spine.{plain, Line, lines_of}
 use Rattle.giop_decode.specs.Reading.{read}
 use Rattle.giop_decode.specs.Heard.{is_header_root, names_operation}
 use Rattle.giop_decode.specs.Holding.{Reads, Minds, IsAnswer, IsFault, due}
@@ -17,13 +17,13 @@ use Rattle.giop_sig.specs.Table.{Table}
 -- the lines that octets more give
 abbrev pub dues : Order → Ty → ℕ → List ℕ → List ℕ → List Line
 dues order T at s octets =
-    drop (length (lines_of (read order [] T at s))) (lines_of (read order [] T at (s ++ octets)))
+    drop (length (lines_of (read (plain order) [] T at s))) (lines_of (read (plain order) [] T at (s ++ octets)))
 
 -- what has come of a list with one octet more
 abbrev pub Answers : Order → Ty → ℕ → Root → List ℕ → ℕ → Progress → Type 0
 Answers order T at root s octet p =
     IsAnswer (at + length (s ++ octet ∷ [])) (names_operation (is_header_root root) (due order T at s octet)) p
-    (read order [] T at (s ++ octet ∷ []))
+    (read (plain order) [] T at (s ++ octet ∷ []))
 
 -- Octets more, one after another: behind each but the last the value goes on, and no operation has ended there.
 abbrev pub AreAnswered : Order → Ty → ℕ → Root → List ℕ → List ℕ → Progress → Type 0
@@ -38,7 +38,7 @@ pub record TakesRun (C : Table) (T : Ty) (order : Order) (at message : ℕ) (roo
     (s octets : List ℕ) (p : Progress) : Type 0 where
   pub answers : AreAnswered order T at root s octets p
   pub reads : (IsFault p → ⊥) → Reads C T order at message root d (s ++ octets)
-  pub minds : Minds root d (read order [] T at (s ++ octets))
+  pub minds : Minds root d (read (plain order) [] T at (s ++ octets))
 
 -- A put failed at one of these octets, before which the value went on: a front of the lines up to it
 -- was written.
