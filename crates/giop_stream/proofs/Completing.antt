@@ -10,7 +10,7 @@ use Rattle.giop_stream.specs.declared.fault.StreamFault.TheVariants.{StreamLimit
 use Rattle.giop_stream.specs.Headers.{wrong}
 use Rattle.giop_message.specs.Headers.{size, is_fragment, is_opener}
 use Rattle.giop_stream.specs.Framing.{Message, with_payload, Cut, limit, cut, messages}
-use Rattle.giop_message.specs.Reading.{Reading, IsCausal, IsEnding}
+use Rattle.giop_message.specs.Reading.{Reading, IsCausal, IsEnding, IsInTurn}
 use Rattle.giop_stream.specs.Events.{Happening, Event, Open, place, happens, opened, events_from, events, open_after}
 use Rattle.giop_stream.specs.Lines.{is_last_of, said}
 use Rattle.giop_stream.specs.Stream.{is_over, heads}
@@ -24,7 +24,8 @@ use Rattle.giop_stream.proofs.Grown.{said_grows, said_idle, open_grows, open_idl
 use Rattle.giop_stream.proofs.Dealt.{settled_messages}
 use Rattle.giop_stream.proofs.Soundness.{settled_if, IsSound, Fits, events_on, events_begin}
 use Rattle.giop_stream.proofs.StepCases.{events_of_cut, place_more, place_first}
-use Rattle.giop_stream.proofs.Bridge.{next_limit, next_payload, next_front, next_stopped, cut_nothing, open_nothing, sound}
+use Rattle.giop_stream.proofs.Bridge.{next_limit, next_payload, next_front, next_stopped, cut_nothing, open_nothing}
+use Rattle.giop_stream.proofs.EngineAlive.{sound}
 use Rattle.giop_stream.proofs.LastLines.{is_over_grows, Dead, dead}
 use Rattle.giop_stream.proofs.Heads.{numbers_of, tail_of, base, alive, dead_tail}
 use Rattle.giop_stream.proofs.Staying.{Stays, not_open, stays_happens, Known, opener_known, done_known}
@@ -233,7 +234,7 @@ complete_start : (R : Reading) → IsComplete R []
 unfolding of_parts messages heads tail_now numbers_of
 complete_start R = record { kept = rw (cut_nothing, open_nothing) refl; named = rw cut_nothing tt }
 
-pub complete : (R : Reading) → IsCausal R → IsEnding R → (p : List ℕ) → IsComplete R p
+pub complete : (R : Reading) → IsCausal R → IsInTurn R → IsEnding R → (p : List ℕ) → IsComplete R p
 unfolding of_parts
-complete R causal ending = by_growth (IsComplete R) (complete_start R)
-    (λ p x h. complete_by R causal ending p x (sound R causal p) h (cut p).whole (cut p).current (cut p).held (cut p).stop refl (nat_lt limit (suc (length p))) refl)
+complete R causal laws ending = by_growth (IsComplete R) (complete_start R)
+    (λ p x h. complete_by R causal ending p x (sound R causal laws p) h (cut p).whole (cut p).current (cut p).held (cut p).stop refl (nat_lt limit (suc (length p))) refl)

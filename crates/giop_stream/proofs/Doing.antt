@@ -1,6 +1,6 @@
 -- What the code does at an octet of a message, over what its fields show of a stream: the step.
 use Rattle.std.proofs.Common.{inl, inr, ◌≡◌, ℕ, suc, ◌+◌, ◌-◌, ◌^◌, ◌<◌, ◌≤◌, Bool, true, false, List, [], ◌∷◌, ◌++◌, length, refl, sym, ap, subst, ◌∙◌, append-nil, Option, Some, None, Result, Ok, Err, IsErr, arith}
-use Rattle.std.specs.Prelude.{nat_lt, ◌==◌, if◌then◌else◌, OnOk}
+use Rattle.std.specs.Prelude.{◌==◌, if◌then◌else◌, OnOk}
 use Rattle.std.proofs.lemmas.Bool.{cases_lt, lt-ltb, le-ltb, eq-eqb, ne_eqb, false≢true}
 use Rattle.std.proofs.lemmas.List.{length_push, append_cancel_left}
 use Rattle.std.proofs.lemmas.List.Elements.{All-append}
@@ -27,7 +27,7 @@ use Rattle.giop_stream.specs.Keeping.{Keeps, AreReady}
 use Rattle.giop_stream.specs.Whose.{IsNext, IsFirst, IsNewest, Knows, whose_in, whose_after}
 use Rattle.giop_stream.specs.Remembering.{Memory}
 use Rattle.giop_stream.specs.Octet.{header_of, come_of}
-use Rattle.giop_stream.specs.Engine.{State, unless, state_of}
+use Rattle.giop_stream.specs.Engine.{State, state_of}
 use Rattle.giop_stream.specs.Step.{Step, step, run_state, runs}
 use Rattle.giop_stream.specs.Steps.{held_on, settle as settled}
 use Rattle.giop_stream.specs.Showing.{IsReached, Shows, Does}
@@ -35,13 +35,14 @@ use Rattle.giop_stream.proofs.Lists.{each_weaker}
 use Rattle.giop_stream.proofs.Cutting.{settle, of_parts}
 use Rattle.giop_stream.proofs.Soundness.{CurrentFits, Fits, IsSound}
 use Rattle.giop_stream.proofs.StepCases.{place_more, place_first}
-use Rattle.giop_stream.proofs.Dealing.{if_some}
+use Rattle.giop_stream.proofs.StepCases.{if_some}
 use Rattle.giop_stream.proofs.Parts.{in_turn}
 use Rattle.giop_stream.proofs.OfOctets.{header_octets, size_fits}
 use Rattle.giop_stream.proofs.RequestIds.{says_id}
 use Rattle.giop_stream.proofs.OneOctet.{Adds, beginner, paid_is, begins_is}
 use Rattle.giop_stream.proofs.EngineStep.{read_all, tally_settled}
-use Rattle.giop_stream.proofs.EngineLaws.{sound, alive, step_state, step_lines, run_holds, run_lines}
+use Rattle.giop_stream.proofs.EngineAlive.{sound, alive}
+use Rattle.giop_stream.proofs.EngineLaws.{step_state, step_lines, run_holds, run_lines}
 use Rattle.giop_stream.proofs.Held.{come_state, shows_by, knows_it}
 use Rattle.giop_stream.proofs.Idle.{within_limit}
 

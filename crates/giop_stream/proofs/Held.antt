@@ -21,7 +21,7 @@ use Rattle.giop_stream.specs.Plays.{Scene, stage}
 use Rattle.giop_stream.specs.Keeping.{IsKept, IsWhose}
 use Rattle.giop_stream.specs.Whose.{Knows, opener_title, whose, whose_in}
 use Rattle.giop_stream.specs.Octet.{Now, now_of, header_of, come_of}
-use Rattle.giop_stream.specs.Engine.{State, Own, unless, left_of, is_named, own_for, owner_for, state_of}
+use Rattle.giop_stream.specs.Engine.{State, Own, unless, left_of, is_named, owner_for, state_of}
 use Rattle.giop_stream.specs.Remembering.{Memory}
 use Rattle.giop_stream.specs.Showing.{IsOwn, IsOwner, IsTurn, Shows, come_in, comes_itself}
 use Rattle.giop_stream.proofs.Lists.{each_weaker}
@@ -30,7 +30,7 @@ use Rattle.giop_stream.proofs.Parts.{in_turn}
 use Rattle.giop_stream.proofs.Soundness.{CurrentFits, IsSound}
 use Rattle.giop_stream.proofs.Acts.{found_in}
 use Rattle.giop_stream.proofs.Owning.{own_open, own_named, own_else, owner_named, owner_open, Tells, own_known, owner_known}
-use Rattle.giop_stream.proofs.EngineLaws.{sound}
+use Rattle.giop_stream.proofs.EngineAlive.{sound}
 use Rattle.giop_stream.proofs.Titled.{IsTitled, title_is}
 
 -- ---- The octets that have come, and whether the next are the current message's own.

@@ -1,6 +1,6 @@
 -- What the code does at an octet that neither begins a message nor is of one, over what its fields show: the step.
-use Rattle.std.proofs.Common.{inl, inr, ◌≡◌, ℕ, suc, ◌+◌, ◌-◌, ◌^◌, ◌<◌, ◌≤◌, Bool, true, false, List, [], ◌∷◌, ◌++◌, length, refl, sym, ap, subst, ◌∙◌, append-nil, Option, Some, None, arith}
-use Rattle.std.specs.Prelude.{nat_lt, ◌==◌, is_some}
+use Rattle.std.proofs.Common.{inl, inr, ◌≡◌, ℕ, suc, ◌+◌, ◌-◌, ◌^◌, ◌<◌, ◌≤◌, true, false, List, [], ◌∷◌, ◌++◌, length, refl, sym, ap, subst, ◌∙◌, append-nil, Option, Some, None, arith}
+use Rattle.std.specs.Prelude.{nat_lt, is_some}
 use Rattle.std.proofs.lemmas.Bool.{cases_eq, lt-ltb, le-ltb, lt-leb, ne_eqb, false≢true}
 use Rattle.std.proofs.lemmas.List.{length_push}
 use Rattle.giop_sig.specs.Table.{Table}
@@ -23,8 +23,7 @@ use Rattle.giop_stream.specs.Octet.{Behind, Ends, Held, front_is, octet_in}
 use Rattle.giop_stream.specs.Engine.{State}
 use Rattle.giop_stream.specs.Step.{fresh, octet_at, ended, held_on, step_by, step}
 use Rattle.giop_stream.specs.Steps as steps
-use Rattle.giop_stream.specs.Showing.{IsOwner, IsTurn, Shows, come_in, comes_itself}
-use Rattle.giop_stream.proofs.Headed.{ready_later}
+use Rattle.giop_stream.specs.Showing.{IsTurn, Shows, come_in, comes_itself}
 use Rattle.giop_stream.proofs.Owning.{owner_stays}
 use Rattle.giop_stream.proofs.OneOctet.{octet_limit, octet_front, front_short}
 

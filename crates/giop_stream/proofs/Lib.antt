@@ -21,9 +21,7 @@ mod Ordering
 mod Spans
 mod Accepted
 mod Turns
-mod Dealing
 mod InPlace
-mod Growing
 mod Places
 mod Cases
 mod Beginning

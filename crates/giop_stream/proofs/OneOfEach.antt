@@ -1,25 +1,20 @@
 -- No octet has two lines of one class.
-use Rattle.std.proofs.Common.{inl, inr, ◌≡◌, ℕ, suc, ◌<◌, ◌≤◌, Bool, true, false, cond, List, [], ◌∷◌, ◌++◌, length, refl, ap, ◌∙◌, append-nil, Option, Some, None, arith}
-use Rattle.std.specs.Prelude.{nat_lt, ◌==◌, ◌&&◌}
+use Rattle.std.proofs.Common.{inl, inr, ◌≡◌, ℕ, suc, ◌<◌, ◌≤◌, Bool, true, false, cond, List, [], ◌∷◌, ◌++◌, length, refl, append-nil, arith}
+use Rattle.std.specs.Prelude.{◌==◌, ◌&&◌}
 use Rattle.std.specs.List.{filter, AllByRecursion as Each}
-use Rattle.std.proofs.lemmas.Bool.{cases_eq, eqb-true, ne_eqb, and_parts, ltb-false}
+use Rattle.std.proofs.lemmas.Bool.{cases_eq, eqb-true, ne_eqb, and_parts}
 use Rattle.std.proofs.lemmas.List.{length_push}
 use Rattle.std.proofs.lemmas.List.Elements.{filter-append}
-use Rattle.giop_stream.specs.declared.fault.StreamFault.{StreamFault}
-use Rattle.giop_stream.specs.declared.fault.StreamFault.TheVariants.{StreamLimit}
-use Rattle.giop_stream.specs.Headers.{wrong}
-use Rattle.giop_stream.specs.Framing.{Message, limit, cut}
+use Rattle.giop_stream.specs.Framing.{Cut}
 use Rattle.giop_message.specs.Reading.{Reading, IsCausal, IsInTurn}
-use Rattle.giop_stream.specs.Events.{Event}
-use Rattle.giop_stream.specs.Lines.{Class, rank, Line, has_class, stop_line, lines}
-use Rattle.giop_stream.specs.State.{State, state_of}
-use Rattle.giop_stream.specs.Machine.{stops, in_header, step_on, step, writes}
+use Rattle.giop_stream.specs.Lines.{Class, rank, Line, has_class, lines}
+use Rattle.giop_stream.specs.Plays.{Scene}
+use Rattle.giop_stream.specs.Octet.{Octet, Behind, Ends, Held, Of}
 use Rattle.giop_stream.proofs.Lists.{by_growth, filter_drops, each_append, each_weaker}
 use Rattle.giop_stream.proofs.Ordering.{rank_of, Rises}
-use Rattle.giop_stream.proofs.Bridge.{step_lines, lines_nothing}
-use Rattle.giop_stream.proofs.Dealing.{free_read}
-use Rattle.giop_stream.proofs.Growing.{Grows, payload_grows, header_grows}
-use Rattle.giop_stream.proofs.Stopped.{step_nothing, is_stopped}
+use Rattle.giop_stream.proofs.Bridge.{lines_nothing}
+use Rattle.giop_stream.proofs.OneOctet.{Adds, Then, then_is}
+use Rattle.giop_stream.proofs.EngineAlive.{sound}
 
 -- ---- Of lines whose classes rise one is of a class at most.
 
@@ -43,68 +38,20 @@ one_at_most test n h (l ∷ ls) r = go (test l) refl (one_at_most test n h ls r.
 
 -- ---- The lines that an octet adds.
 
-record Adds (R : Reading) (p : List ℕ) (x : ℕ) : Type 0 where
+record More (R : Reading) (p : List ℕ) (x : ℕ) : Type 0 where
   more : List Line
   grows : lines R (p ++ x ∷ []) ≡ lines R p ++ more
   here : Each (λ l. l.place ≡ suc (length p)) more
   rises : Rises more
 
-adds_step : (R : Reading) → IsCausal R → (p : List ℕ) (x : ℕ) (ls : List Line) → (step R (state_of R p) x).lines ≡ ls → Each (λ l. l.place ≡ suc (length p)) ls → Rises ls → Adds R p x
-adds_step R causal p x ls e here rises = record { more = ls; grows = step_lines R causal p x ∙ ap (λ (more : List Line). lines R p ++ more) e; here = here; rises = rises }
+more_of : (R : Reading) (p : List ℕ) (x : ℕ) (c : Cut) (ls : List Line) (scene : Scene) → Adds R p (p ++ x ∷ []) c ls scene → More R p x
+more_of R p x c ls scene h = record { more = ls; grows = h.lines; here = h.here; rises = h.rises }
 
-adds_stop : (R : Reading) → IsCausal R → (p : List ℕ) (x : ℕ) (fault : StreamFault) → (cut p).stop ≡ None → (step R (state_of R p) x).lines ≡ stop_line (Some (suc (state_of R p).read, fault)) → Adds R p x
-unfolding stop_line
-adds_stop R causal p x fault st e = adds_step R causal p x (stop_line (Some (suc (state_of R p).read, fault))) e (ap suc (free_read R p st), tt) (tt, tt)
-
-adds_played : (R : Reading) (p : List ℕ) (x : ℕ) (es : List Event) → Grows R p (p ++ x ∷ []) es → Adds R p x
-adds_played R p x es g = record { more = _; grows = g.lines; here = g.here; rises = g.rises }
-
-limit_stops : (R : Reading) (s : State) (x : ℕ) → s.stop ≡ None → nat_lt limit (suc s.read) ≡ true → (step R s x).lines ≡ stop_line (Some (suc s.read, StreamLimit))
-unfolding step step_on stops writes
-limit_stops R s x st e = rw (st, e) refl
-
-front_stops : (R : Reading) (s : State) (x : ℕ) (fault : StreamFault) → s.stop ≡ None → s.current ≡ None → nat_lt limit (suc s.read) ≡ false → wrong (s.held ++ x ∷ []) ≡ Some fault → (step R s x).lines ≡ stop_line (Some (suc s.read, fault))
-unfolding step step_on in_header stops writes
-front_stops R s x fault st cur e w = rw (st, e, cur, w) refl
-
-front_waits : (R : Reading) (s : State) (x : ℕ) → s.stop ≡ None → s.current ≡ None → nat_lt limit (suc s.read) ≡ false → wrong (s.held ++ x ∷ []) ≡ None → (length (s.held ++ x ∷ []) == 12) ≡ false → (step R s x).lines ≡ []
-unfolding step step_on in_header
-front_waits R s x st cur e w short = rw (st, e, cur, w, short) refl
-
--- what the state shows of the stream
-shows_stop : (R : Reading) (p : List ℕ) (o : Option (ℕ × StreamFault)) → (cut p).stop ≡ o → (state_of R p).stop ≡ o
-unfolding state_of
-shows_stop R p o h = h
-
-shows_current : (R : Reading) (p : List ℕ) (o : Option Message) → (cut p).current ≡ o → (state_of R p).current ≡ o
-unfolding state_of
-shows_current R p o h = h
-
-shows_held : (R : Reading) (p : List ℕ) → (state_of R p).held ≡ (cut p).held
-unfolding state_of
-shows_held R p = refl
-
-adds_front : (R : Reading) → IsCausal R → IsInTurn R → (p : List ℕ) (x : ℕ) → (cut p).stop ≡ None → (cut p).current ≡ None → nat_lt limit (suc (length p)) ≡ false
-    → (w : Option StreamFault) → wrong ((cut p).held ++ x ∷ []) ≡ w → (b : Bool) → (length ((cut p).held ++ x ∷ []) == 12) ≡ b → Adds R p x
-adds_front R causal laws p x st cur room (Some fault) w b k =
-    adds_stop R causal p x fault st (front_stops R (state_of R p) x fault (shows_stop R p None st) (shows_current R p None cur) (rw (free_read R p st) room) (rw (shows_held R p) w))
-adds_front R causal laws p x st cur room None w false k =
-    adds_step R causal p x [] (front_waits R (state_of R p) x (shows_stop R p None st) (shows_current R p None cur) (rw (free_read R p st) room) (rw (shows_held R p) w) (rw (shows_held R p) k)) tt tt
-adds_front R causal laws p x st cur room None w true k =
-    let twelve = eqb-true (length ((cut p).held ++ x ∷ [])) 12 k in
-    let within = ltb-false limit (suc (length p)) room in
-    adds_played R p x _ (header_grows R causal laws p x st cur (omega arith) w (omega (arith, length_push (cut p).held x)))
-
-adds_on : (R : Reading) → IsCausal R → IsInTurn R → (p : List ℕ) (x : ℕ) → (cut p).stop ≡ None → (o : Option Message) → (cut p).current ≡ o → (b : Bool) → nat_lt limit (suc (length p)) ≡ b → Adds R p x
-adds_on R causal laws p x st o cur true room = adds_stop R causal p x StreamLimit st (limit_stops R (state_of R p) x (shows_stop R p None st) (rw (free_read R p st) room))
-adds_on R causal laws p x st (Some m) cur false room =
-    let within = ltb-false limit (suc (length p)) room in
-    adds_played R p x _ (payload_grows R causal laws p m x st cur (omega arith))
-adds_on R causal laws p x st None cur false room = adds_front R causal laws p x st cur room (wrong ((cut p).held ++ x ∷ [])) refl (length ((cut p).held ++ x ∷ []) == 12) refl
-
-adds_by : (R : Reading) → IsCausal R → IsInTurn R → (p : List ℕ) (x : ℕ) (o : Option (ℕ × StreamFault)) → (cut p).stop ≡ o → Adds R p x
-adds_by R causal laws p x (Some found) st = adds_step R causal p x [] (ap (λ s. s.lines) (step_nothing R (state_of R p) x found (is_stopped R p found st))) tt tt
-adds_by R causal laws p x None st = adds_on R causal laws p x st (cut p).current refl (nat_lt limit (suc (length p))) refl
+more_by : (R : Reading) (p : List ℕ) (x : ℕ) (o : Octet) → Then R p x o → More R p x
+more_by R p x Behind h = more_of R p x _ _ _ h.2
+more_by R p x (Ends fault) h = more_of R p x _ _ _ h.1
+more_by R p x (Held front) h = more_of R p x _ _ _ h.2
+more_by R p x (Of now) h = more_of R p x _ _ _ h.1.adds
 
 -- ---- Octet by octet.
 
@@ -123,7 +70,7 @@ elsewhere k c l h = rw (ne_eqb l.place k h) refl
 
 apart_more : (R : Reading) → IsCausal R → IsInTurn R → (p : List ℕ) (x : ℕ) → Apart R p → Apart R (p ++ x ∷ [])
 apart_more R causal laws p x h =
-    let a = adds_by R causal laws p x (cut p).stop refl in
+    let a = more_by R p x _ (then_is R causal laws p x (sound R causal laws p)) in
     let old = lines R p in
     let n = length p in
     let grown : length (p ++ x ∷ []) ≡ suc n = omega (arith, length_push p x) in

@@ -32,13 +32,13 @@ use Rattle.giop_stream.proofs.Grown.{count_append}
 use Rattle.giop_stream.proofs.Soundness.{CurrentFits}
 use Rattle.giop_stream.proofs.StepCases.{place_more}
 use Rattle.giop_stream.proofs.Bridge.{next_payload}
-use Rattle.giop_stream.proofs.Dealing.{if_some}
+use Rattle.giop_stream.proofs.StepCases.{if_some}
 use Rattle.giop_stream.proofs.Ending.{DoesTo}
 use Rattle.giop_stream.proofs.Taken.{whose_elsewhere}
 use Rattle.giop_stream.proofs.Parts.{in_turn, octet_does, whose_next}
 use Rattle.giop_stream.proofs.OneOctet.{Adds, paid_is}
 use Rattle.giop_stream.proofs.EngineStep.{read_all}
-use Rattle.giop_stream.proofs.EngineLaws.{sound}
+use Rattle.giop_stream.proofs.EngineAlive.{sound}
 use Rattle.giop_stream.proofs.Held.{shows_by}
 use Rattle.giop_stream.proofs.Doing.{does_run, runs_on, all_read, knows_at, faults_at, header_is, come_is, number_is, size_few, goes_on}
 

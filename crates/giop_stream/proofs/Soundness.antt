@@ -10,8 +10,8 @@ use Rattle.giop_message.specs.Reading.{Reading, IsCausal}
 use Rattle.giop_stream.specs.Events.{Happening, Event, Open, place, happens, events_of, opened, events_from, events, open_after, joined, Rising}
 use Rattle.giop_stream.specs.Lines.{Line, is_last_of, lines}
 use Rattle.giop_stream.specs.Stream.{start_count}
-use Rattle.giop_stream.specs.State.{Kept, octets_of, state_of}
-use Rattle.giop_stream.specs.Machine.{Step, taking, written, now_written}
+use Rattle.giop_stream.specs.State.{Kept, octets_of}
+use Rattle.giop_stream.specs.Machine.{taking, written, now_written}
 use Rattle.giop_stream.proofs.Lists.{each_append, each_weaker, all_by}
 use Rattle.giop_stream.proofs.Cutting.{settle}
 use Rattle.giop_stream.proofs.Happenings.{opened_append, events_from_push, events_of_push, events_of_none, happens_same, happens_each, opened_each, quiet_one}
@@ -50,12 +50,6 @@ pub record IsSound (R : Reading) (p : List ℕ) : Type 0 where
   pub early : (cut p).stop ≡ None → IfSome (cut p).current (λ m. length m.payload < 4 → Below m.number (open_after p))
   pub live : AreSound (open_after p)
   pub begun : (cut p).stop ≡ None → IfSome (cut p).current (λ m. length m.payload ≤ 4 → joined m.number (events p) ≡ m.payload)
-
--- what the step must do
-pub record IsStep (R : Reading) (p p' : List ℕ) (one : Step) : Type 0 where
-  pub state : state_of R p' ≡ one.state
-  pub lines : lines R p' ≡ lines R p ++ one.lines
-  pub sound : IsSound R p'
 
 settled_fits : (n : ℕ) (whole : List Message) (m : Message) → place m ≡ n → m.number ≡ suc (length whole) → length m.header ≡ 12 → Fits n (settle whole m)
 unfolding settle

@@ -1,38 +1,47 @@
 -- Behind a stream fault no octet adds a line or is counted.
-use Rattle.std.proofs.Common.{◌≡◌, ℕ, List, [], ◌∷◌, ◌++◌, refl, ◌∙◌, sym, ap, Some}
-use Rattle.std.proofs.lemmas.List.{append-nil}
+use Rattle.std.proofs.Common.{◌≡◌, ℕ, List, [], ◌∷◌, ◌++◌, length, refl, ◌∙◌, sym, ap, append_assoc, Some, arith}
+use Rattle.std.proofs.lemmas.List.{append-nil, length_push}
 use Rattle.giop_stream.specs.declared.fault.StreamFault.{StreamFault}
 use Rattle.giop_message.specs.Reading.{Reading, IsCausal}
-use Rattle.giop_stream.specs.Framing.{cut}
+use Rattle.giop_stream.specs.Framing.{Cut, cut, messages, read_of}
+use Rattle.giop_stream.specs.Events.{events_from, events}
+use Rattle.giop_stream.specs.Lines.{lines}
 use Rattle.giop_stream.specs.Text.{lines_text}
-use Rattle.giop_stream.specs.Stream.{text, tally}
-use Rattle.giop_stream.specs.State.{State, state_of}
-use Rattle.giop_stream.specs.Machine.{step_unless, step, run, run_state, totals_of}
-use Rattle.giop_stream.proofs.Bridge.{run_text, run_holds, tally_is}
+use Rattle.giop_stream.specs.Stream.{start_count, fault_count, text, tally}
+use Rattle.giop_stream.proofs.Cutting.{next, parts_by, cut_grows}
+use Rattle.giop_stream.proofs.Grown.{said_idle, lines_stopped}
+use Rattle.giop_stream.proofs.Bridge.{next_stopped}
+use Rattle.giop_stream.proofs.EngineAlive.{early_events}
 
-pub step_nothing : (R : Reading) (s : State) (x : ℕ) (found : ℕ × StreamFault) → s.stop ≡ Some found → step R s x ≡ record { state = s; lines = [] }
-unfolding step
-step_nothing R s x found h = ap (step_unless R s x) h
+cut_stays : (p : List ℕ) (x : ℕ) (found : ℕ × StreamFault) → (cut p).stop ≡ Some found → cut (p ++ x ∷ []) ≡ cut p
+cut_stays p x found h =
+    let parts = parts_by (cut p) (cut p).current (Some found) refl h in
+    cut_grows p x ∙ (ap (next (length p) x) parts ∙ (next_stopped (cut p).whole (cut p).current (cut p).held found (length p) x ∙ sym parts))
 
-run_nothing : (R : Reading) (s : State) (q : List ℕ) (found : ℕ × StreamFault) → s.stop ≡ Some found → run R s q ≡ []
-unfolding run
-run_nothing R s [] found h = refl
-run_nothing R s (x ∷ q) found h = rw (step_nothing R s x found h) (run_nothing R s q found h)
+one_stays : (R : Reading) → IsCausal R → (p : List ℕ) (x : ℕ) (found : ℕ × StreamFault) → (cut p).stop ≡ Some found → lines R (p ++ x ∷ []) ≡ lines R p
+unfolding events
+one_stays R causal p x found h =
+    let p' = p ++ x ∷ [] in
+    let same = cut_stays p x found h in
+    let sd = said_idle R causal p p' (omega (arith, length_push p x)) (ap (λ (c : Cut). events_from [] (messages c)) same) (early_events p) in
+    lines_stopped R p' (Some found) (ap (λ (c : Cut). c.stop) same ∙ h) ∙ (rw sd refl ∙ sym (lines_stopped R p (Some found) h))
 
-stays : (R : Reading) (s : State) (q : List ℕ) (found : ℕ × StreamFault) → s.stop ≡ Some found → run_state R s q ≡ s
-unfolding run_state
-stays R s [] found h = refl
-stays R s (x ∷ q) found h = rw (step_nothing R s x found h) (stays R s q found h)
+-- the fault stands
+stop_stays : (p q : List ℕ) (found : ℕ × StreamFault) → (cut p).stop ≡ Some found → (cut (p ++ q)).stop ≡ Some found
+stop_stays p [] found h = rw (append-nil p) h
+stop_stays p (x ∷ q) found h = rw (← append_assoc p (x ∷ []) q) (stop_stays (p ++ x ∷ []) q found (ap (λ (c : Cut). c.stop) (cut_stays p x found h) ∙ h))
 
-pub is_stopped : (R : Reading) (p : List ℕ) (found : ℕ × StreamFault) → (cut p).stop ≡ Some found → (state_of R p).stop ≡ Some found
-unfolding state_of
-is_stopped R p found h = h
+lines_stay : (R : Reading) → IsCausal R → (p q : List ℕ) (found : ℕ × StreamFault) → (cut p).stop ≡ Some found → lines R (p ++ q) ≡ lines R p
+lines_stay R causal p [] found h = ap (lines R) (append-nil p)
+lines_stay R causal p (x ∷ q) found h =
+    rw (← append_assoc p (x ∷ []) q) (lines_stay R causal (p ++ x ∷ []) q found (ap (λ (c : Cut). c.stop) (cut_stays p x found h) ∙ h) ∙ one_stays R causal p x found h)
 
 pub text_stays : (R : Reading) → IsCausal R → (p q : List ℕ) (found : ℕ × StreamFault) → (cut p).stop ≡ Some found → text R (p ++ q) ≡ text R p
-unfolding lines_text
-text_stays R causal p q found h =
-    run_text R causal p q ∙ rw (run_nothing R (state_of R p) q found (is_stopped R p found h)) (append-nil (text R p))
+unfolding text
+text_stays R causal p q found h = ap lines_text (lines_stay R causal p q found h)
 
 pub tally_stays : (R : Reading) → IsCausal R → (p q : List ℕ) (found : ℕ × StreamFault) → (cut p).stop ≡ Some found → tally R (p ++ q) ≡ tally R p
+unfolding tally read_of
 tally_stays R causal p q found h =
-    tally_is R causal (p ++ q) ∙ (ap totals_of (run_holds R causal p q ∙ stays R (state_of R p) q found (is_stopped R p found h)) ∙ sym (tally_is R causal p))
+    let same = lines_stay R causal p q found h in
+    rw (stop_stays p q found h, h) (λ j. record { messages = start_count (same j); faults = fault_count (same j); octets = found.0 })

@@ -14,7 +14,7 @@ use Rattle.giop_stream.proofs.Bridge.{cut_nothing}
 use Rattle.giop_stream.proofs.Soundness.{IsSound}
 use Rattle.giop_stream.proofs.OneOctet.{Then, then_is}
 use Rattle.giop_stream.proofs.EngineStep.{plays_live}
-use Rattle.giop_stream.proofs.EngineLaws.{sound}
+use Rattle.giop_stream.proofs.EngineAlive.{sound}
 
 abbrev pub IsTitled : Message → List Open → Type 0
 IsTitled m live = Each (λ o. o.opener.number ≡ m.number → o.opener ≡ title m) live

@@ -1,5 +1,5 @@
 -- Which streams an engine holds: each of its fields is said from the whole stream (state).
-use Rattle.std.specs.Prelude.{◌≡◌, ℕ, List, [], length, drop, ◌++◌, true, false, Option, Some, None, Result, Ok, Err}
+use Rattle.std.specs.Prelude.{◌≡◌, ℕ, List, length, drop, ◌++◌, true, false, Option, Some, None, Result, Ok, Err}
 use Rattle.giop_cdr.specs.Numbers.{AreOctets}
 use Rattle.giop_print.specs.Output.{OutLog, Wrote, WroteFront}
 use Rattle.giop_sig.specs.Table.{Table}

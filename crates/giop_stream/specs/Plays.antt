@@ -1,13 +1,12 @@
 -- What an octet does, an event after the other: the machine of the code does no more at once (steps).
-use Rattle.std.specs.Prelude.{Bool, true, ◌≡◌, ℕ, suc, ◌<◌, ◌≤◌, false, List, [], ◌∷◌, ◌++◌, length, map, Option, Some, None, nat_lt, if◌then◌else◌, option_map}
+use Rattle.std.specs.Prelude.{Bool, true, ◌≡◌, ℕ, ◌<◌, ◌≤◌, false, List, [], ◌∷◌, ◌++◌, length, Option, Some, None, if◌then◌else◌, option_map}
 use Rattle.std.specs.List.{list_any, AllByRecursion as Each}
 use Rattle.giop_message.specs.Reading.{Reading}
 use Rattle.giop_stream.specs.Events.{Happening, Begins, Takes, Opens, Continues, Cancelled, Imposed, Closes, Title, Event, Open, place, octet, changed, open_after}
 use Rattle.giop_stream.specs.Lines.{Line, Started, Goes_on, is_last_of, standing}
-use Rattle.giop_message.specs.Headers.{size}
 use Rattle.giop_stream.specs.Framing.{Message, with_payload}
-use Rattle.giop_stream.specs.State.{Slot, State, Kept, octets_of, slots_of, own_of}
-use Rattle.giop_stream.specs.Machine.{Step, kept, utters_kept, taking, written, writes}
+use Rattle.giop_stream.specs.State.{Slot, Kept, octets_of, slots_of}
+use Rattle.giop_stream.specs.Machine.{utters_kept, taking, written}
 
 -- the open messages, and what is kept of each message
 pub record Scene : Type 0 where
@@ -31,33 +30,15 @@ plays R c (e ∷ es) =
     let more = plays R (scene_at R c e) es in
     record { scene = more.scene; lines = lines_at R c.known e ++ more.lines }
 
--- What a state shows of the messages, where the current one has this number.
-unfoldable pub scene_of : State → ℕ → Scene
-scene_of s number = record { live = map (λ slot. slot.open_as) s.slots; known = kept s.slots number s.own }
-
 -- While a request id comes, no more is kept of its message than what came before this octet.
 abbrev pub IsBegun : Kept → Message → Type 0
 IsBegun known m = 0 < length m.payload → length m.payload ≤ 4 → (xs : List ℕ) → known m.number ≡ Some xs → length xs < length m.payload
-
--- the state after a play, once the octet of m is done with
-unfoldable pub ends_with : State → Message → Play → Step
-ends_with s m p =
-    let current = if nat_lt (length m.payload) (size m.header) then Some m else None in
-    writes (record s { current = current; slots = slots_of p.scene.known p.scene.live; own = own_of p.scene.known p.scene.live current }) p.lines
 
 -- ---- An octet of a stream.
 
 -- the current message, with its next octet
 abbrev pub with_octet : Message → ℕ → Message
 with_octet m x = with_payload m (m.payload ++ x ∷ [])
-
--- the state with an octet more that is read
-abbrev pub reading_on : State → State
-reading_on s = record s { read = suc s.read }
-
--- the state in which a message begins
-abbrev pub beginning : State → State
-beginning s = record s { read = suc s.read; started = suc s.started; held = []; own = Some [] }
 
 -- ---- One message's part of an event: its lines, and its octets then, unless it is over.
 

@@ -3,73 +3,18 @@
 ghost use Rattle.std.specs.Prelude.{◌≡◌, ◌≤◌, ◌<◌, ◌==◌, ◌&&◌, ℕ, suc, List, [], ◌∷◌, ◌++◌, length, filter, true, Some, None, slice_get, slice_set};
 ghost use Rattle.std.specs.List.{remove};
 ghost use Rattle.giop_stream.specs.declared.fault.StreamFault.{StreamFault};
-ghost use Rattle.giop_stream.specs.Headers.{wrong};
 ghost use Rattle.giop_message.specs.Reading.{Reading, IsCausal, IsEnding, IsInTurn};
-ghost use Rattle.giop_stream.specs.Framing.{Message, limit, cut, messages};
-ghost use Rattle.giop_message.specs.Headers.{has_name};
-ghost use Rattle.giop_stream.specs.Events.{Event, Open, Opens, Continues, most_open, happens, events, open_after, joined, Rising};
+ghost use Rattle.giop_stream.specs.Framing.{cut, messages};
+ghost use Rattle.giop_stream.specs.Events.{Event, Open, Opens, Continues, most_open, events, open_after, joined, Rising};
 ghost use Rattle.giop_stream.specs.Shares.{shares};
 ghost use Rattle.giop_stream.specs.Lines.{Class, has_class, lines};
 ghost use Rattle.giop_stream.specs.Text.{lines_text};
 ghost use Rattle.giop_stream.specs.Stream.{text, tally, final, closing};
-ghost use Rattle.giop_stream.specs.State.{State, octets_of, state_of};
-ghost use Rattle.giop_stream.specs.Machine.{fresh, first_message, step, run, run_state, totals_of, final_totals, finish};
-ghost use Rattle.giop_stream.specs.Plays.{Scene, plays, scene_at, octets_then, stays, goes, IsNotOpen, slots_at, scene_of, ends_with, with_octet, reading_on, beginning, stage};
-ghost use Rattle.giop_stream.specs.Engine as engine;
-ghost use Rattle.giop_stream.specs.Step as one;
+ghost use Rattle.giop_stream.specs.Plays.{Scene, scene_at, octets_then, stays, goes, IsNotOpen, slots_at};
+ghost use Rattle.giop_stream.specs.Engine.{state_of};
+ghost use Rattle.giop_stream.specs.Step.{fresh, step, run, run_state, finish, final_totals};
 
 // The functions here have no body, and are called for their contracts.
-
-/// What one octet adds to a stream is said by what there is to know of the stream before it.
-pub fn each_octet()
-    // Before the first octet nothing is known.
-    ensures start { (R : Reading) → state_of R [] ≡ fresh }
-    // The state of the longer stream is one step from that of the shorter,
-    ensures state { (R : Reading) → IsCausal R → (p : List ℕ) (x : ℕ) →
-        state_of R (p ++ x ∷ []) ≡ (step R (state_of R p) x).state }
-    // and its lines are those of the shorter, then those of the step.
-    ensures lines { (R : Reading) → IsCausal R → (p : List ℕ) (x : ℕ) →
-        lines R (p ++ x ∷ []) ≡ lines R p ++ (step R (state_of R p) x).lines }
-{}
-
-/// A stream may be left and taken up anywhere.
-pub fn each_stream()
-    // The lines of a stream are those of a run from the start.
-    ensures whole { (R : Reading) → IsCausal R → (p : List ℕ) → lines R p ≡ run R fresh p }
-    // From any moment on a run writes the rest,
-    ensures text { (R : Reading) → IsCausal R → (p q : List ℕ) →
-        text R (p ++ q) ≡ text R p ++ lines_text (run R (state_of R p) q) }
-    // and leaves what there is to know of the longer stream.
-    ensures state { (R : Reading) → IsCausal R → (p q : List ℕ) →
-        state_of R (p ++ q) ≡ run_state R (state_of R p) q }
-    // The totals are in the state: a message is counted by its start line.
-    ensures totals { (R : Reading) → IsCausal R → (p : List ℕ) → tally R p ≡ totals_of (state_of R p) }
-{}
-
-/// What an octet does may be done an event after the other, where the reading of a message says what it says in turn: a
-/// slot at a time, with nothing to sort.
-pub fn each_event()
-    // An octet of a payload: of the message itself, or of the one that it continues.
-    ensures payload { (R : Reading) → IsCausal R → IsInTurn R → (p : List ℕ) (m : Message) (x : ℕ) →
-        (cut p).stop ≡ None → (cut p).current ≡ Some m → length p < limit →
-        step R (state_of R p) x ≡ ends_with (reading_on (state_of R p)) (with_octet m x)
-        (plays R (scene_of (reading_on (state_of R p)) m.number) (happens (scene_of (reading_on (state_of R p)) m.number).live (with_octet m x))) }
-    // A header's last octet, by which a message begins.
-    ensures header { (R : Reading) → IsInTurn R → (s : State) (x : ℕ) →
-        s.stop ≡ None → s.current ≡ None → s.read < limit → wrong (s.held ++ x ∷ []) ≡ None → length s.held ≡ 11 →
-        step R s x ≡ ends_with (beginning s) (first_message (reading_on s) (s.held ++ x ∷ []))
-        (plays R (scene_of (beginning s) (suc s.started)) (happens (scene_of (beginning s) (suc s.started)).live (first_message (reading_on s) (s.held ++ x ∷ [])))) }
-    // What there is to know of the messages then is what the play leaves, and the stream's lines grow by its lines.
-    ensures stage { (R : Reading) → IsCausal R → IsInTurn R → (p : List ℕ) (m : Message) (x : ℕ) →
-        (cut p).stop ≡ None → (cut p).current ≡ Some m → length p < limit →
-        stage R (p ++ x ∷ []) ≡ (plays R (stage R p) (happens (open_after p) (with_octet m x))).scene }
-    ensures lines { (R : Reading) → IsCausal R → IsInTurn R → (p : List ℕ) (m : Message) (x : ℕ) →
-        (cut p).stop ≡ None → (cut p).current ≡ Some m → length p < limit →
-        lines R (p ++ x ∷ []) ≡ lines R p ++ (plays R (stage R p) (happens (open_after p) (with_octet m x))).lines }
-    // While the request id of a message comes, the message isn't over, and all that has come of it is kept.
-    ensures begun { (R : Reading) → IsCausal R → IsInTurn R → (p : List ℕ) → (cut p).stop ≡ None → (m : Message) →
-        (cut p).current ≡ Some m → has_name m.header ≡ true → length m.payload < 4 → octets_of R p m.number ≡ Some m.payload }
-{}
 
 /// What an event does to the slots of the open messages, in their places.
 pub fn each_slot()
@@ -101,13 +46,6 @@ pub fn each_slot()
     ensures rising { (p : List ℕ) → Rising (open_after p) }
 {}
 
-/// What closes a stream is said by what there is to know of it at its end: whether it ends inside a message or a header,
-/// the messages that have neither ended nor been faulted, by number, and the totals.
-pub fn each_finish()
-    ensures text { (R : Reading) → IsCausal R → IsEnding R → (p : List ℕ) → closing R p ≡ finish (state_of R p) }
-    ensures totals { (R : Reading) → IsCausal R → (p : List ℕ) → final R p ≡ final_totals (state_of R p) }
-{}
-
 /// The octets that come to a message are its own, then of each message that continues it those after the request id.
 pub fn each_joined()
     ensures { (p : List ℕ) (i : ℕ) → joined i (events p) ≡ shares i [] (messages (cut p)) }
@@ -134,17 +72,17 @@ pub fn one_of_each()
 
 /// What an engine holds of a stream goes by one step for each octet.
 pub fn each_step()
-    ensures start { (R : Reading) → engine.state_of R [] ≡ one.fresh }
+    ensures start { (R : Reading) → state_of R [] ≡ fresh }
     ensures state { (R : Reading) → IsCausal R → IsInTurn R → (p : List ℕ) (x : ℕ) →
-        engine.state_of R (p ++ x ∷ []) ≡ (one.step R (engine.state_of R p) x).state }
+        state_of R (p ++ x ∷ []) ≡ (step R (state_of R p) x).state }
     ensures lines { (R : Reading) → IsCausal R → IsInTurn R → (p : List ℕ) (x : ℕ) →
-        lines R (p ++ x ∷ []) ≡ lines R p ++ (one.step R (engine.state_of R p) x).lines }
+        lines R (p ++ x ∷ []) ≡ lines R p ++ (step R (state_of R p) x).lines }
     ensures text { (R : Reading) → IsCausal R → IsInTurn R → (p q : List ℕ) →
-        text R (p ++ q) ≡ text R p ++ lines_text (one.run R (engine.state_of R p) q) }
+        text R (p ++ q) ≡ text R p ++ lines_text (run R (state_of R p) q) }
     ensures rest { (R : Reading) → IsCausal R → IsInTurn R → (p q : List ℕ) →
-        engine.state_of R (p ++ q) ≡ one.run_state R (engine.state_of R p) q }
+        state_of R (p ++ q) ≡ run_state R (state_of R p) q }
     ensures closing { (R : Reading) → IsCausal R → IsInTurn R → IsEnding R → (p : List ℕ) →
-        closing R p ≡ one.finish (engine.state_of R p) }
+        closing R p ≡ finish (state_of R p) }
     ensures totals { (R : Reading) → IsCausal R → IsInTurn R → (p : List ℕ) →
-        final R p ≡ one.final_totals (engine.state_of R p) }
+        final R p ≡ final_totals (state_of R p) }
 {}

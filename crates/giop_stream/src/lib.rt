@@ -18,7 +18,6 @@ mod status;
 pub use engine::{Engine, any_pieces, text_begins};
 pub use fault::{ImposedFault, Stop, StreamFault};
 pub use laws::{
-    behind_a_stop, each_event, each_finish, each_joined, each_octet, each_slot, each_step,
-    each_stream, one_of_each, open_messages,
+    behind_a_stop, each_joined, each_slot, each_step, one_of_each, open_messages,
 };
 pub use status::{Status, Totals};

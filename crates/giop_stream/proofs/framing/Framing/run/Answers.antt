@@ -1,4 +1,4 @@
-use Rattle.std.proofs.Common.{◌≡◌, ℕ, ◌+◌, ◌<◌, length, arith, refl, sym, ap, ◌∙◌}
+use Rattle.std.proofs.Common.{◌≡◌, ℕ, ◌+◌, length, arith, refl, sym, ap, ◌∙◌}
 use Rattle.giop_message.specs.MessageReading.{message_reading}
 use Rattle.giop_stream.specs.Events.{open_after}
 use Rattle.giop_stream.specs.Plays.{stage}
