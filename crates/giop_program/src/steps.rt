@@ -1,22 +1,24 @@
 //! The program's steps: words, signatures, requests, the opening of the stream, the run. The first that fails decides
 //! the status.
 
-ghost use Rattle.std.specs.Prelude.{◌≡◌, ◌≢◌, ◌≤◌, ◌⊎◌, [], None, IfSome, OnOk};
+ghost use Rattle.std.specs.Prelude.{◌≡◌, ◌≢◌, ◌≤◌, ◌⊎◌, [], None, Some, IfSome, IfErr, OnOk, option_map};
 ghost use Rattle.clap.specs.Values.{kind_of};
 ghost use Rattle.giop_sig.specs.Table.{Table};
-ghost use Rattle.giop_sig.specs.Builtin.{builtin_table};
 ghost use Rattle.giop_message.specs.Signatures.{Kept as Listed};
 ghost use Rattle.giop_message.specs.MessageReading.{message_reading};
 ghost use Rattle.giop_stream.specs.Holding.{AreOf};
 ghost use Rattle.giop_run.specs.Console.{Dumped, exit_status, run_of};
+ghost use Rattle.giop_run.specs.Files.{ReadsBy, RequestsOf, Refused, NoRequests, NoStream, stream_of};
+ghost use Rattle.giop_program.specs.Words.{asked_of};
 
 use super::arguments::Arguments;
 use clap::Error;
 use clap::error::ErrorKind;
-use giop_run::{Flush, Lines, ProgramFault, Report, catalogue, dump, requests, status, unreadable};
+use giop_run::{
+    Flush, Inputs, Lines, ProgramFault, Report, catalogue, dump, requests, status, unreadable,
+};
 use giop_sig::{Catalogue, Requests};
 use std::env;
-use std::fs::File;
 use std::io::Read;
 
 /// The status of words that can't be read.
@@ -53,19 +55,19 @@ fn printed(rt: &HostRuntime, asked: Arguments) -> u8
 }
 
 /// The steps behind the words.
-pub fn performed<'a, O: Flush>(
-    rt: &HostRuntime,
+pub fn performed<'a, R: Inputs + AllocGlobal, O: Flush>(
+    rt: &R,
     asked: Arguments<'a>,
     out: &mut O,
 ) -> Result<Report, ProgramFault<'a>>
-    // A run reads by the types of some catalogue and a list of requests for it.
-    ensures dumped { IfSome (run_of result) (λ ran. (C : Table) × (l : Listed) × AreOf C l
-        × Dumped (message_reading C l) ran None (O.log out.old) (O.log out.new)) }
-    // Without a signature file and a list these are the built-in types, and no request.
-    ensures bare { asked.entry.signatures ≡ None → asked.entry.requests ≡ None
-        → IfSome (run_of result) (λ ran.
-        Dumped (message_reading builtin_table []) ran None (O.log out.old) (O.log out.new)) }
-    // A step before the run writes nothing.
+    // A run reads what the words name: the stream, by the catalogue and the list of the files.
+    ensures dumped { let asked = asked_of asked.entry in let held = R.held rt.now in
+        IfSome (run_of result) (λ ran. (C : Table) × (l : Listed) × AreOf C l × ReadsBy held asked C l
+        × Dumped (message_reading C l) ran (stream_of held (R.given rt.now) asked.stream)
+        (O.log out.old) (O.log out.new)) }
+    // A step before the run that fails tells the file of that step, and writes nothing.
+    ensures refused { run_of result ≡ None
+        → IfErr result (Refused (R.held rt.now) (asked_of asked.entry)) }
     ensures unwritten { run_of result ≡ None → O.log out.new ≡ O.log out.old }
     ensures flushed { OnOk result (O.kept out.new ≡ []) }
 {
@@ -74,42 +76,49 @@ pub fn performed<'a, O: Flush>(
 }
 
 /// The steps behind the signatures.
-fn listed<'a, O: Flush>(
-    rt: &HostRuntime,
+fn listed<'a, R: Inputs + AllocGlobal, O: Flush>(
+    rt: &R,
     list: Option<&'a str>,
     stream: Option<&'a str>,
     out: &mut O,
     catalogue: &Catalogue,
 ) -> Result<Report, ProgramFault<'a>>
-    ensures dumped { IfSome (run_of result) (λ ran. (l : Listed) × AreOf catalogue.now l
-        × Dumped (message_reading catalogue.now l) ran None (O.log out.old) (O.log out.new)) }
-    ensures bare { list.entry ≡ None → IfSome (run_of result) (λ ran.
-        Dumped (message_reading catalogue.now []) ran None (O.log out.old) (O.log out.new)) }
+    ensures dumped { let held = R.held rt.now in IfSome (run_of result) (λ ran. (l : Listed)
+        × AreOf catalogue.now l
+        × RequestsOf held (option_map (λ n. n.now) list.entry) catalogue.now l
+        × Dumped (message_reading catalogue.now l) ran
+        (stream_of held (R.given rt.now) (option_map (λ n. n.now) stream.entry))
+        (O.log out.old) (O.log out.new)) }
+    ensures refused { let held = R.held rt.now in let asked = option_map (λ n. n.now) list.entry in
+        run_of result ≡ None → IfErr result (λ fault. NoRequests held asked fault
+        ⊎ ((l : Listed) × RequestsOf held asked catalogue.now l
+        × NoStream (option_map (λ n. n.now) stream.entry) fault)) }
     ensures unwritten { run_of result ≡ None → O.log out.new ≡ O.log out.old }
     ensures flushed { OnOk result (O.kept out.new ≡ []) }
 {
     let requests = requests(rt, list, catalogue)?;
     match stream {
-        None => dumped(rt.stdin(), out, catalogue, &requests),
+        None => dumped(rt.standard_input(), out, catalogue, &requests),
         Some(name) => opened(rt, name, out, catalogue, &requests),
     }
 }
 
 /// Dumps a file.
-fn opened<'a, O: Flush>(
-    rt: &HostRuntime,
+fn opened<'a, R: Inputs, O: Flush>(
+    rt: &R,
     name: &'a str,
     out: &mut O,
     catalogue: &Catalogue,
     requests: &Requests,
 ) -> Result<Report, ProgramFault<'a>>
     requires of { AreOf catalogue.now requests.now }
-    ensures dumped { IfSome (run_of result) (λ ran.
-        Dumped (message_reading catalogue.now requests.now) ran None (O.log out.old) (O.log out.new)) }
+    ensures dumped { IfSome (run_of result) (λ ran. Dumped (message_reading catalogue.now requests.now)
+        ran (R.held rt.now name.entry.now) (O.log out.old) (O.log out.new)) }
+    ensures refused { run_of result ≡ None → IfErr result (NoStream (Some name.entry.now)) }
     ensures unwritten { run_of result ≡ None → O.log out.new ≡ O.log out.old }
     ensures flushed { OnOk result (O.kept out.new ≡ []) }
 {
-    match File::open(rt, name) {
+    match rt.open(name) {
         Ok(file) => dumped(file, out, catalogue, requests),
         Err(error) => Err(unreadable(name, &error)),
     }

@@ -6,3 +6,4 @@ pub mod Buffered
 pub mod Running
 pub mod Turns
 pub mod Console
+pub mod Files

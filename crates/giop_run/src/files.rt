@@ -1,22 +1,18 @@
 //! The files that are read whole: the signature file and the request list (docs/FORMATS.md).
 
-ghost use Rattle.std.specs.Prelude.{◌≡◌, ◌≢◌, ◌⊎◌, ℕ, List, [], take, None, IfOk, IfErr, IfSome};
+ghost use Rattle.std.specs.Prelude.{◌≡◌, ◌≢◌, ◌<◌, ◌≤◌, ◌⊎◌, length, IfOk, IfErr, option_map};
 ghost use Rattle.std.specs.IoError.{error_kind};
-ghost use Rattle.giop_print.specs.Output.{counted};
-ghost use Rattle.giop_sig.specs.Builtin.{builtin_table};
-ghost use Rattle.giop_sig.specs.Grammar.{Declaration};
-ghost use Rattle.giop_sig.specs.Scopes.{table};
-ghost use Rattle.giop_sig.specs.Validity.{AreValid, Spells, Refuses};
-ghost use Rattle.giop_sig.specs.Table.{operation_number};
-ghost use Rattle.giop_sig.specs.RequestList.{Entry, Lists, IsOf, IsRefusedAs};
+ghost use Rattle.giop_sig.specs.FileReading.{text_too_long, IsFirstRefusal};
+ghost use Rattle.giop_sig.specs.RequestList.{IsRefusedAs};
 ghost use Rattle.giop_stream.specs.Holding.{AreOf};
 ghost use Rattle.giop_run.specs.Console.{run_fault};
+ghost use Rattle.giop_run.specs.Files.{signatures_most, IsFront, Declares, Requests as Requested, CatalogueOf, RequestsOf, NoCatalogue, NoRequests};
 
 use super::fault::ProgramFault;
+use super::inputs::Inputs;
 use super::source::one_more;
 use giop_sig::{Catalogue, ListFault, Requests, SigFault};
 use std::alloc::Global;
-use std::fs::File;
 use std::io;
 use std::io::{ErrorKind, Read};
 
@@ -28,8 +24,7 @@ const REQUESTS_MOST: u64 = 16_777_216;
 
 /// What a reader gives up to its end, or the octets up to the first past the limit.
 pub fn front<R: Read + Drop>(alloc: Global, reader: R, most: u64) -> io::Result<Vec<u8>>
-    ensures { IfOk result (λ octets.
-        IfSome (R.remaining reader) (λ left. octets.items ≡ take (counted most) left)) }
+    ensures { IfOk result (λ octets. IsFront most (R.remaining reader) octets.items) }
 {
     let mut octets = Vec::new(alloc);
     let mut limited = reader.take(one_more(most));
@@ -51,11 +46,16 @@ pub fn unreadable<'a>(name: &'a str, error: &io::Error) -> ProgramFault<'a>
 }
 
 /// What a file has, up to the first octet past the limit.
-fn contents<'a>(rt: &HostRuntime, name: &'a str, most: u64) -> Result<Vec<u8>, ProgramFault<'a>>
-    ensures { IfErr result (λ fault.
+fn contents<'a, R: Inputs + AllocGlobal>(
+    rt: &R,
+    name: &'a str,
+    most: u64,
+) -> Result<Vec<u8>, ProgramFault<'a>>
+    ensures ok { IfOk result (λ octets. IsFront most (R.held rt.now name.entry.now) octets.items) }
+    ensures err { IfErr result (λ fault.
         (fault ≡ ProgramFault.OutOfMemory) ⊎ (fault ≡ ProgramFault.Unreadable name.entry)) }
 {
-    let read = match File::open(rt, name) {
+    let read = match rt.open(name) {
         Ok(file) => front(rt.alloc(), file, most),
         Err(error) => Err(error),
     };
@@ -71,13 +71,12 @@ fn catalogue_of<'a>(
     name: &'a str,
     text: &[u8],
 ) -> Result<Catalogue, ProgramFault<'a>>
-    // The text spells some valid declarations, and this is their table.
-    ensures ok { IfOk result (λ catalogue.
-        (ds : List Declaration) × Spells text.now ds × AreValid ds × (catalogue ≡ table ds)) }
+    ensures ok { IfOk result (λ catalogue. Declares text.now catalogue) }
     // The refusal has the file's name, and is that of the text.
     ensures err { IfErr result (λ fault. (fault ≡ ProgramFault.OutOfMemory)
         ⊎ ((why : SigFault) × (fault ≡ ProgramFault.Signatures name.entry why)
-        × ((ds : List Declaration) → Spells text.now ds → Refuses why.kind ds))) }
+        × (signatures_most < length text.now → why ≡ text_too_long)
+        × (length text.now ≤ signatures_most → IsFirstRefusal text.now why))) }
 {
     match Catalogue::parse(alloc, text) {
         Ok(catalogue) => Ok(catalogue),
@@ -86,11 +85,12 @@ fn catalogue_of<'a>(
 }
 
 /// The catalogue of a signature file, or without one the built-in types.
-pub fn catalogue<'a>(rt: &HostRuntime, name: Option<&'a str>) -> Result<Catalogue, ProgramFault<'a>>
-    ensures valid { IfOk result (λ catalogue.
-        (ds : List Declaration) × AreValid ds × (catalogue ≡ table ds)) }
-    ensures builtin { name.entry ≡ None → IfOk result (λ catalogue. catalogue ≡ builtin_table) }
-    ensures memory { name.entry ≡ None → IfErr result (λ fault. fault ≡ ProgramFault.OutOfMemory) }
+pub fn catalogue<'a, R: Inputs + AllocGlobal>(
+    rt: &R,
+    name: Option<&'a str>,
+) -> Result<Catalogue, ProgramFault<'a>>
+    ensures ok { IfOk result (CatalogueOf (R.held rt.now) (option_map (λ n. n.now) name.entry)) }
+    ensures err { IfErr result (NoCatalogue (R.held rt.now) (option_map (λ n. n.now) name.entry)) }
     ensures file { IfErr result (λ fault. run_fault fault ≡ None) }
 {
     let alloc = rt.alloc();
@@ -111,9 +111,7 @@ fn requests_of<'a>(
     text: &[u8],
     catalogue: &Catalogue,
 ) -> Result<Requests, ProgramFault<'a>>
-    // The text is some list, and this is kept of it.
-    ensures ok { IfOk result (λ kept. (entries : List Entry)
-        × Lists text.now entries × IsOf (operation_number catalogue.now) entries kept) }
+    ensures ok { IfOk result (λ kept. Requested text.now catalogue.now kept) }
     // The refusal has the file's name, and is that of the text.
     ensures err { IfErr result (λ fault. (fault ≡ ProgramFault.OutOfMemory)
         ⊎ ((why : ListFault) × (fault ≡ ProgramFault.Requests name.entry why)
@@ -126,14 +124,15 @@ fn requests_of<'a>(
 }
 
 /// The list of a file, or without one the empty list.
-pub fn requests<'a>(
-    rt: &HostRuntime,
+pub fn requests<'a, R: Inputs + AllocGlobal>(
+    rt: &R,
     name: Option<&'a str>,
     catalogue: &Catalogue,
 ) -> Result<Requests, ProgramFault<'a>>
     ensures of { IfOk result (λ kept. AreOf catalogue.now kept) }
-    ensures empty { name.entry ≡ None → IfOk result (λ kept. kept ≡ []) }
-    ensures memory { name.entry ≡ None → IfErr result (λ fault. fault ≡ ProgramFault.OutOfMemory) }
+    ensures ok { IfOk result
+        (RequestsOf (R.held rt.now) (option_map (λ n. n.now) name.entry) catalogue.now) }
+    ensures err { IfErr result (NoRequests (R.held rt.now) (option_map (λ n. n.now) name.entry)) }
     ensures file { IfErr result (λ fault. run_fault fault ≡ None) }
 {
     let alloc = rt.alloc();

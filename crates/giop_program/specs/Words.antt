@@ -1,0 +1,12 @@
+-- What the words ask for, by the texts of the names in them (meaning).
+use Rattle.std.specs.Prelude.{option_map}
+use Rattle.giop_run.specs.Files.{Asked}
+use Rattle.giop_program.specs.declared.arguments.Arguments.{Arguments}
+
+abbrev pub asked_of : Arguments → Asked
+asked_of words =
+    record {
+      signatures = option_map (λ name. name.now) words.signatures;
+      requests = option_map (λ name. name.now) words.requests;
+      stream = option_map (λ name. name.now) words.stream;
+    }

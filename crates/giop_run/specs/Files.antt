@@ -1,0 +1,105 @@
+-- What the files that the words name have to do with a run (meaning). `held` is what the file of a name holds, where
+-- that is told; a name is its text, and none is None.
+use Rattle.std.specs.Prelude.{◌≡◌, ℕ, ◌<◌, ◌≤◌, List, [], length, take, Option, None, Some, IfSome, ◌⊎◌}
+use Rattle.giop_print.specs.Output.{counted}
+use Rattle.giop_sig.specs.Builtin.{builtin_table}
+use Rattle.giop_sig.specs.Grammar.{Declaration}
+use Rattle.giop_sig.specs.Scopes.{table}
+use Rattle.giop_sig.specs.Table.{Table, operation_number}
+use Rattle.giop_sig.specs.FileReading.{text_too_long, IsFirstRefusal}
+use Rattle.giop_sig.specs.Validity.{AreValid, Spells}
+use Rattle.giop_sig.specs.RequestList.{Entry, Lists, IsOf, IsRefusedAs}
+use Rattle.giop_message.specs.Signatures.{Kept as Listed}
+use Rattle.giop_run.specs.declared.fault.ProgramFault.{ProgramFault}
+use Rattle.giop_run.specs.declared.fault.ProgramFault.TheVariants as faults
+
+-- what a file of a name holds, where that is told
+abbrev pub Folder : Type 0
+Folder = List ℕ → Option (List ℕ)
+
+-- a text is what is read of a file of which at most so many octets are wanted: one more, or all of it
+abbrev pub IsFront : ℕ → Option (List ℕ) → List ℕ → Type 0
+IsFront most held text = IfSome held (λ octets. text ≡ take (counted most) octets)
+
+-- the greatest numbers of octets of a signature file and of a request list
+abbrev pub signatures_most : ℕ
+signatures_most = 1048576
+
+abbrev pub requests_most : ℕ
+requests_most = 16777216
+
+-- a text spells valid declarations, of which this is the table
+pub record Declares (text : List ℕ) (C : Table) : Type 0 where
+  pub declarations : List Declaration
+  pub spelled : Spells text declarations
+  pub valid : AreValid declarations
+  pub is : C ≡ table declarations
+
+-- a text is a list of requests, of which this is kept by the operations of a catalogue
+pub record Requests (text : List ℕ) (C : Table) (kept : Listed) : Type 0 where
+  pub entries : List Entry
+  pub lists : Lists text entries
+  pub is : IsOf (operation_number C) entries kept
+
+-- the catalogue of the signature file, or without one the built-in types
+abbrev pub CatalogueOf : Folder → Option (List ℕ) → Table → Type 0
+CatalogueOf held None C = C ≡ builtin_table
+CatalogueOf held (Some name) C = (text : List ℕ) × IsFront signatures_most (held name) text × Declares text C
+
+-- the list of the request file, or without one no request
+abbrev pub RequestsOf : Folder → Option (List ℕ) → Table → Listed → Type 0
+RequestsOf held None C kept = kept ≡ []
+RequestsOf held (Some name) C kept = (text : List ℕ) × IsFront requests_most (held name) text × Requests text C kept
+
+-- what the stream gives: that of the file, or without one of standard input
+abbrev pub stream_of : Folder → Option (List ℕ) → Option (List ℕ) → Option (List ℕ)
+stream_of held given None = given
+stream_of held given (Some name) = held name
+
+-- why there is no catalogue: no memory, or the signature file can't be read or is refused, by its name
+abbrev pub NoCatalogue : Folder → Option (List ℕ) → ProgramFault → Type 0
+NoCatalogue held asked (faults.Signatures name why) =
+    (asked ≡ Some name.now)
+    × ((text : List ℕ) × IsFront signatures_most (held name.now) text
+    × (signatures_most < length text → why ≡ text_too_long)
+    × (length text ≤ signatures_most → IsFirstRefusal text why))
+NoCatalogue held asked (faults.Unreadable name) = asked ≡ Some name.now
+NoCatalogue held asked faults.OutOfMemory = Unit {0}
+NoCatalogue held asked (faults.Requests name why) = ⊥
+NoCatalogue held asked (faults.Run why) = ⊥
+
+-- why there is no list: no memory, or the request file can't be read or is refused, by its name
+abbrev pub NoRequests : Folder → Option (List ℕ) → ProgramFault → Type 0
+NoRequests held asked (faults.Requests name why) =
+    (asked ≡ Some name.now)
+    × ((text : List ℕ) × IsFront requests_most (held name.now) text × IsRefusedAs text why.line why.kind)
+NoRequests held asked (faults.Unreadable name) = asked ≡ Some name.now
+NoRequests held asked faults.OutOfMemory = Unit {0}
+NoRequests held asked (faults.Signatures name why) = ⊥
+NoRequests held asked (faults.Run why) = ⊥
+
+-- why the stream isn't opened: no memory, or its file can't be, by its name
+abbrev pub NoStream : Option (List ℕ) → ProgramFault → Type 0
+NoStream asked (faults.Unreadable name) = asked ≡ Some name.now
+NoStream asked faults.OutOfMemory = Unit {0}
+NoStream asked (faults.Signatures name why) = ⊥
+NoStream asked (faults.Requests name why) = ⊥
+NoStream asked (faults.Run why) = ⊥
+
+-- the texts of the names that the words give
+pub record Asked : Type 0 where
+  pub signatures : Option (List ℕ)
+  pub requests : Option (List ℕ)
+  pub stream : Option (List ℕ)
+
+-- what a run reads by: the catalogue and the list of the files
+pub record ReadsBy (held : Folder) (asked : Asked) (C : Table) (kept : Listed) : Type 0 where
+  pub catalogue : CatalogueOf held asked.signatures C
+  pub requests : RequestsOf held asked.requests C kept
+
+-- why a step before the run failed: the steps before it came to their end
+abbrev pub Refused : Folder → Asked → ProgramFault → Type 0
+Refused held asked fault =
+    NoCatalogue held asked.signatures fault
+    ⊎ ((C : Table) × CatalogueOf held asked.signatures C × NoRequests held asked.requests fault)
+    ⊎ ((C : Table) × (kept : Listed) × ReadsBy held asked C kept × NoStream asked.stream fault)
