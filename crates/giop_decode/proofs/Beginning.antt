@@ -1,8 +1,8 @@
 -- How a type begins.
 use Rattle.std.proofs.Common.{◌≡◌, ℕ, zero, suc, pred, ◌<◌, List, [], ◌∷◌, ◌++◌, map, refl, sym, ◌∙◌, ap, arith, append_assoc}
 use Rattle.std.specs.List.{AllByRecursion}
-use Rattle.giop_decode.specs.Spine.{Place, Part, Head}
-use Rattle.giop_decode.specs.Fits.{HasHead, HasParts}
+use Rattle.giop_decode.specs.Spine.{Place, Part}
+use Rattle.giop_decode.specs.Fits.{HasParts}
 use Rattle.giop_decode.specs.Begins.{start_outer, start_leaf}
 use Rattle.giop_decode.specs.Turns.{IsWhole, place_in}
 use Rattle.giop_sig.specs.Types.{Ty, Single, Text, Octets, Struct, Union, Sequence, Array, part_of, shape_in, HasPlace, IsUnion}
@@ -48,15 +48,6 @@ begins (suc d) (Text bound) count fit is = absurd is
 begins (suc d) (Octets bound) count fit is = absurd is
 begins (suc d) (Union n scalar select names cases) count fit is = absurd is
 begins (suc d) (Sequence bound E) count fit is = absurd is
-
-pub begins-number : (T : Ty) → HasHead T → (start_outer T ≡ []) × (start_leaf T ≡ Head T [])
-begins-number (Struct n names parts) h = absurd h
-begins-number (Array n E) h = absurd h
-begins-number (Single scalar) h = (refl, refl)
-begins-number (Text bound) h = (refl, refl)
-begins-number (Octets bound) h = (refl, refl)
-begins-number (Union n scalar select names cases) h = (refl, refl)
-begins-number (Sequence bound E) h = (refl, refl)
 
 pub all_push : {X : Type 0} (P : X → Type 0) (xs : List X) (x : X) → AllByRecursion P xs → P x → AllByRecursion P (xs ++ x ∷ [])
 all_push P [] x h p = (p, tt)

@@ -111,11 +111,3 @@ place_case (Text bound) i count h = absurd h
 place_case (Octets bound) i count h = absurd h
 
 -- a type of several parts is no union
-pub parts_uncounted : (T : Ty) (count : ℕ) → HasParts T count → IsUnion (shape_in T) → count ≡ 0
-parts_uncounted (Struct n names parts) count h u = absurd u
-parts_uncounted (Array n E) count h u = absurd u
-parts_uncounted (Sequence bound E) count h u = absurd u
-parts_uncounted (Single scalar) count h u = absurd h
-parts_uncounted (Text bound) count h u = absurd h
-parts_uncounted (Octets bound) count h u = absurd h
-parts_uncounted (Union n scalar select names cases) count h u = absurd h

@@ -23,11 +23,6 @@ each_append P (x ∷ xs) ys h k = (h.0, each_append P xs ys h.1 k)
 none_at : (n : ℕ) (lines : List Line) → lines ≡ [] → OneAt n lines
 none_at n lines e = rw e tt
 
-pub quiet_now : (n : ℕ) (r : Read) → Quiet n r → Now n r
-quiet_now n (Done lines at rest) h = (none_at n lines h.0, h.1, h.2)
-quiet_now n (Short lines at outer leaf) h = (none_at n lines h.0, h.1)
-quiet_now n (Fault lines at why S) h = absurd h
-
 now_front : (n : ℕ) (front : List Line) (r : Read) → OneAt n front → Quiet n r → Now n (with_front front r)
 now_front n front (Done lines at rest) h k = rw (k.0, append-nil front) (h, k.1, k.2)
 now_front n front (Short lines at outer leaf) h k = rw (k.0, append-nil front) (h, k.1)

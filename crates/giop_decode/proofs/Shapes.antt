@@ -1,13 +1,13 @@
 -- What a shape says of its type.
-use Rattle.std.proofs.Common.{◌≡◌, ℕ, zero, suc, ◌<◌, Option, refl, inl, inr}
+use Rattle.std.proofs.Common.{◌≡◌, ℕ, zero, suc, Option, refl, inl, inr}
 use Rattle.giop_cdr.specs.Alignment.{IsAlignment}
 use Rattle.giop_cdr.specs.Primitives.{size_of}
 use Rattle.giop_cdr.specs.declared.prim.Primitive.{Primitive}
 use Rattle.giop_cdr.specs.declared.prim.Primitive.TheVariants as prims
-use Rattle.giop_decode.specs.Fits.{HasHead, HasParts, HasCase}
+use Rattle.giop_decode.specs.Fits.{HasHead}
 use Rattle.giop_decode.specs.Turns.{IsWhole}
 use Rattle.giop_sig.specs.Fits.{IsEmptyStruct}
-use Rattle.giop_sig.specs.Types.{Ty, Single, Text, Octets, Struct, Union, Sequence, Array, HasShape, HasPlace, shape_in}
+use Rattle.giop_sig.specs.Types.{Ty, Single, Text, Octets, Struct, Union, Sequence, Array, HasShape}
 use Rattle.giop_sig.specs.declared.types.Shape.TheVariants as shapes
 
 pub whole_members : (T : Ty) (n : ℕ) → HasShape T (shapes.Members n) → IsWhole T n
@@ -26,24 +26,6 @@ pub head_union : (T : Ty) (n : ℕ) → HasShape T (shapes.Union n) → HasHead 
 head_union T n h = rw h.4 tt
 
 pub ruleset shape_laws = (whole_members, whole_array, head_prim, head_enum, head_union)
-
-pub has_place : (T : Ty) (i count : ℕ) → HasParts T count → i < count → HasPlace (shape_in T) i
-has_place (Struct n names parts) i count kind below = rw kind at below
-has_place (Array n T) i count kind below = tt
-has_place (Sequence bound T) i count kind below = tt
-has_place (Single scalar) i count kind below = absurd kind
-has_place (Text bound) i count kind below = absurd kind
-has_place (Octets bound) i count kind below = absurd kind
-has_place (Union n scalar select names cases) i count kind below = absurd kind
-
-pub has_case : (T : Ty) (i : ℕ) → HasCase T i → HasPlace (shape_in T) i
-has_case (Union n scalar select names cases) i kind = kind
-has_case (Struct n names parts) i kind = absurd kind
-has_case (Array n T) i kind = absurd kind
-has_case (Sequence bound T) i kind = absurd kind
-has_case (Single scalar) i kind = absurd kind
-has_case (Text bound) i kind = absurd kind
-has_case (Octets bound) i kind = absurd kind
 
 pub aligned : (p : Primitive) → IsAlignment (size_of p)
 aligned prims.Octet = inl refl

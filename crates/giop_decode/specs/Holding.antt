@@ -45,7 +45,8 @@ IsDone d = d.leaf ≡ None
 -- what a decoder's fields stand for, behind these lines and at this offset
 abbrev pub standing_in : Table → Decoder → Option Innermost → List Line → ℕ → Read
 standing_in C d None lines at = Done lines at []
-standing_in C d (Some leaf) lines at = Short lines at (places C d.outer.items) (leaf_of C leaf d.carry d.piece.items)
+standing_in C d (Some leaf) lines at =
+    Short lines at (places C d.outer.items) (leaf_of C leaf d.carry d.piece.items)
 
 abbrev pub standing : Table → Decoder → List Line → ℕ → Read
 standing C d lines at = standing_in C d d.leaf lines at
@@ -68,7 +69,8 @@ Minds roots.Body d r = Unit {0}
 Minds root d r = Recalls d.memory (heard_of (is_header_root root) r)
 
 -- The decoder's fields are what reading the list has begun and not ended, and what it leaves in mind.
-pub record Reads (C : Table) (T : Ty) (order : Order) (at message : ℕ) (root : Root) (d : Decoder) (s : List ℕ) : Type 0 where
+pub record Reads (C : Table) (T : Ty) (order : Order) (at message : ℕ) (root : Root) (d : Decoder)
+    (s : List ℕ) : Type 0 where
   pub lines : List Line
   pub is : read (plain order) [] T at s ≡ standing C d lines (at + length s)
   pub minds : Minds root d (read (plain order) [] T at s)
@@ -81,7 +83,9 @@ pub record Reads (C : Table) (T : Ty) (order : Order) (at message : ℕ) (root :
 
 -- the lines that it gives
 abbrev pub due : Order → Ty → ℕ → List ℕ → ℕ → List Line
-due order T at s octet = drop (length (lines_of (read (plain order) [] T at s))) (lines_of (read (plain order) [] T at (s ++ octet ∷ [])))
+due order T at s octet =
+    drop (length (lines_of (read (plain order) [] T at s)))
+    (lines_of (read (plain order) [] T at (s ++ octet ∷ [])))
 
 -- What has come of a list that ends at this offset, and whose last octet does or doesn't name an operation: the value goes on,
 -- has ended at its last octet, or is faulted there.
@@ -102,7 +106,10 @@ IsFault (progress.Fault kind) = Unit {0}
 IsFault p = ⊥
 
 -- A decoder that read a list has come to this with one octet more: it reads the longer list, unless that is faulted.
-pub record Takes (C : Table) (T : Ty) (order : Order) (at message : ℕ) (root : Root) (d : Decoder) (s : List ℕ) (octet : ℕ) (p : Progress) : Type 0 where
-  pub answer : IsAnswer (at + length (s ++ octet ∷ [])) (names_operation (is_header_root root) (due order T at s octet)) p (read (plain order) [] T at (s ++ octet ∷ []))
+pub record Takes (C : Table) (T : Ty) (order : Order) (at message : ℕ) (root : Root) (d : Decoder)
+    (s : List ℕ) (octet : ℕ) (p : Progress) : Type 0 where
+  pub answer : IsAnswer (at + length (s ++ octet ∷ []))
+      (names_operation (is_header_root root) (due order T at s octet)) p
+      (read (plain order) [] T at (s ++ octet ∷ []))
   pub reads : (IsFault p → ⊥) → Reads C T order at message root d (s ++ octet ∷ [])
   pub minds : Minds root d (read (plain order) [] T at (s ++ octet ∷ []))

@@ -27,12 +27,15 @@ leaf_in C d (Some leaf) = leaf_of C leaf d.carry d.piece.items
 
 -- one octet more, on a decoder's fields
 abbrev pub stepped : Table → Decoder → ℕ → ℕ → Read
-stepped C d here octet = step (plain d.order) [] (places C d.outer.items) (leaf_in C d d.leaf) here octet
+stepped C d here octet =
+    step (plain d.order) [] (places C d.outer.items) (leaf_in C d d.leaf) here octet
 
 -- a step with these lines has left the decoder so; it goes on by that name, or another
 abbrev pub progressed : Table → Decoder → Bool → Progress → List Line → ℕ → Read → Type 0
-progressed C d named progress.More lines at r = (r ≡ standing C d lines at) × ((leaf : Innermost) × (d.leaf ≡ Some leaf)) × (named ≡ false)
-progressed C d named progress.Named lines at r = (r ≡ standing C d lines at) × ((leaf : Innermost) × (d.leaf ≡ Some leaf)) × (named ≡ true)
+progressed C d named progress.More lines at r =
+    (r ≡ standing C d lines at) × ((leaf : Innermost) × (d.leaf ≡ Some leaf)) × (named ≡ false)
+progressed C d named progress.Named lines at r =
+    (r ≡ standing C d lines at) × ((leaf : Innermost) × (d.leaf ≡ Some leaf)) × (named ≡ true)
 progressed C d named progress.Done lines at r = (r ≡ standing C d lines at) × (d.leaf ≡ None)
 progressed C d named (progress.Fault kind) lines at r = (T : Ty) × (r ≡ Fault lines at kind T)
 
@@ -48,7 +51,9 @@ IsProgress named turn leaf p = IsGoing named leaf p
 
 -- a step of a root comes to this
 abbrev pub Comes : Table → Decoder → Progress → ℕ → Read → Type 0
-Comes C d p at r = (lines : List Line) × progressed C d (names_operation (is_header_root d.root) lines) p lines at r
+Comes C d p at r =
+    (lines : List Line)
+    × progressed C d (names_operation (is_header_root d.root) lines) p lines at r
 
 -- the innermost part breaks no rule
 abbrev pub IsMoved : Turn → Type 0

@@ -13,7 +13,8 @@ pub data Grab : Type 0 where
   Got : List ℕ → ℕ → List ℕ → Grab
 
 unfoldable pub block : ℕ → ℕ → List ℕ → Grab
-block n at s = cond (ltb (length s) n) (Waiting s (at + length s)) (Got (take n s) (at + n) (drop n s))
+block n at s =
+    cond (ltb (length s) n) (Waiting s (at + length s)) (Got (take n s) (at + n) (drop n s))
 
 -- a number of n octets, after its padding, which is counted from an origin
 unfoldable pub number : ℕ → ℕ → ℕ → List ℕ → Grab
@@ -49,19 +50,26 @@ last_piece T path total offset (Got octets at rest) = unless T (ends T (total - 
     (Done (line at path (Piece T offset (take (total - offset) octets) false) ∷ []) at rest)
 
 abbrev pub full_piece : Ty → List Seg → ℕ → ℕ → (ℕ → List ℕ → Read) → Grab → Read
-full_piece T path total offset next (Waiting piece at) = Short [] at [] (Content T total offset piece)
-full_piece T path total offset next (Got octets at rest) = with_front (line at path (Piece T offset octets true) ∷ []) (next at rest)
+full_piece T path total offset next (Waiting piece at) =
+    Short [] at [] (Content T total offset piece)
+full_piece T path total offset next (Got octets at rest) =
+    with_front (line at path (Piece T offset octets true) ∷ []) (next at rest)
 
 -- a content of so many octets, of which so many pieces more aren't the last, from an offset in it on
 abbrev pub content : Ty → List Seg → ℕ → ℕ → ℕ → ℕ → List ℕ → Read
-content T path total zero offset at s = last_piece T path total offset (block (total - offset + tail T) at s)
-content T path total (suc full) offset at s = full_piece T path total offset (content T path total full (offset + 32)) (block 32 at s)
+content T path total zero offset at s =
+    last_piece T path total offset (block (total - offset + tail T) at s)
+content T path total (suc full) offset at s =
+    full_piece T path total offset (content T path total full (offset + 32)) (block 32 at s)
 
 -- behind the length of a string, which counts its zero: a string of length 0 is the empty one, and ends there
 abbrev pub text : Option ℕ → List Seg → ℕ → ℕ → List ℕ → Read
 text bound path zero at rest = Done (line at path (Piece (Text bound) 0 [] false) ∷ []) at rest
-text bound path (suc n) at rest = unless (Text bound) (over bound n) at (content (Text bound) path n (full_pieces n) 0 at rest)
+text bound path (suc n) at rest =
+    unless (Text bound) (over bound n) at (content (Text bound) path n (full_pieces n) 0 at rest)
 
 -- behind the length of an octet sequence
 abbrev pub octets : Option ℕ → List Seg → ℕ → ℕ → List ℕ → Read
-octets bound path n at rest = unless (Octets bound) (over bound n) at (content (Octets bound) path n (full_pieces n) 0 at rest)
+octets bound path n at rest =
+    unless (Octets bound) (over bound n) at
+    (content (Octets bound) path n (full_pieces n) 0 at rest)

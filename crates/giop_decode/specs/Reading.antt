@@ -22,7 +22,8 @@ wrong (Plain p) n = None
 wrong (Enum count names) n = cond (ltb n count) None (Some kinds.Enum)
 
 abbrev pub single : List Seg → Scalar → ℕ → ℕ → List ℕ → Read
-single path scalar n at rest = unless (Single scalar) (wrong scalar n) at (Done (line at path (Number scalar n) ∷ []) at rest)
+single path scalar n at rest =
+    unless (Single scalar) (wrong scalar n) at (Done (line at path (Number scalar n) ∷ []) at rest)
 
 -- so many parts, from place i on, each from where the one before ended
 abbrev pub parts_from : (ℕ → ℕ → List ℕ → Read) → ℕ → ℕ → ℕ → List ℕ → Read
@@ -40,28 +41,41 @@ refused Refused = Some kinds.Disposition
 refused _ = None
 
 -- a union behind its discriminator, which has a line where it is a value that can stand there
-abbrev pub chosen : List Seg → Ty → Scalar → Selected → ℕ → (ℕ → ℕ → List ℕ → Read) → ℕ → List ℕ → Read
-chosen path T scalar selected n case at rest = unless T (wrong scalar n) at (unless T (refused selected) at
-    (with_front (line at (path ++ Switch ∷ []) (Number scalar n) ∷ []) (member selected case at rest)))
+abbrev pub chosen : List Seg → Ty → Scalar → Selected → ℕ → (ℕ → ℕ → List ℕ → Read) → ℕ → List ℕ →
+    Read
+chosen path T scalar selected n case at rest =
+    unless T (wrong scalar n) at (unless T (refused selected) at
+    (with_front (line at (path ++ Switch ∷ []) (Number scalar n) ∷ [])
+    (member selected case at rest)))
 
 -- read coding path T at s: a value of T from the list s, whose first octet stands at that offset of the message
 abbrev pub read : Coding → List Seg → Ty → ℕ → List ℕ → Read
 read coding path (Single scalar) at s =
-    headed (Single scalar) (λ xs at rest. single path scalar (num coding.order xs) at rest) (number coding.origin (width scalar) at s)
+    headed (Single scalar) (λ xs at rest. single path scalar (num coding.order xs) at rest)
+    (number coding.origin (width scalar) at s)
 read coding path (Text bound) at s =
-    headed (Text bound) (λ xs at rest. text bound path (num coding.order xs) at rest) (number coding.origin 4 at s)
+    headed (Text bound) (λ xs at rest. text bound path (num coding.order xs) at rest)
+    (number coding.origin 4 at s)
 read coding path (Octets bound) at s =
-    headed (Octets bound) (λ xs at rest. octets bound path (num coding.order xs) at rest) (number coding.origin 4 at s)
+    headed (Octets bound) (λ xs at rest. octets bound path (num coding.order xs) at rest)
+    (number coding.origin 4 at s)
 read coding path (Struct count names parts) at s =
-    parts_from (λ i at s. within (Part (Struct count names parts) i count) (read coding (path ++ Name (names i) ∷ []) (parts i) at s)) count 0 at s
+    parts_from (λ i at s. within (Part (Struct count names parts) i count)
+    (read coding (path ++ Name (names i) ∷ []) (parts i) at s)) count 0 at s
 read coding path (Array count T) at s =
-    parts_from (λ i at s. within (Part (Array count T) i count) (read coding (path ++ Index i ∷ []) T at s)) count 0 at s
+    parts_from (λ i at s. within (Part (Array count T) i count)
+    (read coding (path ++ Index i ∷ []) T at s)) count 0 at s
 read coding path (Sequence bound T) at s =
-    headed (Sequence bound T) (λ xs at rest. unless (Sequence bound T) (over bound (num coding.order xs)) at
+    headed (Sequence bound T) (λ xs at rest.
+    unless (Sequence bound T) (over bound (num coding.order xs)) at
     (with_front (line at path (Count (num coding.order xs)) ∷ [])
-    (parts_from (λ i at s. within (Part (Sequence bound T) i (num coding.order xs)) (read coding (path ++ Index i ∷ []) T at s)) (num coding.order xs) 0 at rest)))
+    (parts_from (λ i at s. within (Part (Sequence bound T) i (num coding.order xs))
+    (read coding (path ++ Index i ∷ []) T at s)) (num coding.order xs) 0 at rest)))
     (number coding.origin 4 at s)
 read coding path (Union count scalar select names cases) at s =
-    headed (Union count scalar select names cases) (λ xs at rest. chosen path (Union count scalar select names cases) scalar (select (num coding.order xs)) (num coding.order xs)
-    (λ i at s. within (Member (Union count scalar select names cases) i) (read coding (path ++ Name (names i) ∷ []) (cases i) at s)) at rest)
+    headed (Union count scalar select names cases) (λ xs at rest.
+    chosen path (Union count scalar select names cases) scalar
+    (select (num coding.order xs)) (num coding.order xs)
+    (λ i at s. within (Member (Union count scalar select names cases) i)
+    (read coding (path ++ Name (names i) ∷ []) (cases i) at s)) at rest)
     (number coding.origin (width scalar) at s)

@@ -8,11 +8,14 @@ use Rattle.giop_decode.specs.Spine.{Coding, Line, Content, Count, Done, Fault, H
 use Rattle.giop_sig.specs.Types.{part_of, Octets, Sequence, Single, Struct, Text, Ty, Union, width}
 
 unfoldable pub block_step : ℕ → ℕ → List ℕ → ℕ → Grab
-block_step n at held b = cond (ltb (length held + 1) n) (Waiting (held ++ b ∷ []) (at + 1)) (Got (held ++ b ∷ []) (at + 1) [])
+block_step n at held b =
+    cond (ltb (length held + 1) n) (Waiting (held ++ b ∷ []) (at + 1))
+    (Got (held ++ b ∷ []) (at + 1) [])
 
 -- Padding is what comes at an offset that isn't aligned while nothing is held.
 unfoldable pub number_step : ℕ → ℕ → ℕ → List ℕ → ℕ → Grab
-number_step origin n at [] b = cond (ltb 0 (padding (at - origin) n)) (Waiting [] (at + 1)) (block_step n at [] b)
+number_step origin n at [] b =
+    cond (ltb 0 (padding (at - origin) n)) (Waiting [] (at + 1)) (block_step n at [] b)
 number_step origin n at (x ∷ carry) b = block_step n at (x ∷ carry) b
 
 -- the width of the number that begins a type
@@ -32,7 +35,8 @@ abbrev pub inner_path : List Seg → Ty → ℕ → List Seg
 inner_path path T i = path ++ seg_of T i ∷ []
 
 abbrev pub part_at : Coding → List Seg → Ty → ℕ → ℕ → ℕ → List ℕ → Read
-part_at coding path T count i at s = within (Part T i count) (read coding (path ++ seg_of T i ∷ []) (part_of T i) at s)
+part_at coding path T count i at s =
+    within (Part T i count) (read coding (path ++ seg_of T i ∷ []) (part_of T i) at s)
 
 -- what follows the number that begins a type
 abbrev pub after : Coding → List Seg → Ty → ℕ → ℕ → List ℕ → Read
@@ -40,21 +44,28 @@ after coding path (Single scalar) n at rest = single path scalar n at rest
 after coding path (Text bound) n at rest = text bound path n at rest
 after coding path (Octets bound) n at rest = octets bound path n at rest
 after coding path (Sequence bound T) n at rest = unless (Sequence bound T) (over bound n) at
-    (with_front (line at path (Count n) ∷ []) (parts_from (part_at coding path (Sequence bound T) n) n 0 at rest))
+    (with_front (line at path (Count n) ∷ [])
+    (parts_from (part_at coding path (Sequence bound T) n) n 0 at rest))
 after coding path (Union count scalar select names cases) n at rest =
     chosen path (Union count scalar select names cases) scalar (select n) n
-    (λ i at s. within (Member (Union count scalar select names cases) i) (read coding (path ++ Name (names i) ∷ []) (cases i) at s)) at rest
+    (λ i at s. within (Member (Union count scalar select names cases) i)
+    (read coding (path ++ Name (names i) ∷ []) (cases i) at s)) at rest
 after coding path T n at rest = Done [] at rest
 
 abbrev pub content_step : Ty → List Seg → ℕ → ℕ → ℕ → List ℕ → ℕ → Read
 content_step T path total offset at piece b = cond (ltb 32 (total - offset))
-    (full_piece T path total offset (content T path total (full_pieces (total - (offset + 32))) (offset + 32)) (block_step 32 at piece b))
+    (full_piece T path total offset
+    (content T path total (full_pieces (total - (offset + 32))) (offset + 32))
+    (block_step 32 at piece b))
     (last_piece T path total offset (block_step (total - offset + tail T) at piece b))
 
 -- The innermost part after one octet more.
 abbrev pub leaf_step : Coding → List Seg → Leaf → ℕ → ℕ → Read
-leaf_step coding path (Head T carry) at b = headed T (λ xs at rest. after coding path T (num coding.order xs) at rest) (number_step coding.origin (head_width T) at carry b)
-leaf_step coding path (Content T total offset piece) at b = content_step T path total offset at piece b
+leaf_step coding path (Head T carry) at b =
+    headed T (λ xs at rest. after coding path T (num coding.order xs) at rest)
+    (number_step coding.origin (head_width T) at carry b)
+leaf_step coding path (Content T total offset piece) at b =
+    content_step T path total offset at piece b
 
 abbrev pub seg_in : Place → Seg
 seg_in (Part T i count) = seg_of T i
@@ -62,12 +73,15 @@ seg_in (Member T i) = seg_of T i
 
 -- What a place comes to, once what is read in it has come so far.
 abbrev pub resumed : Coding → List Seg → Place → Read → Read
-resumed coding path (Part T i count) r = followed (within (Part T i count) r) (parts_from (part_at coding path T count) (count - suc i) (suc i))
+resumed coding path (Part T i count) r =
+    followed (within (Part T i count) r)
+    (parts_from (part_at coding path T count) (count - suc i) (suc i))
 resumed coding path (Member T i) r = within (Member T i) r
 
 abbrev pub around : Coding → List Seg → List Place → Read → Read
 around coding path [] r = r
-around coding path (place ∷ outer) r = resumed coding path place (around coding (path ++ seg_in place ∷ []) outer r)
+around coding path (place ∷ outer) r =
+    resumed coding path place (around coding (path ++ seg_in place ∷ []) outer r)
 
 abbrev pub path_in : List Seg → List Place → List Seg
 path_in path [] = path
@@ -75,12 +89,14 @@ path_in path (place ∷ outer) = path_in (path ++ seg_in place ∷ []) outer
 
 -- The parts begun, the outermost first, after one octet more.
 abbrev pub step : Coding → List Seg → List Place → Leaf → ℕ → ℕ → Read
-step coding path outer leaf at b = around coding path outer (leaf_step coding (path_in path outer) leaf at b)
+step coding path outer leaf at b =
+    around coding path outer (leaf_step coding (path_in path outer) leaf at b)
 
 -- A reading after one octet more.
 abbrev pub advance : Coding → List Seg → Read → ℕ → Read
 advance coding path (Done lines at rest) b = Done lines at (rest ++ b ∷ [])
-advance coding path (Short lines at outer leaf) b = with_front lines (step coding path outer leaf at b)
+advance coding path (Short lines at outer leaf) b =
+    with_front lines (step coding path outer leaf at b)
 advance coding path (Fault lines at kind S) b = Fault lines at kind S
 
 -- a reading after these octets more

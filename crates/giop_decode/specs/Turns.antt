@@ -78,8 +78,10 @@ IsClean (innermost.Content of total offset) carry piece = carry ≡ []
 abbrev pub turned : Table → Ty → Turn → List ℕ → List ℕ → List Line → ℕ → Read
 turned C T (turns.More leaf) carry piece lines at = Short lines at [] (leaf_of C leaf carry piece)
 turned C T turns.Ended carry piece lines at = Done lines at []
-turned C T (turns.Opened count) carry piece lines at = Short lines at (Part T 0 count ∷ start_outer (part_of T 0)) (start_leaf (part_of T 0))
-turned C T (turns.Selected i) carry piece lines at = Short lines at (Member T i ∷ start_outer (part_of T i)) (start_leaf (part_of T i))
+turned C T (turns.Opened count) carry piece lines at =
+    Short lines at (Part T 0 count ∷ start_outer (part_of T 0)) (start_leaf (part_of T 0))
+turned C T (turns.Selected i) carry piece lines at =
+    Short lines at (Member T i ∷ start_outer (part_of T i)) (start_leaf (part_of T i))
 turned C T (turns.Refused kind) carry piece lines at = Fault lines at kind T
 
 -- parts follow only where there are some, and an innermost part that goes on is of the same type
@@ -102,10 +104,14 @@ pub record IsNumberOf (T : Ty) (number : Taken) : Type 0 where
 abbrev pub IsSpoken : Ty → List Seg → ℕ → Spoken → List Line → Type 0
 IsSpoken T path at spokens.Nothing lines = lines ≡ []
 IsSpoken T path at spokens.Length lines = lines ≡ []
-IsSpoken T path at (spokens.Number number) lines = (is : IsNumberOf T number) × (lines ≡ line at path (Number is.scalar is.n) ∷ [])
-IsSpoken T path at (spokens.Switch number) lines = (is : IsNumberOf (switch_of T) number) × (lines ≡ line at (path ++ Switch ∷ []) (Number is.scalar is.n) ∷ [])
+IsSpoken T path at (spokens.Number number) lines =
+    (is : IsNumberOf T number) × (lines ≡ line at path (Number is.scalar is.n) ∷ [])
+IsSpoken T path at (spokens.Switch number) lines =
+    (is : IsNumberOf (switch_of T) number)
+    × (lines ≡ line at (path ++ Switch ∷ []) (Number is.scalar is.n) ∷ [])
 IsSpoken T path at (spokens.Count count) lines = lines ≡ line at path (Count count) ∷ []
-IsSpoken T path at (spokens.Piece offset octets more) lines = lines ≡ line at path (Piece T offset octets.items more) ∷ []
+IsSpoken T path at (spokens.Piece offset octets more) lines =
+    lines ≡ line at path (Piece T offset octets.items more) ∷ []
 
 -- what can be written of a type: the kind of its line
 abbrev pub CanSpeak : Ty → Spoken → Type 0
@@ -115,7 +121,8 @@ CanSpeak T (spokens.Piece offset octets more) = HasContent T × (length octets.i
 CanSpeak T spoken = Unit {0}
 
 -- the innermost part comes to this, with this line
-pub record Turns (C : Table) (T : Ty) (turn : Turn) (spoken : Spoken) (carry piece : List ℕ) (path : List Seg) (at : ℕ) (read : Read) : Type 0 where
+pub record Turns (C : Table) (T : Ty) (turn : Turn) (spoken : Spoken) (carry piece : List ℕ)
+    (path : List Seg) (at : ℕ) (read : Read) : Type 0 where
   pub lines : List Line
   pub comes : read ≡ turned C T turn carry piece lines at
   pub says : IsSpoken T path at spoken lines

@@ -92,7 +92,8 @@ impl Decoder {
         out: &mut O,
     ) -> Result<Progress, OutFault>
         requires { Fits catalogue.now self.old }
-        ensures writes { (T : Ty) (order : ByteOrder) (at message : ℕ) (root : PathRoot) (s : List ℕ) →
+        ensures writes { (T : Ty) (order : ByteOrder) (at message : ℕ) (root : PathRoot)
+            (s : List ℕ) →
             Reads catalogue.now T order at message root self.old s →
             Writes result (O.log out.old) (O.log out.new)
             (lines_text message root (due order T at s octet)) }
@@ -119,7 +120,8 @@ impl Decoder {
 
     /// The request id of a header, once that was read.
     pub fn request_id(&self) -> Option<u32>
-        ensures { (r : Read) → Minds Root.Header self.now r → result ≡ (heard_of true r).request_id }
+        ensures { (r : Read) → Minds Root.Header self.now r →
+            result ≡ (heard_of true r).request_id }
     {
         self.memory.request_id()
     }
@@ -148,7 +150,8 @@ impl Decoder {
         requires known_outer { AreKnown catalogue.now self.old.outer.items }
         requires open { OpenFrom 24 (places catalogue.now self.old.outer.items) }
         requires fit { IsFit (24 - length self.old.outer.items) (tree catalogue.now of.0) }
-        requires turns_in { TurnsIn (tree catalogue.now of.0) of.0 turn self.old.carry self.old.piece.items }
+        requires turns_in { TurnsIn (tree catalogue.now of.0) of.0 turn
+            self.old.carry self.old.piece.items }
         ensures known_outer { AreKnown catalogue.now self.new.outer.items }
         ensures known { (leaf : Innermost) → IsMoved turn → self.new.leaf ≡ Some leaf →
             leaf_type leaf < length catalogue.now.types }
@@ -167,7 +170,8 @@ impl Decoder {
             ≡ turn_in_string (tree catalogue.now of.0) turn }
         ensures settles { (coding : Coding) (path : List Seg) (at : ℕ) (lines : List Line) →
             around coding path (places catalogue.now self.old.outer.items)
-            (turned catalogue.now (tree catalogue.now of.0) turn self.old.carry self.old.piece.items lines at)
+            (turned catalogue.now (tree catalogue.now of.0) turn
+            self.old.carry self.old.piece.items lines at)
             ≡ settled catalogue.now (tree catalogue.now of.0) self.new turn lines at }
     {
         match turn {
@@ -223,7 +227,8 @@ impl Decoder {
             (stepped catalogue.now self.old here octet) }
         ensures minds { IsTrue result → (here : ℕ) (front : List Line) → here % 8 ≡ self.old.at →
             Minds self.old.root self.old (standing catalogue.now self.old front here) →
-            Minds self.old.root self.new (with_front front (stepped catalogue.now self.old here octet)) }
+            Minds self.old.root self.new
+            (with_front front (stepped catalogue.now self.old here octet)) }
     {
         let Some(leaf) = self.leaf else {
             unreachable!();
@@ -264,7 +269,8 @@ impl Decoder {
             Comes catalogue.now self.new p (here + 1) (stepped catalogue.now self.old here octet)) }
         ensures minds { OnOk result ((here : ℕ) (front : List Line) → here % 8 ≡ self.old.at →
             Minds self.old.root self.old (standing catalogue.now self.old front here) →
-            Minds self.old.root self.new (with_front front (stepped catalogue.now self.old here octet))) }
+            Minds self.old.root self.new
+            (with_front front (stepped catalogue.now self.old here octet))) }
     {
         let Some(leaf) = self.leaf else {
             unreachable!();

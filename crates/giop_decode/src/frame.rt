@@ -80,9 +80,11 @@ pub(crate) fn begin(catalogue: &Catalogue, outer: &mut ArrayVec<Frame, 24>, t: T
     requires fit { IsFit (24 - array_vec_len outer.old) (tree catalogue.now t.0) }
     ensures known { result.0 < length catalogue.now.types }
     ensures known_outer { AreKnown catalogue.now outer.new.items }
-    ensures places { places catalogue.now outer.new.items ≡ places catalogue.now outer.old.items ++ start_outer (tree catalogue.now t.0) }
+    ensures places { places catalogue.now outer.new.items
+        ≡ places catalogue.now outer.old.items ++ start_outer (tree catalogue.now t.0) }
     ensures leaf { start_leaf (tree catalogue.now t.0) ≡ Head (tree catalogue.now result.0) [] }
-    ensures linked { (root : ℕ) → Link catalogue.now root outer.old.items t.0 → Link catalogue.now root outer.new.items result.0 }
+    ensures linked { (root : ℕ) → Link catalogue.now root outer.old.items t.0 →
+        Link catalogue.now root outer.new.items result.0 }
 {
     let mut inner = t;
     while let Some(count) = whole(catalogue, inner) {
@@ -106,8 +108,8 @@ pub(crate) fn go_on(catalogue: &Catalogue, outer: &mut ArrayVec<Frame, 24>) -> O
     ensures gone { (coding : Coding) (path : List Seg) (at : ℕ) →
         around coding path (places catalogue.now outer.old.items) (Done [] at [])
         ≡ gone_on catalogue.now at outer.new.items (option_map (λ t. t.0) result) }
-    ensures linked { IfSome result (λ t. (root inner : ℕ) → Link catalogue.now root outer.old.items inner →
-        Link catalogue.now root outer.new.items t.0) }
+    ensures linked { IfSome result (λ t. (root inner : ℕ) →
+        Link catalogue.now root outer.old.items inner → Link catalogue.now root outer.new.items t.0) }
 {
     while let Some(frame) = outer.pop() {
         let last = frame.count.saturating_sub(1);

@@ -22,7 +22,8 @@ use giop_sig::{Catalogue, Selected, Shape, TypeId};
 /// The size of the number that begins a type.
 pub(crate) fn width(catalogue: &Catalogue, t: TypeId) -> u8
     requires known { t.0 < length catalogue.now.types }
-    ensures width { HasHead (tree catalogue.now t.0) → result ≡ head_width (tree catalogue.now t.0) }
+    ensures width { HasHead (tree catalogue.now t.0) →
+        result ≡ head_width (tree catalogue.now t.0) }
     ensures aligned { IsAlignment result }
 {
     match catalogue.shape(t) {
@@ -41,7 +42,8 @@ pub(crate) fn hold_number(carry: &mut Carry, at: u8, width: u8, octet: u8) -> bo
     requires width { IsAlignment width }
     requires room { length carry.old < width }
     ensures left { result ≡ false → carry.new ≡ carry.old }
-    ensures last { result ≡ false → (length carry.old + 1 ≡ width) × (carry.old ≡ [] → padding at width ≡ 0) }
+    ensures last { result ≡ false →
+        (length carry.old + 1 ≡ width) × (carry.old ≡ [] → padding at width ≡ 0) }
     ensures holds { IsTrue result → (origin here : ℕ) → (here - origin) % 8 ≡ at →
         number_step origin width here carry.old octet ≡ grab_of false carry.new (here + 1) }
 {
@@ -149,7 +151,8 @@ fn take_selected(catalogue: &Catalogue, of: TypeId, number: Number) -> Step
     ensures turns_in { TurnsIn (tree catalogue.now of.0) of.0 result.turn [] [] }
     ensures speaks { CanSpeak (tree catalogue.now of.0) result.spoken }
     ensures voices { Voices (tree catalogue.now of.0) false result.turn result.spoken }
-    ensures turns { (is : IsNumberOf (switch_of (tree catalogue.now of.0)) number) (coding : Coding) (path : List Seg) (at : ℕ) →
+    ensures turns { (is : IsNumberOf (switch_of (tree catalogue.now of.0)) number) (coding : Coding)
+        (path : List Seg) (at : ℕ) →
         Turns catalogue.now (tree catalogue.now of.0) result.turn result.spoken [] [] path at
         (after coding path (tree catalogue.now of.0) is.n at []) }
 {

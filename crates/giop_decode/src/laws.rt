@@ -23,28 +23,34 @@ pub fn reading_laws()
         read coding path T at (s ++ t) ≡ resumes coding path (read coding path T at s) t }
     // The lines of a longer list begin with those of a shorter.
     ensures lines { (coding : Coding) (path : List Seg) (T : Ty) (at : ℕ) (s t : List ℕ) →
-        (more : List Line) × (lines_of (read coding path T at (s ++ t)) ≡ lines_of (read coding path T at s) ++ more) }
+        (more : List Line)
+        × (lines_of (read coding path T at (s ++ t)) ≡ lines_of (read coding path T at s) ++ more) }
     // A step has at most one line, which stands at its octet, and none where that is refused.
-    ensures prompt { (coding : Coding) (path : List Seg) (outer : List Place) (leaf : Leaf) (at b : ℕ) →
+    ensures prompt { (coding : Coding) (path : List Seg) (outer : List Place) (leaf : Leaf)
+        (at b : ℕ) →
         Now (at + 1) (step coding path outer leaf at b) }
     // Where each part takes some octet, the parts begun before the first octet are those that stand first in their wholes.
     ensures begins { (d : ℕ) (coding : Coding) (path : List Seg) (T : Ty) (at : ℕ) → IsFit d T →
         read coding path T at [] ≡ Short [] at (start_outer T) (start_leaf T) }
     // The parts begun and not ended fit in the type, each in the one before,
-    ensures sound { (d : ℕ) (coding : Coding) (path : List Seg) (T : Ty) (at : ℕ) (s : List ℕ) → IsFit d T →
+    ensures sound { (d : ℕ) (coding : Coding) (path : List Seg) (T : Ty) (at : ℕ) (s : List ℕ) →
+        IsFit d T →
         Sound T (at + length s) (read coding path T at s) }
     // and a step from any parts that fit leaves parts that fit.
-    ensures kept { (d : ℕ) (coding : Coding) (path : List Seg) (T : Ty) (outer : List Place) (leaf : Leaf) (at b : ℕ) → IsFit d T →
+    ensures kept { (d : ℕ) (coding : Coding) (path : List Seg) (T : Ty) (outer : List Place)
+        (leaf : Leaf) (at b : ℕ) → IsFit d T →
         FitsIn T outer leaf → Sound T (at + 1) (step coding path outer leaf at b) }
 {}
 
 /// What a reading leaves in mind is what its lines say last: of the values at the request id of a header, of the enums, and
 /// of the strings that are whole. It has no body, and is called for its contract.
 pub fn memory_laws()
-    ensures left { (is_header : Bool) (coding : Coding) (path : List Seg) (T : Ty) (at : ℕ) (s : List ℕ) →
+    ensures left { (is_header : Bool) (coding : Coding) (path : List Seg) (T : Ty) (at : ℕ)
+        (s : List ℕ) →
         IsLeft is_header (read coding path T at s) (heard_of is_header (read coding path T at s)) }
     // Lines are the pieces of one list of contents at most.
     ensures one { (contents others : List (List ℕ)) (begun other : List TextPiece) →
         AreUnended begun → AreUnended other →
-        flat_map pieces_of contents ++ begun ≡ flat_map pieces_of others ++ other → contents ≡ others }
+        flat_map pieces_of contents ++ begun ≡ flat_map pieces_of others ++ other →
+        contents ≡ others }
 {}

@@ -59,7 +59,8 @@ fn number_line<O: Out>(
     requires known { t.0 < length catalogue.now.types }
     requires number { IsNumberOf (tree catalogue.now t.0) number }
     ensures { (is : IsNumberOf (tree catalogue.now t.0) number) →
-        Writes result (O.log out.old) (O.log out.new) (value_text message path.now.text (spines.Number is.scalar is.n)) }
+        Writes result (O.log out.old) (O.log out.new)
+        (value_text message path.now.text (spines.Number is.scalar is.n)) }
 {
     match catalogue.shape(t) {
         Shape::Prim(prim) => value_line(out, message, path, Value::Primitive(prim, number)),
@@ -90,7 +91,8 @@ fn octets_line<O: Out>(
     requires content { HasContent (tree catalogue.now t.0) }
     requires short { length octets.now < 33 }
     ensures { Writes result (O.log out.old) (O.log out.new)
-        (value_text message path.now.text (spines.Piece (tree catalogue.now t.0) offset octets.now more)) }
+        (value_text message path.now.text
+        (spines.Piece (tree catalogue.now t.0) offset octets.now more)) }
 {
     match catalogue.shape(t) {
         Shape::Text(_) => piece_line(
@@ -129,7 +131,8 @@ pub(crate) fn say<O: Out>(
     requires room { length outer.now < 24 }
     requires speaks { CanSpeak (tree catalogue.now of.0) spoken.now }
     ensures { (at : ℕ) (lines : List Line) →
-        IsSpoken (tree catalogue.now of.0) (path_in [] (places catalogue.now outer.now)) at spoken.now lines →
+        IsSpoken (tree catalogue.now of.0) (path_in [] (places catalogue.now outer.now))
+        at spoken.now lines →
         Writes result (O.log out.old) (O.log out.new) (lines_text message root lines) }
 {
     match spoken {
