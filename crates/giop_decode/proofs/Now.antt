@@ -43,7 +43,7 @@ quiet_followed n (Done lines at rest) next h k = rw (h.0, h.1, h.2) (quiet_front
 quiet_followed n (Short lines at outer leaf) next h k = h
 quiet_followed n (Fault lines at why S) next h k = h
 
-now_within : (n : ℕ) (place : Place) (r : Read) → Now n r → Now n (within place r)
+pub now_within : (n : ℕ) (place : Place) (r : Read) → Now n r → Now n (within place r)
 now_within n place (Done lines at rest) h = h
 now_within n place (Short lines at outer leaf) h = h
 now_within n place (Fault lines at why S) h = h

@@ -10,7 +10,7 @@ use Rattle.giop_decode.specs.Reading.{parts_from, read}
 use Rattle.giop_decode.specs.Begins.{start_outer, start_leaf}
 use Rattle.giop_decode.specs.Steps.{Now, Quiet, advance, part_at, resumed, step}
 use Rattle.giop_decode.specs.Fits.{HasParts, Sound}
-use Rattle.giop_decode.specs.Heard.{Heard, heard, is_member}
+use Rattle.giop_decode.specs.Heard.{Heard, heard, in_string, is_member}
 use Rattle.giop_decode.proofs.Law as law
 use Rattle.giop_decode.proofs.Now as now
 use Rattle.giop_decode.proofs.Around as around
@@ -39,6 +39,13 @@ lines_front front r = resuming.lines_front front r
 
 pub heard-append : (header : Bool) (h : Heard) (xs ys : List Line) → heard header h (xs ++ ys) ≡ heard header (heard header h xs) ys
 heard-append header h xs ys = resuming.heard-append header h xs ys
+
+pub front_inside : (front : List Line) (r : Read) → in_string (with_front front r) ≡ in_string r
+front_inside front r = hearing.front_inside front r
+
+-- What a step comes to stays what an octet comes to, inside a part.
+pub now_within : (n : ℕ) (place : Place) (r : Read) → Now n r → Now n (within place r)
+now_within n place r h = now.now_within n place r h
 
 -- a discriminator is no member
 pub switch_member : (name : List ℕ) (path : List Seg) → is_member name (path ++ Switch ∷ []) ≡ false
