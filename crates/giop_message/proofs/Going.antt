@@ -13,7 +13,7 @@ use Rattle.giop_decode.specs.Spine.{plain, Line, Place, Leaf, Read, Done, Short,
 use Rattle.giop_decode.specs.Reading.{read}
 use Rattle.giop_decode.specs.Steps as decoder
 use Rattle.giop_decode.specs.Heard.{Heard, nothing, hear, heard, is_header_root}
-use Rattle.giop_decode.proofs.ReadingLaws.{read_goes, length_one_more}
+use Rattle.giop_decode.proofs.ReadingLaws.{heard-append, read_goes, length_one_more}
 use Rattle.giop_message.specs.Headers.{minor, kind, order}
 use Rattle.giop_message.specs.Signatures.{Signatures}
 use Rattle.giop_message.specs.Messages.{Said, Left, Wrong, Told, tell, calls, tells, BodyType, Untyped, Typed, Raised, Stage, In_header, In_padding, In_exception, In_body, In_rest, Over, Message, Comes, with_front, passes, rest_in, rest, typed, option_typed, members_of, after_exception, body, is_request, body_of, has_body, padded, after_header, of_header, message}
@@ -49,16 +49,12 @@ tells_append root is h (x ∷ xs) ys =
     let first = tell x.at (Said root x.path x.value) ∷ calls is x now in
     ap (λ ls. first ++ ls) (tells_append root is now xs ys) ∙ sym (append_assoc first (tells root is now xs) (tells root is (heard (is_header_root root) now xs) ys))
 
-pub heard_append : (root : Root) (h : Heard) (xs ys : List Line) → heard (is_header_root root) h (xs ++ ys) ≡ heard (is_header_root root) (heard (is_header_root root) h xs) ys
-heard_append root h [] ys = refl
-heard_append root h (x ∷ xs) ys = heard_append root (hear (is_header_root root) h x) xs ys
-
 module _ (root : Root) (is : Bool) (stage : Heard → List Place → Leaf → Stage) (next : Heard → ℕ → List ℕ → Message) where
   pub passes_front : (h : Heard) (front : List Line) (r : Read) → passes root is stage next h (Spine.with_front front r) ≡ with_front (tells root is h front) (passes root is stage next (heard (is_header_root root) h front) r)
   unfolding passes with_front
   passes_front h front (Done lines at s) =
-      rw (tells_append root is h front lines, heard_append root h front lines) (sym (front_twice (tells root is h front) (tells root is (heard (is_header_root root) h front) lines) (next (heard (is_header_root root) (heard (is_header_root root) h front) lines) at s)))
-  passes_front h front (Short lines at outer leaf) = rw (tells_append root is h front lines, heard_append root h front lines) refl
+      rw (tells_append root is h front lines, heard-append (is_header_root root) h front lines) (sym (front_twice (tells root is h front) (tells root is (heard (is_header_root root) h front) lines) (next (heard (is_header_root root) (heard (is_header_root root) h front) lines) at s)))
+  passes_front h front (Short lines at outer leaf) = rw (tells_append root is h front lines, heard-append (is_header_root root) h front lines) refl
   passes_front h front (Fault lines at why T) =
       rw (tells_append root is h front lines) (ap (λ ls. Comes ls at Over) (append_assoc (tells root is h front) (tells root is (heard (is_header_root root) h front) lines) (tell at (Wrong why) ∷ [])))
 

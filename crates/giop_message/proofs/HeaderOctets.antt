@@ -21,7 +21,7 @@ use Rattle.giop_decode.specs.Steps.{Now, OneAt}
 use Rattle.giop_decode.specs.Heard.{Heard, nothing, hear, heard, heard_of, hushed, in_string, ends_text, is_member, ends_operation, names_operation}
 use Rattle.giop_decode.specs.Holding as decoders
 use Rattle.giop_decode.specs.Spelling.{lines_text}
-use Rattle.giop_decode.proofs.ReadingLaws.{lines_front, heard-append, read_keeps}
+use Rattle.giop_decode.proofs.ReadingLaws.{front_inside, lines_front, heard-append, read_keeps}
 use Rattle.giop_message.specs.declared.message.Message.{Message as Struct_of}
 use Rattle.giop_message.specs.declared.message.Part.TheVariants as parts
 use Rattle.giop_message.specs.Headers.{minor, kind, order}
@@ -34,7 +34,7 @@ use Rattle.giop_message.specs.Moves.{fault_text, called_text, request_call, Arri
 use Rattle.giop_message.proofs.Going.{after_header_goes}
 use Rattle.giop_message.proofs.Causal.{after_header_silent}
 use Rattle.giop_message.proofs.Spelling.{call_said}
-use Rattle.giop_message.proofs.Operations.{mute_front, step_closed, NoEnds}
+use Rattle.giop_message.proofs.Operations.{step_closed, NoEnds}
 use Rattle.giop_message.proofs.LastParts.{request_ends, header_fit, EndsOtherwise, done_test, last_no_call}
 use Rattle.giop_message.proofs.Octets.{wrongs, first_call, one_of}
 use Rattle.giop_message.proofs.Parts.{stepped, outer_in, leaf_in, read_short, read_more, stepped_now, lines_due, text_here, due_here, done_here, fault_here}
@@ -101,7 +101,7 @@ and_last false b e = absurd (false≢true e)
 -- where a line ends an operation, what is heard is what it leaves
 muted : (lines : List Line) (st : Read) (l : Line) → NoEnds st ⊎ (in_string st ≡ false) → lines_of st ≡ l ∷ [] → ends_operation true l ≡ true → heard_of true (Spine.with_front lines st) ≡ hear true (heard true nothing lines) l
 muted lines st l closed e ends =
-    let mute : in_string (Spine.with_front lines st) ≡ false = mute_front lines st ∙ go closed in
+    let mute : in_string (Spine.with_front lines st) ≡ false = front_inside lines st ∙ go closed in
     ap (λ quiet. hushed quiet (heard true nothing (lines_of (Spine.with_front lines st)))) mute
     ∙ (ap (heard true nothing) (lines_front lines st ∙ ap (λ ls. lines ++ ls) e) ∙ heard-append true nothing lines (l ∷ []))
   where

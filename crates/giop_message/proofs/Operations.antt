@@ -14,15 +14,10 @@ use Rattle.giop_decode.specs.Pieces.{Grab, Waiting, Got, unless, over, block, co
 use Rattle.giop_decode.specs.Reading.{read, headed, wrong, refused, member, parts_from}
 use Rattle.giop_decode.specs.Steps.{inner_path, Quiet, Now, after, block_step, head_width, leaf_step, number_step, part_at, seg_of, step}
 use Rattle.giop_decode.specs.Heard.{in_string, ends_text}
-use Rattle.giop_decode.proofs.ReadingLaws.{block_waits, width_pos, each_append, number_none, quiet_within, part_quiet, read_quiet, parts_quiet, step_now, lines_front}
-use Rattle.giop_message.proofs.Saying.{IsAll, number_all, block_all, now_within}
+use Rattle.giop_decode.proofs.ReadingLaws.{front_inside, now_within, block_waits, width_pos, each_append, number_none, quiet_within, part_quiet, read_quiet, parts_quiet, step_now, lines_front}
+use Rattle.giop_message.proofs.Saying.{IsAll, number_all, block_all}
 
 -- ---- no octets begin no string
-
-pub mute_front : (front : List Line) (r : Read) → in_string (with_front front r) ≡ in_string r
-mute_front front (Done lines at rest) = refl
-mute_front front (Short lines at outer leaf) = refl
-mute_front front (Fault lines at why T) = refl
 
 mute_within : (place : Place) (r : Read) → in_string (within place r) ≡ in_string r
 mute_within place (Done lines at rest) = refl
@@ -30,7 +25,7 @@ mute_within place (Short lines at outer leaf) = refl
 mute_within place (Fault lines at why T) = refl
 
 mute_followed : (n : ℕ) (r : Read) (next : ℕ → List ℕ → Read) → Quiet n r → in_string r ≡ false → in_string (next n []) ≡ false → in_string (followed r next) ≡ false
-mute_followed n (Done lines at rest) next quiet h k = rw (quiet.1, quiet.2) (mute_front lines (next n []) ∙ k)
+mute_followed n (Done lines at rest) next quiet h k = rw (quiet.1, quiet.2) (front_inside lines (next n []) ∙ k)
 mute_followed n (Short lines at outer leaf) next quiet h k = h
 mute_followed n (Fault lines at why T) next quiet h k = h
 
@@ -152,7 +147,7 @@ closed_within place (Short lines at outer leaf) h = h
 closed_within place (Fault lines at why T) h = h
 
 closed_followed : (n : ℕ) (r : Read) (next : ℕ → List ℕ → Read) → Now n r → in_string (next n []) ≡ false → Closed r → Closed (followed r next)
-closed_followed n (Done lines at rest) next now mute h = rw (now.1, now.2) (inr (mute_front lines (next n []) ∙ mute))
+closed_followed n (Done lines at rest) next now mute h = rw (now.1, now.2) (inr (front_inside lines (next n []) ∙ mute))
 closed_followed n (Short lines at outer leaf) next now mute h = h
 closed_followed n (Fault lines at why T) next now mute h = h
 

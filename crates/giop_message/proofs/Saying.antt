@@ -13,7 +13,7 @@ use Rattle.giop_cdr.specs.Alignment.{padding}
 use Rattle.giop_decode.specs.Pieces.{Grab, Waiting, Got, block, unless, over, content, full_piece, full_pieces, last_piece, tail, ends, text}
 use Rattle.giop_decode.specs.Reading.{read, headed, single, wrong, refused, member, parts_from}
 use Rattle.giop_decode.specs.Steps.{inner_path, Quiet, Now, after, block_step, head_width, leaf_step, number_step, part_at, path_in, seg_of, step}
-use Rattle.giop_decode.proofs.ReadingLaws.{each_append, quiet_within, read_quiet, parts_quiet, step_now, lines_front}
+use Rattle.giop_decode.proofs.ReadingLaws.{now_within, each_append, quiet_within, read_quiet, parts_quiet, step_now, lines_front}
 
 -- a line of the part with this path
 pub record IsOf (path : List Seg) (l : Line) : Type 0 where
@@ -141,11 +141,6 @@ lines_within : (place : Place) (r : Read) → lines_of (within place r) ≡ line
 lines_within place (Done lines at rest) = refl
 lines_within place (Short lines at outer leaf) = refl
 lines_within place (Fault lines at why S) = refl
-
-pub now_within : (n : ℕ) (place : Place) (r : Read) → Now n r → Now n (within place r)
-now_within n place (Done lines at rest) h = h
-now_within n place (Short lines at outer leaf) h = h
-now_within n place (Fault lines at why S) h = h
 
 lines_step : (coding : Coding) (path : List Seg) (outer : List Place) (leaf : Leaf) (at b : ℕ) → lines_of (step coding path outer leaf at b) ≡ lines_of (leaf_step coding (path_in path outer) leaf at b)
 lines_step coding path [] leaf at b = refl
