@@ -218,10 +218,6 @@ module _ (C : Table) (l : Listed) where
       let kept : IsKept C l x.message w (c.known w.number) = rw p.is at was.message in
       f w (sym number ∙ sym was.number) kept
 
-  pub own_says : (P : List Line → Type 0) (s : Slots) (c : Scene) (whose : Option Title) (at : ℕ) (what : Happening) → s.payload ≡ payload.Own → Keeps C l s c whose
-      → ((w : Title) → IsKept C l s.own w (c.known w.number) → P (lines_of (message_reading C l) (event at w what) (c.known w.number))) → P (lines_to C l at c whose what)
-  own_says P s c whose at what e k f = of_own (λ whose. P (lines_to C l at c whose what)) s c whose e k f
-
   pub slot_says : (P : List Line → Type 0) (s : Slots) (x : Kept_slot) (c : Scene) (whose : Option Title) (k : ℕ) (at : ℕ) (what : Happening) → s.payload ≡ payload.Open k → slice_get s.slots.items k ≡ Some x → Keeps C l s c whose
       → ((w : Title) → w.number ≡ x.number → IsKept C l x.message w (c.known w.number) → P (lines_of (message_reading C l) (event at w what) (c.known w.number))) → P (lines_to C l at c whose what)
   slot_says P s x c whose k at what e get h f = of_slot (λ whose. P (lines_to C l at c whose what)) s x c whose k e get h f

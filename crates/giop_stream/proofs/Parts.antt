@@ -1,5 +1,5 @@
 -- An octet of a payload part by part, as the code does it: the message whose it is takes it, then the request id, then the end.
-use Rattle.std.proofs.Common.{inl, inr, ◌≡◌, ℕ, ◌+◌, ◌-◌, ◌<◌, ◌≤◌, Bool, true, false, List, [], ◌∷◌, ◌++◌, length, get_or, refl, sym, ap, ◌∙◌, Option, Some, None, arith}
+use Rattle.std.proofs.Common.{inl, inr, append-nil, suc, ◌≡◌, ℕ, ◌+◌, ◌-◌, ◌<◌, ◌≤◌, Bool, true, false, List, [], ◌∷◌, ◌++◌, length, get_or, refl, sym, ap, ◌∙◌, Option, Some, None, arith}
 use Rattle.std.specs.Prelude.{◌==◌, if◌then◌else◌}
 use Rattle.std.proofs.lemmas.Bool.{ne_eqb, eqb-true, le-leb, lt-ltb, cases_lt}
 use Rattle.std.proofs.lemmas.List.{length_push, get_or_push, take-append-le}
@@ -19,7 +19,8 @@ use Rattle.giop_stream.specs.Text.{line_text, lines_text}
 use Rattle.giop_stream.specs.Stream.{fault_count}
 use Rattle.giop_stream.proofs.Grown.{count_append}
 use Rattle.giop_stream.specs.Plays.{Scene, Play, plays, scene_at, with_octet}
-use Rattle.giop_stream.specs.Keeping.{Keeps, event, scene_to}
+use Rattle.giop_stream.specs.Keeping.{Keeps, event, scene_to, lines_to}
+use Rattle.giop_stream.specs.Runs.{run_scene, run_lines}
 use Rattle.giop_stream.specs.Whose.{IsNext, IsTaken, IsAt, IsNewest, opener_title, whose, whose_octet, whose_after, id_events, end_events}
 use Rattle.giop_stream.proofs.Happenings.{quiet_octet, quiet_continues}
 use Rattle.giop_stream.proofs.HappeningsKeep.{rising_push, rising_filter, opened_by, kept_id}
@@ -167,8 +168,21 @@ module _ (C : Table) (l : Listed) (s : Slots) (c : Scene) (m : Message) (now : C
   pub some_come : length (m.payload ++ x ∷ []) ≡ 0 → ⊥
   some_come e = omega (arith, length_push m.payload x, e)
 
-  pub takes_is : DoesTo C l now.place c (whose c.live m) (Takes x) (first (message_reading C l) c (with_octet m x))
-  takes_is = rw (← whose_next c.live m x) (octet_does C l c (with_octet m x) x now.place last_is h.current.place)
+  some_place : suc (now.place - 1) ≡ now.place
+  unfolding place
+  some_place = omega (arith, h.current.place)
+
+  takes_at : DoesTo C l now.place c (whose c.live m) (Takes x) (first (message_reading C l) c (with_octet m x))
+  takes_at = rw (← whose_next c.live m x) (octet_does C l c (with_octet m x) x now.place last_is h.current.place)
+
+  -- which is a run of one octet
+  pub takes_lines : (first (message_reading C l) c (with_octet m x)).lines ≡ run_lines C l (now.place - 1) c (whose c.live m) (x ∷ [])
+  unfolding run_lines
+  takes_lines = takes_at.lines ∙ rw some_place (sym (append-nil (lines_to C l now.place c (whose c.live m) (Takes x))))
+
+  takes_scene : (first (message_reading C l) c (with_octet m x)).scene ≡ run_scene C l (now.place - 1) c (whose c.live m) (x ∷ [])
+  unfolding run_scene
+  takes_scene = takes_at.scene ∙ rw some_place refl
 
   known_is : length m.payload < 4 → has_name m.header ≡ true → (first (message_reading C l) c (with_octet m x)).scene.known m.number ≡ Some (m.payload ++ x ∷ [])
   known_is few name =
@@ -179,14 +193,14 @@ module _ (C : Table) (l : Listed) (s : Slots) (c : Scene) (m : Message) (now : C
       ∙ (own_then (message_reading C l) c (event now.place (title m) (Takes x))
       ∙ rw (h.alive name few) (named_then (message_reading C l) (in_turn C l) now.place (title m) m.payload x name few))
 
-  pub taken_here : (s' : Slots) → Keeps C l s' (scene_to C l now.place c (whose c.live m) (Takes x)) (whose c.live m) → IsTaken C l s' (first (message_reading C l) c (with_octet m x)).scene (with_octet m x) now
+  pub taken_here : (s' : Slots) → Keeps C l s' (run_scene C l (now.place - 1) c (whose c.live m) (x ∷ [])) (whose c.live m) → IsTaken C l s' (first (message_reading C l) c (with_octet m x)).scene (with_octet m x) now
   taken_here s' k =
       let R = message_reading C l in
       let m' = with_octet m x in
       let live : (first R c m').scene.live ≡ c.live = first_live R c m' in
       let w : whose_octet (first R c m').scene.live m' ≡ whose c.live m = ap (λ (open' : List Open). whose_octet open' m') live ∙ whose_next c.live m x in
       record {
-        keeps = rw (w, takes_is.scene) k;
+        keeps = rw (w, takes_scene) k;
         rising = rw live h.rising;
         current = h.current;
         come = omega (arith, length_push m.payload x, h.come);

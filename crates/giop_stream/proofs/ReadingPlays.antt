@@ -1,6 +1,6 @@
 -- What the reading of a message by a table makes of its events, and what a message's calls do of it.
-use Rattle.std.proofs.Common.{inl, inr, ◌⊎◌, ◌≡◌, ℕ, zero, suc, ◌-◌, ◌<◌, Bool, true, false, List, [], ◌∷◌, ◌++◌, length, take, map, refl, sym, ap, subst, ◌∙◌, arith, append-nil, Option, Some, None, Result, Ok, Err}
-use Rattle.std.specs.Prelude.{◌==◌, ◌&&◌, ◌||◌, if◌then◌else◌, is_some, IfOk}
+use Rattle.std.proofs.Common.{inl, inr, ◌≡◌, ℕ, suc, ◌-◌, Bool, true, false, List, [], ◌∷◌, ◌++◌, length, map, refl, sym, ap, subst, ◌∙◌, append-nil, Option, Some, None, Result, Ok, Err}
+use Rattle.std.specs.Prelude.{◌||◌, if◌then◌else◌, is_some, IfOk}
 use Rattle.std.specs.List.{list_any}
 use Rattle.std.proofs.lemmas.Bool.{eq-eqb}
 use Rattle.giop_print.specs.Lines.{fault_line, cancelled_line}
@@ -10,9 +10,9 @@ use Rattle.giop_message.specs.Reading.{Saying, Value, Call, Rest, Fault, End, Re
 use Rattle.giop_message.specs.Text.{saying_line, said_text}
 use Rattle.giop_message.specs.Signatures.{Kept as Listed, said_by}
 use Rattle.giop_message.specs.Messages.{message, stage_of, close}
-use Rattle.giop_message.specs.MessageReading.{message_reading, is_over}
-use Rattle.giop_message.specs.Holding.{due_text, closing_text, closes_text, is_short, Follows, TookAll, FaultedAt}
-use Rattle.giop_message.proofs.MessageLaws.{is_ordered, follows_goes, octet_text, octet_over, close_short, is_closing, close_is}
+use Rattle.giop_message.specs.MessageReading.{message_reading}
+use Rattle.giop_message.specs.Holding.{due_text, closing_text, closes_text, is_short, Follows}
+use Rattle.giop_message.proofs.MessageLaws.{is_ordered, octet_text, close_short, is_closing, close_is}
 use Rattle.giop_stream.specs.declared.fault.ImposedFault.{ImposedFault}
 use Rattle.giop_stream.specs.Events.{Title, Event, Takes, Imposed, Cancelled, Closes, octet, joined}
 use Rattle.giop_stream.specs.Lines.{Line, Said, Ended_by, Faulted, line, tells, is_last_of, standing}
@@ -20,7 +20,7 @@ use Rattle.giop_stream.specs.Text.{imposed_word, lines_text}
 use Rattle.giop_stream.specs.Stream.{fault_count}
 use Rattle.giop_stream.specs.Machine.{utters_kept}
 use Rattle.giop_stream.specs.Plays.{lines_of, octets_then}
-use Rattle.giop_stream.specs.Keeping.{IsKept, IsReady, event}
+use Rattle.giop_stream.specs.Keeping.{IsKept, event}
 
 -- ---- Lines that a reading says.
 
@@ -73,16 +73,6 @@ few_at_close a b c more (inl e) = absurd cc
 few_at_close a b c more (inr (inl e)) = absurd cc
 few_at_close a b c more (inr (inr e)) = absurd cc
 
-one_at_close : (s : Saying) → AtClose (s ∷ []) → (s ≡ Fault) ⊎ (s ≡ End)
-one_at_close s (inl e) = inl cc
-one_at_close s (inr (inl e)) = inr cc
-one_at_close s (inr (inr e)) = absurd cc
-
-none_at_close : AtClose [] → ⊥
-none_at_close (inl e) = absurd cc
-none_at_close (inr (inl e)) = absurd cc
-none_at_close (inr (inr e)) = absurd cc
-
 turn_stands : (at n : ℕ) (rs : List Remark) → InTurn (map (λ r. r.saying) rs) → standing (λ i. false) (said_lines at n rs) ≡ said_lines at n rs
 unfolding standing is_last_of
 turn_stands at n [] h = refl
@@ -132,17 +122,6 @@ close_faults at n [] h = refl
 close_faults at n (c ∷ []) h = unfold fault_count in one_fault at n c.0 c.1
 close_faults at n (c ∷ d ∷ []) h = let e = two_closes c.0 d.0 h in rw (e.0, e.1) refl
 close_faults at n (c ∷ d ∷ e ∷ cs) h = absurd (few_at_close c.0 d.0 e.0 (map (λ c. c.0) cs) h)
-
-close_last : (at n : ℕ) (cs : List (Saying × List ℕ)) → AtClose (map (λ c. c.0) cs) → list_any (is_last_of n) (close_lines at n cs) ≡ true
-unfolding is_last_of
-close_last at n [] h = absurd (none_at_close h)
-close_last at n (c ∷ []) h = go (one_at_close c.0 h)
-  where
-    go : (c.0 ≡ Fault) ⊎ (c.0 ≡ End) → (((n == n) && is_last c.0) || false) ≡ true
-    go (inl e) = rw (e, eq-eqb n n refl) refl
-    go (inr e) = rw (e, eq-eqb n n refl) refl
-close_last at n (c ∷ d ∷ []) h = let e = two_closes c.0 d.0 h in rw (e.0, e.1, eq-eqb n n refl) refl
-close_last at n (c ∷ d ∷ e ∷ cs) h = absurd (few_at_close c.0 d.0 e.0 (map (λ c. c.0) cs) h)
 
 one_octet : (at : ℕ) (w : Title) (x : ℕ) → joined w.number (event at w (Takes x) ∷ []) ≡ x ∷ []
 unfolding joined octet
@@ -203,55 +182,12 @@ module _ (C : Table) (l : Listed) where
   take_text before w xs x =
       ap lines_text (take_lines (suc before) w xs x) ∙ (said_is (suc before) w.number (due R_of w.header xs x) ∙ sym (octet_text (said_by C l) w.number before w.header xs x))
 
-  pub given_text : (P : List ℕ → Type 0) (m : Message) (w : Title) (o : Option (List ℕ)) (at before x : ℕ) → suc before ≡ at → IsKept C l (Some m) w o
-      → ((number : ℕ) (header s : List ℕ) → Follows C l number header m s → P (due_text (said_by C l) number before header s (x ∷ [])))
-      → P (lines_text (lines_of R_of (event at w (Takes x)) o))
-  given_text P m w (Some xs) at before x e k f = rw (← e) (subst P (sym (take_text before w xs x)) (f w.number w.header xs k))
-  given_text P m w None at before x e k f = absurd k
-
   pub then_by : (at : ℕ) (w : Title) (xs : List ℕ) (x : ℕ) → octets_then R_of (event at w (Takes x)) (Some xs) ≡ (if Faulty w xs x then None else Some (xs ++ x ∷ []))
   unfolding octets_then octet
   then_by at w xs x = rw (take_lines at w xs x, turn_last at w.number (due R_of w.header xs x) (in_turn w.header xs x)) refl
 
   pub faults_by : (at : ℕ) (w : Title) (xs : List ℕ) (x : ℕ) → fault_count (lines_of R_of (event at w (Takes x)) (Some xs)) ≡ (if Faulty w xs x then 1 else 0)
   faults_by at w xs x = rw (take_lines at w xs x) (turn_faults at w.number (due R_of w.header xs x) (in_turn w.header xs x))
-
-  -- what a message took of this one octet
-  abbrev pub Tells : Message → Message → ℕ → Option ℕ → Type 0
-  Tells m m' x found = (number : ℕ) (header s : List ℕ) → Follows C l number header m s → TookAll C l number header m' s (x ∷ []) found
-
-  goes_on : (m m' : Message) (w : Title) (xs : List ℕ) (x : ℕ) → Follows C l w.number w.header m xs → Follows C l w.number w.header m' (xs ++ x ∷ []) → Faulty w xs x ≡ false
-  goes_on m m' w xs x k k' = sym (octet_over (said_by C l) w.header xs x (follows_goes C l w.number w.header m xs k)) ∙ follows_goes C l w.number w.header m' (xs ++ x ∷ []) k'
-
-  take_one : (n x : ℕ) → 0 < n → take n (x ∷ []) ≡ x ∷ []
-  take_one zero x h = absurd (omega arith)
-  take_one (suc zero) x h = refl
-  take_one (suc (suc n)) x h = refl
-
-  is_faulted : (m : Message) (w : Title) (xs : List ℕ) (x n : ℕ) → Follows C l w.number w.header m xs → FaultedAt (said_by C l) w.header xs (x ∷ []) n → Faulty w xs x ≡ true
-  is_faulted m w xs x n k f =
-      sym (octet_over (said_by C l) w.header xs x (follows_goes C l w.number w.header m xs k))
-      ∙ (ap (λ (s : List ℕ). is_over (stage_of (message (said_by C l) w.header (xs ++ s)))) (sym (take_one n x f.some)) ∙ f.here)
-
-  pub given_kept : (m m' : Message) (w : Title) (o : Option (List ℕ)) (at x : ℕ) (found : Option ℕ) → is_some found ≡ false → IsKept C l (Some m) w o → Tells m m' x found → IsKept C l (Some m') w (octets_then R_of (event at w (Takes x)) o)
-  given_kept m m' w (Some xs) at x None e k f = let k' = f w.number w.header xs k in rw (then_by at w xs x, goes_on m m' w xs x k k') k'
-  given_kept m m' w (Some xs) at x (Some n) e k f = absurd cc
-  given_kept m m' w None at x found e k f = absurd k
-
-  pub given_faultless : (m m' : Message) (w : Title) (o : Option (List ℕ)) (at x : ℕ) (found : Option ℕ) → is_some found ≡ false → IsKept C l (Some m) w o → Tells m m' x found → fault_count (lines_of R_of (event at w (Takes x)) o) ≡ 0
-  given_faultless m m' w (Some xs) at x None e k f = let k' = f w.number w.header xs k in rw (faults_by at w xs x, goes_on m m' w xs x k k') refl
-  given_faultless m m' w (Some xs) at x (Some n) e k f = absurd cc
-  given_faultless m m' w None at x found e k f = absurd k
-
-  pub given_over : (m m' : Message) (w : Title) (o : Option (List ℕ)) (at x : ℕ) (found : Option ℕ) → is_some found ≡ true → IsKept C l (Some m) w o → Tells m m' x found → IsKept C l None w (octets_then R_of (event at w (Takes x)) o)
-  given_over m m' w (Some xs) at x (Some n) e k f = rw (then_by at w xs x, is_faulted m w xs x n k (f w.number w.header xs k)) tt
-  given_over m m' w (Some xs) at x None e k f = absurd cc
-  given_over m m' w None at x found e k f = absurd k
-
-  pub given_fault : (m m' : Message) (w : Title) (o : Option (List ℕ)) (at x : ℕ) (found : Option ℕ) → is_some found ≡ true → IsKept C l (Some m) w o → Tells m m' x found → fault_count (lines_of R_of (event at w (Takes x)) o) ≡ 1
-  given_fault m m' w (Some xs) at x (Some n) e k f = rw (faults_by at w xs x, is_faulted m w xs x n k (f w.number w.header xs k)) refl
-  given_fault m m' w (Some xs) at x None e k f = absurd cc
-  given_fault m m' w None at x found e k f = absurd k
 
   -- ---- A close.
 
@@ -263,11 +199,6 @@ module _ (C : Table) (l : Listed) where
       ap lines_text (closing_lines at w xs) ∙ (closed_is at w.number (R_of.closes w.header xs) ∙ sym (close_is (said_by C l) w.number at w.header xs)) in
       subst P (sym text) (f w.number w.header xs k)
   shut_text P m w None at k f = absurd k
-
-  pub shut_then : (w : Title) (o : Option (List ℕ)) (at : ℕ) → octets_then R_of (event at w Closes) o ≡ None
-  unfolding octets_then
-  shut_then w (Some xs) at = rw (closing_lines at w xs, close_last at w.number (R_of.closes w.header xs) (at_close w.header xs)) refl
-  shut_then w None at = over_then R_of (event at w Closes)
 
   shut_by : (at : ℕ) (w : Title) (xs : List ℕ) → fault_count (lines_of R_of (event at w Closes) (Some xs)) ≡ (if is_short (close (stage_of (message (said_by C l) w.header xs))) then 1 else 0)
   shut_by at w xs = rw (closing_lines at w xs, close_short (said_by C l) w.header xs) (close_faults at w.number (R_of.closes w.header xs) (at_close w.header xs))
@@ -291,10 +222,6 @@ module _ (C : Table) (l : Listed) where
   none_faults w None e k = rw (over_lines R_of e) refl
   none_faults w (Some xs) e k = absurd k
 
-  pub none_kept : (w : Title) (o : Option (List ℕ)) (e : Event) → IsKept C l None w o → IsKept C l None w (octets_then R_of e o)
-  none_kept w None e k = rw (over_then R_of e) tt
-  none_kept w (Some xs) e k = absurd k
-
   pub imposed_kept : (w : Title) (o : Option (List ℕ)) (at : ℕ) (fault : ImposedFault) → IsKept C l None w (octets_then R_of (event at w (Imposed fault)) o)
   imposed_kept w o at fault = rw (imposed_then R_of w o at fault) tt
 
@@ -315,8 +242,3 @@ module _ (C : Table) (l : Listed) where
   cancelled_text (Some m) w (Some xs) at j h k = rw (cancelled_lines R_of at w j xs) (append-nil (cancelled_line w.number j))
   cancelled_text (Some m) w None at j h k = absurd k
   cancelled_text None w o at j h k = absurd cc
-
--- a message that is ready for an octet has octets before it
-pub ready_before : (C : Table) (at : ℕ) (message : Option Message) (m : Message) → message ≡ Some m → IsReady C at message → suc (at - 1) ≡ at
-ready_before C at None m e h = absurd cc
-ready_before C at (Some n) m e h = omega (arith, h.1)

@@ -246,6 +246,7 @@ pub fn octet<O: Out>(
 ) -> Result<u8, OutFault>
     requires ready { AreReady catalogue.now now.place slots.old }
     requires of { AreOf catalogue.now requests.now }
+    requires place { 1 ≤ now.place }
     requires limit { now.place ≤ 2 ^ 48 }
     ensures text { (c : Scene) (m : Message) → IsNext catalogue.now requests.now slots.old c m now octet →
         Writes result (O.log out.old) (O.log out.new) (lines_text (plays (message_reading catalogue.now requests.now) c (happens c.live (with_octet m octet))).lines) }
@@ -257,7 +258,8 @@ pub fn octet<O: Out>(
     ensures few { IfOk result (λ faults. faults ≤ 3) }
     ensures ready { OnOk result (AreReady catalogue.now (now.place + 1) slots.new) }
 {
-    let taken = slots.take(catalogue, requests, octet, now.place, out)?;
+    let before = now.place - 1;
+    let taken = slots.take(catalogue, requests, &[octet], before, out)?;
     let named = names(slots, now, out)?;
     let ended = finishes(slots, catalogue, now, out)?;
     Ok(count(taken, named, ended))

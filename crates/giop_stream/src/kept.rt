@@ -6,7 +6,7 @@ ghost use Rattle.giop_sig.specs.Table.{Table};
 ghost use Rattle.giop_message.specs.Signatures.{Kept as Listed};
 ghost use Rattle.giop_message.specs.MessageReading.{message_reading};
 ghost use Rattle.giop_message.specs.Holding.{AreOf};
-ghost use Rattle.giop_stream.specs.Events.{Title, Takes, Imposed, Closes};
+ghost use Rattle.giop_stream.specs.Events.{Title, Imposed, Closes};
 ghost use Rattle.giop_stream.specs.Text.{lines_text};
 ghost use Rattle.giop_stream.specs.Stream.{fault_count};
 ghost use Rattle.giop_stream.specs.Plays.{lines_of, octets_then};
@@ -26,41 +26,8 @@ fn forget(message: &mut Option<Message>)
     *message = None;
 }
 
-/// Gives a message an octet; says whether that faults it.
-pub fn give<O: Out>(
-    message: &mut Option<Message>,
-    catalogue: &Catalogue,
-    requests: &Requests,
-    octet: u8,
-    place: u64,
-    out: &mut O,
-) -> Result<bool, OutFault>
-    requires ready { IsReady catalogue.now place message.old }
-    requires of { AreOf catalogue.now requests.now }
-    requires limit { place ≤ 2 ^ 48 }
-    ensures text { (w : Title) (o : Option (List ℕ)) → IsKept catalogue.now requests.now message.old w o →
-        Writes result (O.log out.old) (O.log out.new) (lines_text (lines_of (message_reading catalogue.now requests.now) (event place w (Takes octet)) o)) }
-    ensures kept { (w : Title) (o : Option (List ℕ)) → IsKept catalogue.now requests.now message.old w o →
-        OnOk result (IsKept catalogue.now requests.now message.new w (octets_then (message_reading catalogue.now requests.now) (event place w (Takes octet)) o)) }
-    ensures faults { (w : Title) (o : Option (List ℕ)) → IsKept catalogue.now requests.now message.old w o →
-        IfOk result (λ fault. fault_count (lines_of (message_reading catalogue.now requests.now) (event place w (Takes octet)) o) ≡ (if fault then 1 else 0)) }
-    ensures ready { OnOk result (IsReady catalogue.now (place + 1) message.new) }
-{
-    let Some(m) = message else {
-        return Ok(false);
-    };
-    let before = place - 1;
-    if m.take(catalogue, requests, &[octet], before, out)?
-        .is_none()
-    {
-        return Ok(false);
-    }
-    forget(message);
-    Ok(true)
-}
-
 /// Gives a message octets, behind so many of the stream; says whether one of them faults it.
-pub fn give_run<O: Out>(
+pub fn give<O: Out>(
     message: &mut Option<Message>,
     catalogue: &Catalogue,
     requests: &Requests,

@@ -65,7 +65,7 @@ impl Framing {
         self.come = self.come.saturating_add(come);
         if self
             .slots
-            .take_run(catalogue, requests, octets, before, out)?
+            .take(catalogue, requests, octets, before, out)?
         {
             self.totals.faults += 1;
         }

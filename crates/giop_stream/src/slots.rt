@@ -5,13 +5,13 @@ ghost use Rattle.giop_print.specs.Output.{Writes};
 ghost use Rattle.giop_sig.specs.Table.{Table};
 ghost use Rattle.giop_message.specs.Signatures.{Kept as Listed};
 ghost use Rattle.giop_message.specs.Holding.{AreOf};
-ghost use Rattle.giop_stream.specs.Events.{Title, Takes, Imposed, Closes};
+ghost use Rattle.giop_stream.specs.Events.{Title, Imposed, Closes};
 ghost use Rattle.giop_stream.specs.Text.{lines_text};
 ghost use Rattle.giop_stream.specs.Stream.{fault_count};
 ghost use Rattle.giop_stream.specs.Plays.{Scene};
 
 use crate::fault::ImposedFault;
-use crate::kept::{give, give_run, impose, shut};
+use crate::kept::{give, impose, shut};
 use arrayvec::ArrayVec;
 use giop_message::Message;
 use giop_print::{Out, OutFault, cancelled_line, unfinished_line};
@@ -85,39 +85,9 @@ impl Slots {
         Ok(())
     }
 
-    /// Gives an octet of the payload to the message whose it is; says whether that faults it.
-    pub fn take<O: Out>(
-        &mut self,
-        catalogue: &Catalogue,
-        requests: &Requests,
-        octet: u8,
-        place: u64,
-        out: &mut O,
-    ) -> Result<bool, OutFault>
-        requires ready { AreReady catalogue.now place self.old }
-        requires of { AreOf catalogue.now requests.now }
-        requires limit { place ≤ 2 ^ 48 }
-        ensures text { (c : Scene) (whose : Option Title) → Keeps catalogue.now requests.now self.old c whose →
-            Writes result (O.log out.old) (O.log out.new) (lines_text (lines_to catalogue.now requests.now place c whose (Takes octet))) }
-        ensures kept { (c : Scene) (whose : Option Title) → Keeps catalogue.now requests.now self.old c whose → Rising c.live →
-            OnOk result (Keeps catalogue.now requests.now self.new (scene_to catalogue.now requests.now place c whose (Takes octet)) whose) }
-        ensures faults { (c : Scene) (whose : Option Title) → Keeps catalogue.now requests.now self.old c whose →
-            IfOk result (λ fault. fault_count (lines_to catalogue.now requests.now place c whose (Takes octet)) ≡ (if fault then 1 else 0)) }
-        ensures ready { OnOk result (AreReady catalogue.now (place + 1) self.new) }
-    {
-        match self.payload {
-            Payload::Own => give(&mut self.own, catalogue, requests, octet, place, out),
-            Payload::Open(k) => match self.slots.get_mut(k) {
-                Some(slot) => give(&mut slot.message, catalogue, requests, octet, place, out),
-                None => Ok(false),
-            },
-            Payload::Nobody => Ok(false),
-        }
-    }
-
     /// Gives octets of the payload, behind so many of the stream, to the message whose they are; says whether one of them
     /// faults it.
-    pub fn take_run<O: Out>(
+    pub fn take<O: Out>(
         &mut self,
         catalogue: &Catalogue,
         requests: &Requests,
@@ -137,10 +107,10 @@ impl Slots {
         ensures ready { OnOk result (AreReady catalogue.now (before + length octets.now + 1) self.new) }
     {
         match self.payload {
-            Payload::Own => give_run(&mut self.own, catalogue, requests, octets, before, out),
+            Payload::Own => give(&mut self.own, catalogue, requests, octets, before, out),
             Payload::Open(k) => match self.slots.get_mut(k) {
                 Some(slot) => {
-                    give_run(&mut slot.message, catalogue, requests, octets, before, out)
+                    give(&mut slot.message, catalogue, requests, octets, before, out)
                 }
                 None => Ok(false),
             },

@@ -9,8 +9,8 @@ use Rattle.giop_stream.proofs.Doing.{on_err, has_current}
 use Rattle.giop_stream.proofs.Running.{run_keeps, run_fits, run_rises, run_does, run_shows, number_fits}
 use Rattle.giop_stream.proofs.framing.Framing.run.Goals as goal
 
-pub returns-in_err-take_run-clause-does : goal.returns-in_err-take_run-clause-does
-returns-in_err-take_run-clause-does g c s r h =
+pub returns-in_err-take-clause-does : goal.returns-in_err-take-clause-does
+returns-in_err-take-clause-does g c s r h =
     let C = c.args.catalogue.now in
     let kept = c.args.requests.now in
     let m = shown c.args.self.now in
@@ -20,7 +20,7 @@ returns-in_err-take_run-clause-does g c s r h =
     let keeps = run_keeps C kept s r m h asks.running here.0 here.1 q asks.named asks.before_last asks.limit in
     let failed = c.from_residual.ensures.0 in
     run_does C kept s r m h asks.running here.0 here.1 q asks.named asks.before_last asks.limit _ _ _ _
-    (writes_front c.from_residual.result (g.O.Out.log c.args.out.now) (g.O.Out.log c.take_run.new.out) _ failed (c.in_err-take_run.ensures.text (stage (message_reading C kept) r.stream) (whose (open_after r.stream) here.0) keeps)) (on_err _ c.from_residual.result failed)
+    (writes_front c.from_residual.result (g.O.Out.log c.args.out.now) (g.O.Out.log c.take.new.out) _ failed (c.in_err-take.ensures.text (stage (message_reading C kept) r.stream) (whose (open_after r.stream) here.0) keeps)) (on_err _ c.from_residual.result failed)
 
 pub returns-then-branch-clause-does : goal.returns-then-branch-clause-does
 returns-then-branch-clause-does g c s r h =
@@ -36,7 +36,7 @@ returns-then-branch-clause-does g c s r h =
     let fits = run_fits C kept s r m h asks.running here.0 here.1 q asks.named asks.before_last asks.limit in
     let rises = run_rises C kept s r m h asks.running here.0 here.1 q asks.named asks.before_last asks.limit in
     let all : c.unwrap_or-come.result ≡ length q = c.unwrap_or-come.ensures ∙ number_fits c.try_from.result (length q) _ (omega (arith, fits)) c.try_from.ensures in
-    let does = c.in_ok-take_run.ensures in
+    let does = c.in_ok-take.ensures in
     let one = rw c.if-branch.true at (does.faults scene who keeps) in
     run_does C kept s r m h asks.running here.0 here.1 q asks.named asks.before_last asks.limit _ _ _ _ (does.text scene who keeps)
     (run_shows C kept s r m h asks.running here.0 here.1 q asks.named asks.before_last asks.limit _ refl (ap (λ (n : ℕ). c.args.self.now.totals.faults + n) (sym one)) refl refl refl (omega (arith, c.saturating_add-self.ensures, all, fits)) (does.kept scene who keeps rises))
@@ -55,7 +55,7 @@ returns-else-branch-clause-does g c s r h =
     let fits = run_fits C kept s r m h asks.running here.0 here.1 q asks.named asks.before_last asks.limit in
     let rises = run_rises C kept s r m h asks.running here.0 here.1 q asks.named asks.before_last asks.limit in
     let all : c.unwrap_or-come.result ≡ length q = c.unwrap_or-come.ensures ∙ number_fits c.try_from.result (length q) _ (omega (arith, fits)) c.try_from.ensures in
-    let does = c.in_ok-take_run.ensures in
+    let does = c.in_ok-take.ensures in
     let none = rw c.if-branch.false at (does.faults scene who keeps) in
     run_does C kept s r m h asks.running here.0 here.1 q asks.named asks.before_last asks.limit _ _ _ _ (does.text scene who keeps)
     (run_shows C kept s r m h asks.running here.0 here.1 q asks.named asks.before_last asks.limit _ refl (omega (arith, none)) refl refl refl (omega (arith, c.saturating_add-self.ensures, all, fits)) (does.kept scene who keeps rises))
