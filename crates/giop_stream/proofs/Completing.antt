@@ -1,30 +1,30 @@
 -- The heads that are not over are the open messages and the current one that are not over.
-use Rattle.std.proofs.Common.{inl, inr, ◌≡◌, ℕ, suc, ◌+◌, ◌-◌, ◌<◌, ◌≤◌, Bool, true, false, cond, not, List, [], ◌∷◌, ◌++◌, length, map, refl, sym, ap, ◌∙◌, Option, Some, None, arith}
-use Rattle.std.specs.Prelude.{nat_lt, ◌==◌, if◌then◌else◌, ◌||◌, IfSome}
+use Rattle.std.proofs.Common.{inl, inr, ◌⊎◌, ◌≡◌, ℕ, suc, ◌+◌, ◌-◌, ◌<◌, ◌≤◌, Bool, true, false, cond, not, List, [], ◌∷◌, ◌++◌, length, map, refl, sym, ap, subst, ◌∙◌, Option, Some, None, arith}
+use Rattle.std.specs.Prelude.{nat_lt, if◌then◌else◌, ◌||◌, IfSome}
 use Rattle.std.specs.List.{filter, list_any, AllByRecursion as Each}
-use Rattle.std.proofs.lemmas.Bool.{or_left, eqb-true, ltb-false}
+use Rattle.std.proofs.lemmas.Bool.{or_left, ltb-false}
 use Rattle.std.proofs.lemmas.List.{append-nil, map-append, length_push}
 use Rattle.std.proofs.lemmas.List.Elements.{filter-append}
-use Rattle.giop_stream.specs.declared.fault.StreamFault.{StreamFault}
-use Rattle.giop_stream.specs.declared.fault.StreamFault.TheVariants.{StreamLimit}
-use Rattle.giop_stream.specs.Headers.{wrong}
 use Rattle.giop_message.specs.Headers.{size, is_fragment, is_opener}
-use Rattle.giop_stream.specs.Framing.{Message, with_payload, Cut, limit, cut, messages}
+use Rattle.giop_stream.specs.Framing.{Message, with_payload, Cut, cut, messages}
 use Rattle.giop_message.specs.Reading.{Reading, IsCausal, IsEnding, IsInTurn}
 use Rattle.giop_stream.specs.Events.{Happening, Event, Open, place, happens, opened, events_from, events, open_after}
 use Rattle.giop_stream.specs.Lines.{is_last_of, said}
 use Rattle.giop_stream.specs.Stream.{is_over, heads}
+use Rattle.giop_stream.specs.Plays.{with_octet}
+use Rattle.giop_stream.specs.Octet.{Octet, Behind, Ends, Held, Of}
 use Rattle.giop_stream.specs.State.{octets_of, is_open}
 use Rattle.giop_stream.specs.Machine.{now_written}
 use Rattle.giop_stream.proofs.Lists.{by_growth, each_weaker, all_by}
-use Rattle.giop_stream.proofs.Cutting.{settle, of_parts, header_case, cut_grows}
+use Rattle.giop_stream.proofs.Cutting.{settle, stopped_at, of_parts}
 use Rattle.giop_stream.proofs.Happenings.{happens_each}
 use Rattle.giop_stream.proofs.HappeningsKeep.{Below}
 use Rattle.giop_stream.proofs.Grown.{said_grows, said_idle, open_grows, open_idle}
 use Rattle.giop_stream.proofs.Dealt.{settled_messages}
-use Rattle.giop_stream.proofs.Soundness.{settled_if, IsSound, Fits, events_on, events_begin}
-use Rattle.giop_stream.proofs.StepCases.{events_of_cut, place_more, place_first}
-use Rattle.giop_stream.proofs.Bridge.{next_limit, next_payload, next_front, next_stopped, cut_nothing, open_nothing}
+use Rattle.giop_stream.proofs.Soundness.{settled_if, IsSound}
+use Rattle.giop_stream.proofs.StepCases.{if_some}
+use Rattle.giop_stream.proofs.Bridge.{cut_nothing, open_nothing}
+use Rattle.giop_stream.proofs.OneOctet.{Then, then_is}
 use Rattle.giop_stream.proofs.EngineAlive.{sound}
 use Rattle.giop_stream.proofs.LastLines.{is_over_grows, Dead, dead}
 use Rattle.giop_stream.proofs.Heads.{numbers_of, tail_of, base, alive, dead_tail}
@@ -150,91 +150,62 @@ first_base over live hs m low h = rw (not_open live m.number low) (go (is_fragme
     go true = alive_append over hs [] ∙ rw h (sym (alive_append over (numbers_of live) []))
     go false = alive_append over hs (m.number ∷ []) ∙ rw h (sym (alive_append over (numbers_of live) (m.number ∷ [])))
 
--- In each case of a step.
-complete_payload : (R : Reading) → IsCausal R → IsEnding R → (p p' : List ℕ) (whole : List Message) (m : Message) (held : List ℕ) (x : ℕ) → length p' ≡ suc (length p)
-    → cut p ≡ of_parts whole (Some m) held None → cut p' ≡ settle whole (with_payload m (m.payload ++ x ∷ [])) → IsSound R p → IsComplete R p → IsComplete R p'
-unfolding of_parts messages open_after head_of base tail_of tail_now
-complete_payload R causal ending p p' whole m held x len ec ec' sound complete =
-    let c = of_parts whole (Some m) held None in
-    let m' = with_payload m (m.payload ++ x ∷ []) in
-    let st : (cut p).stop ≡ None = rw ec refl in
-    let fit : Fits (length p) c = rw ec at (sound.fits st) in
-    let fits = fit.current in
-    let early : length m.payload < 4 → Below m.number (open_after p) = rw ec at (sound.early st) in
-    let now : events p' ≡ events_from [] (whole ++ m' ∷ []) = events_of_cut p' (settle whole m') ec' ∙ ap (events_from []) (settled_messages whole m') in
-    let was : events p ≡ events_from [] (whole ++ m ∷ []) = events_of_cut p c ec in
-    let ev : events p' ≡ events p ++ happens (open_after p) m' = now ∙ rw was (events_on whole m x fits.lacks) in
-    let kept : alive (is_over R p) (heads (whole ++ m ∷ [])) ≡ alive (is_over R p) (numbers_of (open_after p) ++ tail_of (open_after p) m) = rw ec at complete.kept in
-    let named : is_opener m.header ≡ true → 4 ≤ length m.payload → Known (is_over R p) (open_after p) m = rw ec at complete.named in
-    complete_deal R causal ending p p' whole m' len ec' ev sound.places (place_more m x (length p) fits.place_is) (omega (arith, length_push m.payload x, fits.lacks)) (λ four. early (omega (arith, length_push m.payload x)))
-    (rw (heads_push whole m) at kept) (λ o long. known_same (is_over R p) (open_after p) m (m.payload ++ x ∷ []) (named o (omega (arith, length_push m.payload x))))
+-- what is asked of the message m, of which the octet is
+record Ready (R : Reading) (p : List ℕ) (m : Message) : Type 0 where
+  start : alive (is_over R p) (heads (cut p).whole ++ head_of m) ≡ alive (is_over R p) (base (open_after p) m)
+  low : length m.payload ≡ 4 → Below m.number (open_after p)
+  known : is_opener m.header ≡ true → 4 < length m.payload → Known (is_over R p) (open_after p) m
 
-complete_header : (R : Reading) → IsCausal R → IsEnding R → (p p' : List ℕ) (whole : List Message) (held : List ℕ) (m : Message) → length p' ≡ suc (length p) → 11 ≤ length p
-    → m.number ≡ suc (length whole) → m.before ≡ suc (length p) - 12 → m.payload ≡ []
-    → cut p ≡ of_parts whole None held None → cut p' ≡ settle whole m → IsSound R p → IsComplete R p → IsComplete R p'
-unfolding of_parts messages open_after tail_now
-complete_header R causal ending p p' whole held m len long nm bf pay ec ec' sound complete =
-    let c = of_parts whole None held None in
-    let none : messages c ≡ whole = append-nil whole in
-    let now : events p' ≡ events_from [] (whole ++ m ∷ []) = events_of_cut p' (settle whole m) ec' ∙ ap (events_from []) (settled_messages whole m) in
-    let was : events p ≡ events_from [] whole = events_of_cut p c ec ∙ ap (events_from []) none in
-    let ev : events p' ≡ events p ++ happens (open_after p) m = now ∙ rw was (events_begin whole m pay) in
-    let count : length (messages (cut p)) ≡ length whole = rw (ec, none) refl in
-    let low : Below m.number (open_after p) = each_weaker (λ o. o.opener.number ≤ length (messages (cut p))) (λ o. o.opener.number < m.number) (λ o k. omega arith) (open_after p) sound.numbers in
-    let kept : alive (is_over R p) (heads (whole ++ [])) ≡ alive (is_over R p) (numbers_of (open_after p) ++ []) = rw ec at complete.kept in
-    let kept' : alive (is_over R p) (heads whole) ≡ alive (is_over R p) (numbers_of (open_after p)) = simp append-nil at kept in
-    complete_deal R causal ending p p' whole m len ec' ev sound.places (place_first (length p) m bf pay long) (rw pay (omega arith)) (λ four. low)
-    (first_base (is_over R p) (open_after p) (heads whole) m low kept') (λ o past. absurd (let zero_long : length m.payload ≡ 0 = rw pay refl in omega arith))
+module _ (R : Reading) (causal : IsCausal R) (ending : IsEnding R) (p : List ℕ) (x : ℕ) (sound : IsSound R p) (complete : IsComplete R p) where
+  ready_first : (m : Message) → (cut p).current ≡ None → m.payload ≡ [] → m.number ≡ suc (length (cut p).whole) → Ready R p m
+  unfolding messages tail_now
+  ready_first m cur none number =
+      let count : length (messages (cut p)) ≡ length (cut p).whole = rw cur (ap length (append-nil (cut p).whole)) in
+      let low : Below m.number (open_after p) = each_weaker (λ o. o.opener.number ≤ length (messages (cut p))) (λ o. o.opener.number < m.number) (λ o k. omega (arith, k, count, number)) (open_after p) sound.numbers in
+      let kept : alive (is_over R p) (heads ((cut p).whole ++ [])) ≡ alive (is_over R p) (numbers_of (open_after p) ++ []) = rw cur at complete.kept in
+      let kept' : alive (is_over R p) (heads (cut p).whole) ≡ alive (is_over R p) (numbers_of (open_after p)) = simp append-nil at kept in
+      record { start = first_base (is_over R p) (open_after p) (heads (cut p).whole) m low kept'; low = λ four. low; known = λ o past. absurd (omega (arith, past, ap length none)) }
 
-complete_front : (R : Reading) → IsCausal R → IsEnding R → (p p' : List ℕ) (whole : List Message) (held : List ℕ) (x : ℕ) → length p' ≡ suc (length p)
-    → cut p ≡ of_parts whole None held None → IsSound R p → IsComplete R p
-    → (w : Option StreamFault) (b : Bool) → (length (held ++ x ∷ []) == 12) ≡ b
-    → cut p' ≡ header_case 1 (suc (length p)) whole (held ++ x ∷ []) w b
-    → IsComplete R p'
-unfolding header_case of_parts messages
-complete_front R causal ending p p' whole held x len ec sound complete (Some fault) b k ec' =
-    let ms : messages (cut p') ≡ messages (cut p) = rw (ec', ec) refl in
-    let ev : events p' ≡ events p = events_of_cut p' _ ec' ∙ sym (events_of_cut p _ ec) in
-    complete_quiet R p p' ms (rw (ec', ec) refl) ev (said_idle R causal p p' len ev sound.places) complete
-complete_front R causal ending p p' whole held x len ec sound complete None false k ec' =
-    let ms : messages (cut p') ≡ messages (cut p) = rw (ec', ec) refl in
-    let ev : events p' ≡ events p = events_of_cut p' _ ec' ∙ sym (events_of_cut p _ ec) in
-    complete_quiet R p p' ms (rw (ec', ec) refl) ev (said_idle R causal p p' len ev sound.places) complete
-complete_front R causal ending p p' whole held x len ec sound complete None true k ec' =
-    let fit : Fits (length p) (of_parts whole None held None) = rw ec at (sound.fits (rw ec refl)) in
-    let short = fit.held in
-    let twelve : length (held ++ x ∷ []) ≡ 12 = eqb-true (length (held ++ x ∷ [])) 12 k in
-    let n : 1 + length whole ≡ suc (length whole) = omega arith in
-    let m : Message = record { number = suc (length whole); before = suc (length p) - 12; header = held ++ x ∷ []; payload = [] } in
-    complete_header R causal ending p p' whole held m len (omega (arith, length_push held x)) refl refl refl ec (ec' ∙ rw n refl) sound complete
+  ready_next : (was : Message) → (cut p).stop ≡ None → (cut p).current ≡ Some was → Ready R p (with_octet was x)
+  unfolding messages head_of base tail_of tail_now
+  ready_next was st cur =
+      let kept : alive (is_over R p) (heads ((cut p).whole ++ was ∷ [])) ≡ alive (is_over R p) (numbers_of (open_after p) ++ tail_of (open_after p) was) = rw cur at complete.kept in
+      let named : is_opener was.header ≡ true → 4 ≤ length was.payload → Known (is_over R p) (open_after p) was = rw cur at complete.named in
+      let early = if_some (λ m. length m.payload < 4 → Below m.number (open_after p)) (cut p).current was cur (sound.early st) in
+      let long = length_push was.payload x in
+      record {
+        start = rw (heads_push (cut p).whole was) at kept;
+        low = λ four. early (omega (arith, long, four));
+        known = λ o past. known_same (is_over R p) (open_after p) was (was.payload ++ x ∷ []) (named o (omega (arith, long, past)));
+      }
 
-complete_by : (R : Reading) → IsCausal R → IsEnding R → (p : List ℕ) (x : ℕ) → IsSound R p → IsComplete R p → (whole : List Message) (current : Option Message) (held : List ℕ) (stop : Option (ℕ × StreamFault)) → cut p ≡ of_parts whole current held stop
-    → (b : Bool) → nat_lt limit (suc (length p)) ≡ b → IsComplete R (p ++ x ∷ [])
-unfolding of_parts messages
-complete_by R causal ending p x sound complete whole current held (Some found) ec b k =
-    let p' = p ++ x ∷ [] in
-    let len : length p' ≡ suc (length p) = omega (arith, length_push p x) in
-    let ec' : cut p' ≡ of_parts whole current held (Some found) = cut_grows p x ∙ (rw ec (next_stopped whole current held found (length p) x)) in
-    let ev : events p' ≡ events p = events_of_cut p' _ ec' ∙ sym (events_of_cut p _ ec) in
-    complete_quiet R p p' (rw (ec', ec) refl) (rw (ec', ec) refl) ev (said_idle R causal p p' len ev sound.places) complete
-complete_by R causal ending p x sound complete whole current held None ec true k =
-    let p' = p ++ x ∷ [] in
-    let len : length p' ≡ suc (length p) = omega (arith, length_push p x) in
-    let ec' : cut p' ≡ of_parts whole current [] (Some (suc (length p), StreamLimit)) = cut_grows p x ∙ (rw ec (next_limit whole current held (length p) x k)) in
-    let ev : events p' ≡ events p = events_of_cut p' _ ec' ∙ sym (events_of_cut p _ ec) in
-    complete_quiet R p p' (rw (ec', ec) refl) (rw (ec', ec) refl) ev (said_idle R causal p p' len ev sound.places) complete
-complete_by R causal ending p x sound complete whole (Some m) held None ec false k =
-    let ec' : cut (p ++ x ∷ []) ≡ settle whole (with_payload m (m.payload ++ x ∷ [])) = cut_grows p x ∙ (rw ec (next_payload whole m held (length p) x k)) in
-    complete_payload R causal ending p (p ++ x ∷ []) whole m held x (omega (arith, length_push p x)) ec ec' sound complete
-complete_by R causal ending p x sound complete whole None held None ec false k =
-    let ec' : cut (p ++ x ∷ []) ≡ header_case 1 (suc (length p)) whole (held ++ x ∷ []) (wrong (held ++ x ∷ [])) (length (held ++ x ∷ []) == 12) = cut_grows p x ∙ (rw ec (next_front whole held (length p) x k)) in
-    complete_front R causal ending p (p ++ x ∷ []) whole held x (omega (arith, length_push p x)) ec sound complete (wrong (held ++ x ∷ [])) (length (held ++ x ∷ []) == 12) refl ec'
+  ready : (m : Message) → (cut p).stop ≡ None → m.number ≡ suc (length (cut p).whole) → (((cut p).current ≡ None) × (m.payload ≡ [])) ⊎ ((was : Message) × ((cut p).current ≡ Some was) × (m ≡ with_octet was x)) → Ready R p m
+  ready m st number (inl (cur, none)) = ready_first m cur none number
+  ready m st number (inr (was, cur, is)) = subst (Ready R p) (sym is) (ready_next was st cur)
+
+  len : length (p ++ x ∷ []) ≡ suc (length p)
+  len = omega (arith, length_push p x)
+
+  idle : (c : Cut) → cut (p ++ x ∷ []) ≡ c → messages c ≡ messages (cut p) → c.current ≡ (cut p).current → IsComplete R (p ++ x ∷ [])
+  unfolding events
+  idle c e ms cur =
+      let ev = ap (λ (d : Cut). events_from [] (messages d)) e ∙ ap (events_from []) ms in
+      complete_quiet R p (p ++ x ∷ []) (ap messages e ∙ ms) (ap (λ (d : Cut). d.current) e ∙ cur) ev (said_idle R causal p (p ++ x ∷ []) len ev sound.places) complete
+
+  complete_then : (o : Octet) → Then R p x o → IsComplete R (p ++ x ∷ [])
+  unfolding of_parts stopped_at messages
+  complete_then Behind h = idle (cut p) h.2.cut_is refl refl
+  complete_then (Ends fault) h = idle _ h.1.cut_is refl refl
+  complete_then (Held front) h = idle _ h.2.cut_is (rw h.1 refl) (sym h.1)
+  complete_then (Of now) h =
+      let one = h.1 in
+      let r = ready one.m h.0 one.number_is one.from in
+      complete_deal R causal ending p (p ++ x ∷ []) (cut p).whole one.m len one.adds.cut_is one.grows sound.places one.place_is one.fits r.low r.start r.known
 
 complete_start : (R : Reading) → IsComplete R []
 unfolding of_parts messages heads tail_now numbers_of
 complete_start R = record { kept = rw (cut_nothing, open_nothing) refl; named = rw cut_nothing tt }
 
 pub complete : (R : Reading) → IsCausal R → IsInTurn R → IsEnding R → (p : List ℕ) → IsComplete R p
-unfolding of_parts
 complete R causal laws ending = by_growth (IsComplete R) (complete_start R)
-    (λ p x h. complete_by R causal ending p x (sound R causal laws p) h (cut p).whole (cut p).current (cut p).held (cut p).stop refl (nat_lt limit (suc (length p))) refl)
+    (λ p x h. let so = sound R causal laws p in complete_then R causal ending p x so h _ (then_is R causal laws p x so))
