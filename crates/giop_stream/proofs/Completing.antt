@@ -16,14 +16,13 @@ use Rattle.giop_stream.specs.Octet.{Octet, Behind, Ends, Held, Of}
 use Rattle.giop_stream.specs.State.{octets_of, is_open}
 use Rattle.giop_stream.specs.Machine.{now_written}
 use Rattle.giop_stream.proofs.Lists.{by_growth, each_weaker, all_by}
-use Rattle.giop_stream.proofs.Cutting.{settle, stopped_at, of_parts}
+use Rattle.giop_stream.proofs.Cutting.{settle, stopped_at, of_parts, settled_messages}
 use Rattle.giop_stream.proofs.Happenings.{happens_each}
 use Rattle.giop_stream.proofs.HappeningsKeep.{Below}
 use Rattle.giop_stream.proofs.Grown.{said_grows, said_idle, open_grows, open_idle}
-use Rattle.giop_stream.proofs.Dealt.{settled_messages}
 use Rattle.giop_stream.proofs.Soundness.{settled_if, IsSound}
 use Rattle.giop_stream.proofs.StepCases.{if_some}
-use Rattle.giop_stream.proofs.Bridge.{cut_nothing, open_nothing}
+use Rattle.giop_stream.proofs.Start.{cut_nothing, open_nothing}
 use Rattle.giop_stream.proofs.OneOctet.{Then, then_is}
 use Rattle.giop_stream.proofs.EngineAlive.{sound}
 use Rattle.giop_stream.proofs.LastLines.{is_over_grows, Dead, dead}

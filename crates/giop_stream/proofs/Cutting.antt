@@ -1,13 +1,13 @@
 -- The cut of a stream with one more octet.
 use Rattle.std.proofs.Common.{inl, inr, ◌≡◌, ℕ, zero, suc, ◌+◌, ◌-◌, ◌<◌, ◌≤◌, Bool, true, false, List, [], ◌∷◌, ◌++◌, length, take, drop, refl, sym, ap, ◌∙◌, Option, Some, None, arith, length-drop, length-take}
-use Rattle.std.specs.Prelude.{nat_lt, ◌==◌, if◌then◌else◌}
+use Rattle.std.specs.Prelude.{nat_lt, ◌==◌, if◌then◌else◌, option_to_list}
 use Rattle.std.proofs.lemmas.Bool.{lt-ltb, le-ltb, cases_lt, eq-eqb, ne_eqb}
-use Rattle.std.proofs.lemmas.List.{take-append-le, drop-append-le, take_all, drop_all, length_push}
+use Rattle.std.proofs.lemmas.List.{take-append-le, drop-append-le, take_all, drop_all, length_push, append-nil}
 use Rattle.giop_stream.specs.declared.fault.StreamFault.{StreamFault}
 use Rattle.giop_stream.specs.declared.fault.StreamFault.TheVariants.{StreamLimit}
 use Rattle.giop_stream.specs.Headers.{wrong, first_wrong, fronts, offence}
 use Rattle.giop_message.specs.Headers.{size}
-use Rattle.giop_stream.specs.Framing.{Message, with_payload, Cut, with_first, cut_from, limit, limited, cut}
+use Rattle.giop_stream.specs.Framing.{Message, with_payload, Cut, with_first, cut_from, limit, limited, cut, messages}
 use Rattle.giop_stream.proofs.Lists.{wrong_last, offence_stays, offence_comes}
 
 -- a message whose last octet has come joins the others
@@ -303,3 +303,39 @@ cut_grows p x = elim (cases_lt (length p) limit) [
             rw (below_is p same) (rw (← all_inner p same) (at_limit (inner p) (length p) x most))
       ]))
 ]
+
+-- ---- A message that an octet settles.
+
+pub settle_stop : (whole : List Message) (m : Message) → (settle whole m).stop ≡ None
+unfolding settle
+settle_stop whole m = go (nat_lt (length m.payload) (size m.header))
+  where
+    go : (b : Bool) → (let c : Cut = if b then record { whole = whole; current = Some m; held = []; stop = None } else record { whole = whole ++ m ∷ []; current = None; held = []; stop = None } in c.stop) ≡ None
+    go true = refl
+    go false = refl
+
+pub settled_messages : (whole : List Message) (m : Message) → messages (settle whole m) ≡ whole ++ m ∷ []
+unfolding settle messages
+settled_messages whole m = go (nat_lt (length m.payload) (size m.header))
+  where
+    go : (b : Bool) → (let c : Cut = if b then record { whole = whole; current = Some m; held = []; stop = None } else record { whole = whole ++ m ∷ []; current = None; held = []; stop = None } in c.whole ++ option_to_list c.current) ≡ whole ++ m ∷ []
+    go true = refl
+    go false = append-nil (whole ++ m ∷ [])
+
+-- ---- The next octet, by the parts of the cut.
+
+pub next_limit : (c : List Message) (current : Option Message) (held : List ℕ) (n x : ℕ) → nat_lt limit (suc n) ≡ true → next n x (of_parts c current held None) ≡ of_parts c current [] (Some (suc n, StreamLimit))
+unfolding next of_parts stopped_at
+next_limit c current held n x k = rw k refl
+
+pub next_payload : (c : List Message) (m : Message) (held : List ℕ) (n x : ℕ) → nat_lt limit (suc n) ≡ false → next n x (of_parts c (Some m) held None) ≡ settle c (with_payload m (m.payload ++ x ∷ []))
+unfolding next of_parts grow
+next_payload c m held n x k = rw k refl
+
+pub next_front : (c : List Message) (held : List ℕ) (n x : ℕ) → nat_lt limit (suc n) ≡ false → next n x (of_parts c None held None) ≡ header_case 1 (suc n) c (held ++ x ∷ []) (wrong (held ++ x ∷ [])) (length (held ++ x ∷ []) == 12)
+unfolding next of_parts grow header_grows
+next_front c held n x k = rw k refl
+
+pub next_stopped : (c : List Message) (current : Option Message) (held : List ℕ) (found : ℕ × StreamFault) (n x : ℕ) → next n x (of_parts c current held (Some found)) ≡ of_parts c current held (Some found)
+unfolding next of_parts
+next_stopped c current held found n x = refl

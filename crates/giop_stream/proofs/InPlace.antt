@@ -13,7 +13,7 @@ use Rattle.giop_stream.specs.Plays.{Scene, lines_at, scene_at, lines_of, octets_
 use Rattle.giop_stream.proofs.Lists.{each_weaker, filter_keeps}
 use Rattle.giop_stream.proofs.Telling.{tells_number, standing_each}
 use Rattle.giop_stream.specs.Events.{Rising}
-use Rattle.giop_stream.proofs.KeptDeals.{slots_agree}
+use Rattle.giop_stream.proofs.KeptSlots.{slots_agree}
 
 -- ---- What is kept.
 

@@ -4,12 +4,11 @@ mod Happenings
 mod HappeningsKeep
 mod Telling
 mod Starting
-mod KeptDeals
+mod KeptSlots
 mod Grown
-mod Dealt
 mod Soundness
 mod StepCases
-mod Bridge
+mod Start
 mod LastLines
 mod Heads
 mod Staying

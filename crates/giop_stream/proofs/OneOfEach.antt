@@ -12,7 +12,7 @@ use Rattle.giop_stream.specs.Plays.{Scene}
 use Rattle.giop_stream.specs.Octet.{Octet, Behind, Ends, Held, Of}
 use Rattle.giop_stream.proofs.Lists.{by_growth, filter_drops, each_append, each_weaker}
 use Rattle.giop_stream.proofs.Ordering.{rank_of, Rises}
-use Rattle.giop_stream.proofs.Bridge.{lines_nothing}
+use Rattle.giop_stream.proofs.Start.{lines_nothing}
 use Rattle.giop_stream.proofs.OneOctet.{Adds, Then, then_is}
 use Rattle.giop_stream.proofs.EngineAlive.{sound}
 

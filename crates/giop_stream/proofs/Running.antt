@@ -27,11 +27,10 @@ use Rattle.giop_stream.specs.Engine.{State, state_of}
 use Rattle.giop_stream.specs.Step.{runs}
 use Rattle.giop_stream.specs.Showing.{IsReached, Shows, Does}
 use Rattle.giop_stream.specs.Octet.{header_of, come_of}
-use Rattle.giop_stream.proofs.Cutting.{settle, next, of_parts, parts_by, cut_grows}
+use Rattle.giop_stream.proofs.Cutting.{settle, next, of_parts, parts_by, cut_grows, next_payload}
 use Rattle.giop_stream.proofs.Grown.{count_append}
 use Rattle.giop_stream.proofs.Soundness.{CurrentFits}
 use Rattle.giop_stream.proofs.StepCases.{place_more}
-use Rattle.giop_stream.proofs.Bridge.{next_payload}
 use Rattle.giop_stream.proofs.StepCases.{if_some}
 use Rattle.giop_stream.proofs.Ending.{DoesTo}
 use Rattle.giop_stream.proofs.Taken.{whose_elsewhere}

@@ -1,4 +1,4 @@
--- What is kept through a run, and that a deal keeps it.
+-- What is so of every stream, and stays so with an octet of a message.
 use Rattle.std.proofs.Common.{inl, ◌≡◌, ℕ, suc, ◌+◌, ◌<◌, ◌≤◌, Bool, true, false, List, [], ◌∷◌, ◌++◌, length, refl, sym, ap, subst, ◌∙◌, append_assoc, Some, None, arith}
 use Rattle.std.specs.Prelude.{nat_lt, if◌then◌else◌, IfSome}
 use Rattle.std.specs.List.{list_any, AllByRecursion as Each}
@@ -13,13 +13,12 @@ use Rattle.giop_stream.specs.Stream.{start_count}
 use Rattle.giop_stream.specs.State.{Kept, octets_of}
 use Rattle.giop_stream.specs.Machine.{taking, written, now_written}
 use Rattle.giop_stream.proofs.Lists.{each_append, each_weaker, all_by}
-use Rattle.giop_stream.proofs.Cutting.{settle}
+use Rattle.giop_stream.proofs.Cutting.{settle, settle_stop, settled_messages}
 use Rattle.giop_stream.proofs.Happenings.{opened_append, events_from_push, events_of_push, events_of_none, happens_same, happens_each, opened_each, quiet_one}
 use Rattle.giop_stream.proofs.HappeningsKeep.{Below, rising_happens, IsFew, few_happens, Differ, differ_happens, AreOpeners, openers_happens}
 use Rattle.giop_stream.proofs.Telling.{joined_append, written_each, none_last, none_joined}
 use Rattle.giop_stream.proofs.Starting.{start_append}
 use Rattle.giop_stream.proofs.Grown.{said_grows, octets_grow, open_grows, lines_free}
-use Rattle.giop_stream.proofs.Dealt.{settle_stop, settled_messages}
 
 -- What is kept through a run.
 pub record CurrentFits (n : ℕ) (c : Cut) (m : Message) : Type 0 where

@@ -8,9 +8,8 @@ use Rattle.giop_stream.specs.Events.{events_from, events}
 use Rattle.giop_stream.specs.Lines.{lines}
 use Rattle.giop_stream.specs.Text.{lines_text}
 use Rattle.giop_stream.specs.Stream.{start_count, fault_count, text, tally}
-use Rattle.giop_stream.proofs.Cutting.{next, parts_by, cut_grows}
+use Rattle.giop_stream.proofs.Cutting.{next, parts_by, cut_grows, next_stopped}
 use Rattle.giop_stream.proofs.Grown.{said_idle, lines_stopped}
-use Rattle.giop_stream.proofs.Bridge.{next_stopped}
 use Rattle.giop_stream.proofs.EngineAlive.{early_events}
 
 cut_stays : (p : List ℕ) (x : ℕ) (found : ℕ × StreamFault) → (cut p).stop ≡ Some found → cut (p ++ x ∷ []) ≡ cut p

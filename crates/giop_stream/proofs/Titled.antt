@@ -10,7 +10,7 @@ use Rattle.giop_stream.proofs.Lists.{by_growth, each_append, each_filter, each_w
 use Rattle.giop_stream.proofs.Cutting.{of_parts, stopped_at}
 use Rattle.giop_stream.proofs.HappeningsKeep.{opened_by, kept_happens}
 use Rattle.giop_stream.proofs.Beginning.{settled_is}
-use Rattle.giop_stream.proofs.Bridge.{cut_nothing}
+use Rattle.giop_stream.proofs.Start.{cut_nothing}
 use Rattle.giop_stream.proofs.Soundness.{IsSound}
 use Rattle.giop_stream.proofs.OneOctet.{Then, then_is}
 use Rattle.giop_stream.proofs.EngineStep.{plays_live}

@@ -1,4 +1,4 @@
--- What the next octet of a stream adds to what is known of it, and what is written at its finish (steps).
+-- What events make of what is kept of the messages, and their lines (steps).
 use Rattle.std.specs.Prelude.{ℕ, ◌+◌, false, List, [], ◌∷◌, ◌++◌, Option, Some, None, ◌==◌, if◌then◌else◌, option_map}
 use Rattle.std.specs.List.{list_any}
 use Rattle.giop_message.specs.Reading.{Reading}

@@ -1,4 +1,4 @@
--- What an octet does, an event after the other: the machine of the code does no more at once (steps).
+-- What an octet does, an event after the other, as the code does it (steps).
 use Rattle.std.specs.Prelude.{Bool, true, ◌≡◌, ℕ, ◌<◌, ◌≤◌, false, List, [], ◌∷◌, ◌++◌, length, Option, Some, None, if◌then◌else◌, option_map}
 use Rattle.std.specs.List.{list_any, AllByRecursion as Each}
 use Rattle.giop_message.specs.Reading.{Reading}

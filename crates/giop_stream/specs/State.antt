@@ -1,4 +1,4 @@
--- What there is to know of a stream after these octets, each field said from the whole of them (state).
+-- What is kept of each message of a stream, and of its open ones, said from the whole of it (state).
 use Rattle.std.specs.Prelude.{ℕ, Bool, List, map, Option, Some, None, ◌==◌, if◌then◌else◌}
 use Rattle.std.specs.List.{list_any}
 use Rattle.giop_message.specs.Reading.{Reading}

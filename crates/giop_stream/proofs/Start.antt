@@ -1,37 +1,17 @@
--- After any octets the machine's state is what the definitions say of them, and the next octet's lines are what it writes.
-use Rattle.std.proofs.Common.{◌≡◌, ℕ, suc, true, false, List, [], ◌∷◌, ◌++◌, length, refl, ◌∙◌, Option, Some, None, arith}
-use Rattle.std.specs.Prelude.{nat_lt, ◌==◌}
-use Rattle.giop_stream.specs.declared.fault.StreamFault.{StreamFault}
-use Rattle.giop_stream.specs.declared.fault.StreamFault.TheVariants.{StreamLimit}
+-- What there is to know of a stream before its first octet.
+use Rattle.std.proofs.Common.{◌≡◌, ℕ, [], refl, ◌∙◌, Some, None, arith}
 use Rattle.giop_stream.specs.Headers.{fronts, wrong, first_wrong, offence}
-use Rattle.giop_stream.specs.Framing.{Message, with_payload, limit, limited, cut_from, cut, messages}
+use Rattle.giop_stream.specs.Framing.{limit, limited, cut_from, cut, messages}
 use Rattle.giop_message.specs.Reading.{Reading}
 use Rattle.giop_stream.specs.Events.{opened, events_from, events, open_after, joined}
 use Rattle.giop_stream.specs.Lines.{in_order, standing, said, stop_line, lines}
 use Rattle.giop_stream.specs.Stream.{start_count, is_over}
 use Rattle.giop_stream.specs.State.{octets_of}
-use Rattle.giop_stream.proofs.Cutting.{settle, header_case, header_grows, grow, stopped_at, next, of_parts}
+use Rattle.giop_stream.proofs.Cutting.{of_parts}
 use Rattle.giop_stream.proofs.HappeningsKeep.{IsFew, AreOpeners}
 use Rattle.giop_stream.proofs.Grown.{lines_stopped}
 use Rattle.giop_stream.proofs.Soundness.{AreSound, IsSound}
 
-pub next_limit : (c : List Message) (current : Option Message) (held : List ℕ) (n x : ℕ) → nat_lt limit (suc n) ≡ true → next n x (of_parts c current held None) ≡ of_parts c current [] (Some (suc n, StreamLimit))
-unfolding next of_parts stopped_at
-next_limit c current held n x k = rw k refl
-
-pub next_payload : (c : List Message) (m : Message) (held : List ℕ) (n x : ℕ) → nat_lt limit (suc n) ≡ false → next n x (of_parts c (Some m) held None) ≡ settle c (with_payload m (m.payload ++ x ∷ []))
-unfolding next of_parts grow
-next_payload c m held n x k = rw k refl
-
-pub next_front : (c : List Message) (held : List ℕ) (n x : ℕ) → nat_lt limit (suc n) ≡ false → next n x (of_parts c None held None) ≡ header_case 1 (suc n) c (held ++ x ∷ []) (wrong (held ++ x ∷ [])) (length (held ++ x ∷ []) == 12)
-unfolding next of_parts grow header_grows
-next_front c held n x k = rw k refl
-
-pub next_stopped : (c : List Message) (current : Option Message) (held : List ℕ) (found : ℕ × StreamFault) (n x : ℕ) → next n x (of_parts c current held (Some found)) ≡ of_parts c current held (Some found)
-unfolding next of_parts
-next_stopped c current held found n x = refl
-
--- At the start.
 pub cut_nothing : cut [] ≡ of_parts [] None [] None
 unfolding cut limited limit cut_from offence fronts first_wrong wrong of_parts
 cut_nothing = refl

@@ -1,4 +1,4 @@
--- What a deal does, by what is kept of each message, and the slots of the open messages.
+-- The slots of the open messages, by what is kept of each.
 use Rattle.std.proofs.Common.{◌≡◌, ℕ, Bool, true, false, List, [], ◌∷◌, map, refl, ap, ◌∙◌, Option, None}
 use Rattle.std.specs.Prelude.{◌==◌, if◌then◌else◌, ◌||◌}
 use Rattle.std.specs.List.{list_any, AllByRecursion as Each}
