@@ -1,5 +1,5 @@
 -- A message that begins with its request id is not over before that is complete: what has come of it is kept.
-use Rattle.std.proofs.Common.{◌≡◌, ℕ, suc, ◌+◌, ◌-◌, ◌<◌, ◌≤◌, Bool, true, false, List, [], ◌∷◌, ◌++◌, length, refl, sym, ap, ◌∙◌, append-nil, Some, None, arith}
+use Rattle.std.proofs.Common.{◌≡◌, ℕ, suc, ◌<◌, ◌≤◌, Bool, true, false, List, [], ◌∷◌, ◌++◌, length, refl, sym, ap, ◌∙◌, append-nil, Some, None, arith}
 use Rattle.std.specs.Prelude.{nat_lt, ◌==◌, ◌&&◌, ◌||◌, if◌then◌else◌, map}
 use Rattle.std.specs.List.{list_any, AllByRecursion as Each}
 use Rattle.std.proofs.lemmas.Bool.{le-ltb, eq-eqb, ne_eqb, and_right, ltb-true}
@@ -7,7 +7,7 @@ use Rattle.std.proofs.lemmas.List.{length_push}
 use Rattle.giop_message.specs.Headers.{size, is_fragment, has_name}
 use Rattle.giop_stream.specs.Framing.{Message, Cut, cut}
 use Rattle.giop_message.specs.Reading.{Saying, Value, Reading, IsInTurn, due}
-use Rattle.giop_stream.specs.Events.{Takes, Title, Event, Open, place, goes_past, at_header, at_octet, happens, octet, joined}
+use Rattle.giop_stream.specs.Events.{Takes, Title, Event, Open, goes_past, at_header, at_octet, happens, octet, joined}
 use Rattle.giop_stream.specs.Lines.{Line, Said, line, tells, is_last_of, standing}
 use Rattle.giop_stream.specs.State.{octets_of}
 use Rattle.giop_stream.specs.Machine.{utters_kept}

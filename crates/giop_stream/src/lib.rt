@@ -17,7 +17,5 @@ mod status;
 
 pub use engine::{Engine, any_pieces, text_begins};
 pub use fault::{ImposedFault, Stop, StreamFault};
-pub use laws::{
-    behind_a_stop, each_joined, each_slot, each_step, one_of_each, open_messages,
-};
+pub use laws::{behind_a_stop, each_joined, each_slot, each_step, one_of_each, open_messages};
 pub use status::{Status, Totals};

@@ -63,10 +63,7 @@ impl Framing {
         self.totals.octets += octets.len() as u64;
         let come = u32::try_from(octets.len()).unwrap_or(u32::MAX);
         self.come = self.come.saturating_add(come);
-        if self
-            .slots
-            .take(catalogue, requests, octets, before, out)?
-        {
+        if self.slots.take(catalogue, requests, octets, before, out)? {
             self.totals.faults += 1;
         }
         Ok(())

@@ -109,9 +109,7 @@ impl Slots {
         match self.payload {
             Payload::Own => give(&mut self.own, catalogue, requests, octets, before, out),
             Payload::Open(k) => match self.slots.get_mut(k) {
-                Some(slot) => {
-                    give(&mut slot.message, catalogue, requests, octets, before, out)
-                }
+                Some(slot) => { give(&mut slot.message, catalogue, requests, octets, before, out) }
                 None => Ok(false),
             },
             Payload::Nobody => Ok(false),
