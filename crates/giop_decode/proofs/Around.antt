@@ -60,7 +60,7 @@ read_none coding path (suc d) (Single scalar) at h = rw (number_none coding.orig
 read_none coding path (suc d) (Text bound) at h = rw (number_none coding.origin 4 at (lit< tt)) refl
 read_none coding path (suc d) (Octets bound) at h = rw (number_none coding.origin 4 at (lit< tt)) refl
 read_none coding path (suc d) (Sequence bound T) at h = rw (number_none coding.origin 4 at (lit< tt)) refl
-read_none coding path (suc d) (Union count scalar select names cases) at h = rw (number_none coding.origin (width scalar) at (width_pos scalar)) refl
+read_none coding path (suc d) (Union choice scalar select names cases) at h = rw (number_none coding.origin (width scalar) at (width_pos scalar)) refl
 read_none coding path (suc d) (Struct zero names parts) at h = absurd (omega (arith, h.0))
 read_none coding path (suc d) (Struct (suc more) names parts) at h =
     first_part coding path (Struct (suc more) names parts) (suc more) more 0 at (read_none coding (path ++ Name (names 0) ∷ []) d (parts 0) at (h.1 0 h.0))
@@ -77,7 +77,7 @@ fit_part d (Sequence bound T) i count fit kind below = fit
 fit_part d (Single scalar) i count fit kind below = absurd kind
 fit_part d (Text bound) i count fit kind below = absurd kind
 fit_part d (Octets bound) i count fit kind below = absurd kind
-fit_part d (Union n scalar select names cases) i count fit kind below = absurd kind
+fit_part d (Union choice scalar select names cases) i count fit kind below = absurd kind
 
 pub next_part : (coding : Coding) (path : List Seg) (d : ℕ) (T : Ty) (i count at : ℕ) → IsFit (suc d) T → HasParts T count → suc i < count →
     resumed coding path (Part T i count) (Done [] at []) ≡ Short [] at (Part T (suc i) count ∷ start_outer (part_of T (suc i))) (start_leaf (part_of T (suc i)))

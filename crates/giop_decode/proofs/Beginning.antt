@@ -46,7 +46,7 @@ begins (suc d) (Array n E) count fit is =
 begins (suc d) (Single scalar) count fit is = absurd is
 begins (suc d) (Text bound) count fit is = absurd is
 begins (suc d) (Octets bound) count fit is = absurd is
-begins (suc d) (Union n scalar select names cases) count fit is = absurd is
+begins (suc d) (Union choice scalar select names cases) count fit is = absurd is
 begins (suc d) (Sequence bound E) count fit is = absurd is
 
 pub all_push : {X : Type 0} (P : X → Type 0) (xs : List X) (x : X) → AllByRecursion P xs → P x → AllByRecursion P (xs ++ x ∷ [])

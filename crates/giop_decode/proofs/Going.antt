@@ -9,7 +9,7 @@ use Rattle.giop_decode.specs.Turns.{place_in, place, places, IsKnown, AreKnown}
 use Rattle.giop_decode.specs.declared.frame.Frame.{Frame}
 use Rattle.giop_decode.proofs.Beginning.{map_push}
 use Rattle.giop_decode.proofs.Around.{around-append, around-short, next_part, last_part}
-use Rattle.giop_sig.specs.Types.{Ty, Single, Text, Octets, Struct, Union, Sequence, Array, part_of, shape_in, HasPlace, IsUnion}
+use Rattle.giop_sig.specs.Types.{Cases, Ty, Single, Text, Octets, Struct, Union, Sequence, Array, part_of, shape_in, HasPlace, IsUnion}
 use Rattle.giop_sig.specs.Fits.{IsFit}
 use Rattle.giop_sig.specs.Table.{Table}
 
@@ -44,7 +44,7 @@ next_in d (Sequence bound E) i count h none below = record { is = refl; then = r
 next_in d (Single scalar) i count h none below = absurd h.0
 next_in d (Text bound) i count h none below = absurd h.0
 next_in d (Octets bound) i count h none below = absurd h.0
-next_in d (Union n scalar select names cases) i count h none below = absurd (let e : count ≡ 0 = none tt in omega arith)
+next_in d (Union (Cases n) scalar select names cases) i count h none below = absurd (let e : count ≡ 0 = none tt in omega arith)
 
 pub goes_next : (coding : Coding) (path : List Seg) (ps : List Place) (T : Ty) (i count at e : ℕ) → Next (suc e) T i count → suc i < count →
     around coding path (ps ++ place_in T i count ∷ []) (Done [] at [])
@@ -62,7 +62,7 @@ part_out coding path ps T i count at h =
 
 pub goes_out : (coding : Coding) (path : List Seg) (ps : List Place) (T : Ty) (i count at : ℕ) → count ≤ suc i →
     around coding path (ps ++ place_in T i count ∷ []) (Done [] at []) ≡ around coding path ps (Done [] at [])
-goes_out coding path ps (Union n scalar select names cases) i count at h = around-append coding path ps (Member (Union n scalar select names cases) i) (Done [] at [])
+goes_out coding path ps (Union choice scalar select names cases) i count at h = around-append coding path ps (Member (Union choice scalar select names cases) i) (Done [] at [])
 goes_out coding path ps (Struct n names parts) i count at h = part_out coding path ps (Struct n names parts) i count at h
 goes_out coding path ps (Array n E) i count at h = part_out coding path ps (Array n E) i count at h
 goes_out coding path ps (Sequence bound E) i count at h = part_out coding path ps (Sequence bound E) i count at h
@@ -99,10 +99,10 @@ place_part (Sequence bound E) i count h = refl
 place_part (Single scalar) i count h = refl
 place_part (Text bound) i count h = refl
 place_part (Octets bound) i count h = refl
-place_part (Union n scalar select names cases) i count h = absurd h
+place_part (Union choice scalar select names cases) i count h = absurd h
 
 pub place_case : (T : Ty) (i count : ℕ) → HasCase T i → place_in T i count ≡ Member T i
-place_case (Union n scalar select names cases) i count h = refl
+place_case (Union choice scalar select names cases) i count h = refl
 place_case (Struct n names parts) i count h = absurd h
 place_case (Array n E) i count h = absurd h
 place_case (Sequence bound E) i count h = absurd h

@@ -21,14 +21,14 @@ use Rattle.giop_print.specs.declared.path.Root.TheVariants as roots
 use Rattle.giop_sig.specs.declared.types.Shape.{Shape}
 use Rattle.giop_sig.specs.Table.{Table}
 use Rattle.giop_sig.specs.Trees.{tree}
-use Rattle.giop_sig.specs.Types.{Ty, Single, Text, Octets, Struct, Union, Sequence, Array, Plain, Enum, HasMember, HasPlace, name_in, shape_in}
+use Rattle.giop_sig.specs.Types.{Cases, Ty, Single, Text, Octets, Struct, Union, Sequence, Array, Plain, Enum, HasMember, HasPlace, name_in, shape_in}
 
 content_in : (T : Ty) (total offset : ℕ) (piece : List ℕ) → in_content (Content T total offset piece) ≡ is_text T
 content_in (Text bound) total offset piece = refl
 content_in (Single scalar) total offset piece = refl
 content_in (Octets bound) total offset piece = refl
 content_in (Struct n names parts) total offset piece = refl
-content_in (Union n scalar select names cases) total offset piece = refl
+content_in (Union choice scalar select names cases) total offset piece = refl
 content_in (Sequence bound T) total offset piece = refl
 content_in (Array n T) total offset piece = refl
 
@@ -62,8 +62,8 @@ piece_heard header (Single scalar) false more h path at offset octets k = refl
 piece_heard header (Single scalar) true more h path at offset octets k = let e = k refl in cc
 piece_heard header (Struct n names parts) false more h path at offset octets k = refl
 piece_heard header (Struct n names parts) true more h path at offset octets k = let e = k refl in cc
-piece_heard header (Union n scalar select names cases) false more h path at offset octets k = refl
-piece_heard header (Union n scalar select names cases) true more h path at offset octets k = let e = k refl in cc
+piece_heard header (Union choice scalar select names cases) false more h path at offset octets k = refl
+piece_heard header (Union choice scalar select names cases) true more h path at offset octets k = let e = k refl in cc
 piece_heard header (Sequence bound T) false more h path at offset octets k = refl
 piece_heard header (Sequence bound T) true more h path at offset octets k = let e = k refl in cc
 piece_heard header (Array n T) false more h path at offset octets k = refl
@@ -130,7 +130,7 @@ only C (f ∷ g ∷ outer) d h = absurd (omega arith)
 
 named_by : (name : List ℕ) (T : Ty) (i count : ℕ) → HasMember (shape_in T) i → is_member name (seg_in (place_in T i count) ∷ []) ≡ bytes_eq name (name_in T i)
 named_by name (Struct n names parts) i count h = refl
-named_by name (Union n scalar select names cases) i count h = refl
+named_by name (Union (Cases n) scalar select names cases) i count h = refl
 named_by name (Single (Plain p)) i count h = absurd h
 named_by name (Single (Enum n names)) i count h = absurd h
 named_by name (Text bound) i count h = absurd h

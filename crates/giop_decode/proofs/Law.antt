@@ -14,7 +14,7 @@ use Rattle.giop_decode.specs.Reading.{headed, member, parts_from, read, refused,
 use Rattle.giop_decode.specs.Spine.{Coding, Count, Done, Fault, Index, Line, Member, Name, Part, Piece, Place, Read, Seg, Short, Switch, followed, line, with_front, within}
 use Rattle.giop_decode.specs.Steps.{advance, after, block_step, head_width, inner_path, number_step, part_at, step}
 use Rattle.giop_decode.specs.declared.progress.Kind.{Kind}
-use Rattle.giop_sig.specs.Types.{Array, Enum, Octets, Plain, Scalar, Sequence, Single, Struct, Text, Ty, Union, part_of, width}
+use Rattle.giop_sig.specs.Types.{Choice, Array, Enum, Octets, Plain, Scalar, Sequence, Single, Struct, Text, Ty, Union, part_of, width}
 use Rattle.giop_sig.specs.declared.types.Selected.{Selected}
 use Rattle.giop_sig.specs.declared.types.Selected.TheVariants.{Case, Nothing, Refused}
 use Rattle.giop_cdr.specs.declared.prim.Primitive.TheVariants as prims
@@ -322,11 +322,11 @@ selected_goes coding path T (Case i) each at s b =
 selected_goes coding path T Nothing each at s b = refl
 selected_goes coding path T Refused each at s b = refl
 
-pub union_goes : (coding : Coding) (path : List Seg) (count : ℕ) (scalar : Scalar) (select : ℕ → Selected) (names : ℕ → List ℕ) (cases : ℕ → Ty) (n : ℕ) →
+pub union_goes : (coding : Coding) (path : List Seg) (choice : Choice) (scalar : Scalar) (select : ℕ → Selected) (names : ℕ → List ℕ) (cases : ℕ → Ty) (n : ℕ) →
     ((i : ℕ) → Goes coding (path ++ Name (names i) ∷ []) (read coding (path ++ Name (names i) ∷ []) (cases i))) →
-    Goes coding path (after coding path (Union count scalar select names cases) n)
-union_goes coding path count scalar select names cases n each at s b =
-    let T = Union count scalar select names cases in
+    Goes coding path (after coding path (Union choice scalar select names cases) n)
+union_goes coding path choice scalar select names cases n each at s b =
+    let T = Union choice scalar select names cases in
     let next : ℕ → List ℕ → Read = member (select n) (λ i at' s'. within (Member T i) (read coding (inner_path path T i) (part_of T i) at' s')) in
     let front : List Line = line at (path ++ Switch ∷ []) (Spine.Number scalar n) ∷ [] in
     ap (λ r. unless T (wrong scalar n) at (unless T (refused (select n)) at (with_front front r))) (selected_goes coding path T (select n) each at s b)
@@ -347,6 +347,6 @@ read_goes coding path (Array count T) =
 read_goes coding path (Sequence bound T) =
     headed_goes coding path (Sequence bound T) (lit< tt) (λ n. counted_goes coding path bound T n
     (parts_go coding path (Sequence bound T) n (λ i. read_goes coding (path ++ Index i ∷ []) T) n 0 (omega arith)))
-read_goes coding path (Union count scalar select names cases) =
-    headed_goes coding path (Union count scalar select names cases) (width_pos scalar) (λ n. union_goes coding path count scalar select names cases n
+read_goes coding path (Union choice scalar select names cases) =
+    headed_goes coding path (Union choice scalar select names cases) (width_pos scalar) (λ n. union_goes coding path choice scalar select names cases n
     (λ i. read_goes coding (path ++ Name (names i) ∷ []) (cases i)))

@@ -24,7 +24,7 @@ pub record LeafAt (d : ℕ) (outer : List Place) (leaf : Leaf) : Type 0 where
 
 pub fit_case : (d : ℕ) (T : Ty) (i : ℕ) → IsFit (suc d) T → HasCase T i → IsFit d (part_of T i)
 unfolding IsFit
-fit_case d (Union count scalar select names cases) i fit kind = fit.1 i kind
+fit_case d (Union choice scalar select names cases) i fit kind = fit.1 i kind
 fit_case d (Struct n names parts) i fit kind = absurd kind
 fit_case d (Array n T) i fit kind = absurd kind
 fit_case d (Sequence bound T) i fit kind = absurd kind

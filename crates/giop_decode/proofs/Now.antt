@@ -81,7 +81,7 @@ read_quiet coding path (Array count T) n =
     quiet_parts n (part_at coding path (Array count T) count)
     (λ i. quiet_within n (Part (Array count T) i count) (read coding (path ++ Index i ∷ []) T n []) (read_quiet coding (path ++ Index i ∷ []) T n)) count 0
 read_quiet coding path (Sequence bound T) n = rw (number_none coding.origin 4 n (lit< tt)) (refl, refl)
-read_quiet coding path (Union count scalar select names cases) n = rw (number_none coding.origin (width scalar) n (width_pos scalar)) (refl, refl)
+read_quiet coding path (Union choice scalar select names cases) n = rw (number_none coding.origin (width scalar) n (width_pos scalar)) (refl, refl)
 
 pub part_quiet : (coding : Coding) (path : List Seg) (T : Ty) (count n i : ℕ) → Quiet n (part_at coding path T count i n [])
 part_quiet coding path T count n i = quiet_within n (Part T i count) (read coding (inner_path path T i) (part_of T i) n []) (read_quiet coding (inner_path path T i) (part_of T i) n)
@@ -158,8 +158,8 @@ after_now n coding path (Sequence bound T) k =
     let elements = parts_from (part_at coding path (Sequence bound T) k) k 0 n [] in
     now_unless n (Sequence bound T) (over bound k) (with_front (line n path (Count k) ∷ []) elements)
     (now_front n (line n path (Count k) ∷ []) elements refl (parts_quiet coding path (Sequence bound T) k n k 0))
-after_now n coding path (Union count scalar select names cases) k =
-    let T = Union count scalar select names cases in
+after_now n coding path (Union choice scalar select names cases) k =
+    let T = Union choice scalar select names cases in
     let next : ℕ → List ℕ → Read = member (select k) (λ i at s. within (Member T i) (read coding (inner_path path T i) (part_of T i) at s)) in
     let front : List Line = line n (path ++ Switch ∷ []) (Spine.Number scalar k) ∷ [] in
     now_unless n T (wrong scalar k) (unless T (refused (select k)) n (with_front front (next n [])))

@@ -10,7 +10,7 @@ use Rattle.giop_decode.specs.Spine.{plain, Name, Index, Switch, Number, Count, P
 use Rattle.giop_decode.specs.Pieces.{block, number}
 use Rattle.giop_decode.specs.Reading.{read}
 use Rattle.giop_decode.specs.Heard.{heard_of}
-use Rattle.giop_sig.specs.Types.{Scalar, Plain, Enum, Ty, Single, Text, Octets, Struct, Union, Sequence, Array}
+use Rattle.giop_sig.specs.Types.{Cases, Scalar, Plain, Enum, Ty, Single, Text, Octets, Struct, Union, Sequence, Array}
 use Rattle.giop_sig.specs.declared.types.Selected.{Selected}
 use Rattle.giop_sig.specs.declared.types.Selected.TheVariants.{Case, Refused}
 
@@ -50,7 +50,7 @@ mark_cases zero = dot
 mark_cases (suc n) = Single (Plain prims.Octet)
 
 abbrev mark : Ty
-mark = Union 2 hue mark_selects mark_names mark_cases
+mark = Union (Cases 2) hue mark_selects mark_names mark_cases
 
 -- red, green, -1, 2, and an octet that follows
 union_is_read : read (plain Big) [] mark 44 (0 ∷ 0 ∷ 0 ∷ 0 ∷ 0 ∷ 0 ∷ 0 ∷ 1 ∷ 255 ∷ 255 ∷ 0 ∷ 2 ∷ 9 ∷ []) ≡ Done
@@ -142,7 +142,7 @@ wrong_truth = refl
 
 -- a target's discriminator that is none of the three has no line
 abbrev target : Ty
-target = Union 3 short (λ n. cond (eqb n 0) (Case 0) (cond (eqb n 1) (Case 1) (cond (eqb n 2) (Case 2) Refused))) (λ i. codes "object_key") (λ i. Octets None)
+target = Union (Cases 3) short (λ n. cond (eqb n 0) (Case 0) (cond (eqb n 1) (Case 1) (cond (eqb n 2) (Case 2) Refused))) (λ i. codes "object_key") (λ i. Octets None)
 
 no_disposition : read (plain Big) [] target 20 (0 ∷ 3 ∷ []) ≡ Fault [] 22 kinds.Disposition target
 unfolding num block padding number

@@ -11,7 +11,7 @@ use Rattle.giop_decode.specs.Spine.{Coding, Count, Done, Fault, Index, Line, Mem
 use Rattle.giop_decode.specs.Steps.{inner_path, after, head_width, part_at}
 use Rattle.giop_decode.specs.declared.progress.Kind.{Kind}
 use Rattle.giop_sig.specs.Fits.{IsFit, SelectsBelow}
-use Rattle.giop_sig.specs.Types.{Array, Octets, Scalar, Sequence, Single, Struct, Text, Ty, Union, part_of}
+use Rattle.giop_sig.specs.Types.{places_of, Choice, Array, Octets, Scalar, Sequence, Single, Struct, Text, Ty, Union, part_of}
 use Rattle.giop_sig.specs.declared.types.Selected.{Selected}
 use Rattle.giop_sig.specs.declared.types.Selected.TheVariants.{Case, Nothing, Refused}
 use Rattle.giop_decode.proofs.Law.{block_waits, block_got, number_waits, number_blocks, width_pos}
@@ -131,11 +131,11 @@ elements_keep coding path bound T n each at s = sound_unless (Sequence bound T) 
     (sound_front (Sequence bound T) (at + length s) (line at path (Count n) ∷ []) _
     (parts_keep coding path (Sequence bound T) n tt (λ i below. each i) n 0 (omega arith) at s))
 
-pub cases_keep : (coding : Coding) (path : List Seg) (count : ℕ) (scalar : Scalar) (select : ℕ → Selected) (names : ℕ → List ℕ) (cases : ℕ → Ty) (n : ℕ) →
-    SelectsBelow count select → ((i : ℕ) → i < count → Keeps (cases i) (read coding (path ++ Name (names i) ∷ []) (cases i))) →
-    Keeps (Union count scalar select names cases) (after coding path (Union count scalar select names cases) n)
-cases_keep coding path count scalar select names cases n below each at s =
-    let T = Union count scalar select names cases in
+pub cases_keep : (coding : Coding) (path : List Seg) (choice : Choice) (scalar : Scalar) (select : ℕ → Selected) (names : ℕ → List ℕ) (cases : ℕ → Ty) (n : ℕ) →
+    SelectsBelow (places_of choice) select → ((i : ℕ) → i < places_of choice → Keeps (cases i) (read coding (path ++ Name (names i) ∷ []) (cases i))) →
+    Keeps (Union choice scalar select names cases) (after coding path (Union choice scalar select names cases) n)
+cases_keep coding path choice scalar select names cases n below each at s =
+    let T = Union choice scalar select names cases in
     sound_unless T (at + length s) T (wrong scalar n) at _
     (sound_unless T (at + length s) T (refused (select n)) at _
     (sound_front T (at + length s) (line at (path ++ Switch ∷ []) (Spine.Number scalar n) ∷ []) _
@@ -153,8 +153,8 @@ read_keeps (suc d) coding path (Array count T) fit =
     parts_keep coding path (Array count T) count refl (λ i below. read_keeps d coding (path ++ Index i ∷ []) T fit.1) count 0 (omega arith)
 read_keeps (suc d) coding path (Sequence bound T) fit =
     headed_keeps coding path (Sequence bound T) tt (lit< tt) (λ n. elements_keep coding path bound T n (λ i. read_keeps d coding (path ++ Index i ∷ []) T fit))
-read_keeps (suc d) coding path (Union count scalar select names cases) fit =
-    headed_keeps coding path (Union count scalar select names cases) tt (width_pos scalar) (λ n. cases_keep coding path count scalar select names cases n fit.0
+read_keeps (suc d) coding path (Union choice scalar select names cases) fit =
+    headed_keeps coding path (Union choice scalar select names cases) tt (width_pos scalar) (λ n. cases_keep coding path choice scalar select names cases n fit.0
     (λ i below. read_keeps d coding (path ++ Name (names i) ∷ []) (cases i) (fit.1 i below)))
 
 pub after_keeps : (d : ℕ) (coding : Coding) (path : List Seg) (T : Ty) (n : ℕ) → IsFit d T → Keeps T (after coding path T n)
@@ -166,5 +166,5 @@ after_keeps (suc d) coding path (Octets bound) n fit = octets_keeps path bound n
 after_keeps (suc d) coding path (Struct count names parts) n fit = λ at s. refl
 after_keeps (suc d) coding path (Array count T) n fit = λ at s. refl
 after_keeps (suc d) coding path (Sequence bound T) n fit = elements_keep coding path bound T n (λ i. read_keeps d coding (path ++ Index i ∷ []) T fit)
-after_keeps (suc d) coding path (Union count scalar select names cases) n fit =
-    cases_keep coding path count scalar select names cases n fit.0 (λ i below. read_keeps d coding (path ++ Name (names i) ∷ []) (cases i) (fit.1 i below))
+after_keeps (suc d) coding path (Union choice scalar select names cases) n fit =
+    cases_keep coding path choice scalar select names cases n fit.0 (λ i below. read_keeps d coding (path ++ Name (names i) ∷ []) (cases i) (fit.1 i below))

@@ -39,7 +39,7 @@ module _ (C : Table) (T : Ty) (order : Order) (at message : ℕ) (root : Root) (
       by_type (Single scalar) e = absurd e
       by_type (Text bound) e = absurd e
       by_type (Octets bound) e = absurd e
-      by_type (Union n scalar select names cases) e = absurd e
+      by_type (Union choice scalar select names cases) e = absurd e
       by_type (Sequence bound U) e = absurd e
       by_type (Array n U) e = absurd e
 

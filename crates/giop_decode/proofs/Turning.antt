@@ -22,7 +22,7 @@ use Rattle.giop_decode.specs.Fits.{HasCase}
 use Rattle.giop_decode.specs.Turns.{IsNumberOf, Turns, over_by}
 use Rattle.giop_decode.proofs.Law.{block_got}
 use Rattle.giop_decode.proofs.Around.{block_none, first_part, read_none}
-use Rattle.giop_sig.specs.Types.{Scalar, Plain, Enum, Ty, Single, Text, Octets, Struct, Union, Sequence, Array, part_of, switch_of, shape_in, select_in, taken_in, IsUnion, HasMember}
+use Rattle.giop_sig.specs.Types.{Cases, Scalar, Plain, Enum, Ty, Single, Text, Octets, Struct, Union, Sequence, Array, part_of, switch_of, shape_in, select_in, taken_in, IsUnion, HasMember}
 use Rattle.giop_sig.specs.declared.types.Selected.TheVariants.{Case, Nothing, Refused}
 use Rattle.giop_sig.specs.Fits.{IsFit}
 use Rattle.giop_sig.specs.Table.{Table}
@@ -61,7 +61,7 @@ same_scalar s t e = cc
 
 pub switch_bound : (T : Ty) (p : Primitive) (order : Order) (octets : List ℕ) → IsUnion (shape_in T) → switch_of T ≡ Single (Plain p) → length octets ≡ head_width T → AreOctets octets →
     num order octets < 256 ^ size_of p
-switch_bound (Union n scalar select names cases) p order octets u is whole are =
+switch_bound (Union choice scalar select names cases) p order octets u is whole are =
     prim_bound (Single scalar) p order octets is whole are
 switch_bound (Struct n names parts) p order octets u is whole are = absurd u
 switch_bound (Array n T) p order octets u is whole are = absurd u
@@ -110,7 +110,7 @@ module _ (C : Table) (coding : Coding) (path : List Seg) (T : Ty) (at : ℕ) whe
       rw (is, ok) (ap (with_front (line at path (Count (suc n)) ∷ [])) (first_part coding path (Sequence bound E) (suc n) n 0 at (read_none coding (inner_path path (Sequence bound E) 0) d E at (rw is at fit))))
 
 pub member_case : (T : Ty) (i : ℕ) → IsUnion (shape_in T) → HasMember (shape_in T) i → HasCase T i
-member_case (Union n scalar select names cases) i u h = h
+member_case (Union (Cases n) scalar select names cases) i u h = h
 member_case (Struct n names parts) i u h = absurd u
 member_case (Array n T) i u h = absurd u
 member_case (Sequence bound T) i u h = absurd u
@@ -125,13 +125,13 @@ module _ (C : Table) (coding : Coding) (path : List Seg) (at : ℕ) (number : Ta
       Turns C T (turns.Selected i) (spokens.Switch number) [] [] path at (after coding path T is.n at [])
   unfolding IsFit
   turns_case zero T i is fit u e h = absurd fit
-  turns_case (suc d) (Union n scalar select names cases) i is fit u e h =
+  turns_case (suc d) (Union choice scalar select names cases) i is fit u e h =
       let s : scalar ≡ is.scalar = same_scalar scalar is.scalar is.is in
       let w : wrong scalar is.n ≡ None = rw s is.right in
       record {
         lines = line at (path ++ Switch ∷ []) (Spine.Number is.scalar is.n) ∷ [];
-        comes = rw (w, e, read_none coding (inner_path path (Union n scalar select names cases) i) d (cases i) at (fit.1 i h)) (ap (λ k. Short (line at (path ++ Switch ∷ []) (Spine.Number k is.n) ∷ []) at
-            (Member (Union n scalar select names cases) i ∷ start_outer (cases i)) (start_leaf (cases i))) s);
+        comes = rw (w, e, read_none coding (inner_path path (Union choice scalar select names cases) i) d (cases i) at (fit.1 i h)) (ap (λ k. Short (line at (path ++ Switch ∷ []) (Spine.Number k is.n) ∷ []) at
+            (Member (Union choice scalar select names cases) i ∷ start_outer (cases i)) (start_leaf (cases i))) s);
         says = (is, refl);
       }
   turns_case (suc d) (Struct n names parts) i is fit u e h = absurd u
@@ -144,7 +144,7 @@ module _ (C : Table) (coding : Coding) (path : List Seg) (at : ℕ) (number : Ta
 
   pub turns_nothing : (T : Ty) (is : IsNumberOf (switch_of T) number) → IsUnion (shape_in T) → select_in T is.n ≡ Nothing →
       Turns C T turns.Ended (spokens.Switch number) [] [] path at (after coding path T is.n at [])
-  turns_nothing (Union n scalar select names cases) is u e =
+  turns_nothing (Union choice scalar select names cases) is u e =
       let s : scalar ≡ is.scalar = same_scalar scalar is.scalar is.is in
       let w : wrong scalar is.n ≡ None = rw s is.right in
       record {
@@ -162,7 +162,7 @@ module _ (C : Table) (coding : Coding) (path : List Seg) (at : ℕ) (number : Ta
 
   pub turns_refused : (T : Ty) (is : IsNumberOf (switch_of T) number) → IsUnion (shape_in T) → select_in T is.n ≡ Refused →
       Turns C T (turns.Refused kinds.Disposition) spokens.Nothing [] [] path at (after coding path T is.n at [])
-  turns_refused (Union n scalar select names cases) is u e =
+  turns_refused (Union choice scalar select names cases) is u e =
       let s : scalar ≡ is.scalar = same_scalar scalar is.scalar is.is in
       let w : wrong scalar is.n ≡ None = rw s is.right in
       record { lines = []; comes = rw (w, e) refl; says = refl }

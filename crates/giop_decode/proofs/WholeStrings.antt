@@ -204,9 +204,9 @@ read_strings coding path (Sequence bound T) at s =
     (parts_strings (λ i at s. within (Part (Sequence bound T) i (num coding.order xs)) (read coding (path ++ Index i ∷ []) T at s))
     (λ i at s. within_strings (Part (Sequence bound T) i (num coding.order xs)) (read coding (path ++ Index i ∷ []) T at s) (read_strings coding (path ++ Index i ∷ []) T at s)) (num coding.order xs) 0 at rest)))
     (number coding.origin 4 at s)
-read_strings coding path (Union count scalar select names cases) at s =
-    headed_strings (Union count scalar select names cases) _ (λ xs at rest.
-    let T = Union count scalar select names cases in
+read_strings coding path (Union choice scalar select names cases) at s =
+    headed_strings (Union choice scalar select names cases) _ (λ xs at rest.
+    let T = Union choice scalar select names cases in
     let n = num coding.order xs in
     let case : ℕ → ℕ → List ℕ → Read = λ i at s. within (Member T i) (read coding (path ++ Name (names i) ∷ []) (cases i) at s) in
     let front : List Line = line at (path ++ Switch ∷ []) (Number scalar n) ∷ [] in

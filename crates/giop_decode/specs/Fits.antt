@@ -3,7 +3,7 @@ use Rattle.std.specs.Prelude.{◌≡◌, ℕ, zero, suc, ◌+◌, ◌-◌, ◌<�
 use Rattle.giop_decode.specs.Spine.{Place, Part, Member, Leaf, Head, Content, Read, Done, Short, Fault}
 use Rattle.giop_decode.specs.Pieces.{tail}
 use Rattle.giop_decode.specs.Steps.{head_width}
-use Rattle.giop_sig.specs.Types.{Ty, Text, Octets, Struct, Union, Sequence, Array, part_of}
+use Rattle.giop_sig.specs.Types.{places_of, Ty, Text, Octets, Struct, Union, Sequence, Array, part_of}
 use Rattle.giop_sig.specs.Fits.{IsFit}
 
 -- a type that begins with a number
@@ -26,7 +26,7 @@ HasParts T count = ⊥
 
 -- a union with a case in that place
 abbrev pub HasCase : Ty → ℕ → Type 0
-HasCase (Union count scalar select names cases) i = i < count
+HasCase (Union choice scalar select names cases) i = i < places_of choice
 HasCase T i = ⊥
 
 pub record HeadFits (T U : Ty) (carry : List ℕ) : Type 0 where

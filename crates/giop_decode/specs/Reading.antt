@@ -72,10 +72,10 @@ read coding path (Sequence bound T) at s =
     (parts_from (λ i at s. within (Part (Sequence bound T) i (num coding.order xs))
     (read coding (path ++ Index i ∷ []) T at s)) (num coding.order xs) 0 at rest)))
     (number coding.origin 4 at s)
-read coding path (Union count scalar select names cases) at s =
-    headed (Union count scalar select names cases) (λ xs at rest.
-    chosen path (Union count scalar select names cases) scalar
+read coding path (Union choice scalar select names cases) at s =
+    headed (Union choice scalar select names cases) (λ xs at rest.
+    chosen path (Union choice scalar select names cases) scalar
     (select (num coding.order xs)) (num coding.order xs)
-    (λ i at s. within (Member (Union count scalar select names cases) i)
+    (λ i at s. within (Member (Union choice scalar select names cases) i)
     (read coding (path ++ Name (names i) ∷ []) (cases i) at s)) at rest)
     (number coding.origin (width scalar) at s)

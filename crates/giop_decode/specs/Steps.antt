@@ -21,13 +21,13 @@ number_step origin n at (x ∷ carry) b = block_step n at (x ∷ carry) b
 -- the width of the number that begins a type
 abbrev pub head_width : Ty → ℕ
 head_width (Single scalar) = width scalar
-head_width (Union count scalar select names cases) = width scalar
+head_width (Union choice scalar select names cases) = width scalar
 head_width T = 4
 
 -- the part in a place
 abbrev pub seg_of : Ty → ℕ → Seg
 seg_of (Struct count names parts) i = Name (names i)
-seg_of (Union count scalar select names cases) i = Name (names i)
+seg_of (Union choice scalar select names cases) i = Name (names i)
 seg_of T i = Index i
 
 -- the path inside a part
@@ -46,9 +46,9 @@ after coding path (Octets bound) n at rest = octets bound path n at rest
 after coding path (Sequence bound T) n at rest = unless (Sequence bound T) (over bound n) at
     (with_front (line at path (Count n) ∷ [])
     (parts_from (part_at coding path (Sequence bound T) n) n 0 at rest))
-after coding path (Union count scalar select names cases) n at rest =
-    chosen path (Union count scalar select names cases) scalar (select n) n
-    (λ i at s. within (Member (Union count scalar select names cases) i)
+after coding path (Union choice scalar select names cases) n at rest =
+    chosen path (Union choice scalar select names cases) scalar (select n) n
+    (λ i at s. within (Member (Union choice scalar select names cases) i)
     (read coding (path ++ Name (names i) ∷ []) (cases i) at s)) at rest
 after coding path T n at rest = Done [] at rest
 

@@ -24,7 +24,7 @@ use Rattle.giop_sig.specs.Trees.{tree}
 
 -- in a union the index is that of a case
 abbrev pub place_in : Ty → ℕ → ℕ → Place
-place_in (Union n scalar select names cases) i count = Member (Union n scalar select names cases) i
+place_in (Union choice scalar select names cases) i count = Member (Union choice scalar select names cases) i
 place_in T i count = Part T i count
 
 abbrev pub place : Table → Frame → Place

@@ -7,7 +7,7 @@ use Rattle.std.proofs.lemmas.List.{length-append, get_or_append_left}
 use Rattle.std.proofs.Math.Seq.{get_or-append_seam}
 use Rattle.std.proofs.lemmas.List.Elements.{recursion_from_All}
 use Rattle.giop_cdr.specs.declared.prim.Primitive.TheVariants.{Octet}
-use Rattle.giop_sig.specs.Types.{Ty, Single, Struct, Union, Sequence, Array, taken_by, switch_of, IsUnion}
+use Rattle.giop_sig.specs.Types.{Cases, Ty, Single, Struct, Union, Sequence, Array, taken_by, switch_of, IsUnion}
 use Rattle.giop_sig.specs.Table.{Node, Part, Case, node_in, shape_of, switch_at, IsFormed, IsPart, IsScalarNode, case_part, name_of, selected}
 use Rattle.giop_sig.specs.Table as nodes
 use Rattle.giop_sig.specs.Trees.{grow, grown_part, octet_type, scalar_of, selected_by, tree_in, trees_after, trees_of, type_in, AreTypes}
@@ -43,9 +43,9 @@ grow_same types n f g (nodes.members parts) same formed =
     ap (Struct (length parts) (λ i. name_of (slice_get parts i)))
     (fun_ext (λ i. part_same types n f g (slice_get parts i) same (part_read (IsPart types n) parts i (recursion_from_All (IsPart types n) parts formed.1))))
 grow_same types n f g (nodes.union switch cases otherwise) same formed =
-    ap (λ (T : Ty). Union (length cases) (scalar_of T) (λ n. selected_by (selected (nodes.union switch cases otherwise)) (taken_by (scalar_of T) n))
+    ap (λ (T : Ty). Union (Cases (length cases)) (scalar_of T) (λ n. selected_by (selected (nodes.union switch cases otherwise)) (taken_by (scalar_of T) n))
     (λ i. name_of (case_part (slice_get cases i))) (λ i. grown_part f (case_part (slice_get cases i)))) (same switch formed.0.below)
-    ∙ ap (Union (length cases) (scalar_of (g switch)) (λ n. selected_by (selected (nodes.union switch cases otherwise)) (taken_by (scalar_of (g switch)) n))
+    ∙ ap (Union (Cases (length cases)) (scalar_of (g switch)) (λ n. selected_by (selected (nodes.union switch cases otherwise)) (taken_by (scalar_of (g switch)) n))
     (λ i. name_of (case_part (slice_get cases i))))
     (fun_ext (λ i. part_same types n f g (case_part (slice_get cases i)) same (case_read (IsPart types n) cases i (recursion_from_All (λ (c : Case). IsPart types n c.part) cases formed.2))))
 grow_same types n f g (nodes.sequence bound element) same formed = ap (Sequence bound) (same element formed.below)

@@ -4,7 +4,7 @@ use Rattle.giop_cdr.specs.declared.prim.Primitive.TheVariants as prims
 use Rattle.giop_cdr.specs.declared.number.Number.{Number}
 use Rattle.giop_sig.specs.declared.types.Selected.{Selected}
 use Rattle.giop_sig.specs.declared.types.Selected.TheVariants.{Nothing}
-use Rattle.giop_sig.specs.Types.{Scalar, Plain, Enum, taken_by, Ty, Single, Text, Octets, Struct, Union, Sequence, Array, depth}
+use Rattle.giop_sig.specs.Types.{Cases, Scalar, Plain, Enum, taken_by, Ty, Single, Text, Octets, Struct, Union, Sequence, Array, depth}
 use Rattle.giop_sig.specs.Table.{Part, Case, Node, Table, IsFormed, case_part, name_of, part_at, type_of, selected}
 use Rattle.giop_sig.specs.Table as nodes
 
@@ -37,7 +37,7 @@ grow tree (nodes.text bound) = Text bound
 grow tree (nodes.octets bound) = Octets bound
 grow tree (nodes.members parts) = Struct (length parts) (λ i. name_of (slice_get parts i)) (λ i. grown_part tree (slice_get parts i))
 grow tree (nodes.union switch cases otherwise) =
-    Union (length cases) (scalar_of (tree switch))
+    Union (Cases (length cases)) (scalar_of (tree switch))
     (λ n. selected_by (selected (nodes.union switch cases otherwise)) (taken_by (scalar_of (tree switch)) n))
     (λ i. name_of (case_part (slice_get cases i))) (λ i. grown_part tree (case_part (slice_get cases i)))
 grow tree (nodes.sequence bound element) = Sequence bound (tree element)

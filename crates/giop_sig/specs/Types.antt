@@ -27,6 +27,14 @@ abbrev pub taken_by : Scalar → ℕ → Option Number
 taken_by (Plain p) n = taken_as p n
 taken_by (Enum count names) n = Some (numbers.Unsigned n)
 
+-- what a union's discriminator chooses among: so many cases
+pub data Choice : Type 0 where
+  Cases : ℕ → Choice
+
+-- how many places it has
+abbrev pub places_of : Choice → ℕ
+places_of (Cases n) = n
+
 pub data Ty : Type 0 where
   Single : Scalar → Ty
   -- a string, perhaps with a bound
@@ -35,8 +43,8 @@ pub data Ty : Type 0 where
   Octets : Option ℕ → Ty
   -- how many parts, their names, their types
   Struct : ℕ → (ℕ → List ℕ) → (ℕ → Ty) → Ty
-  -- how many cases, the discriminator, what each of its numbers selects, the cases' names and types
-  Union : ℕ → Scalar → (ℕ → Selected) → (ℕ → List ℕ) → (ℕ → Ty) → Ty
+  -- the choice, the discriminator, what each of its numbers selects, the cases' names and types
+  Union : Choice → Scalar → (ℕ → Selected) → (ℕ → List ℕ) → (ℕ → Ty) → Ty
   Sequence : Option ℕ → Ty → Ty
   Array : ℕ → Ty → Ty
 
@@ -45,7 +53,7 @@ pub data Ty : Type 0 where
 -- the part in a place; an element's for any place
 abbrev pub part_of : Ty → ℕ → Ty
 part_of (Struct count names parts) i = parts i
-part_of (Union count scalar select names cases) i = cases i
+part_of (Union choice scalar select names cases) i = cases i
 part_of (Array count T) i = T
 part_of (Sequence bound T) i = T
 part_of T i = T
@@ -53,7 +61,7 @@ part_of T i = T
 -- the name of the part in a place; an element has none
 abbrev pub name_in : Ty → ℕ → List ℕ
 name_in (Struct count names parts) i = names i
-name_in (Union count scalar select names cases) i = names i
+name_in (Union choice scalar select names cases) i = names i
 name_in T i = []
 
 -- the name of an enum's number
@@ -63,12 +71,12 @@ enum_name_in T n = None
 
 -- the type of a union's discriminator
 abbrev pub switch_of : Ty → Ty
-switch_of (Union count scalar select names cases) = Single scalar
+switch_of (Union choice scalar select names cases) = Single scalar
 switch_of T = T
 
 -- what the whole number of a union's discriminator selects
 abbrev pub select_in : Ty → ℕ → Selected
-select_in (Union count scalar select names cases) n = select n
+select_in (Union choice scalar select names cases) n = select n
 select_in T n = Nothing
 
 -- what a discriminator's number is as a value, for a type of one number
@@ -85,7 +93,7 @@ shape_in (Single (Enum count names)) = shapes.Enumeration count
 shape_in (Text bound) = shapes.Text bound
 shape_in (Octets bound) = shapes.Octets bound
 shape_in (Struct count names parts) = shapes.Members count
-shape_in (Union count scalar select names cases) = shapes.Union count
+shape_in (Union (Cases count) scalar select names cases) = shapes.Union count
 shape_in (Sequence bound T) = shapes.Sequence bound
 shape_in (Array count T) = shapes.Array count
 
@@ -96,7 +104,7 @@ HasShape T (shapes.Enumeration count) = (names : ℕ → List ℕ) × (T ≡ Sin
 HasShape T (shapes.Text bound) = T ≡ Text bound
 HasShape T (shapes.Octets bound) = T ≡ Octets bound
 HasShape T (shapes.Members count) = (names : ℕ → List ℕ) × (parts : ℕ → Ty) × (T ≡ Struct count names parts)
-HasShape T (shapes.Union count) = (scalar : Scalar) × (select : ℕ → Selected) × (names : ℕ → List ℕ) × (cases : ℕ → Ty) × (T ≡ Union count scalar select names cases)
+HasShape T (shapes.Union count) = (scalar : Scalar) × (select : ℕ → Selected) × (names : ℕ → List ℕ) × (cases : ℕ → Ty) × (T ≡ Union (Cases count) scalar select names cases)
 HasShape T (shapes.Sequence bound) = (E : Ty) × (T ≡ Sequence bound E)
 HasShape T (shapes.Array count) = (E : Ty) × (T ≡ Array count E)
 
@@ -131,6 +139,6 @@ depth (Single scalar) = 1
 depth (Text bound) = 1
 depth (Octets bound) = 1
 depth (Struct count names parts) = 1 + most count (λ i. depth (parts i))
-depth (Union count scalar select names cases) = 1 + max 1 (most count (λ i. depth (cases i)))
+depth (Union choice scalar select names cases) = 1 + max 1 (most (places_of choice) (λ i. depth (cases i)))
 depth (Sequence bound T) = 1 + depth T
 depth (Array count T) = 1 + depth T
