@@ -158,7 +158,7 @@ hear_id h at path (Piece (Text bound) offset octets false) e = e
 hear_id h at path (Piece (Single scalar) offset octets more) e = e
 hear_id h at path (Piece (Octets bound) offset octets more) e = e
 hear_id h at path (Piece (Struct count names parts) offset octets more) e = e
-hear_id h at path (Piece (Union count scalar select names cases) offset octets more) e = e
+hear_id h at path (Piece (Union choice scalar select names cases) offset octets more) e = e
 hear_id h at path (Piece (Sequence bound T) offset octets more) e = e
 hear_id h at path (Piece (Array count T) offset octets more) e = e
 

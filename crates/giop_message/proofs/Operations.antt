@@ -44,7 +44,7 @@ read_mute coding path (Array count T) n =
     mute_parts n (part_at coding path (Array count T) count) (part_quiet coding path (Array count T) count n)
     (λ i. mute_within (Part (Array count T) i count) (read coding (path ++ Index i ∷ []) T n []) ∙ read_mute coding (path ++ Index i ∷ []) T n) count 0
 read_mute coding path (Sequence bound T) n = rw (number_none coding.origin 4 n (lit< tt)) refl
-read_mute coding path (Union count scalar select names cases) n = rw (number_none coding.origin (width scalar) n (width_pos scalar)) refl
+read_mute coding path (Union choice scalar select names cases) n = rw (number_none coding.origin (width scalar) n (width_pos scalar)) refl
 
 part_mute : (coding : Coding) (path : List Seg) (T : Ty) (count n i : ℕ) → in_string (part_at coding path T count i n []) ≡ false
 part_mute coding path T count n i = mute_within (Part T i count) (read coding (inner_path path T i) (part_of T i) n []) ∙ read_mute coding (inner_path path T i) (part_of T i) n
@@ -74,7 +74,7 @@ more_no_end (Text bound) offset xs = refl
 more_no_end (Single scalar) offset xs = refl
 more_no_end (Octets bound) offset xs = refl
 more_no_end (Struct count names parts) offset xs = refl
-more_no_end (Union count scalar select names cases) offset xs = refl
+more_no_end (Union choice scalar select names cases) offset xs = refl
 more_no_end (Sequence bound T) offset xs = refl
 more_no_end (Array count T) offset xs = refl
 
@@ -109,15 +109,15 @@ after_closed coding path (Sequence bound T) k n =
     let elements = parts_from (part_at coding path (Sequence bound T) k) k 0 n [] in
     closed_unless (Sequence bound T) (over bound k) n (with_front (line n path (Count k) ∷ []) elements)
     (inl (no_ends_front (line n path (Count k) ∷ []) elements (refl, tt) (no_ends_quiet n elements (parts_quiet coding path (Sequence bound T) k n k 0))))
-after_closed coding path (Union count scalar select names cases) k n =
-    let T = Union count scalar select names cases in
+after_closed coding path (Union choice scalar select names cases) k n =
+    let T = Union choice scalar select names cases in
     let next : ℕ → List ℕ → Read = member (select k) (λ i at s. within (Member T i) (read coding (inner_path path T i) (part_of T i) at s)) in
     let front : List Line = line n (path ++ Switch ∷ []) (Spine.Number scalar k) ∷ [] in
     closed_unless T (wrong scalar k) n (unless T (refused (select k)) n (with_front front (next n [])))
     (closed_unless T (refused (select k)) n (with_front front (next n [])) (inl (no_ends_front front (next n []) (refl, tt) (chosen (select k)))))
   where
-    chosen : (selected : Selected) → NoEnds (member selected (λ i at s. within (Member (Union count scalar select names cases) i) (read coding (inner_path path (Union count scalar select names cases) i) (cases i) at s)) n [])
-    chosen (Case i) = no_ends_quiet n _ (quiet_within n (Member (Union count scalar select names cases) i) (read coding (inner_path path (Union count scalar select names cases) i) (cases i) n []) (read_quiet coding (inner_path path (Union count scalar select names cases) i) (cases i) n))
+    chosen : (selected : Selected) → NoEnds (member selected (λ i at s. within (Member (Union choice scalar select names cases) i) (read coding (inner_path path (Union choice scalar select names cases) i) (cases i) at s)) n [])
+    chosen (Case i) = no_ends_quiet n _ (quiet_within n (Member (Union choice scalar select names cases) i) (read coding (inner_path path (Union choice scalar select names cases) i) (cases i) n []) (read_quiet coding (inner_path path (Union choice scalar select names cases) i) (cases i) n))
     chosen Nothing = tt
     chosen Refused = tt
 

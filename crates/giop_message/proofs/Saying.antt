@@ -77,8 +77,8 @@ after_of coding path (Sequence bound T) n at =
     let elements = parts_from (part_at coding path (Sequence bound T) n) n 0 at [] in
     unless_of path (Sequence bound T) (over bound n) at (with_front (line at path (Count n) ∷ []) elements)
     (λ e. front_of path (line at path (Count n) ∷ []) elements (at_path path at (Count n), tt) (quiet_of path at elements (parts_quiet coding path (Sequence bound T) n at n 0)))
-after_of coding path (Union count scalar select names cases) n at =
-    let T = Union count scalar select names cases in
+after_of coding path (Union choice scalar select names cases) n at =
+    let T = Union choice scalar select names cases in
     let next : ℕ → List ℕ → Read = member (select n) (λ i at s. within (Member T i) (read coding (inner_path path T i) (part_of T i) at s)) in
     let front : List Line = line at (path ++ Switch ∷ []) (Spine.Number scalar n) ∷ [] in
     unless_of path T (wrong scalar n) at (unless T (refused (select n)) at (with_front front (next at [])))

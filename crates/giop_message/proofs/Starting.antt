@@ -22,7 +22,7 @@ fit_some (Struct (suc count) names parts) fit empty = absurd empty
 fit_some (Single scalar) fit empty = absurd empty
 fit_some (Text bound) fit empty = absurd empty
 fit_some (Octets bound) fit empty = absurd empty
-fit_some (Union count scalar select names cases) fit empty = absurd empty
+fit_some (Union choice scalar select names cases) fit empty = absurd empty
 fit_some (Sequence bound T) fit empty = absurd empty
 fit_some (Array count T) fit empty = absurd empty
 
@@ -61,7 +61,7 @@ empty_rests o (Struct (suc count) names parts) n empty = absurd empty
 empty_rests o (Single scalar) n empty = absurd empty
 empty_rests o (Text bound) n empty = absurd empty
 empty_rests o (Octets bound) n empty = absurd empty
-empty_rests o (Union count scalar select names cases) n empty = absurd empty
+empty_rests o (Union choice scalar select names cases) n empty = absurd empty
 empty_rests o (Sequence bound T) n empty = absurd empty
 empty_rests o (Array count T) n empty = absurd empty
 
