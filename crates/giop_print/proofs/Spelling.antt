@@ -2,7 +2,10 @@
 use Rattle.std.proofs.Common.{◌≡◌, ℕ, zero, suc, ◌+◌, ◌-◌, ◌*◌, ◌/◌, ◌%◌, ◌^◌, ◌<◌, ◌≤◌, List, [], ◌∷◌, ◌++◌, length, take, get_or, refl, sym, ap, ◌∙◌, arith, append_assoc, append-nil, pow-suc}
 use Rattle.std.proofs.lemmas.Nat.{pow-add}
 use Rattle.std.proofs.lemmas.List.{take_all}
+use Rattle.std.proofs.lemmas.List.Concat.{flat_map-append}
+use Rattle.std.specs.Prelude.{codes}
 use Rattle.giop_print.specs.Text.{hex_digit, hex_octet, hex, hex_number, escaped_octet, escaped}
+use Rattle.giop_print.specs.Lines.{spaced_hex}
 use Rattle.giop_print.proofs.Writing.{flat_map-take}
 
 -- no octet yet
@@ -29,6 +32,19 @@ hex_all before text xs i h e = e ∙ ap (λ ys. before ++ hex ys) (take_all i xs
 
 pub escaped_all : (before text : List ℕ) (xs : List ℕ) (i : ℕ) → length xs ≤ i → text ≡ before ++ escaped (take i xs) → text ≡ before ++ escaped xs
 escaped_all before text xs i h e = e ∙ ap (λ ys. before ++ escaped ys) (take_all i xs h)
+
+-- octets, and those that follow them
+pub hex_append : (xs ys : List ℕ) → hex (xs ++ ys) ≡ hex xs ++ hex ys
+unfolding hex
+hex_append xs ys = flat_map-append hex_octet xs ys
+
+pub escaped_append : (xs ys : List ℕ) → escaped (xs ++ ys) ≡ escaped xs ++ escaped ys
+unfolding escaped
+escaped_append xs ys = flat_map-append escaped_octet xs ys
+
+pub spaced_some : (xs : List ℕ) → 0 < length xs → spaced_hex xs ≡ codes " " ++ hex xs
+spaced_some [] h = absurd (omega arith)
+spaced_some (x ∷ xs) h = refl
 
 -- one octet alone
 pub escaped_one : (x : ℕ) → escaped (x ∷ []) ≡ escaped_octet x

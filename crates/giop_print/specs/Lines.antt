@@ -93,6 +93,11 @@ abbrev pub piece_text : Piece → List ℕ
 piece_text (pieces.Text octets) = codes " " ++ quoted octets.now
 piece_text (pieces.Octets octets) = spaced_hex octets.now
 
+-- the same of a piece whose octets are followed by more
+abbrev pub split_text : Piece → List ℕ → List ℕ
+split_text (pieces.Text octets) next = codes " " ++ quoted (octets.now ++ next)
+split_text (pieces.Octets octets) next = spaced_hex (octets.now ++ next)
+
 -- a part of a content: where it stands there, its text, and whether more comes
 unfoldable pub content_line : ℕ → List ℕ → List ℕ → ℕ → List ℕ → List ℕ → List ℕ
 content_line message path word offset text more =
@@ -101,6 +106,10 @@ content_line message path word offset text more =
 
 abbrev pub piece_line : ℕ → List ℕ → Piece → ℕ → Bool → List ℕ
 piece_line message path piece offset more = content_line message path (piece_word piece) offset (piece_text piece) (more_word more)
+
+abbrev pub split_piece_line : ℕ → List ℕ → Piece → List ℕ → ℕ → Bool → List ℕ
+split_piece_line message path held octets offset more =
+    content_line message path (piece_word held) offset (split_text held octets) (more_word more)
 
 unfoldable pub rest_line : ℕ → ℕ → List ℕ → List ℕ
 rest_line message offset octets =

@@ -12,7 +12,8 @@ mod written;
 
 pub use lines::{
     call_line, cancelled_line, continues_line, end_line, fault_line, piece_line, rest_line,
-    start_line, stream_fault_line, total_line, unfinished_line, value_line,
+    split_piece_line, split_rest_line, start_line, stream_fault_line, total_line, unfinished_line,
+    value_line,
 };
 pub use path::{Path, Root};
 pub use sheet::Sheet;

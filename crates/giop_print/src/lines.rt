@@ -1,16 +1,17 @@
 //! The lines of a dump, over any out (docs/FORMATS.md). A writer answers Ok where its whole line was written; else a
 //! put failed, and a front of the line was written. Messages are named by their numbers.
 
-ghost use Rattle.std.specs.Prelude.{◌≤◌, length};
+ghost use Rattle.std.specs.Prelude.{◌+◌, ◌≤◌, ◌++◌, length};
 ghost use Rattle.giop_cdr.specs.Primitives.{size_of};
 ghost use Rattle.giop_print.specs.Output.{Writes};
-ghost use Rattle.giop_print.specs.Lines.{kind_line, kind_word, spaced, number_text, piece_octets, value_line, content_line, piece_line, rest_line, start_line, call_line, continues_line, cancelled_line, fault_line, end_line, stream_fault_line, unfinished_line, total_line};
+ghost use Rattle.giop_print.specs.Lines.{kind_line, kind_word, spaced, number_text, piece_octets, value_line, content_line, piece_line, split_piece_line, rest_line, start_line, call_line, continues_line, cancelled_line, fault_line, end_line, stream_fault_line, unfinished_line, total_line};
 
 use crate::path::Path;
 use crate::sink::{Out, OutFault, put_parts};
-use crate::text::{hex_number, hex_piece, piece_text, quoted_octet};
+use crate::text::{hex_number, push_hex, quoted_octet, split_text};
 use crate::value::{Piece, Value};
 use crate::words::{kind_word, more_word, order_word, piece_word, truth_word, type_word};
+use arrayvec::ArrayVec;
 use giop_cdr::{Number, Order, Prim, size};
 use itoa::Buffer;
 
@@ -99,12 +100,29 @@ pub fn piece_line<O: Out>(
     ensures { Writes result (O.log out.old) (O.log out.new)
         (piece_line message path.now.text piece.entry offset more) }
 {
-    let text = piece_text(piece);
+    split_piece_line(out, message, path, piece, &[], offset, more)
+}
+
+/// The line of a piece that came in two: the octets that were held, and those that follow them, at most 32 in all.
+pub fn split_piece_line<O: Out>(
+    out: &mut O,
+    message: u64,
+    path: &Path,
+    held: Piece<'_>,
+    octets: &[u8],
+    offset: u64,
+    more: bool,
+) -> Result<(), OutFault>
+    requires { length (piece_octets held) + length octets.now ≤ 32 }
+    ensures { Writes result (O.log out.old) (O.log out.new)
+        (split_piece_line message path.now.text held.entry octets.now offset more) }
+{
+    let text = split_text(held, octets);
     content_line(
         out,
         message,
         path,
-        piece_word(piece),
+        piece_word(held),
         offset,
         &text,
         more_word(more),
@@ -144,7 +162,6 @@ fn content_line<'a, O: Out>(
 }
 
 /// The line of at most 32 octets that stand at this offset in the rest.
-#[tactic(auto, unfolding(crate::specs::Lines::rest_line))]
 pub fn rest_line<O: Out>(
     out: &mut O,
     message: u64,
@@ -154,9 +171,27 @@ pub fn rest_line<O: Out>(
     requires { length octets.now ≤ 32 }
     ensures { Writes result (O.log out.old) (O.log out.new) (rest_line message offset octets.now) }
 {
+    split_rest_line(out, message, offset, octets, &[])
+}
+
+/// The line of a part of the rest that came in two: the octets that were held, and those that follow them, at most 32
+/// in all.
+pub fn split_rest_line<O: Out>(
+    out: &mut O,
+    message: u64,
+    offset: u64,
+    held: &[u8],
+    octets: &[u8],
+) -> Result<(), OutFault>
+    requires { length held.now + length octets.now ≤ 32 }
+    ensures { Writes result (O.log out.old) (O.log out.new)
+        (rest_line message offset (held.now ++ octets.now)) }
+{
     let mut message_digits = Buffer::new();
     let mut offset_digits = Buffer::new();
-    let text = hex_piece(octets);
+    let mut text = ArrayVec::<u8, 64>::new();
+    push_hex(&mut text, held);
+    push_hex(&mut text, octets);
     put_parts(
         out,
         &[

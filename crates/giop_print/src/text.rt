@@ -3,7 +3,7 @@
 ghost use Rattle.std.specs.Prelude.{◌≡◌, ◌≤◌, ◌<◌, ◌+◌, ◌*◌, [], ◌∷◌, ◌++◌, length};
 ghost use Rattle.arrayvec.specs.ArrayVec.{array_vec_len};
 ghost use Rattle.giop_print.specs.Text.{hex_digit, hex_octet, hex, hex_number, escaped_octet, escaped, quoted};
-ghost use Rattle.giop_print.specs.Lines.{piece_octets, piece_text};
+ghost use Rattle.giop_print.specs.Lines.{piece_octets, split_text};
 
 use crate::value::Piece;
 use arrayvec::ArrayVec;
@@ -48,7 +48,8 @@ fn push_escaped_octet<const N: usize>(text: &mut ArrayVec<u8, N>, octet: u8)
 #[tactic(auto, using(crate::proofs::Spelling::spelling_steps))]
 pub fn push_hex<const N: usize>(text: &mut ArrayVec<u8, N>, octets: &[u8])
     requires { array_vec_len text.old + 2 * length octets.now ≤ N }
-    ensures { text.new.items ≡ text.old.items ++ hex octets.now }
+    ensures text { text.new.items ≡ text.old.items ++ hex octets.now }
+    ensures room { array_vec_len text.new ≡ array_vec_len text.old + 2 * length octets.now }
 {
     for octet in octets {
         push_octet(text, *octet);
@@ -82,16 +83,6 @@ pub fn hex_number(n: u64, digits: u8) -> ArrayVec<u8, 16>
     text
 }
 
-/// Two digits for each of at most 32 octets.
-pub fn hex_piece(octets: &[u8]) -> ArrayVec<u8, 64>
-    requires { length octets.now ≤ 32 }
-    ensures { result.items ≡ hex octets.now }
-{
-    let mut text = ArrayVec::new();
-    push_hex(&mut text, octets);
-    text
-}
-
 /// An octet between quotes.
 pub fn quoted_octet(octet: u8) -> ArrayVec<u8, 6>
     ensures { result.items ≡ quoted (octet ∷ []) }
@@ -103,10 +94,11 @@ pub fn quoted_octet(octet: u8) -> ArrayVec<u8, 6>
     text
 }
 
-/// What a piece has, behind its offset: a space and its text between quotes, or a space and its digits where it has octets.
-pub fn piece_text(piece: Piece<'_>) -> ArrayVec<u8, 131>
-    requires { length (piece_octets piece) ≤ 32 }
-    ensures { result.items ≡ piece_text piece.entry }
+/// What a piece has behind its offset, where these octets follow its own: a space and its text between quotes, or a
+/// space and its digits where it has octets.
+pub fn split_text(piece: Piece<'_>, next: &[u8]) -> ArrayVec<u8, 131>
+    requires { length (piece_octets piece) + length next.now ≤ 32 }
+    ensures { result.items ≡ split_text piece.entry next.now }
 {
     let mut text = ArrayVec::new();
     match piece {
@@ -114,12 +106,15 @@ pub fn piece_text(piece: Piece<'_>) -> ArrayVec<u8, 131>
             text.push(b' ');
             text.push(b'"');
             push_escaped(&mut text, octets);
+            push_escaped(&mut text, next);
             text.push(b'"');
         }
         Piece::Octets(octets) => {
-            if !octets.is_empty() {
+            let size = octets.len() + next.len();
+            if size > 0 {
                 text.push(b' ');
                 push_hex(&mut text, octets);
+                push_hex(&mut text, next);
             }
         }
     }

@@ -1,7 +1,9 @@
 //! The lines of worked streams, and of pieces.
 
 use crate::streams::{FRAGMENTS, REQUEST, fragments, request};
-use giop_print::{OutFault, Path, Piece, Root, Sheet, piece_line};
+use giop_print::{
+    OutFault, Path, Piece, Root, Sheet, piece_line, split_piece_line, split_rest_line,
+};
 use std::test::Fail;
 
 #[test]
@@ -55,5 +57,31 @@ fn pieces_are_escaped_or_spelled_and_say_whether_more_comes(rt: HostRuntime) -> 
     let mut path = Path::new(Root::Exception);
     pieces(&mut sheet, &mut path)?;
     assert!(rt; sheet.held() == PIECES);
+    Ok(())
+}
+
+/// Pieces of a text and of octets, and a part of a rest, of which each came in two.
+fn split_parts(sheet: &mut Sheet, path: &Path) -> Result<(), OutFault> {
+    split_piece_line(sheet, 1, path, Piece::Text(b"IDL:"), b"La\x07", 0, false)?;
+    split_piece_line(sheet, 1, path, Piece::Text(b""), b"te\"", 32, true)?;
+    split_piece_line(sheet, 1, path, Piece::Octets(&[0xab; 31]), b"\xcd", 0, true)?;
+    split_piece_line(sheet, 1, path, Piece::Octets(b""), b"", 32, false)?;
+    split_rest_line(sheet, 1, 32, b"\x00\x00", b"\x00\x2a\x09")
+}
+
+const SPLIT_PARTS: &[u8] = b"m1 exception string @0 \"IDL:La\\x07\"
+m1 exception string @32 \"te\\x22\" more
+m1 exception octets @0 abababababababababababababababababababababababababababababababcd more
+m1 exception octets @32
+m1 rest @32 0000002a09
+";
+
+#[test]
+fn parts_that_came_in_two_are_written_as_one(rt: HostRuntime) -> Result<(), Fail> {
+    let mut room = [0; 512];
+    let mut sheet = Sheet::new(&mut room);
+    let path = Path::new(Root::Exception);
+    split_parts(&mut sheet, &path)?;
+    assert!(rt; sheet.held() == SPLIT_PARTS);
     Ok(())
 }
