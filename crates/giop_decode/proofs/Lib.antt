@@ -23,4 +23,5 @@ mod OneCut
 mod Left
 mod Taking
 mod Runs
+mod Gathering
 pub mod ReadingLaws

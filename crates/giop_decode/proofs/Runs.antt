@@ -143,3 +143,19 @@ pub writes_broken : {E : Type 0} (r : Result (ℕ × Progress) E) (T : Ty) (orde
     WritesRun r T order at message root s octets a b
 writes_broken (Ok v) T order at message root s octets a b e h = absurd (false≢true e)
 writes_broken (Err e) T order at message root s octets a b _ h = h
+
+-- ---- two runs, one after the other
+
+pub breaks_both : (T : Ty) (order : Order) (at message : ℕ) (root : Root) (s xs ys : List ℕ) (a b c : OutLog) →
+    AreAnswered order T at root s xs progress.More → Wrote a b (lines_text message root (dues order T at s xs)) →
+    BreaksOff T order at message root (s ++ xs) ys b c → BreaksOff T order at message root s (xs ++ ys) a c
+breaks_both T order at message root s xs ys a b c h v w =
+    record {
+      front = xs ++ w.front;
+      octet = w.octet;
+      rest = w.rest;
+      all = ap (λ z. xs ++ z) w.all ∙ sym (append_assoc xs w.front (w.octet ∷ w.rest));
+      answers = answered_both order T at root s xs w.front progress.More h w.answers;
+      wrote = rw (append_assoc xs w.front (w.octet ∷ []), text_both message root order T at s xs (w.front ++ w.octet ∷ []))
+          (wrote-front a b c _ _ v w.wrote);
+    }

@@ -58,3 +58,16 @@ WritesRun result T order at message root s octets before after =
     MatchResult result
     (λ taken. Wrote before after (lines_text message root (dues order T at s (take taken.0 octets))))
     (λ _. BreaksOff T order at message root s octets before after)
+
+-- ---- octets that only add to a piece
+
+-- a decoder that read a list reads the longer one, and had nothing to say
+pub record Gathered (C : Table) (T : Ty) (order : Order) (at message : ℕ) (root : Root) (new : Decoder)
+    (s octets : List ℕ) : Type 0 where
+  pub takes : TakesRun C T order at message root new s octets progress.More
+  pub quiet : dues order T at s octets ≡ []
+
+-- the same of any list that the decoder before reads
+abbrev pub AllGathered : Table → Decoder → Decoder → List ℕ → Type 0
+AllGathered C d new octets = (T : Ty) (order : Order) (at message : ℕ) (root : Root) (s : List ℕ) →
+    Reads C T order at message root d s → Gathered C T order at message root new s octets

@@ -1,6 +1,6 @@
 //! The content of a string or of an octet sequence, in pieces of 32 octets (docs/FORMATS.md).
 
-ghost use Rattle.std.specs.Prelude.{◌≡◌, ℕ, ◌+◌, ◌-◌, ◌<◌, ◌≤◌, List, [], ◌∷◌, ◌++◌, length, IsTrue, false};
+ghost use Rattle.std.specs.Prelude.{◌≡◌, ℕ, ◌+◌, ◌-◌, ◌<◌, ◌≤◌, List, [], ◌∷◌, ◌++◌, length, take, IsTrue, false};
 ghost use Rattle.arrayvec.specs.ArrayVec.{array_vec_len};
 ghost use Rattle.giop_decode.specs.Spine.{Seg};
 ghost use Rattle.giop_decode.specs.Heard.{is_text};
@@ -31,6 +31,22 @@ pub(crate) fn hold_content(left: u32, octet: u8, piece: &mut ArrayVec<u8, 32>) -
         return true;
     }
     false
+}
+
+/// Takes octets that leave the piece incomplete, where so much of a content is left from the piece's start, all that
+/// stand there together, and answers how many there were.
+pub(crate) fn gather_content(left: u32, octets: &[u8], piece: &mut ArrayVec<u8, 32>) -> usize
+    ensures within { result ≤ length octets.now }
+    ensures none { result ≡ 0 → piece.new ≡ piece.old }
+    ensures some { 0 < result → (piece.new.items ≡ piece.old.items ++ take result octets.now)
+        × (length piece.old.items + result < 32) × (length piece.old.items + result < left) }
+{
+    let room = (left as usize).min(32).saturating_sub(piece.len() + 1);
+    let count = room.min(octets.len());
+    match piece.try_extend_from_slice(&octets[..count]) {
+        Ok(()) => count,
+        Err(_) => 0,
+    }
 }
 
 /// Takes an octet of a content, whose piece begins at an offset.

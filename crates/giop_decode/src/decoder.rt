@@ -36,12 +36,12 @@ pub struct Decoder {
     root: Root,
     message: u64,
     // The offset of the next octet, modulo 8.
-    at: u8,
+    pub(crate) at: u8,
     outer: ArrayVec<Frame, 24>,
     // None once the value has ended.
-    leaf: Option<Leaf>,
+    pub(crate) leaf: Option<Leaf>,
     carry: Carry,
-    piece: ArrayVec<u8, 32>,
+    pub(crate) piece: ArrayVec<u8, 32>,
     memory: Memory,
     // Where the path of a line is spelled: nothing of it is kept from one line to the next.
     path: Path,

@@ -3,11 +3,14 @@
 ghost use Rattle.std.specs.Prelude.{◌≡◌, ℕ, ◌<◌, ◌≤◌, List, length, take, IfOk};
 ghost use Rattle.giop_cdr.specs.declared.order.Order.{Order as ByteOrder};
 ghost use Rattle.giop_decode.specs.Holding.{Fits, GoesOn, IsDone, Reads};
-ghost use Rattle.giop_decode.specs.Runs.{TakesRun, WritesRun};
+ghost use Rattle.giop_decode.specs.Runs.{TakesRun, WritesRun, AllGathered};
+ghost use Rattle.giop_sig.specs.Table.{Table};
 ghost use Rattle.giop_print.specs.declared.path.Root.{Root as PathRoot};
 ghost use Rattle.giop_sig.specs.Types.{Ty};
 
+use crate::contents::gather_content;
 use crate::decoder::Decoder;
+use crate::leaf::Leaf;
 use crate::progress::Progress;
 use giop_print::{Out, OutFault};
 use giop_sig::Catalogue;
@@ -31,19 +34,75 @@ impl Decoder {
             Reads catalogue.now T order at message root self.old s →
             TakesRun catalogue.now T order at message root self.new s (take taken.0 octets.now) taken.1) }
         ensures within { IfOk result (λ taken. taken.0 ≤ length octets.now) }
+        ensures some { IfOk result (λ taken. 0 < length octets.now → 0 < taken.0) }
         ensures all { IfOk result (λ taken. taken.1 ≡ Progress.More → taken.0 ≡ length octets.now) }
         ensures fits { IfOk result (λ taken. GoesOn taken.1 → Fits catalogue.now self.new) }
         ensures done { IfOk result (λ taken. taken.1 ≡ Progress.Done → IsDone self.new) }
     {
         let mut taken: usize = 0;
-        for octet in octets {
-            let progress = self.take(catalogue, *octet, out)?;
-            taken += 1;
+        while taken < octets.len() {
+            let (count, progress) = self.take_some(catalogue, &octets[taken..], out)?;
+            taken += count;
             match progress {
                 Progress::More => {}
                 _ => return Ok((taken, progress)),
             }
         }
         Ok((taken, Progress::More))
+    }
+
+    /// Takes some of the octets, of which there is one: those that only add to a piece together, and one more.
+    #[inline(always)]
+    fn take_some<O: Out>(
+        &mut self,
+        catalogue: &Catalogue,
+        octets: &[u8],
+        out: &mut O,
+    ) -> Result<(usize, Progress), OutFault>
+        requires fits { Fits catalogue.now self.old }
+        requires some { 0 < length octets.now }
+        ensures writes { (T : Ty) (order : ByteOrder) (at message : ℕ) (root : PathRoot) (s : List ℕ) →
+            Reads catalogue.now T order at message root self.old s →
+            WritesRun result T order at message root s octets.now (O.log out.old) (O.log out.new) }
+        ensures takes { IfOk result (λ taken. (T : Ty) (order : ByteOrder) (at message : ℕ)
+            (root : PathRoot) (s : List ℕ) →
+            Reads catalogue.now T order at message root self.old s →
+            TakesRun catalogue.now T order at message root self.new s (take taken.0 octets.now) taken.1) }
+        ensures within { IfOk result (λ taken. taken.0 ≤ length octets.now) }
+        ensures some { IfOk result (λ taken. 0 < taken.0) }
+        ensures fits { IfOk result (λ taken. GoesOn taken.1 → Fits catalogue.now self.new) }
+        ensures done { IfOk result (λ taken. taken.1 ≡ Progress.Done → IsDone self.new) }
+    {
+        let gathered = self.gather(octets);
+        if gathered == octets.len() {
+            return Ok((gathered, Progress::More));
+        }
+        let progress = self.take(catalogue, octets[gathered], out)?;
+        Ok((gathered + 1, progress))
+    }
+
+    /// Takes the octets that only add to the piece of a content, all that stand there together, and answers how many
+    /// there were.
+    #[inline(always)]
+    fn gather(&mut self, octets: &[u8]) -> usize
+        ensures within { result ≤ length octets.now }
+        ensures fits { (C : Table) → Fits C self.old → Fits C self.new }
+        ensures gathers { (C : Table) → Fits C self.old →
+            AllGathered C self.old self.new (take result octets.now) }
+    {
+        let Some(leaf) = self.leaf else {
+            return 0;
+        };
+        match leaf {
+            Leaf::Number(_) => 0,
+            Leaf::Content { total, offset, .. } => {
+                let left = total.saturating_sub(offset);
+                let count = gather_content(left, octets, &mut self.piece);
+                if count > 0 {
+                    self.at = ((usize::from(self.at) + count) % 8) as u8;
+                }
+                count
+            }
+        }
     }
 }
