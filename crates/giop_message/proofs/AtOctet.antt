@@ -9,7 +9,7 @@ use Rattle.giop_message.specs.Reading as said
 use Rattle.giop_message.specs.Reading.{Remark, is_fault}
 use Rattle.giop_message.specs.Text.{saying_line, said_text}
 use Rattle.giop_message.specs.Signatures.{Signatures}
-use Rattle.giop_message.specs.Messages.{Speech, Said, Called, Left, Wrong, Incomplete, Ends, Told, may_lack, Stage, In_header, In_padding, In_exception, In_body, In_rest, Over, message, told_of, stage_of, close}
+use Rattle.giop_message.specs.Messages.{Speech, Said, Called, Left, Wrong, Incomplete, Ends, Told, may_lack, Stage, In_typed, In_padding, In_rest, Over, message, told_of, stage_of, close}
 use Rattle.giop_message.specs.MessageReading.{saying_of, text_of, remark_of, closing_of, reading_by, is_over, is_wrong}
 use Rattle.giop_message.specs.Holding.{speech_line, told_text, due, due_text, is_short}
 use Rattle.giop_message.proofs.Going.{message_goes}
@@ -128,10 +128,8 @@ close_short S header xs = go (stage_of (message S header xs))
     lack false = refl
 
     go : (stage : Stage) → is_short (close stage) ≡ list_any (λ l. is_fault l.0) (map closing_of (close stage))
-    go (In_header h outer leaf) = refl
+    go (In_typed section h outer leaf) = refl
     go (In_padding t) = lack (may_lack t)
-    go (In_exception h outer leaf) = refl
-    go (In_body outer leaf) = refl
     go (In_rest offset []) = refl
     go (In_rest offset (x ∷ held)) = refl
     go Over = refl

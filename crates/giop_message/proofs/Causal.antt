@@ -5,23 +5,22 @@ use Rattle.std.specs.List.{filter, AllByRecursion as Each}
 use Rattle.std.proofs.lemmas.Bool.{cases_lt, lt-ltb, eq-eqb, ne_eqb}
 use Rattle.std.proofs.lemmas.List.Elements.{filter-append}
 use Rattle.giop_cdr.specs.Alignment.{padding}
-use Rattle.giop_cdr.specs.declared.order.Order.{Order}
 use Rattle.giop_print.specs.declared.path.Root.{Root}
-use Rattle.giop_print.specs.declared.path.Root.TheVariants as roots
 use Rattle.giop_sig.specs.Types.{Ty}
-use Rattle.giop_decode.specs.Spine.{plain, Seg, Value as Valued, Line, Place, Leaf, Read, Done, Short, Fault}
+use Rattle.giop_decode.specs.Spine.{plain, Seg, Value as Valued, Line, Read, Done, Short, Fault}
 use Rattle.giop_decode.specs.Reading.{read}
 use Rattle.giop_decode.specs.Steps as decoder
 use Rattle.giop_decode.specs.Steps.{Quiet, OneAt, Now}
 use Rattle.giop_decode.specs.Heard.{Heard, nothing, hear, heard, ends_operation, is_header_root}
 use Rattle.giop_decode.proofs.ReadingLaws.{length_one_more, each_append, read_quiet, step_now}
-use Rattle.giop_message.specs.Headers.{minor, kind, order}
+use Rattle.giop_message.specs.declared.part.Section.{Section}
+use Rattle.giop_message.specs.Headers.{order}
 use Rattle.giop_message.specs.Reading.{Saying, Remark, InTurn, IsOrdered, IsCausal}
 use Rattle.giop_message.specs.Signatures.{Signatures}
-use Rattle.giop_message.specs.Messages.{Said, Called, Left, Told, tell, is_shown, call_of, calls, tells, BodyType, Untyped, Typed, Raised, Stage, In_header, In_padding, In_exception, In_body, In_rest, Over, Message, Comes, with_front, passes, rest_in, rest, typed, option_typed, members_of, after_exception, body, is_request, body_of, has_body, padded, after_header, of_header, message, told_of}
+use Rattle.giop_message.specs.Messages.{Said, Called, Left, Told, tell, is_shown, call_of, calls, tells, BodyType, Stage, In_typed, In_padding, In_rest, Over, Message, Comes, with_front, passes, rest_in, rest, body, padded, message, told_of, root_of, may_call, after, through}
 use Rattle.giop_message.specs.Steps.{rest_step, message_step, advance}
 use Rattle.giop_message.specs.MessageReading.{saying_of, remark_of, reading_by}
-use Rattle.giop_message.proofs.Going.{front_none, message_goes}
+use Rattle.giop_message.proofs.Going.{front_none, body_has, after_has, message_has, message_goes}
 
 abbrev pub ToldAt : ℕ → List Told → Type 0
 ToldAt n told = Each (λ t. t.at ≡ n) told
@@ -80,66 +79,56 @@ tells_turn root is n h (l ∷ []) e =
     subst (λ m. Turn m ((tell l.at (Said root l.path l.value) ∷ calls is l now) ++ [])) e (value_turn l.at root l.path l.value (calls is l now) (calls_is is l now))
 tells_turn root is n h (l ∷ l' ∷ ls) e = absurd e
 
-module _ (root : Root) (is : Bool) (stage : Heard → List Place → Leaf → Stage) (next : Heard → ℕ → List ℕ → Message) (n : ℕ) (silent : (k : Heard) → Silent n (next k n [])) where
-  pub passes_silent : (k : Heard) (r : Read) → Quiet n r → Silent n (passes root is stage next k r)
+module _ (section : Section) (is : Bool) (next : Heard → ℕ → List ℕ → Message) (n : ℕ) (silent : (k : Heard) → Silent n (next k n [])) where
+  abbrev R : Root
+  R = root_of section
+
+  pub passes_silent : (k : Heard) (r : Read) → Quiet n r → Silent n (passes section is next k r)
   unfolding passes tells
   passes_silent k (Done lines at s) h = rw (h.0, h.1, h.2, front_none (next k n [])) (silent k)
   passes_silent k (Short lines at outer leaf) h = rw (h.0, h.1) (refl, refl)
   passes_silent k (Fault lines at why T) h = absurd h
 
-  passes_prompt : (k : Heard) (r : Read) → Now n r → Prompt n (passes root is stage next k r)
+  passes_prompt : (k : Heard) (r : Read) → Now n r → Prompt n (passes section is next k r)
   unfolding passes tell tells saying_of
   passes_prompt k (Done lines at s) h =
-      rw (h.1, h.2) (prompt_front n (tells root is k lines) (next (heard (is_header_root root) k lines) n []) (tells_turn root is n k lines h.0) (silent (heard (is_header_root root) k lines)))
-  passes_prompt k (Short lines at outer leaf) h = (tells_turn root is n k lines h.0, inl h.1)
+      let now = heard (is_header_root R) k lines in
+      rw (h.1, h.2) (prompt_front n (tells R is k lines) (next now n []) (tells_turn R is n k lines h.0) (silent now))
+  passes_prompt k (Short lines at outer leaf) h = (tells_turn R is n k lines h.0, inl h.1)
   passes_prompt k (Fault lines at why T) h = rw h.0 (((h.1, tt), inr (inr (inr (inr refl)))), inr refl)
 
 pub rest_silent : (n : ℕ) → Silent n (rest n [])
 unfolding rest rest_in
 rest_silent n = (refl, add-zero n)
 
-pub typed_silent : (o : Order) (T : Ty) (n : ℕ) → Silent n (typed o T n [])
-unfolding typed
-typed_silent o T n = passes_silent roots.Body false (λ k. In_body) (λ k. rest) n (λ k. rest_silent n) nothing (read (plain o) [] T n []) (read_quiet (plain o) [] T n)
+-- a reader of no octets is silent
+abbrev IsSilent : (ℕ → List ℕ → Message) → Type 0
+IsSilent reader = (n : ℕ) → Silent n (reader n [])
 
-pub option_silent : (o : Order) (found : Option Ty) (n : ℕ) → Silent n (option_typed o found n [])
-unfolding option_typed
-option_silent o None n = rest_silent n
-option_silent o (Some T) n = typed_silent o T n
+module _ (S : Signatures) (header : List ℕ) where
+  reads_silent : (section : Section) (T : Ty) → ((h : Heard) → IsSilent (after S header section h)) →
+      IsSilent (λ at s. through S header section nothing (read (plain (order header)) [] T at s))
+  reads_silent section T silent n =
+      passes_silent section (may_call header section) (after S header section) n (λ k. silent k n) nothing (read (plain (order header)) [] T n [])
+      (read_quiet (plain (order header)) [] T n)
 
-pub after_exception_silent : (S : Signatures) (header : List ℕ) (k : Heard) (n : ℕ) → Silent n (after_exception S header k n [])
-unfolding after_exception
-after_exception_silent S header k n = option_silent (order header) (members_of S k.name) n
+  padded_silent : (t : BodyType) → IsSilent (body S header t) → IsSilent (padded S header t)
+  unfolding padded
+  padded_silent t silent n = go (cases_lt 0 (padding n 8))
+    where
+      go : (0 < padding n 8) ⊎ (padding n 8 ≤ 0) → Silent n (if nat_lt 0 (padding n 8) then Comes [] (n + 0) (In_padding t) else body S header t (n + padding n 8) (drop (padding n 8) []))
+      go (inl h) = rw (lt-ltb 0 (padding n 8) h) (refl, add-zero n)
+      go (inr h) = let e : padding n 8 ≡ 0 = omega arith in rw (e, add-zero n) (silent n)
 
-pub body_silent : (S : Signatures) (header : List ℕ) (t : BodyType) (n : ℕ) → Silent n (body S header t n [])
-unfolding body
-body_silent S header Untyped n = rest_silent n
-body_silent S header (Typed T) n = typed_silent (order header) T n
-body_silent S header Raised n =
-    passes_silent roots.Exception false In_exception (after_exception S header) n (λ k. after_exception_silent S header k n) nothing (read (plain (order header)) [] S.exception_id n []) (read_quiet (plain (order header)) [] S.exception_id n)
+  pub body_silent : (t : BodyType) (n : ℕ) → Silent n (body S header t n [])
+  body_silent t = body_has S header IsSilent rest_silent reads_silent padded_silent t
 
-pub padded_silent : (S : Signatures) (header : List ℕ) (t : BodyType) (n : ℕ) → Silent n (padded S header t n [])
-unfolding padded
-padded_silent S header t n = go (cases_lt 0 (padding n 8))
-  where
-    go : (0 < padding n 8) ⊎ (padding n 8 ≤ 0) → Silent n (if nat_lt 0 (padding n 8) then Comes [] (n + 0) (In_padding t) else body S header t (n + padding n 8) (drop (padding n 8) []))
-    go (inl h) = rw (lt-ltb 0 (padding n 8) h) (refl, add-zero n)
-    go (inr h) = let e : padding n 8 ≡ 0 = omega arith in rw (e, add-zero n) (body_silent S header t n)
+  pub after_silent : (section : Section) (k : Heard) (n : ℕ) → Silent n (after S header section k n [])
+  after_silent section k = after_has S header IsSilent rest_silent reads_silent padded_silent section k
 
-pub after_header_silent : (S : Signatures) (header : List ℕ) (k : Heard) (n : ℕ) → Silent n (after_header S header k n [])
-unfolding after_header
-after_header_silent S header k n = go (has_body header) (minor header == 2)
-  where
-    go : (has is_2 : Bool) → Silent n (if has then (if is_2 then padded S header (body_of S header k) n [] else body S header (body_of S header k) n []) else rest n [])
-    go true true = padded_silent S header (body_of S header k) n
-    go true false = body_silent S header (body_of S header k) n
-    go false is_2 = rest_silent n
-
-pub of_header_silent : (S : Signatures) (header : List ℕ) (found : Option Ty) (n : ℕ) → Silent n (of_header S header found n [])
-unfolding of_header
-of_header_silent S header None n = rest_silent n
-of_header_silent S header (Some T) n =
-    passes_silent roots.Header (is_request header) In_header (after_header S header) n (λ k. after_header_silent S header k n) nothing (read (plain (order header)) [] T n []) (read_quiet (plain (order header)) [] T n)
+  pub message_silent : Silent 12 (message S header [])
+  unfolding message
+  message_silent = message_has S header IsSilent rest_silent reads_silent padded_silent 12
 
 rest_by : (offset : ℕ) (held : List ℕ) (n : ℕ) (test : Bool) → Prompt n (if test then Comes (tell n (Left offset held) ∷ []) n (In_rest (offset + 32) []) else Comes [] n (In_rest offset held))
 unfolding tell saying_of
@@ -148,17 +137,14 @@ rest_by offset held n false = ((tt, inl refl), inl refl)
 
 pub step_prompt : (S : Signatures) (header : List ℕ) (at : ℕ) (stage : Stage) (b : ℕ) → Prompt (at + 1) (message_step S header at stage b)
 unfolding message_step rest_step
-step_prompt S header at (In_header k outer leaf) b =
-    passes_prompt roots.Header (is_request header) In_header (after_header S header) (at + 1) (λ k. after_header_silent S header k (at + 1)) k (decoder.step (plain (order header)) [] outer leaf at b) (step_now (plain (order header)) [] outer leaf at b)
+step_prompt S header at (In_typed section k outer leaf) b =
+    passes_prompt section (may_call header section) (after S header section) (at + 1) (λ k. after_silent S header section k (at + 1)) k
+    (decoder.step (plain (order header)) [] outer leaf at b) (step_now (plain (order header)) [] outer leaf at b)
 step_prompt S header at (In_padding t) b = go (nat_lt 1 (padding at 8))
   where
     go : (test : Bool) → Prompt (at + 1) (if test then Comes [] (at + 1) (In_padding t) else body S header t (at + 1) [])
     go true = ((tt, inl refl), inl refl)
     go false = silent_prompt (at + 1) (body S header t (at + 1) []) (body_silent S header t (at + 1))
-step_prompt S header at (In_exception k outer leaf) b =
-    passes_prompt roots.Exception false In_exception (after_exception S header) (at + 1) (λ k. after_exception_silent S header k (at + 1)) k (decoder.step (plain (order header)) [] outer leaf at b) (step_now (plain (order header)) [] outer leaf at b)
-step_prompt S header at (In_body outer leaf) b =
-    passes_prompt roots.Body false (λ k. In_body) (λ k. rest) (at + 1) (λ k. rest_silent (at + 1)) nothing (decoder.step (plain (order header)) [] outer leaf at b) (step_now (plain (order header)) [] outer leaf at b)
 step_prompt S header at (In_rest offset held) b = rest_by offset (held ++ b ∷ []) (at + 1) (length (held ++ b ∷ []) == 32)
 step_prompt S header at Over b = ((tt, inl refl), inr refl)
 
@@ -180,8 +166,7 @@ grown P more_of done [] h = rw append-nil h
 grown P more_of done (x ∷ xs) h = subst P (append_assoc done (x ∷ []) xs) (grown P more_of (done ++ x ∷ []) xs (more_of done x h))
 
 pub stands : (S : Signatures) (header xs : List ℕ) → Stands (12 + length xs) (message S header xs)
-unfolding message
-stands S header xs = grown (λ xs. Stands (12 + length xs) (message S header xs)) more [] xs (none (message S header []) (of_header_silent S header (S.header (minor header) (kind header)) 12))
+stands S header xs = grown (λ xs. Stands (12 + length xs) (message S header xs)) more [] xs (none (message S header []) (message_silent S header))
   where
     none : (m : Message) → Silent 12 m → Stands 12 m
     none (Comes told at stage) h = inl h.1
@@ -310,8 +295,7 @@ module _ (k : ℕ) where
         )
 
     pub ordered : (xs : List ℕ) → Ordered xs
-    unfolding message
-    ordered xs = grown Ordered ordered_more [] xs (ordered_none (message S header []) (of_header_silent S header (S.header (minor header) (kind header)) 12))
+    ordered xs = grown Ordered ordered_more [] xs (ordered_none (message S header []) (message_silent S header))
 
 -- The lines of one octet come in their order, and no two say the same.
 pub is_ordered : (S : Signatures) → IsOrdered (reading_by S)

@@ -3,30 +3,30 @@ use Rattle.std.proofs.Common.{◌≡◌, ℕ, zero, suc, ◌+◌, Bool, true, fa
 use Rattle.std.specs.Prelude.{◌==◌, codes, if◌then◌else◌, not}
 use Rattle.std.proofs.lemmas.Bool.{false≢true, ne_eqb}
 use Rattle.giop_print.specs.Lines.{fault_line, end_line, rest_line}
-use Rattle.giop_print.specs.declared.path.Root.{Root}
-use Rattle.giop_print.specs.declared.path.Root.TheVariants as roots
 use Rattle.giop_sig.specs.declared.types.Shape.{Shape}
 use Rattle.giop_sig.specs.declared.types.Shape.TheVariants as shapes
 use Rattle.giop_sig.specs.Types.{Cases, Ty, Plain, Enum, Single, Text, Octets, Struct, Union, Sequence, Array, shape_in}
 use Rattle.giop_sig.specs.Table.{Table}
 use Rattle.giop_decode.specs.declared.decoder.Decoder.{Decoder}
-use Rattle.giop_decode.specs.Spine.{plain, Place, Leaf, Read}
+use Rattle.giop_decode.specs.Spine.{plain, Line, Place, Leaf, Short}
 use Rattle.giop_decode.specs.Reading.{read}
-use Rattle.giop_decode.specs.Heard.{Heard, nothing, heard, is_header_root}
+use Rattle.giop_decode.specs.Heard.{Heard, nothing}
 use Rattle.giop_decode.specs.Holding as decoders
 use Rattle.giop_message.specs.declared.message.Message.{Message as Struct_of}
-use Rattle.giop_message.specs.declared.message.Part.{Part}
-use Rattle.giop_message.specs.declared.message.Part.TheVariants as parts
+use Rattle.giop_message.specs.declared.part.Section.{Section}
+use Rattle.giop_message.specs.declared.part.Part.{Part}
+use Rattle.giop_message.specs.declared.part.Part.TheVariants as parts
+use Rattle.giop_message.specs.declared.part.Rest.{Rest}
+use Rattle.giop_message.specs.declared.wanted.Wanted.{Wanted}
 use Rattle.giop_message.specs.Headers.{order}
 use Rattle.giop_message.specs.Text.{said_line}
-use Rattle.giop_message.specs.Signatures.{Kept, said_by}
-use Rattle.giop_message.specs.Messages.{Left, Incomplete, Ends, Told, BodyType, Typed, may_lack, Stage, In_header, In_padding, In_exception, In_body, In_rest, Over, Message, with_front, passes, rest, is_request, after_exception, after_header, message, stage_of, close}
+use Rattle.giop_message.specs.Signatures.{Signatures, Kept, said_by}
+use Rattle.giop_message.specs.Messages.{Speech, Left, Incomplete, Ends, BodyType, Typed, may_lack, Stage, In_typed, In_padding, In_rest, Over, passes, message, stage_of, close, through}
 use Rattle.giop_message.specs.MessageReading.{saying_of, text_of}
 use Rattle.giop_message.specs.Holding.{speech_line, closing_text, is_short, body_type, FitsPart, Fits, Stands, Follows}
-use Rattle.giop_message.specs.Moves.{rest_left, last_rest_text}
+use Rattle.giop_message.specs.Moves.{held_text, last_rest_text}
 use Rattle.giop_message.proofs.Spelling.{rest_said, end_said}
 use Rattle.giop_message.proofs.Octets.{stage_front}
-use Rattle.giop_message.proofs.Followings.{header_message}
 
 -- ---- the empty struct
 
@@ -66,54 +66,32 @@ lacks_none (Array n T) other = refl
 
 -- ---- where it stands
 
-module _ (root : Root) (is : Bool) (stage : Heard → List Place → Leaf → Stage) (next : Heard → ℕ → List ℕ → Message) where
-  part_stage : (C : Table) (d : Decoder) (fits : decoders.Fits C d) (before : List Told) (r : Read) (lines : _) (at : ℕ) (m : Message) → m ≡ with_front before (passes root is stage next nothing r) → r ≡ decoders.standing C d lines at →
-      (h : Heard) × (outer : List Place) × (leaf : Leaf) × (stage_of m ≡ stage h outer leaf)
-  unfolding passes stage_of
-  part_stage C d fits before r lines at m e f = (
-    heard (is_header_root root) nothing lines,
-    _,
-    _,
-    ap stage_of e ∙ (stage_front before (passes root is stage next nothing r) ∙ ap (λ r. stage_of (passes root is stage next nothing r)) (f ∙ ap (λ leaf. decoders.standing_in C d leaf lines at) fits.goes_on)),
-  )
-
--- inside a typed part it is short
-abbrev Shortly : Stage → Type 0
-Shortly stage = close stage ≡ Incomplete ∷ []
+short_stage : (S : Signatures) (header : List ℕ) (section : Section) (h : Heard) (lines : List Line) (at : ℕ) (outer : List Place) (leaf : Leaf) →
+    close (stage_of (through S header section h (Short lines at outer leaf))) ≡ Incomplete ∷ []
+unfolding passes stage_of close
+short_stage S header section h lines at outer leaf = refl
 
 module _ (C : Table) (kept : Kept) (number : ℕ) (header : List ℕ) (m : Struct_of) (s : List ℕ) (f : Follows C kept number header m s) (fits : Fits C m) where
   abbrev At : Stage
   At = stage_of (message (said_by C kept) header s)
 
-  pub header_short : m.part ≡ parts.Header → Shortly At
-  unfolding close said_by
-  header_short is =
-      let x = subst (Stands C kept number header m s) is f.stands in
-      let g = part_stage roots.Header (is_request header) In_header (after_header (said_by C kept) header) C m.decoder (subst (FitsPart C m.decoder) is fits) [] (read (plain (order header)) [] x.0 12 s) x.2.lines (12 + length s)
-      (message (said_by C kept) header s) (header_message (said_by C kept) header s x.0 x.1) x.2.is in
-      rw g.3 refl
+  -- inside a section it is short
+  pub section_short : (section : Section) (d : Decoder) → m.part ≡ parts.Typed section d → close At ≡ Incomplete ∷ []
+  section_short section d is =
+      let e = subst (Stands C kept number header s) is f.stands in
+      let fit = subst (FitsPart C m.at) is fits in
+      let r = read (plain (order header)) [] e.T (12 + length e.front) e.octets in
+      let stage : At ≡ stage_of (through (said_by C kept) header section nothing r) = ap stage_of e.is ∙ stage_front e.before (through (said_by C kept) header section nothing r) in
+      let short = e.reads.is ∙ ap (λ leaf. decoders.standing_in C d leaf e.reads.lines ((12 + length e.front) + length e.octets)) fit.goes_on in
+      ap close (stage ∙ ap (λ r. stage_of (through (said_by C kept) header section nothing r)) short) ∙ short_stage (said_by C kept) header section nothing e.reads.lines _ _ _
 
-  pub exception_short : m.part ≡ parts.Exception → Shortly At
-  unfolding close
-  exception_short is =
-      let x = subst (Stands C kept number header m s) is f.stands in
-      let g = part_stage roots.Exception false In_exception (after_exception (said_by C kept) header) C m.decoder (subst (FitsPart C m.decoder) is fits) x.before _ x.reads.lines _ (message (said_by C kept) header s) x.is x.reads.is in
-      rw g.3 refl
-
-  pub body_short : m.part ≡ parts.Body → Shortly At
-  unfolding close
-  body_short is =
-      let x = subst (Stands C kept number header m s) is f.stands in
-      let g = part_stage roots.Body false (λ h. In_body) (λ h. rest) C m.decoder (subst (FitsPart C m.decoder) is fits) x.1.before _ x.1.reads.lines _ (message (said_by C kept) header s) x.1.is x.1.reads.is in
-      rw g.3 refl
-
-  pub padding_stage : (wanted : _) → m.part ≡ parts.Padding wanted → At ≡ In_padding (body_type C wanted)
+  pub padding_stage : (wanted : Wanted) → m.part ≡ parts.Padding wanted → At ≡ In_padding (body_type C wanted)
   unfolding stage_of
-  padding_stage wanted is = let x = subst (Stands C kept number header m s) is f.stands in ap stage_of x.1
+  padding_stage wanted is = let x = subst (Stands C kept number header s) is f.stands in ap stage_of x.1
 
-  pub rest_stage : m.part ≡ parts.Rest → At ≡ In_rest m.offset m.held.items
+  pub rest_stage : (r : Rest) → m.part ≡ parts.Rest r → At ≡ In_rest r.offset r.held.items
   unfolding stage_of
-  rest_stage is = let x = subst (Stands C kept number header m s) is f.stands in ap stage_of x.1
+  rest_stage r is = let x = subst (Stands C kept number header s) is f.stands in ap stage_of x.1
 
 -- ---- its text
 
@@ -138,10 +116,8 @@ if_short false e = refl
 
 pub short_is : (stage : Stage) → is_short (close stage) ≡ true → close stage ≡ Incomplete ∷ []
 unfolding close is_short
-short_is (In_header h outer leaf) e = refl
+short_is (In_typed section h outer leaf) e = refl
 short_is (In_padding b) e = if_short (may_lack b) e
-short_is (In_exception h outer leaf) e = refl
-short_is (In_body outer leaf) e = refl
 short_is (In_rest offset []) e = absurd (false≢true e)
 short_is (In_rest offset (x ∷ held)) e = absurd (false≢true e)
 short_is Over e = absurd (false≢true e)
@@ -163,27 +139,22 @@ last_then : (number place offset : ℕ) (held : List ℕ) → closing_text numbe
 unfolding closing_text speech_line saying_of text_of
 last_then number place offset held = rw (rest_said number offset held) (ap (λ z. rest_line number offset held ++ z) (append-nil (said_line number (codes "end")) ∙ end_said number))
 
-rest_ends : (number place offset : ℕ) (held : List ℕ) → closing_text number place (close (In_rest offset held)) ≡ rest_left number parts.Rest offset held ++ end_line number
+rest_ends : (number place offset : ℕ) (held : List ℕ) → closing_text number place (close (In_rest offset held)) ≡ held_text number offset held ++ end_line number
 unfolding close
 rest_ends number place offset [] = ends_text_is number place
 rest_ends number place offset (x ∷ held) = last_then number place offset (x ∷ held)
 
 module _ (C : Table) (kept : Kept) (number : ℕ) (header : List ℕ) (m : Struct_of) (s : List ℕ) (f : Follows C kept number header m s) (fits : Fits C m) (place : ℕ) where
-  not_short : (stage : Stage) → Shortly stage → is_short (close stage) ≡ false → ⊥
-  unfolding is_short
-  not_short stage e g = false≢true (sym (rw e at g))
+  abbrev Close : List Speech
+  Close = close (stage_of (message (said_by C kept) header s))
 
-  ended_by : (p : Part) → m.part ≡ p → is_short (close (stage_of (message (said_by C kept) header s))) ≡ false →
-      closing_text number place (close (stage_of (message (said_by C kept) header s))) ≡ rest_left number p m.offset m.held.items ++ end_line number
-  unfolding close
-  ended_by parts.Header is e = absurd (not_short _ (header_short C kept number header m s f fits is) e)
+  ended_by : (p : Part) → m.part ≡ p → is_short Close ≡ false → closing_text number place Close ≡ last_rest_text number p ++ end_line number
+  unfolding close is_short
+  ended_by (parts.Typed section d) is e = absurd (false≢true (sym (rw (section_short C kept number header m s f fits section d is) at e)))
   ended_by (parts.Padding wanted) is e =
       let stage = padding_stage C kept number header m s f fits wanted is in
       ap (λ stage. closing_text number place (close stage)) stage ∙ (ap (closing_text number place) (if_ends (may_lack (body_type C wanted)) (rw stage at e)) ∙ ends_text_is number place)
-  ended_by parts.Exception is e = absurd (not_short _ (exception_short C kept number header m s f fits is) e)
-  ended_by parts.Body is e = absurd (not_short _ (body_short C kept number header m s f fits is) e)
-  ended_by parts.Rest is e = ap (λ stage. closing_text number place (close stage)) (rest_stage C kept number header m s f fits is) ∙ rest_ends number place m.offset m.held.items
+  ended_by (parts.Rest r) is e = ap (λ stage. closing_text number place (close stage)) (rest_stage C kept number header m s f fits r is) ∙ rest_ends number place r.offset r.held.items
 
-  pub ended_text : is_short (close (stage_of (message (said_by C kept) header s))) ≡ false →
-      closing_text number place (close (stage_of (message (said_by C kept) header s))) ≡ last_rest_text m ++ end_line m.number
+  pub ended_text : is_short Close ≡ false → closing_text number place Close ≡ last_rest_text m.number m.part ++ end_line m.number
   ended_text e = rw f.same_number (ended_by m.part refl e)

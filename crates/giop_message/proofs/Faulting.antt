@@ -44,6 +44,12 @@ named_no_fault progress.More e is = is
 named_no_fault progress.Named e is = is
 named_no_fault progress.Done e is = is
 
+pub done_no_fault : (p : Progress) → p ≡ progress.Done → IsFault p → ⊥
+done_no_fault (progress.Fault kind) e is = absurd cc
+done_no_fault progress.More e is = is
+done_no_fault progress.Named e is = is
+done_no_fault progress.Done e is = is
+
 pub more_unnamed : (end : ℕ) (named : Bool) (p : Progress) (r : Read) → p ≡ progress.More → IsAnswer end named p r → named ≡ false
 more_unnamed end named p r e answer = go r (subst (λ q. IsAnswer end named q r) e answer)
   where

@@ -1,19 +1,19 @@
 -- A message is over exactly where its lines have a fault.
-use Rattle.std.proofs.Common.{◌≡◌, ℕ, zero, suc, ◌+◌, Bool, true, false, List, [], ◌∷◌, ◌++◌, length, take, drop, Option, Some, None, refl, sym, ◌∙◌, inl, inr}
-use Rattle.std.specs.Prelude.{◌||◌, ◌==◌, nat_lt, if◌then◌else◌}
+use Rattle.std.proofs.Common.{◌≡◌, ℕ, zero, suc, ◌+◌, Bool, true, false, List, [], ◌∷◌, ◌++◌, length, take, drop, refl, sym, ◌∙◌, inl, inr}
+use Rattle.std.specs.Prelude.{◌||◌, nat_lt, if◌then◌else◌}
 use Rattle.std.specs.List.{list_any}
 use Rattle.giop_cdr.specs.Alignment.{padding}
-use Rattle.giop_cdr.specs.declared.order.Order.{Order}
 use Rattle.giop_print.specs.declared.path.Root.{Root}
-use Rattle.giop_print.specs.declared.path.Root.TheVariants as roots
 use Rattle.giop_sig.specs.Types.{Ty}
-use Rattle.giop_decode.specs.Spine.{plain, Line, Place, Leaf, Read, Done, Short, Fault}
+use Rattle.giop_decode.specs.Spine.{plain, Line, Read, Done, Short, Fault}
 use Rattle.giop_decode.specs.Reading.{read}
 use Rattle.giop_decode.specs.Heard.{Heard, nothing, hear, heard, is_header_root}
+use Rattle.giop_message.specs.declared.part.Section.{Section}
 use Rattle.giop_message.specs.Headers.{minor, kind, order}
 use Rattle.giop_message.specs.Signatures.{Signatures}
-use Rattle.giop_message.specs.Messages.{Left, Wrong, Told, tell, calls, tells, BodyType, Untyped, Typed, Raised, Stage, In_header, In_padding, In_exception, In_body, Message, Comes, with_front, passes, rest_in, rest, typed, option_typed, members_of, after_exception, body, is_request, body_of, has_body, padded, after_header, of_header, message, told_of, stage_of}
+use Rattle.giop_message.specs.Messages.{Left, Wrong, Told, tell, calls, tells, BodyType, In_padding, Message, Comes, with_front, passes, rest_in, rest, body, padded, of_header, message, told_of, stage_of, root_of, may_call, after, through}
 use Rattle.giop_message.specs.MessageReading.{saying_of, is_over, is_wrong}
+use Rattle.giop_message.proofs.Going.{after_has, message_has}
 use Rattle.giop_message.proofs.Causal.{MayCall, calls_is}
 
 abbrev pub Tallies : Message → Type 0
@@ -43,61 +43,51 @@ front_tallies : (front : List Told) (m : Message) → list_any is_wrong front �
 unfolding with_front
 front_tallies front (Comes told at stage) h k = k ∙ sym (any_append front told h)
 
-module _ (root : Root) (is : Bool) (stage : Heard → List Place → Leaf → Stage) (next : Heard → ℕ → List ℕ → Message)
-    (goes : (k : Heard) (outer : List Place) (leaf : Leaf) → is_over (stage k outer leaf) ≡ false) (tallies : (k : Heard) (at : ℕ) (s : List ℕ) → Tallies (next k at s)) where
-  passes_tallies : (k : Heard) (r : Read) → Tallies (passes root is stage next k r)
+module _ (section : Section) (is : Bool) (next : Heard → ℕ → List ℕ → Message) (tallies : (k : Heard) (at : ℕ) (s : List ℕ) → Tallies (next k at s)) where
+  abbrev R : Root
+  R = root_of section
+
+  passes_tallies : (k : Heard) (r : Read) → Tallies (passes section is next k r)
   unfolding passes is_over is_wrong saying_of tell
-  passes_tallies k (Done lines at s) = front_tallies (tells root is k lines) (next (heard (is_header_root root) k lines) at s) (none_told root is k lines) (tallies (heard (is_header_root root) k lines) at s)
-  passes_tallies k (Short lines at outer leaf) = goes (heard (is_header_root root) k lines) outer leaf ∙ sym (none_told root is k lines)
-  passes_tallies k (Fault lines at why T) = sym (any_append (tells root is k lines) (tell at (Wrong why) ∷ []) (none_told root is k lines))
+  passes_tallies k (Done lines at s) =
+      let now = heard (is_header_root R) k lines in
+      front_tallies (tells R is k lines) (next now at s) (none_told R is k lines) (tallies now at s)
+  passes_tallies k (Short lines at outer leaf) = sym (none_told R is k lines)
+  passes_tallies k (Fault lines at why T) =
+      sym (any_append (tells R is k lines) (tell at (Wrong why) ∷ []) (none_told R is k lines))
 
 rest_tallies : (full offset at : ℕ) (s : List ℕ) → Tallies (rest_in full offset at s)
 unfolding rest_in is_over is_wrong saying_of tell
 rest_tallies zero offset at s = refl
 rest_tallies (suc full) offset at s = front_tallies (tell (at + 32) (Left offset (take 32 s)) ∷ []) (rest_in full (offset + 32) (at + 32) (drop 32 s)) refl (rest_tallies full (offset + 32) (at + 32) (drop 32 s))
 
-pub all_rest : (at : ℕ) (s : List ℕ) → Tallies (rest at s)
+-- what a reader comes to tallies
+abbrev AllTally : (ℕ → List ℕ → Message) → Type 0
+AllTally reader = (at : ℕ) (s : List ℕ) → Tallies (reader at s)
+
+all_rest : AllTally rest
 unfolding rest
 all_rest at s = rest_tallies _ 0 at s
 
-typed_tallies : (o : Order) (T : Ty) (at : ℕ) (s : List ℕ) → Tallies (typed o T at s)
-unfolding typed is_over
-typed_tallies o T at s = passes_tallies roots.Body false (λ k. In_body) (λ k. rest) (λ k outer leaf. refl) (λ k. all_rest) nothing (read (plain o) [] T at s)
+module _ (S : Signatures) (header : List ℕ) where
+  reads_tally : (section : Section) (T : Ty) → ((h : Heard) → AllTally (after S header section h)) →
+      AllTally (λ at s. through S header section nothing (read (plain (order header)) [] T at s))
+  reads_tally section T tallies at s =
+      passes_tallies section (may_call header section) (after S header section) tallies nothing (read (plain (order header)) [] T at s)
 
-pub option_tallies : (o : Order) (found : Option Ty) (at : ℕ) (s : List ℕ) → Tallies (option_typed o found at s)
-unfolding option_typed
-option_tallies o None at s = all_rest at s
-option_tallies o (Some T) at s = typed_tallies o T at s
+  padded_tallies : (t : BodyType) → AllTally (body S header t) → AllTally (padded S header t)
+  unfolding padded is_over
+  padded_tallies t tallies at s = go (nat_lt (length s) (padding at 8))
+    where
+      go : (test : Bool) → Tallies (if test then Comes [] (at + length s) (In_padding t) else body S header t (at + padding at 8) (drop (padding at 8) s))
+      go true = refl
+      go false = tallies (at + padding at 8) (drop (padding at 8) s)
 
-pub body_tallies : (S : Signatures) (header : List ℕ) (t : BodyType) (at : ℕ) (s : List ℕ) → Tallies (body S header t at s)
-unfolding body after_exception is_over
-body_tallies S header Untyped at s = all_rest at s
-body_tallies S header (Typed T) at s = typed_tallies (order header) T at s
-body_tallies S header Raised at s =
-    passes_tallies roots.Exception false In_exception (after_exception S header) (λ k outer leaf. refl) (λ k. option_tallies (order header) (members_of S k.name)) nothing (read (plain (order header)) [] S.exception_id at s)
+  pub after_tallies : (section : Section) (k : Heard) → AllTally (after S header section k)
+  after_tallies section k = after_has S header AllTally all_rest reads_tally padded_tallies section k
 
-padded_tallies : (S : Signatures) (header : List ℕ) (t : BodyType) (at : ℕ) (s : List ℕ) → Tallies (padded S header t at s)
-unfolding padded is_over
-padded_tallies S header t at s = go (nat_lt (length s) (padding at 8))
-  where
-    go : (test : Bool) → Tallies (if test then Comes [] (at + length s) (In_padding t) else body S header t (at + padding at 8) (drop (padding at 8) s))
-    go true = refl
-    go false = body_tallies S header t (at + padding at 8) (drop (padding at 8) s)
-
-pub after_tallies : (S : Signatures) (header : List ℕ) (k : Heard) (at : ℕ) (s : List ℕ) → Tallies (after_header S header k at s)
-unfolding after_header
-after_tallies S header k at s = go (has_body header) (minor header == 2)
-  where
-    go : (has is_2 : Bool) → Tallies (if has then (if is_2 then padded S header (body_of S header k) at s else body S header (body_of S header k) at s) else rest at s)
-    go true true = padded_tallies S header (body_of S header k) at s
-    go true false = body_tallies S header (body_of S header k) at s
-    go false is_2 = all_rest at s
-
-header_tallies : (S : Signatures) (header : List ℕ) (found : Option Ty) (at : ℕ) (s : List ℕ) → Tallies (of_header S header found at s)
-unfolding of_header is_over
-header_tallies S header None at s = all_rest at s
-header_tallies S header (Some T) at s =
-    passes_tallies roots.Header (is_request header) In_header (after_header S header) (λ k outer leaf. refl) (after_tallies S header) nothing (read (plain (order header)) [] T at s)
+  message_tallies : AllTally (of_header S header (S.header (minor header) (kind header)))
+  message_tallies = message_has S header AllTally all_rest reads_tally padded_tallies
 
 over_of : (m : Message) → Tallies m → is_over (stage_of m) ≡ list_any is_wrong (told_of m)
 unfolding stage_of told_of
@@ -105,4 +95,4 @@ over_of (Comes told at stage) h = h
 
 pub over_where_faulted : (S : Signatures) (header s : List ℕ) → is_over (stage_of (message S header s)) ≡ list_any is_wrong (told_of (message S header s))
 unfolding message
-over_where_faulted S header s = over_of (message S header s) (header_tallies S header (S.header (minor header) (kind header)) 12 s)
+over_where_faulted S header s = over_of (message S header s) (message_tallies S header 12 s)

@@ -1,34 +1,33 @@
--- A message that follows a list isn't over, and what it said of its request id stands.
-use Rattle.std.proofs.Common.{◌≡◌, ℕ, ◌+◌, Bool, true, false, List, [], ◌∷◌, ◌++◌, length, drop, Option, Some, None, refl, sym, ap, ◌∙◌, arith, inl, inr}
-use Rattle.std.specs.Prelude.{is_some}
+-- A message that follows a list isn't over, and its request id is what was said.
+use Rattle.std.proofs.Common.{◌≡◌, ℕ, ◌+◌, Bool, true, false, List, [], ◌∷◌, ◌++◌, length, drop, Option, Some, None, refl, sym, ap, subst, ◌∙◌, append-nil, arith, inl, inr}
+use Rattle.std.specs.Prelude.{cond}
 use Rattle.std.proofs.Math.Seq.{drop-append_seam}
+use Rattle.std.proofs.lemmas.Bool.{false≢true}
 use Rattle.giop_cdr.specs.declared.prim.Primitive.TheVariants as prims
-use Rattle.giop_print.specs.declared.path.Root.{Root}
 use Rattle.giop_print.specs.declared.path.Root.TheVariants as roots
-use Rattle.giop_sig.specs.Types.{Plain, Enum, Ty, Text, Octets, Single, Struct, Union, Sequence, Array}
+use Rattle.giop_sig.specs.Types.{Plain, Enum, Text, Octets, Single, Struct, Union, Sequence, Array}
 use Rattle.giop_sig.specs.Table.{Table}
 use Rattle.giop_decode.specs.declared.decoder.Decoder.{Decoder}
 use Rattle.giop_decode.specs.declared.leaf.Leaf.{Leaf as Innermost}
-use Rattle.giop_decode.specs.Spine.{plain, Seg, Value, Number, Count, Piece, Line, Place, Leaf, Read, Done, Short, Fault, lines_of}
-use Rattle.giop_decode.specs.Spine as spine
-use Rattle.giop_decode.proofs.ReadingLaws.{lines_front, heard-append, length_one_more}
+use Rattle.giop_decode.specs.Spine.{plain, Seg, Value, Number, Count, Piece, Line, Read, Done, Short, Fault, lines_of}
+use Rattle.giop_decode.proofs.ReadingLaws.{length_one_more}
 use Rattle.giop_decode.specs.Reading.{read}
-use Rattle.giop_decode.specs.Steps.{OneAt}
-use Rattle.giop_decode.specs.Heard.{Heard, nothing, hear, heard, heard_of, hushed, in_string, is_header_root}
+use Rattle.giop_decode.specs.Heard.{Heard, nothing, first_of, hear, heard, heard_of, hushed, in_string, is_header_root}
 use Rattle.giop_decode.specs.Holding as decoders
 use Rattle.giop_message.specs.declared.message.Message.{Message as Struct_of}
-use Rattle.giop_message.specs.declared.message.Part.{Part}
-use Rattle.giop_message.specs.declared.message.Part.TheVariants as parts
-use Rattle.giop_message.specs.Headers.{minor, kind, order}
+use Rattle.giop_message.specs.declared.part.Section.{Section}
+use Rattle.giop_message.specs.declared.part.Section.TheVariants as sections
+use Rattle.giop_message.specs.declared.part.Part.{Part}
+use Rattle.giop_message.specs.declared.part.Part.TheVariants as parts
+use Rattle.giop_message.specs.Headers.{order}
 use Rattle.giop_message.specs.Signatures.{Signatures, Kept, said_by}
-use Rattle.giop_message.specs.Messages.{Said, Told, tell, calls, tells, Stage, In_header, In_exception, In_body, Message, Comes, with_front, passes, rest, is_request, after_exception, after_header, of_header, message, told_of, stage_of}
+use Rattle.giop_message.specs.Messages.{Said, Told, tell, calls, tells, Message, Comes, passes, message, told_of, stage_of, root_of, may_call, after, through}
 use Rattle.giop_message.specs.MessageReading.{id_in, first_id, id_said, is_over}
-use Rattle.giop_message.specs.Holding.{due, Stands, Follows, Took}
-use Rattle.std.proofs.lemmas.Bool.{false≢true}
-use Rattle.giop_message.proofs.Going.{front_none}
-use Rattle.giop_message.proofs.Causal.{MayCall, calls_is, Silent, rest_silent, after_exception_silent, after_header_silent, told_begins}
-use Rattle.giop_message.proofs.Faults.{Tallies, all_rest, option_tallies, after_tallies}
-use Rattle.giop_message.proofs.Octets.{stage_front, wrongs}
+use Rattle.giop_message.specs.Holding.{due, Decodes, Stands, is_header, in_header, Follows, Took}
+use Rattle.giop_message.specs.Moves.{IsAt}
+use Rattle.giop_message.proofs.Causal.{MayCall, calls_is, Silent, after_silent, told_begins}
+use Rattle.giop_message.proofs.Faults.{Tallies, after_tallies}
+use Rattle.giop_message.proofs.Octets.{told_front, stage_front, told_silent, wrongs}
 
 -- ---- a message that follows isn't over
 
@@ -36,46 +35,45 @@ none_over : (n : ℕ) (m : Message) → Silent n m → Tallies m → is_over (st
 unfolding stage_of
 none_over n (Comes told at stage) silent tallies = rw silent.0 at tallies
 
-module _ (root : Root) (is : Bool) (stage : Heard → List Place → Leaf → Stage) (next : Heard → ℕ → List ℕ → Message)
-    (goes : (h : Heard) (outer : List Place) (leaf : Leaf) → is_over (stage h outer leaf) ≡ false)
-    (silent : (h : Heard) (n : ℕ) → Silent n (next h n [])) (tallies : (h : Heard) (n : ℕ) → Tallies (next h n [])) where
-  standing_over : (C : Table) (d : Decoder) (leaf : Option Innermost) (lines : List Line) (at : ℕ) → is_over (stage_of (passes root is stage next nothing (decoders.standing_in C d leaf lines at))) ≡ false
-  unfolding passes stage_of
-  standing_over C d None lines at =
-      let h = heard (is_header_root root) nothing lines in
-      ap is_over (stage_front (tells root is nothing lines) (next h at [])) ∙ none_over at (next h at []) (silent h at) (tallies h at)
-  standing_over C d (Some leaf) lines at = goes (heard (is_header_root root) nothing lines) _ _
+module _ (S : Signatures) (header : List ℕ) (section : Section) (C : Table) (d : Decoder) (lines : List Line) (at : ℕ) where
+  -- a section that a decoder stands in isn't over, and has told its lines
+  standing_over : (leaf : Option Innermost) → is_over (stage_of (through S header section nothing (decoders.standing_in C d leaf lines at))) ≡ false
+  unfolding passes stage_of is_over
+  standing_over None =
+      let R = root_of section in
+      let h = heard (is_header_root R) nothing lines in
+      let next = after S header section h at [] in
+      ap is_over (stage_front (tells R (may_call header section) nothing lines) next) ∙ none_over at next (after_silent S header section h at) (after_tallies S header section h at [])
+  standing_over (Some leaf) = refl
 
-  pub part_over : (C : Table) (d : Decoder) (before : List Told) (r : Read) (lines : List Line) (at : ℕ) (m : Message) → m ≡ with_front before (passes root is stage next nothing r) → r ≡ decoders.standing C d lines at → is_over (stage_of m) ≡ false
-  part_over C d before r lines at m e f =
-      ap (λ m. is_over (stage_of m)) e ∙ (ap is_over (stage_front before (passes root is stage next nothing r))
-      ∙ (ap (λ r. is_over (stage_of (passes root is stage next nothing r))) f ∙ standing_over C d d.leaf lines at))
+  standing_told : (leaf : Option Innermost) → told_of (through S header section nothing (decoders.standing_in C d leaf lines at)) ≡ tells (root_of section) (may_call header section) nothing lines
+  unfolding passes told_of
+  standing_told None =
+      let R = root_of section in
+      let h = heard (is_header_root R) nothing lines in
+      let told = tells R (may_call header section) nothing lines in
+      let next = after S header section h at [] in
+      told_front told next ∙ (ap (λ ts. told ++ ts) (told_silent at next (after_silent S header section h at)) ∙ append-nil told)
+  standing_told (Some leaf) = refl
 
-pub header_message : (S : Signatures) (header s : List ℕ) (T : Ty) → S.header (minor header) (kind header) ≡ Some T →
-    message S header s ≡ with_front [] (passes roots.Header (is_request header) In_header (after_header S header) nothing (read (plain (order header)) [] T 12 s))
-unfolding message of_header
-header_message S header s T e = rw (e, front_none) refl
+  lines_standing : (leaf : Option Innermost) → lines_of (decoders.standing_in C d leaf lines at) ≡ lines
+  lines_standing None = refl
+  lines_standing (Some leaf) = refl
 
-pub exception_tallies : (S : Signatures) (header : List ℕ) (h : Heard) (n : ℕ) → Tallies (after_exception S header h n [])
-unfolding after_exception
-exception_tallies S header h n = option_tallies (order header) _ n []
+section_over : (C : Table) (S : Signatures) (number : ℕ) (header s : List ℕ) (section : Section) (d : Decoder) → Decodes C S number header s section d → is_over (stage_of (message S header s)) ≡ false
+section_over C S number header s section d e =
+    let r = read (plain (order header)) [] e.T (12 + length e.front) e.octets in
+    ap (λ m. is_over (stage_of m)) e.is ∙ (ap is_over (stage_front e.before (through S header section nothing r))
+    ∙ (ap (λ r. is_over (stage_of (through S header section nothing r))) e.reads.is ∙ standing_over S header section C d e.reads.lines _ d.leaf))
 
 pub follows_goes : (C : Table) (kept : Kept) (number : ℕ) (header : List ℕ) (m : Struct_of) (s : List ℕ) → Follows C kept number header m s → is_over (stage_of (message (said_by C kept) header s)) ≡ false
-unfolding is_over stage_of said_by
+unfolding is_over stage_of
 follows_goes C kept number header m s f = go m.part f.stands
   where
-    go : (p : Part) → Stands C kept number header m s p → is_over (stage_of (message (said_by C kept) header s)) ≡ false
-    go parts.Header (T, found, reads) =
-        part_over roots.Header (is_request header) In_header (after_header (said_by C kept) header) (λ h outer leaf. refl) (after_header_silent (said_by C kept) header) (λ h n. after_tallies (said_by C kept) header h n [])
-        C m.decoder [] (read (plain (order header)) [] T 12 s) reads.lines (12 + length s) (message (said_by C kept) header s) (header_message (said_by C kept) header s T found) reads.is
+    go : (p : Part) → Stands C kept number header s p → is_over (stage_of (message (said_by C kept) header s)) ≡ false
+    go (parts.Typed section d) e = section_over C (said_by C kept) number header s section d e
     go (parts.Padding wanted) (told, e) = rw e refl
-    go parts.Exception e =
-        part_over roots.Exception false In_exception (after_exception (said_by C kept) header) (λ h outer leaf. refl) (after_exception_silent (said_by C kept) header) (exception_tallies (said_by C kept) header)
-        C m.decoder e.before _ e.reads.lines _ (message (said_by C kept) header s) e.is e.reads.is
-    go parts.Body (T, e) =
-        part_over roots.Body false (λ h. In_body) (λ h. rest) (λ h outer leaf. refl) (λ h. rest_silent) (λ h n. all_rest n [])
-        C m.decoder e.before _ e.reads.lines _ (message (said_by C kept) header s) e.is e.reads.is
-    go parts.Rest (told, e) = rw e refl
+    go (parts.Rest r) (told, e) = rw e refl
 
 -- ---- the request id
 
@@ -117,125 +115,155 @@ wrongs_no_id (Done lines at s) = refl
 wrongs_no_id (Short lines at outer leaf) = refl
 wrongs_no_id (Fault lines at why T) = refl
 
+-- one line more, with its call
+line_id : (section : Section) (is : Bool) (h : Heard) (l : Line) (ls : List Line) →
+    id_said (tells (root_of section) is h (l ∷ ls))
+    ≡ first_id (id_in (Said (root_of section) l.path l.value)) (id_said (tells (root_of section) is (hear (is_header_root (root_of section)) h l) ls))
+unfolding tells id_said tell
+line_id section is h l ls =
+    let R = root_of section in
+    let now = hear (is_header_root R) h l in
+    id_both (tell l.at (Said R l.path l.value) ∷ calls is l now) (tells R is now ls)
+    ∙ ap (λ id. first_id id (id_said (tells R is now ls)))
+    (rw (call_no_id l.at (calls is l now) (calls_is is l now), first_none) refl)
+
 -- outside of the header none is said
-no_id : (root : Root) (is : Bool) → ((path : List Seg) (v : Value) → id_in (Said root path v) ≡ None) → (h : Heard) (lines : List Line) → id_said (tells root is h lines) ≡ None
-unfolding tells id_said first_id tell
-no_id root is none h [] = refl
-no_id root is none h (l ∷ ls) =
-    let now = hear (is_header_root root) h l in
-    id_both (tell l.at (Said root l.path l.value) ∷ calls is l now) (tells root is now ls)
-    ∙ rw (no_id root is none now ls, first_none, none l.path l.value) (call_no_id l.at (calls is l now) (calls_is is l now))
+others_none : (section : Section) → is_header section ≡ false → (path : List Seg) (v : Value) → id_in (Said (root_of section) path v) ≡ None
+unfolding id_in
+others_none sections.Header e path v = absurd (false≢true (sym e))
+others_none sections.Exception e path v = refl
+others_none sections.Body e path v = refl
 
-pub exception_no_id : (is : Bool) (h : Heard) (r : Read) → id_said (tells roots.Exception is h (lines_of r) ++ wrongs r) ≡ None
-unfolding id_in first_id
-exception_no_id is h r =
-    id_both (tells roots.Exception is h (lines_of r)) (wrongs r) ∙ rw (no_id roots.Exception is (λ path v. refl) h (lines_of r), wrongs_no_id r) refl
+no_id : (section : Section) → is_header section ≡ false → (is : Bool) (h : Heard) (lines : List Line) → id_said (tells (root_of section) is h lines) ≡ None
+unfolding tells id_said first_id
+no_id section other is h [] = refl
+no_id section other is h (l ∷ ls) =
+    line_id section is h l ls ∙ rw (others_none section other l.path l.value) (no_id section other is (hear (is_header_root (root_of section)) h l) ls)
 
-pub body_no_id : (is : Bool) (h : Heard) (r : Read) → id_said (tells roots.Body is h (lines_of r) ++ wrongs r) ≡ None
-unfolding id_in first_id
-body_no_id is h r =
-    id_both (tells roots.Body is h (lines_of r)) (wrongs r) ∙ rw (no_id roots.Body is (λ path v. refl) h (lines_of r), wrongs_no_id r) refl
-
--- ---- in the header
-
-hear_id : (h : Heard) (at : ℕ) (path : List Seg) (v : Value) → h.request_id ≡ None → (hear true h (record { at = at; path = path; value = v })).request_id ≡ id_in (Said roots.Header path v)
-unfolding id_in first_id
-hear_id h at path (Number (Plain prims.ULong) n) e = rw e refl
-hear_id h at path (Number (Plain prims.Octet) n) e = e
-hear_id h at path (Number (Plain prims.Char) n) e = e
-hear_id h at path (Number (Plain prims.Boolean) n) e = e
-hear_id h at path (Number (Plain prims.Short) n) e = e
-hear_id h at path (Number (Plain prims.UShort) n) e = e
-hear_id h at path (Number (Plain prims.Long) n) e = e
-hear_id h at path (Number (Plain prims.LongLong) n) e = e
-hear_id h at path (Number (Plain prims.ULongLong) n) e = e
-hear_id h at path (Number (Plain prims.Float) n) e = e
-hear_id h at path (Number (Plain prims.Double) n) e = e
-hear_id h at path (Number (Enum count names) n) e = e
-hear_id h at path (Count n) e = e
-hear_id h at path (Piece (Text bound) offset octets true) e = e
-hear_id h at path (Piece (Text bound) offset octets false) e = e
-hear_id h at path (Piece (Single scalar) offset octets more) e = e
-hear_id h at path (Piece (Octets bound) offset octets more) e = e
-hear_id h at path (Piece (Struct count names parts) offset octets more) e = e
-hear_id h at path (Piece (Union choice scalar select names cases) offset octets more) e = e
-hear_id h at path (Piece (Sequence bound T) offset octets more) e = e
-hear_id h at path (Piece (Array count T) offset octets more) e = e
-
-both_none : (a b : Option ℕ) → first_id a b ≡ None → (a ≡ None) × (b ≡ None)
+pub section_no_id : (section : Section) → is_header section ≡ false → (is : Bool) (h : Heard) (r : Read) → id_said (tells (root_of section) is h (lines_of r) ++ wrongs r) ≡ None
 unfolding first_id
-both_none None b e = (refl, e)
-both_none (Some a) b e = absurd cc
+section_no_id section other is h r =
+    id_both (tells (root_of section) is h (lines_of r)) (wrongs r) ∙ rw (no_id section other is h (lines_of r), wrongs_no_id r) refl
 
-first_line : (l : Line) (told : List Told) → id_said told ≡ None → id_said (tell l.at (Said roots.Header l.path l.value) ∷ told) ≡ id_in (Said roots.Header l.path l.value)
-unfolding id_said tell
-first_line l told e = rw (e, first_none) refl
+first_same : (a b : Option ℕ) → first_of a b ≡ first_id a b
+unfolding first_id
+first_same (Some n) b = refl
+first_same None b = refl
 
-tells_id : (is : Bool) (h : Heard) (l : Line) (ls : List Line) →
-    id_said (tells roots.Header is h (l ∷ ls)) ≡ first_id (id_in (Said roots.Header l.path l.value)) (id_said (tells roots.Header is (hear true h l) ls))
-unfolding tells
-tells_id is h l ls =
-    let now = hear true h l in
-    id_both (tell l.at (Said roots.Header l.path l.value) ∷ calls is l now) (tells roots.Header is now ls)
-    ∙ ap (λ id. first_id id (id_said (tells roots.Header is now ls))) (first_line l (calls is l now) (call_no_id l.at (calls is l now) (calls_is is l now)))
+-- in the header it is what is heard
+hear_id : (h : Heard) (at : ℕ) (path : List Seg) (v : Value) →
+    (hear true h (record { at = at; path = path; value = v })).request_id ≡ first_id h.request_id (id_in (Said roots.Header path v))
+unfolding id_in
+hear_id h at path (Number (Plain prims.ULong) n) = first_same h.request_id _
+hear_id h at path (Number (Plain prims.Octet) n) = sym (first_none h.request_id)
+hear_id h at path (Number (Plain prims.Char) n) = sym (first_none h.request_id)
+hear_id h at path (Number (Plain prims.Boolean) n) = sym (first_none h.request_id)
+hear_id h at path (Number (Plain prims.Short) n) = sym (first_none h.request_id)
+hear_id h at path (Number (Plain prims.UShort) n) = sym (first_none h.request_id)
+hear_id h at path (Number (Plain prims.Long) n) = sym (first_none h.request_id)
+hear_id h at path (Number (Plain prims.LongLong) n) = sym (first_none h.request_id)
+hear_id h at path (Number (Plain prims.ULongLong) n) = sym (first_none h.request_id)
+hear_id h at path (Number (Plain prims.Float) n) = sym (first_none h.request_id)
+hear_id h at path (Number (Plain prims.Double) n) = sym (first_none h.request_id)
+hear_id h at path (Number (Enum count names) n) = sym (first_none h.request_id)
+hear_id h at path (Count n) = sym (first_none h.request_id)
+hear_id h at path (Piece (Text bound) offset octets true) = sym (first_none h.request_id)
+hear_id h at path (Piece (Text bound) offset octets false) = sym (first_none h.request_id)
+hear_id h at path (Piece (Single scalar) offset octets more) = sym (first_none h.request_id)
+hear_id h at path (Piece (Octets bound) offset octets more) = sym (first_none h.request_id)
+hear_id h at path (Piece (Struct count names parts) offset octets more) = sym (first_none h.request_id)
+hear_id h at path (Piece (Union choice scalar select names cases) offset octets more) = sym (first_none h.request_id)
+hear_id h at path (Piece (Sequence bound T) offset octets more) = sym (first_none h.request_id)
+hear_id h at path (Piece (Array count T) offset octets more) = sym (first_none h.request_id)
 
-still_none : (is : Bool) (h : Heard) (lines : List Line) → h.request_id ≡ None → id_said (tells roots.Header is h lines) ≡ None → (heard true h lines).request_id ≡ None
-still_none is h [] e f = e
-still_none is h (l ∷ ls) e f =
-    let b = both_none (id_in (Said roots.Header l.path l.value)) (id_said (tells roots.Header is (hear true h l) ls)) (sym (tells_id is h l ls) ∙ f) in
-    still_none is (hear true h l) ls (hear_id h l.at l.path l.value e ∙ b.0) b.1
-
-one_heard : (is : Bool) (h : Heard) (n : ℕ) (lines : List Line) → OneAt n lines → h.request_id ≡ None → (heard true h lines).request_id ≡ id_said (tells roots.Header is h lines)
+lines_heard : (is : Bool) (h : Heard) (lines : List Line) → (heard true h lines).request_id ≡ first_id h.request_id (id_said (tells roots.Header is h lines))
 unfolding tells id_said
-one_heard is h n [] one e = e
-one_heard is h n (l ∷ []) one e = hear_id h l.at l.path l.value e ∙ sym (tells_id is h l [] ∙ first_none (id_in (Said roots.Header l.path l.value)))
-one_heard is h n (l ∷ l' ∷ ls) one e = absurd one
+lines_heard is h [] = sym (first_none h.request_id)
+lines_heard is h (l ∷ ls) =
+    let now = hear true h l in
+    let id = id_in (Said roots.Header l.path l.value) in
+    let later = id_said (tells roots.Header is now ls) in
+    lines_heard is now ls ∙ (ap (λ id. first_id id later) (hear_id h l.at l.path l.value)
+    ∙ (sym (first_all h.request_id id later) ∙ ap (first_id h.request_id) (sym (line_id sections.Header is h l ls))))
 
 hushed_id : (quiet : Bool) (h : Heard) → (hushed quiet h).request_id ≡ h.request_id
 hushed_id true h = refl
 hushed_id false h = refl
 
--- the id that is held, or else what is heard with one octet more
-pub id_heard : (is : Bool) (n : ℕ) (lines : List Line) (r : Read) → OneAt n (lines_of r) → (id : Option ℕ) → id ≡ id_said (tells roots.Header is nothing lines) →
-    first_id id (heard_of true (spine.with_front lines r)).request_id ≡ first_id id (id_said (tells roots.Header is (heard true nothing lines) (lines_of r) ++ wrongs r))
+pub header_only : (section : Section) → is_header section ≡ true → section ≡ sections.Header
+header_only sections.Header e = refl
+header_only sections.Exception e = absurd (false≢true e)
+header_only sections.Body e = absurd (false≢true e)
+
+-- what a header's decoder has in mind is the id that the message has said
+pub id_heard : (C : Table) (S : Signatures) (number : ℕ) (header s : List ℕ) (section : Section) (d : Decoder) (e : Decodes C S number header s section d) → section ≡ sections.Header →
+    (heard_of true (read (plain (order header)) [] e.T (12 + length e.front) e.octets)).request_id ≡ id_said (told_of (message S header s))
 unfolding first_id
-id_heard is n lines r one (Some id) e = refl
-id_heard is n lines r one None e =
-    let h = heard true nothing lines in
-    hushed_id (in_string (spine.with_front lines r)) (heard true nothing (lines_of (spine.with_front lines r)))
-    ∙ (ap (λ ls. (heard true nothing ls).request_id) (lines_front lines r)
-    ∙ (ap (λ h. h.request_id) (heard-append true nothing lines (lines_of r))
-    ∙ (one_heard is h n (lines_of r) one (still_none is nothing lines refl (sym e))
-    ∙ sym (id_both (tells roots.Header is h (lines_of r)) (wrongs r) ∙ (ap (first_id (id_said (tells roots.Header is h (lines_of r)))) (wrongs_no_id r) ∙ first_none (id_said (tells roots.Header is h (lines_of r))))))))
+id_heard C S number header s sections.Header d e in_it =
+    let r = read (plain (order header)) [] e.T (12 + length e.front) e.octets in
+    let is = may_call header sections.Header in
+    let lines : lines_of r ≡ e.reads.lines = ap lines_of e.reads.is ∙ lines_standing S header sections.Header C d e.reads.lines _ d.leaf in
+    let told : told_of (message S header s) ≡ tells roots.Header is nothing e.reads.lines =
+    ap told_of e.is ∙ (told_front e.before (through S header sections.Header nothing r) ∙ (ap (λ ts. ts ++ told_of (through S header sections.Header nothing r)) e.first.1
+    ∙ (ap (λ r. told_of (through S header sections.Header nothing r)) e.reads.is ∙ standing_told S header sections.Header C d e.reads.lines _ d.leaf))) in
+    hushed_id (in_string r) (heard true nothing (lines_of r))
+    ∙ (ap (λ ls. (heard true nothing ls).request_id) lines
+    ∙ (lines_heard is nothing e.reads.lines ∙ ap id_said (sym told)))
+id_heard C S number header s sections.Exception d e in_it = absurd cc
+id_heard C S number header s sections.Body d e in_it = absurd cc
+
+-- what a message answers inside a section
+pub id_read : (C : Table) (kept : Kept) (number : ℕ) (header : List ℕ) (m : Struct_of) (s : List ℕ) → Follows C kept number header m s → (section : Section) (d : Decoder) → m.part ≡ parts.Typed section d →
+    (r : Read) × decoders.Minds (root_of section) d r × (cond (is_header section) (heard_of true r).request_id m.id ≡ id_said (told_of (message (said_by C kept) header s)))
+id_read C kept number header m s f section d is =
+    let e = subst (Stands C kept number header s) is f.stands in
+    (read (plain (order header)) [] e.T (12 + length e.front) e.octets, e.reads.minds, go (is_header section) refl)
+  where
+    go : (inside : Bool) → is_header section ≡ inside → cond inside (heard_of true (read (plain (order header)) [] (subst (Stands C kept number header s) is f.stands).T (12 + length (subst (Stands C kept number header s) is f.stands).front) (subst (Stands C kept number header s) is f.stands).octets)).request_id m.id ≡ id_said (told_of (message (said_by C kept) header s))
+    go true e = id_heard C (said_by C kept) number header s section d (subst (Stands C kept number header s) is f.stands) (header_only section e)
+    go false e = f.id ∙ rw (is, e) refl
 
 -- ---- one octet more
 
 pub one_more_at : (s : List ℕ) (b at next : ℕ) → at ≡ 12 + length s → next ≡ at + 1 → next ≡ 12 + length (s ++ b ∷ [])
 one_more_at s b at next e f = omega (arith, e, f, length_one_more s b)
 
-pub follows_with : (C : Table) (kept : Kept) (number : ℕ) (header : List ℕ) (m n : Struct_of) (s : List ℕ) (b : ℕ) → Follows C kept number header m s →
-    n.number ≡ m.number → n.header ≡ m.header → n.at ≡ m.at + 1 → n.id ≡ id_said (told_of (message (said_by C kept) header (s ++ b ∷ []))) →
-    Stands C kept number header n (s ++ b ∷ []) n.part → Took C kept number header n s b false
-follows_with C kept number header m n s b f same_number same_header at id stands =
+-- A message that has taken one octet more stands behind it.
+pub record Moved (m n : Struct_of) : Type 0 where
+  pub number : n.number ≡ m.number
+  pub header : n.header ≡ m.header
+  pub at : n.at ≡ m.at + 1
+
+pub at_more : (number : ℕ) (header : List ℕ) (m n : Struct_of) (s : List ℕ) (b : ℕ) → IsAt number header m s → Moved m n → IsAt number header n (s ++ b ∷ [])
+at_more number header m n s b is move = record {
+  same_number = move.number ∙ is.same_number;
+  same_header = move.header ∙ is.same_header;
+  at = one_more_at s b m.at n.at is.at move.at;
+}
+
+pub is_at : (C : Table) (kept : Kept) (number : ℕ) (header : List ℕ) (m : Struct_of) (s : List ℕ) → Follows C kept number header m s → IsAt number header m s
+is_at C kept number header m s f = record { same_number = f.same_number; same_header = f.same_header; at = f.at }
+
+pub took_on : (C : Table) (kept : Kept) (number : ℕ) (header : List ℕ) (m n : Struct_of) (s : List ℕ) (b : ℕ) → Follows C kept number header m s → Moved m n →
+    n.id ≡ cond (in_header n.part) None (id_said (told_of (message (said_by C kept) header (s ++ b ∷ [])))) →
+    Stands C kept number header (s ++ b ∷ []) n.part → Took C kept number header n s b false
+took_on C kept number header m n s b f move id stands =
+    let is = at_more number header m n s b (is_at C kept number header m s f) move in
     let g : Follows C kept number header n (s ++ b ∷ []) = record {
-      same_number = same_number ∙ f.same_number;
-      same_header = same_header ∙ f.same_header;
+      same_number = is.same_number;
+      same_header = is.same_header;
       id = id;
-      at = one_more_at s b m.at n.at f.at at;
+      at = is.at;
       stands = stands;
     } in
     record { is_over = sym (follows_goes C kept number header n (s ++ b ∷ []) g); follows = λ _. g }
 
-pub follows_by : (C : Table) (kept : Kept) (number : ℕ) (header : List ℕ) (m n : Struct_of) (s : List ℕ) (b : ℕ) → Follows C kept number header m s →
-    n.number ≡ m.number → n.header ≡ m.header → n.at ≡ m.at + 1 → n.id ≡ m.id → id_said (due (said_by C kept) header s (b ∷ [])) ≡ None →
-    Stands C kept number header n (s ++ b ∷ []) n.part → Took C kept number header n s b false
-follows_by C kept number header m n s b f same_number same_header at id none stands =
-    follows_with C kept number header m n s b f same_number same_header at (id ∙ (f.id ∙ sym (id_stays (said_by C kept) header s (b ∷ []) none))) stands
+-- where nothing of an id is said the message keeps what it has
+pub id_kept : (C : Table) (kept : Kept) (number : ℕ) (header : List ℕ) (m : Struct_of) (s : List ℕ) (b : ℕ) → Follows C kept number header m s →
+    id_said (due (said_by C kept) header s (b ∷ [])) ≡ None → (inside : Bool) → in_header m.part ≡ inside →
+    m.id ≡ cond inside None (id_said (told_of (message (said_by C kept) header (s ++ b ∷ []))))
+id_kept C kept number header m s b f none inside is =
+    f.id ∙ rw (is) (ap (cond inside None) (sym (id_stays (said_by C kept) header s (b ∷ []) none)))
 
 pub faulted : (C : Table) (kept : Kept) (number : ℕ) (header : List ℕ) (n : Struct_of) (s : List ℕ) (b : ℕ) → is_over (stage_of (message (said_by C kept) header (s ++ b ∷ []))) ≡ true → Took C kept number header n s b true
 faulted C kept number header n s b e = record { is_over = sym e; follows = λ f. absurd (false≢true (sym f)) }
-
-pub none_first : (id later : Option ℕ) → is_some id ≡ false → first_id id later ≡ later
-unfolding first_id
-none_first None later e = refl
-none_first (Some id) later e = absurd cc

@@ -6,17 +6,18 @@ use Rattle.std.proofs.lemmas.List.{take-append-le, drop-append-le, drop_all}
 use Rattle.std.proofs.lemmas.Bool.{cases_lt, lt-ltb, le-ltb, eq-eqb, ne_eqb}
 use Rattle.giop_cdr.specs.Alignment.{padding}
 use Rattle.giop_print.specs.declared.path.Root.{Root}
-use Rattle.giop_print.specs.declared.path.Root.TheVariants as roots
 use Rattle.giop_sig.specs.Types.{Ty}
 use Rattle.giop_decode.specs.Spine
-use Rattle.giop_decode.specs.Spine.{plain, Line, Place, Leaf, Read, Done, Short, Fault}
+use Rattle.giop_decode.specs.Spine.{plain, Line, Read, Done, Short, Fault}
 use Rattle.giop_decode.specs.Reading.{read}
 use Rattle.giop_decode.specs.Steps as decoder
 use Rattle.giop_decode.specs.Heard.{Heard, nothing, hear, heard, is_header_root}
-use Rattle.giop_decode.proofs.ReadingLaws.{heard-append, read_goes, length_one_more}
+use Rattle.giop_decode.proofs.ReadingLaws.{read_goes, heard-append, length_one_more}
+use Rattle.giop_message.specs.declared.part.Section.{Section}
+use Rattle.giop_message.specs.declared.part.Section.TheVariants as sections
 use Rattle.giop_message.specs.Headers.{minor, kind, order}
 use Rattle.giop_message.specs.Signatures.{Signatures}
-use Rattle.giop_message.specs.Messages.{Said, Left, Wrong, Told, tell, calls, tells, BodyType, Untyped, Typed, Raised, Stage, In_header, In_padding, In_exception, In_body, In_rest, Over, Message, Comes, with_front, passes, rest_in, rest, typed, option_typed, members_of, after_exception, body, is_request, body_of, has_body, padded, after_header, of_header, message}
+use Rattle.giop_message.specs.Messages.{Said, Left, Wrong, Told, tell, calls, tells, BodyType, Untyped, Typed, Raised, In_padding, In_rest, Over, Message, Comes, with_front, passes, rest_in, rest, typed, option_typed, members_of, after_exception, body, body_of, has_body, padded, after_header, of_header, message, root_of, may_call, after, through}
 use Rattle.giop_message.specs.Steps.{rest_step, message_step, advance, goes_on}
 
 -- a reader that goes on as the step does
@@ -49,26 +50,39 @@ tells_append root is h (x ∷ xs) ys =
     let first = tell x.at (Said root x.path x.value) ∷ calls is x now in
     ap (λ ls. first ++ ls) (tells_append root is now xs ys) ∙ sym (append_assoc first (tells root is now xs) (tells root is (heard (is_header_root root) now xs) ys))
 
-module _ (root : Root) (is : Bool) (stage : Heard → List Place → Leaf → Stage) (next : Heard → ℕ → List ℕ → Message) where
-  pub passes_front : (h : Heard) (front : List Line) (r : Read) → passes root is stage next h (Spine.with_front front r) ≡ with_front (tells root is h front) (passes root is stage next (heard (is_header_root root) h front) r)
+module _ (section : Section) (is : Bool) (next : Heard → ℕ → List ℕ → Message) where
+  abbrev R : Root
+  R = root_of section
+
+  pub passes_front : (h : Heard) (front : List Line) (r : Read) →
+      passes section is next h (Spine.with_front front r)
+      ≡ with_front (tells R is h front) (passes section is next (heard (is_header_root R) h front) r)
   unfolding passes with_front
   passes_front h front (Done lines at s) =
-      rw (tells_append root is h front lines, heard-append (is_header_root root) h front lines) (sym (front_twice (tells root is h front) (tells root is (heard (is_header_root root) h front) lines) (next (heard (is_header_root root) (heard (is_header_root root) h front) lines) at s)))
-  passes_front h front (Short lines at outer leaf) = rw (tells_append root is h front lines, heard-append (is_header_root root) h front lines) refl
+      let now = heard (is_header_root R) h front in
+      rw (tells_append R is h front lines, heard-append (is_header_root R) h front lines)
+      (sym (front_twice (tells R is h front) (tells R is now lines) (next (heard (is_header_root R) now lines) at s)))
+  passes_front h front (Short lines at outer leaf) =
+      rw (tells_append R is h front lines, heard-append (is_header_root R) h front lines) refl
   passes_front h front (Fault lines at why T) =
-      rw (tells_append root is h front lines) (ap (λ ls. Comes ls at Over) (append_assoc (tells root is h front) (tells root is (heard (is_header_root root) h front) lines) (tell at (Wrong why) ∷ [])))
+      rw (tells_append R is h front lines)
+      (ap (λ ls. Comes ls at Over)
+      (append_assoc (tells R is h front) (tells R is (heard (is_header_root R) h front) lines) (tell at (Wrong why) ∷ [])))
 
-  -- a typed part, where what follows it goes on and the step of its stage is that of the decoder
-  pub passes_go : (S : Signatures) (header : List ℕ) → ((h : Heard) → Goes S header (next h)) →
-      ((h : Heard) (outer : List Place) (leaf : Leaf) (at b : ℕ) → message_step S header at (stage h outer leaf) b ≡ passes root is stage next h (decoder.step (plain (order header)) [] outer leaf at b)) →
-      (h : Heard) (r : Read) (b : ℕ) → passes root is stage next h (decoder.advance (plain (order header)) [] r b) ≡ advance S header (passes root is stage next h r) b
-  unfolding passes with_front advance
-  passes_go S header goes step h (Done lines at s) b =
-      ap (with_front (tells root is h lines)) (goes (heard (is_header_root root) h lines) at s b) ∙ front_advance S header (tells root is h lines) (next (heard (is_header_root root) h lines) at s) b
-  passes_go S header goes step h (Short lines at outer leaf) b =
-      passes_front h lines (decoder.step (plain (order header)) [] outer leaf at b)
-      ∙ ap (with_front (tells root is h lines)) (sym (step (heard (is_header_root root) h lines) outer leaf at b))
-  passes_go S header goes step h (Fault lines at why T) b = stays S header (tells root is h lines ++ tell at (Wrong why) ∷ []) at b
+-- a section goes on as its reading does, where what follows it goes on
+pub through_goes : (S : Signatures) (header : List ℕ) (section : Section) →
+    ((h : Heard) → Goes S header (after S header section h)) → (h : Heard) (r : Read) (b : ℕ) →
+    through S header section h (decoder.advance (plain (order header)) [] r b) ≡ advance S header (through S header section h r) b
+unfolding passes with_front advance message_step
+through_goes S header section goes h (Done lines at s) b =
+    let R = root_of section in
+    let now = heard (is_header_root R) h lines in
+    ap (with_front (tells R (may_call header section) h lines)) (goes now at s b)
+    ∙ front_advance S header (tells R (may_call header section) h lines) (after S header section now at s) b
+through_goes S header section goes h (Short lines at outer leaf) b =
+    passes_front section (may_call header section) (after S header section) h lines (decoder.step (plain (order header)) [] outer leaf at b)
+through_goes S header section goes h (Fault lines at why T) b =
+    stays S header (tells (root_of section) (may_call header section) h lines ++ tell at (Wrong why) ∷ []) at b
 
 -- ---- the rest
 
@@ -103,48 +117,10 @@ pub rest_goes : (S : Signatures) (header : List ℕ) → Goes S header rest
 unfolding rest
 rest_goes S header at s b = rest_in_goes S header (length s / 32) (length (s ++ b ∷ []) / 32) 0 at s b refl (ap (λ n. n / 32) (length_one_more s b))
 
--- ---- the body
-
 -- a line of no Request's header has no call
 pub no_call : (l : Line) (h : Heard) → calls false l h ≡ []
 unfolding calls
 no_call l h = refl
-
--- what is told of a body goes by nothing that was heard
-tells_body : (h k : Heard) (lines : List Line) → tells roots.Body false h lines ≡ tells roots.Body false k lines
-unfolding tells
-tells_body h k [] = refl
-tells_body h k (l ∷ ls) =
-    rw (no_call l (hear false h l), no_call l (hear false k l)) (ap (λ ts. tell l.at (Said roots.Body l.path l.value) ∷ ts) (tells_body (hear false h l) (hear false k l) ls))
-
-pub passes_body : (h : Heard) (r : Read) → passes roots.Body false (λ h. In_body) (λ h. rest) h r ≡ passes roots.Body false (λ h. In_body) (λ h. rest) nothing r
-unfolding passes
-passes_body h (Done lines at s) = rw (tells_body h nothing lines) refl
-passes_body h (Short lines at outer leaf) = rw (tells_body h nothing lines) refl
-passes_body h (Fault lines at why T) = rw (tells_body h nothing lines) refl
-
-pub typed_goes : (S : Signatures) (header : List ℕ) (T : Ty) → Goes S header (typed (order header) T)
-unfolding typed message_step
-typed_goes S header T at s b =
-    ap (passes roots.Body false (λ h. In_body) (λ h. rest) nothing) (read_goes (plain (order header)) [] T at s b)
-    ∙ passes_go roots.Body false (λ h. In_body) (λ h. rest) S header (λ h. rest_goes S header) (λ h outer leaf at b. sym (passes_body h (decoder.step (plain (order header)) [] outer leaf at b))) nothing (read (plain (order header)) [] T at s) b
-
-pub option_typed_goes : (S : Signatures) (header : List ℕ) (found : Option Ty) → Goes S header (option_typed (order header) found)
-unfolding option_typed
-option_typed_goes S header None = rest_goes S header
-option_typed_goes S header (Some T) = typed_goes S header T
-
-pub after_exception_goes : (S : Signatures) (header : List ℕ) (h : Heard) → Goes S header (after_exception S header h)
-unfolding after_exception
-after_exception_goes S header h = option_typed_goes S header (members_of S h.name)
-
-pub body_goes : (S : Signatures) (header : List ℕ) (t : BodyType) → Goes S header (body S header t)
-unfolding body message_step
-body_goes S header Untyped = rest_goes S header
-body_goes S header (Typed T) = typed_goes S header T
-body_goes S header Raised = λ at s b.
-    ap (passes roots.Exception false In_exception (after_exception S header) nothing) (read_goes (plain (order header)) [] S.exception_id at s b)
-    ∙ passes_go roots.Exception false In_exception (after_exception S header) S header (after_exception_goes S header) (λ h outer leaf at b. refl) nothing (read (plain (order header)) [] S.exception_id at s) b
 
 -- ---- the padding
 
@@ -173,8 +149,8 @@ module _ (S : Signatures) (header : List ℕ) (t : BodyType) (at b : ℕ) (s : L
       let n : at + padding at 8 ≡ (at + length s) + 1 = omega (arith, length_one_more s b) in
       rw (le-ltb 1 (padding (at + length s) 8) m, front_none, drop_all (padding at 8) (s ++ b ∷ []) (le_of_eq (sym l)), n) refl
 
-pub padded_goes : (S : Signatures) (header : List ℕ) (t : BodyType) → Goes S header (padded S header t)
-padded_goes S header t at s b = go (cases_lt (length s) (padding at 8)) (cases_lt (length s + 1) (padding at 8))
+padded_goes : (S : Signatures) (header : List ℕ) (t : BodyType) → Goes S header (body S header t) → Goes S header (padded S header t)
+padded_goes S header t goes at s b = go (cases_lt (length s) (padding at 8)) (cases_lt (length s + 1) (padding at 8))
   where
     go : (length s < padding at 8) ⊎ (padding at 8 ≤ length s) → (length s + 1 < padding at 8) ⊎ (padding at 8 ≤ length s + 1) → padded S header t at (s ++ b ∷ []) ≡ advance S header (padded S header t at s) b
     go (inl h) (inl k) =
@@ -188,31 +164,71 @@ padded_goes S header t at s b = go (cases_lt (length s) (padding at 8)) (cases_l
     go (inr h) _ =
         let l : padding at 8 ≤ length (s ++ b ∷ []) = omega (arith, length_one_more s b) in
         rw (padded_begins S header t at (s ++ b ∷ []) l, padded_begins S header t at s h, drop-append-le (padding at 8) s (b ∷ []) h)
-        (body_goes S header t (at + padding at 8) (drop (padding at 8) s) b)
+        (goes (at + padding at 8) (drop (padding at 8) s) b)
 
 -- ---- a message
 
-pub after_header_goes : (S : Signatures) (header : List ℕ) (h : Heard) → Goes S header (after_header S header h)
-unfolding after_header
-after_header_goes S header h at s b = go (has_body header) (minor header == 2)
-  where
-    go : (has is_2 : Bool) → (if has then (if is_2 then padded S header (body_of S header h) at (s ++ b ∷ []) else body S header (body_of S header h) at (s ++ b ∷ [])) else rest at (s ++ b ∷ []))
-        ≡ advance S header (if has then (if is_2 then padded S header (body_of S header h) at s else body S header (body_of S header h) at s) else rest at s) b
-    go true true = padded_goes S header (body_of S header h) at s b
-    go true false = body_goes S header (body_of S header h) at s b
-    go false is_2 = rest_goes S header at s b
+-- What holds of each part of a message and of what follows it: of the rest, of a section where it holds behind that, and
+-- of a body behind padding where it holds of the body.
+module _ (S : Signatures) (header : List ℕ) (P : (ℕ → List ℕ → Message) → Type 0) (rests : P rest)
+    (reads : (section : Section) (T : Ty) → ((h : Heard) → P (after S header section h)) →
+    P (λ at s. through S header section nothing (read (plain (order header)) [] T at s)))
+    (pads : (t : BodyType) → P (body S header t) → P (padded S header t)) where
+  typed_has : (T : Ty) → P (typed (order header) T)
+  unfolding typed
+  typed_has T = reads sections.Body T (λ h. rests)
 
-pub of_header_goes : (S : Signatures) (header : List ℕ) (found : Option Ty) → Goes S header (of_header S header found)
-unfolding of_header message_step
-of_header_goes S header None = rest_goes S header
-of_header_goes S header (Some T) = λ at s b.
-    ap (passes roots.Header (is_request header) In_header (after_header S header) nothing) (read_goes (plain (order header)) [] T at s b)
-    ∙ passes_go roots.Header (is_request header) In_header (after_header S header) S header (after_header_goes S header) (λ h outer leaf at b. refl) nothing (read (plain (order header)) [] T at s) b
+  option_has : (found : Option Ty) → P (option_typed (order header) found)
+  unfolding option_typed
+  option_has None = rests
+  option_has (Some T) = typed_has T
+
+  exception_has : (h : Heard) → P (after_exception S header h)
+  unfolding after_exception
+  exception_has h = option_has (members_of S h.name)
+
+  pub body_has : (t : BodyType) → P (body S header t)
+  unfolding body
+  body_has Untyped = rests
+  body_has (Typed T) = typed_has T
+  body_has Raised = reads sections.Exception S.exception_id exception_has
+
+  header_has : (h : Heard) → P (after_header S header h)
+  unfolding after_header
+  header_has h = go (has_body header) (minor header == 2)
+    where
+      go : (has is_2 : Bool) → P (λ at s. if has then (if is_2 then padded S header (body_of S header h) at s else body S header (body_of S header h) at s) else rest at s)
+      go true true = pads (body_of S header h) (body_has (body_of S header h))
+      go true false = body_has (body_of S header h)
+      go false is_2 = rests
+
+  pub after_has : (section : Section) (h : Heard) → P (after S header section h)
+  after_has sections.Header h = header_has h
+  after_has sections.Exception h = exception_has h
+  after_has sections.Body h = rests
+
+  message_by : (found : Option Ty) → P (of_header S header found)
+  unfolding of_header
+  message_by None = rests
+  message_by (Some T) = reads sections.Header T header_has
+
+  pub message_has : P (of_header S header (S.header (minor header) (kind header)))
+  message_has = message_by (S.header (minor header) (kind header))
+
+reads_go : (S : Signatures) (header : List ℕ) (section : Section) (T : Ty) → ((h : Heard) → Goes S header (after S header section h)) →
+    Goes S header (λ at s. through S header section nothing (read (plain (order header)) [] T at s))
+reads_go S header section T goes at s b =
+    ap (through S header section nothing) (read_goes (plain (order header)) [] T at s b)
+    ∙ through_goes S header section goes nothing (read (plain (order header)) [] T at s) b
+
+pub after_goes : (S : Signatures) (header : List ℕ) (section : Section) (h : Heard) → Goes S header (after S header section h)
+after_goes S header = after_has S header (Goes S header) (rest_goes S header) (reads_go S header) (padded_goes S header)
 
 -- One octet more is one step.
 pub message_goes : (S : Signatures) (header s : List ℕ) (b : ℕ) → message S header (s ++ b ∷ []) ≡ advance S header (message S header s) b
 unfolding message
-message_goes S header s b = of_header_goes S header (S.header (minor header) (kind header)) 12 s b
+message_goes S header s b =
+    message_has S header (Goes S header) (rest_goes S header) (reads_go S header) (padded_goes S header) 12 s b
 
 -- and so are many
 pub message_resumes : (S : Signatures) (header s t : List ℕ) → message S header (s ++ t) ≡ goes_on S header (message S header s) t

@@ -13,15 +13,13 @@ mod Calling
 mod Faulting
 mod Parts
 mod Followings
-mod Opened
-mod Bodies
+mod Sections
 mod Rests
-mod HeaderOctets
 mod Results
 mod Dues
 mod Closing
 mod Remarks
-mod LastRests
+mod Leaving
 mod Closes
 mod Apart
 mod Rows

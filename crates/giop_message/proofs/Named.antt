@@ -19,13 +19,14 @@ use Rattle.giop_decode.specs.Reading.{read, parts_from}
 use Rattle.giop_decode.specs.Steps.{Quiet, part_at}
 use Rattle.giop_decode.specs.Heard.{Heard, nothing, heard, is_member, ends_operation}
 use Rattle.giop_decode.proofs.ReadingLaws.{quiet_parts, part_quiet}
+use Rattle.giop_message.specs.declared.part.Section.TheVariants as sections
 use Rattle.giop_message.specs.Headers.{minor, kind, order, has_more, may_be_fragmented, is_opener, is_fragment, is_cancel, has_name}
 use Rattle.giop_message.specs.Reading.{Value, is_last, IsEnding, IsNamed}
 use Rattle.giop_message.specs.Signatures.{Signatures, Kept, said_by}
-use Rattle.giop_message.specs.Messages.{Said, Incomplete, Ends, Told, tell, calls, tells, may_lack, Stage, In_header, In_padding, In_exception, In_body, In_rest, Over, Message, Comes, with_front, passes, rest_in, rest, is_request, after_header, of_header, message, told_of, stage_of, close}
+use Rattle.giop_message.specs.Messages.{Said, Incomplete, Ends, Told, tell, calls, tells, may_lack, Stage, In_typed, In_padding, In_rest, Over, Message, Comes, with_front, passes, rest_in, rest, is_request, after_header, of_header, message, told_of, stage_of, close}
 use Rattle.giop_message.specs.MessageReading.{saying_of, remark_of, closing_of, reading_by, HasIds, id_in, first_id, id_said}
 use Rattle.giop_message.proofs.Going.{passes_front}
-use Rattle.giop_message.proofs.Causal.{Silent, passes_silent, after_header_silent, told_begins}
+use Rattle.giop_message.proofs.Causal.{Silent, passes_silent, after_silent, told_begins}
 
 -- ---- the close
 
@@ -38,10 +39,8 @@ is_ending S = record { ends = λ header xs. go (stage_of (message S header xs)) 
     lack false = refl
 
     go : (stage : Stage) → list_any (λ l. is_last l.0) (map closing_of (close stage)) ≡ true
-    go (In_header h outer leaf) = refl
+    go (In_typed section h outer leaf) = refl
     go (In_padding t) = lack (may_lack t)
-    go (In_exception h outer leaf) = refl
-    go (In_body outer leaf) = refl
     go (In_rest offset []) = refl
     go (In_rest offset (x ∷ held)) = refl
     go Over = refl
@@ -99,23 +98,23 @@ module _ (o : Order) (n : ℕ) (of : ℕ → List ℕ) (parts : ℕ → Ty) (is 
   next_quiet = quiet_parts 16 (part_at (plain o) [] (Struct (suc n) of parts) (suc n)) (part_quiet (plain o) [] (Struct (suc n) of parts) (suc n) 16) n 1
 
   module _ (is_req : Bool) (onward : Heard → ℕ → List ℕ → Message) (silent : (h : Heard) → Silent 16 (onward h 16 [])) where
-    told_few : (xs : List ℕ) → length xs < 4 → told_of (passes roots.Header is_req In_header onward nothing (read (plain o) [] (Struct (suc n) of parts) 12 xs)) ≡ []
+    told_few : (xs : List ℕ) → length xs < 4 → told_of (passes sections.Header is_req onward nothing (read (plain o) [] (Struct (suc n) of parts) 12 xs)) ≡ []
     unfolding number block padding passes tells told_of
-    told_few [] h = ap (λ r. told_of (passes roots.Header is_req In_header onward nothing r)) (first_part [])
-    told_few (a ∷ []) h = ap (λ r. told_of (passes roots.Header is_req In_header onward nothing r)) (first_part (a ∷ []))
-    told_few (a ∷ b ∷ []) h = ap (λ r. told_of (passes roots.Header is_req In_header onward nothing r)) (first_part (a ∷ b ∷ []))
-    told_few (a ∷ b ∷ c ∷ []) h = ap (λ r. told_of (passes roots.Header is_req In_header onward nothing r)) (first_part (a ∷ b ∷ c ∷ []))
+    told_few [] h = ap (λ r. told_of (passes sections.Header is_req onward nothing r)) (first_part [])
+    told_few (a ∷ []) h = ap (λ r. told_of (passes sections.Header is_req onward nothing r)) (first_part (a ∷ []))
+    told_few (a ∷ b ∷ []) h = ap (λ r. told_of (passes sections.Header is_req onward nothing r)) (first_part (a ∷ b ∷ []))
+    told_few (a ∷ b ∷ c ∷ []) h = ap (λ r. told_of (passes sections.Header is_req onward nothing r)) (first_part (a ∷ b ∷ c ∷ []))
     told_few (a ∷ b ∷ c ∷ d ∷ xs) h = absurd (omega arith)
 
-    told_four : (a b c d : ℕ) → told_of (passes roots.Header is_req In_header onward nothing (read (plain o) [] (Struct (suc n) of parts) 12 (a ∷ b ∷ c ∷ d ∷ [])))
+    told_four : (a b c d : ℕ) → told_of (passes sections.Header is_req onward nothing (read (plain o) [] (Struct (suc n) of parts) 12 (a ∷ b ∷ c ∷ d ∷ [])))
         ≡ tell 16 (Said roots.Header (Name (of 0) ∷ []) (Number (Plain prims.ULong) (num o (a ∷ b ∷ c ∷ d ∷ [])))) ∷ []
     unfolding id_line
     told_four a b c d =
         let l = id_line (a ∷ b ∷ c ∷ d ∷ []) in
-        ap (λ r. told_of (passes roots.Header is_req In_header onward nothing r)) (first_four a b c d)
-        ∙ (ap told_of (passes_front roots.Header is_req In_header onward nothing (l ∷ []) (next 16 []))
-        ∙ (told_front (tells roots.Header is_req nothing (l ∷ [])) (passes roots.Header is_req In_header onward (heard true nothing (l ∷ [])) (next 16 []))
-        ∙ (ap (λ ts. tells roots.Header is_req nothing (l ∷ []) ++ ts) (told_silent (passes roots.Header is_req In_header onward (heard true nothing (l ∷ [])) (next 16 [])) (passes_silent roots.Header is_req In_header onward 16 silent (heard true nothing (l ∷ [])) (next 16 []) next_quiet))
+        ap (λ r. told_of (passes sections.Header is_req onward nothing r)) (first_four a b c d)
+        ∙ (ap told_of (passes_front sections.Header is_req onward nothing (l ∷ []) (next 16 []))
+        ∙ (told_front (tells roots.Header is_req nothing (l ∷ [])) (passes sections.Header is_req onward (heard true nothing (l ∷ [])) (next 16 []))
+        ∙ (ap (λ ts. tells roots.Header is_req nothing (l ∷ []) ++ ts) (told_silent (passes sections.Header is_req onward (heard true nothing (l ∷ [])) (next 16 [])) (passes_silent sections.Header is_req onward 16 silent (heard true nothing (l ∷ [])) (next 16 []) next_quiet))
         ∙ (append-nil (tells roots.Header is_req nothing (l ∷ [])) ∙ tells_id is_req (Name (of 0) ∷ []) (num o (a ∷ b ∷ c ∷ d ∷ []))))))
 
 -- of a header that begins with its request id
@@ -127,13 +126,13 @@ module _ (S : Signatures) (header : List ℕ) where
   unfolding of_header
   few_by T (n, of, parts, is, name_is, long) xs h =
       ap (λ U. told_of (of_header S header (Some U) 12 xs)) is
-      ∙ told_few (order header) n of parts long (is_request header) (after_header S header) (λ h. after_header_silent S header h 16) xs h
+      ∙ told_few (order header) n of parts long (is_request header) (after_header S header) (λ h. after_silent S header sections.Header h 16) xs h
 
   four_by : (T : Ty) → BeginsWithId T → (a b c d : ℕ) → told_of (of_header S header (Some T) 12 (a ∷ b ∷ c ∷ d ∷ [])) ≡ id_told (a ∷ b ∷ c ∷ d ∷ [])
   unfolding of_header id_told
   four_by T (n, of, parts, is, name_is, long) a b c d =
       ap (λ U. told_of (of_header S header (Some U) 12 (a ∷ b ∷ c ∷ d ∷ []))) is
-      ∙ (told_four (order header) n of parts long (is_request header) (after_header S header) (λ h. after_header_silent S header h 16) a b c d
+      ∙ (told_four (order header) n of parts long (is_request header) (after_header S header) (λ h. after_silent S header sections.Header h 16) a b c d
       ∙ ap (λ name. tell 16 (Said roots.Header (Name name ∷ []) (Number (Plain prims.ULong) (num (order header) (a ∷ b ∷ c ∷ d ∷ [])))) ∷ []) name_is)
 
   -- without a header type the first octets are of the rest

@@ -1,29 +1,21 @@
--- One octet of a part that a decoder reads: what is told, its text, and the id.
+-- What is told at one octet of a section, and its text.
 use Rattle.std.proofs.Common.{◌≡◌, ℕ, ◌+◌, ◌-◌, Bool, List, [], ◌∷◌, ◌++◌, refl, sym, ap, ◌∙◌, append_assoc, append-nil, arith}
 use Rattle.std.proofs.Math.Seq.{drop-append_seam}
 use Rattle.std.proofs.lemmas.List.Concat.{flat_map-append}
 use Rattle.giop_print.specs.declared.path.Root.{Root}
-use Rattle.giop_sig.specs.Types.{Ty}
-use Rattle.giop_decode.specs.Spine
-use Rattle.giop_decode.specs.Spine.{plain, Line, Place, Leaf, Read, Done, Short, Fault, lines_of}
-use Rattle.giop_decode.specs.Reading.{read}
-use Rattle.giop_decode.specs.Steps as decoder
+use Rattle.giop_decode.specs.Spine.{Seg, Line, Read, Done, Short, Fault, lines_of}
 use Rattle.giop_decode.specs.Steps.{Now, OneAt}
-use Rattle.giop_decode.specs.Heard.{Heard, nothing, hear, heard, is_header_root}
+use Rattle.giop_decode.specs.Heard.{Heard, hear, is_header_root}
 use Rattle.giop_decode.specs.Spelling.{line_text, lines_text}
-use Rattle.giop_decode.proofs.ReadingLaws.{read_goes}
-use Rattle.giop_message.specs.Headers.{order}
 use Rattle.giop_message.specs.Signatures.{Signatures}
-use Rattle.giop_message.specs.Messages.{Said, Wrong, Told, tell, calls, tells, Stage, Message, Comes, with_front, passes, message, told_of, stage_of}
-use Rattle.giop_message.specs.Steps.{message_step, advance}
+use Rattle.giop_message.specs.Messages.{Said, Wrong, Told, tell, calls, tells, Message, Comes, with_front, message, told_of, stage_of}
 use Rattle.giop_message.specs.MessageReading.{saying_of, text_of}
 use Rattle.giop_message.specs.Holding.{speech_line, told_text, due}
 use Rattle.giop_message.specs.Moves.{fault_text}
-use Rattle.giop_message.proofs.Going.{Goes, front_twice, front_advance, passes_front, passes_go, message_goes}
 use Rattle.giop_message.proofs.Causal.{Silent}
 use Rattle.giop_message.proofs.Spelling.{said_is_line}
 
-told_front : (front : List Told) (m : Message) → told_of (with_front front m) ≡ front ++ told_of m
+pub told_front : (front : List Told) (m : Message) → told_of (with_front front m) ≡ front ++ told_of m
 unfolding told_of with_front
 told_front front (Comes told at stage) = refl
 
@@ -31,9 +23,13 @@ pub stage_front : (front : List Told) (m : Message) → stage_of (with_front fro
 unfolding stage_of with_front
 stage_front front (Comes told at stage) = refl
 
+pub told_silent : (n : ℕ) (m : Message) → Silent n m → told_of m ≡ []
+unfolding told_of
+told_silent n (Comes told at stage) h = h.0
+
 -- what is due is what comes behind
-pub due_is : (S : Signatures) (header s more : List ℕ) (before : List Told) (m n : Message) → message S header s ≡ m → message S header (s ++ more) ≡ with_front before n →
-    told_of m ≡ before → due S header s more ≡ told_of n
+pub due_is : (S : Signatures) (header s more : List ℕ) (before : List Told) (m n : Message) → message S header s ≡ m →
+    message S header (s ++ more) ≡ with_front before n → told_of m ≡ before → due S header s more ≡ told_of n
 unfolding due
 due_is S header s more before m n is now same =
     rw (is, same, now, told_front before n) (drop-append_seam before (told_of n))
@@ -48,55 +44,6 @@ pub one_of : (n : ℕ) (st : Read) → Now n st → OneAt n (lines_of st)
 one_of n (Done lines at rest) now = now.0
 one_of n (Short lines at outer leaf) now = now.0
 one_of n (Fault lines at why T) now = rw now.0 tt
-
-told_silent : (n : ℕ) (m : Message) → Silent n m → told_of m ≡ []
-unfolding told_of
-told_silent n (Comes told at stage) h = h.0
-
-module _ (S : Signatures) (header : List ℕ) (root : Root) (is : Bool) (stage : Heard → List Place → Leaf → Stage) (next : Heard → ℕ → List ℕ → Message) where
-  -- the message goes on as the part does
-  pub part_goes : ((h : Heard) → Goes S header (next h)) →
-      ((h : Heard) (outer : List Place) (leaf : Leaf) (at b : ℕ) → message_step S header at (stage h outer leaf) b ≡ passes root is stage next h (decoder.step (plain (order header)) [] outer leaf at b)) →
-      (before : List Told) (T : Ty) (at : ℕ) (s octets : List ℕ) (b : ℕ) →
-      message S header s ≡ with_front before (passes root is stage next nothing (read (plain (order header)) [] T at octets)) →
-      message S header (s ++ b ∷ []) ≡ with_front before (passes root is stage next nothing (read (plain (order header)) [] T at (octets ++ b ∷ [])))
-  part_goes goes step before T at s octets b e =
-      message_goes S header s b ∙ (ap (λ m. advance S header m b) e
-      ∙ (sym (front_advance S header before (passes root is stage next nothing (read (plain (order header)) [] T at octets)) b)
-      ∙ ap (with_front before) (sym (passes_go root is stage next S header goes step nothing (read (plain (order header)) [] T at octets) b)
-      ∙ ap (passes root is stage next nothing) (sym (read_goes (plain (order header)) [] T at octets b)))))
-
-  -- what was heard of the lines
-  abbrev pub heard_in : List Line → Heard
-  heard_in lines = heard (is_header_root root) nothing lines
-
-  passed_told : (before : List Told) (lines : List Line) (at : ℕ) (outer : List Place) (leaf : Leaf) →
-      told_of (with_front before (passes root is stage next nothing (Short lines at outer leaf))) ≡ before ++ tells root is nothing lines
-  unfolding passes with_front told_of
-  passed_told before lines at outer leaf = refl
-
-  pub passed_more : (before : List Told) (lines : List Line) (st : Read) →
-      with_front before (passes root is stage next nothing (Spine.with_front lines st)) ≡ with_front (before ++ tells root is nothing lines) (passes root is stage next (heard_in lines) st)
-  passed_more before lines st =
-      ap (with_front before) (passes_front root is stage next nothing lines st) ∙ front_twice before (tells root is nothing lines) (passes root is stage next (heard_in lines) st)
-
-  pub part_due : (before : List Told) (lines : List Line) (at : ℕ) (outer : List Place) (leaf : Leaf) (st : Read) (s more : List ℕ) →
-      message S header s ≡ with_front before (passes root is stage next nothing (Short lines at outer leaf)) →
-      message S header (s ++ more) ≡ with_front before (passes root is stage next nothing (Spine.with_front lines st)) →
-      due S header s more ≡ told_of (passes root is stage next (heard_in lines) st)
-  part_due before lines at outer leaf st s more e f =
-      due_is S header s more (before ++ tells root is nothing lines) (with_front before (passes root is stage next nothing (Short lines at outer leaf))) (passes root is stage next (heard_in lines) st)
-      e (f ∙ passed_more before lines st) (passed_told before lines at outer leaf)
-
-  -- what is told of a step, of which nothing follows without an octet
-  pub passed_tells : ((h : Heard) (n : ℕ) → Silent n (next h n [])) → (h : Heard) (n : ℕ) (st : Read) → Now n st →
-      told_of (passes root is stage next h st) ≡ tells root is h (lines_of st) ++ wrongs st
-  unfolding passes told_of
-  passed_tells silent h n (Done lines at rest) now =
-      let after = heard (is_header_root root) h lines in
-      rw (now.1, now.2) (told_front (tells root is h lines) (next after n []) ∙ ap (λ ts. tells root is h lines ++ ts) (told_silent n (next after n []) (silent after n)))
-  passed_tells silent h n (Short lines at outer leaf) now = sym (append-nil (tells root is h lines))
-  passed_tells silent h n (Fault lines at why T) now = refl
 
 -- ---- the text
 

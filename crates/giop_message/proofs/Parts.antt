@@ -1,9 +1,7 @@
--- One octet of a part that a decoder reads, where the message follows a list: what it comes to, and its text.
-use Rattle.std.proofs.Common.{◌≡◌, ℕ, ◌+◌, Bool, true, List, [], ◌∷◌, ◌++◌, length, refl, sym, ap, subst, ◌∙◌, arith, length-append}
+-- One octet of a section, where a message stands in that: what it comes to, its lines and its text.
+use Rattle.std.proofs.Common.{◌≡◌, ℕ, ◌+◌, Bool, true, List, [], ◌∷◌, ◌++◌, length, refl, sym, ap, subst, ◌∙◌, append_assoc, append-nil, arith, length-append}
 use Rattle.std.proofs.Math.Seq.{drop-append_seam}
-use Rattle.giop_cdr.specs.declared.order.Order.{Order}
 use Rattle.giop_print.specs.declared.path.Root.{Root}
-use Rattle.giop_sig.specs.Types.{Ty}
 use Rattle.giop_sig.specs.Table.{Table}
 use Rattle.giop_decode.specs.declared.decoder.Decoder.{Decoder}
 use Rattle.giop_decode.specs.declared.progress.Kind.{Kind}
@@ -19,131 +17,172 @@ use Rattle.giop_decode.specs.Heard.{Heard, nothing, heard, heard_of, is_header_r
 use Rattle.giop_decode.specs.Holding as decoders
 use Rattle.giop_decode.specs.Spelling.{lines_text}
 use Rattle.giop_decode.proofs.ReadingLaws.{read_goes, length_one_more, step_now, lines_front}
+use Rattle.giop_message.specs.declared.part.Section.{Section}
 use Rattle.giop_message.specs.Headers.{order}
 use Rattle.giop_message.specs.Signatures.{Signatures}
-use Rattle.giop_message.specs.Messages.{Told, tells, Stage, Message, with_front, passes, message, stage_of}
+use Rattle.giop_message.specs.Messages.{Told, tells, with_front, passes, message, told_of, stage_of, root_of, may_call, after, through}
 use Rattle.giop_message.specs.MessageReading.{is_over}
-use Rattle.giop_message.specs.Steps.{message_step}
-use Rattle.giop_message.specs.Holding.{told_text, due, due_text}
+use Rattle.giop_message.specs.Steps.{advance}
+use Rattle.giop_message.specs.Holding.{told_text, due, due_text, Decodes}
 use Rattle.giop_message.specs.Moves.{fault_text}
-use Rattle.giop_message.proofs.Going.{Goes, front_twice}
-use Rattle.giop_message.proofs.Causal.{Silent}
-use Rattle.giop_message.proofs.Octets.{stage_front, wrongs, first_call, part_goes, part_due, passed_tells, step_text}
+use Rattle.giop_message.proofs.Going.{front_twice, front_advance, passes_front, through_goes, after_goes, message_goes}
+use Rattle.giop_message.proofs.Causal.{after_silent}
+use Rattle.giop_message.proofs.Octets.{told_front, stage_front, told_silent, due_is, wrongs, first_call, step_text}
 
--- ---- the decoder's part
+-- ---- a section that has come to something
 
-module _ (C : Table) (o : Order) (T : Ty) (A number : ℕ) (root : Root) (d : Decoder) (octets : List ℕ) (reads : decoders.Reads C T o A number root d octets) (fits : decoders.Fits C d) (b : ℕ) where
-  abbrev pub outer_in : List Place
-  outer_in = places C d.outer.items
+-- what is told of a step, of which nothing follows without an octet
+passed_tells : (S : Signatures) (header : List ℕ) (section : Section) (h : Heard) (n : ℕ) (st : Read) → Now n st →
+    told_of (through S header section h st) ≡ tells (root_of section) (may_call header section) h (lines_of st) ++ wrongs st
+unfolding passes told_of
+passed_tells S header section h n (Done lines at rest) now =
+    let R = root_of section in
+    let told = tells R (may_call header section) h lines in
+    let next = after S header section (heard (is_header_root R) h lines) in
+    rw (now.1, now.2) (told_front told (next n []) ∙ ap (λ ts. told ++ ts) (told_silent n (next n []) (after_silent S header section (heard (is_header_root R) h lines) n)))
+passed_tells S header section h n (Short lines at outer leaf) now = sym (append-nil (tells (root_of section) (may_call header section) h lines))
+passed_tells S header section h n (Fault lines at why T) now = refl
 
-  abbrev pub leaf_in : Leaf
-  leaf_in = leaf_of C fits.leaf d.carry d.piece.items
-
-  -- what the octet comes to
-  abbrev pub stepped : Read
-  stepped = decoder.step (plain o) [] outer_in leaf_in (A + length octets) b
-
-  pub read_short : read (plain o) [] T A octets ≡ Short reads.lines (A + length octets) outer_in leaf_in
-  read_short = reads.is ∙ ap (λ leaf. decoders.standing_in C d leaf reads.lines (A + length octets)) fits.goes_on
-
-  pub read_more : read (plain o) [] T A (octets ++ b ∷ []) ≡ Spine.with_front reads.lines stepped
-  read_more = read_goes (plain o) [] T A octets b ∙ ap (λ r. decoder.advance (plain o) [] r b) read_short
-
-  pub stepped_now : Now ((A + length octets) + 1) stepped
-  stepped_now = step_now (plain o) [] outer_in leaf_in (A + length octets) b
-
-  pub lines_due : decoders.due o T A octets b ≡ lines_of stepped
-  lines_due = rw (read_short, read_more, lines_front reads.lines stepped) (drop-append_seam reads.lines (lines_of stepped))
+short_told : (S : Signatures) (header : List ℕ) (section : Section) (before : List Told) (lines : List Line) (at : ℕ) (outer : List Place) (leaf : Leaf) →
+    told_of (with_front before (through S header section nothing (Short lines at outer leaf))) ≡ before ++ tells (root_of section) (may_call header section) nothing lines
+unfolding passes with_front told_of
+short_told S header section before lines at outer leaf = refl
 
 fault_front : (number place : ℕ) (front : List Line) (r : Read) → fault_text number place (Spine.with_front front r) ≡ fault_text number place r
 fault_front number place front (Done lines at rest) = refl
 fault_front number place front (Short lines at outer leaf) = refl
 fault_front number place front (Fault lines at why T) = refl
 
--- ---- the message's
-
 -- a reading that is done, at this offset
-abbrev pub EndsAt : ℕ → Read → Type 0
+abbrev EndsAt : ℕ → Read → Type 0
 EndsAt n (Done lines at rest) = at ≡ n
 EndsAt n r = Unit {0}
 
--- the offset behind the octets
-pub here_is : (front octets s : List ℕ) → s ≡ front ++ octets → (12 + length front) + length octets ≡ 12 + length s
-here_is front octets s e = omega (arith, ap length e, length-append front octets)
+offset_is : (n : ℕ) (r st : Read) (lines : List Line) → r ≡ Spine.with_front lines st → Now n st → EndsAt n r
+offset_is n r (Done ls at rest) lines e now = subst (EndsAt n) (sym e) now.1
+offset_is n r (Short ls at outer leaf) lines e now = subst (EndsAt n) (sym e) tt
+offset_is n r (Fault ls at why U) lines e now = subst (EndsAt n) (sym e) tt
 
-module _ (S : Signatures) (header : List ℕ) (root : Root) (is : Bool) (stage : Heard → List Place → Leaf → Stage) (next : Heard → ℕ → List ℕ → Message)
-    (goes : (h : Heard) → Goes S header (next h))
-    (step : (h : Heard) (outer : List Place) (leaf : Leaf) (at b : ℕ) → message_step S header at (stage h outer leaf) b ≡ passes root is stage next h (decoder.step (plain (order header)) [] outer leaf at b))
-    (silent : (h : Heard) (n : ℕ) → Silent n (next h n []))
-    (C : Table) (number : ℕ) (before : List Told) (front octets s : List ℕ) (since : s ≡ front ++ octets) (T : Ty)
-    (told : message S header s ≡ with_front before (passes root is stage next nothing (read (plain (order header)) [] T (12 + length front) octets)))
-    (d : Decoder) (reads : decoders.Reads C T (order header) (12 + length front) number root d octets) (fits : decoders.Fits C d) (b : ℕ) where
-  abbrev pub stepped_here : Read
-  stepped_here = stepped C (order header) T (12 + length front) number root d octets reads fits b
+done_by : (S : Signatures) (header : List ℕ) (section : Section) (end : ℕ) (named : Bool) (n : ℕ) (r : Read) → decoders.IsAnswer end named progress.Done r → EndsAt n r →
+    (more : List Told) × (through S header section nothing r ≡ with_front more (after S header section (heard_of (is_header_root (root_of section)) r) n []))
+unfolding passes
+done_by S header section end named n (Done lines at rest) answer e = (tells (root_of section) (may_call header section) nothing lines, rw (answer, e) refl)
+done_by S header section end named n (Short lines at outer leaf) answer e = absurd answer
+done_by S header section end named n (Fault lines at why U) answer e = absurd answer
 
-  abbrev pub heard_here : Heard
-  heard_here = heard (is_header_root root) nothing reads.lines
+fault_by : (S : Signatures) (header : List ℕ) (section : Section) (end : ℕ) (named : Bool) (kind : Kind) (r : Read) → decoders.IsAnswer end named (progress.Fault kind) r →
+    is_over (stage_of (through S header section nothing r)) ≡ true
+unfolding passes stage_of is_over
+fault_by S header section end named kind (Done lines at rest) answer = absurd answer
+fault_by S header section end named kind (Short lines at outer leaf) answer = absurd answer
+fault_by S header section end named kind (Fault lines at why U) answer = refl
 
-  pub goes_more : message S header (s ++ b ∷ []) ≡ with_front before (passes root is stage next nothing (read (plain (order header)) [] T (12 + length front) (octets ++ b ∷ [])))
-  goes_more = part_goes S header root is stage next goes step before T (12 + length front) s octets b told
+-- ---- an octet of it
 
-  pub due_here : due S header s (b ∷ []) ≡ tells root is heard_here (lines_of stepped_here) ++ wrongs stepped_here
+module _ (C : Table) (S : Signatures) (number : ℕ) (header s : List ℕ) (section : Section) (d : Decoder) (e : Decodes C S number header s section d) (fits : decoders.Fits C d) (b : ℕ) where
+  abbrev R : Root
+  R = root_of section
+
+  abbrev Is : Bool
+  Is = may_call header section
+
+  -- where the section begins, and where it stands
+  abbrev A : ℕ
+  A = 12 + length e.front
+
+  abbrev Here : ℕ
+  Here = A + length e.octets
+
+  abbrev pub outer_in : List Place
+  outer_in = places C d.outer.items
+
+  abbrev pub leaf_in : Leaf
+  leaf_in = leaf_of C fits.leaf d.carry d.piece.items
+
+  -- its reading, that with the octet, and what the octet adds to it
+  abbrev Before : Read
+  Before = read (plain (order header)) [] e.T A e.octets
+
+  abbrev pub Next : Read
+  Next = read (plain (order header)) [] e.T A (e.octets ++ b ∷ [])
+
+  abbrev pub Added : Read
+  Added = decoder.step (plain (order header)) [] outer_in leaf_in Here b
+
+  abbrev pub heard_before : Heard
+  heard_before = heard (is_header_root R) nothing e.reads.lines
+
+  pub was_short : Before ≡ Short e.reads.lines Here outer_in leaf_in
+  was_short = e.reads.is ∙ ap (λ leaf. decoders.standing_in C d leaf e.reads.lines Here) fits.goes_on
+
+  pub next_is : Next ≡ Spine.with_front e.reads.lines Added
+  next_is = read_goes (plain (order header)) [] e.T A e.octets b ∙ ap (λ r. decoder.advance (plain (order header)) [] r b) was_short
+
+  pub added_now : Now (Here + 1) Added
+  added_now = step_now (plain (order header)) [] outer_in leaf_in Here b
+
+  pub lines_due : decoders.due (order header) e.T A e.octets b ≡ lines_of Added
+  lines_due = rw (was_short, next_is, lines_front e.reads.lines Added) (drop-append_seam e.reads.lines (lines_of Added))
+
+  pub goes_more : message S header (s ++ b ∷ []) ≡ with_front e.before (through S header section nothing Next)
+  goes_more =
+      message_goes S header s b ∙ (ap (λ m. advance S header m b) e.is
+      ∙ (sym (front_advance S header e.before (through S header section nothing Before) b)
+      ∙ ap (with_front e.before) (sym (through_goes S header section (after_goes S header section) nothing Before b)
+      ∙ ap (through S header section nothing) (sym (read_goes (plain (order header)) [] e.T A e.octets b)))))
+
+  pub due_here : due S header s (b ∷ []) ≡ tells R Is heard_before (lines_of Added) ++ wrongs Added
   due_here =
-      let e = read_short C (order header) T (12 + length front) number root d octets reads fits b in
-      let f = read_more C (order header) T (12 + length front) number root d octets reads fits b in
-      part_due S header root is stage next before reads.lines _ _ _ stepped_here s (b ∷ [])
-      (told ∙ ap (λ r. with_front before (passes root is stage next nothing r)) e)
-      (goes_more ∙ ap (λ r. with_front before (passes root is stage next nothing r)) f)
-      ∙ passed_tells S header root is stage next silent heard_here _ stepped_here (stepped_now C (order header) T (12 + length front) number root d octets reads fits b)
+      due_is S header s (b ∷ []) (e.before ++ tells R Is nothing e.reads.lines) (with_front e.before (through S header section nothing (Short e.reads.lines Here outer_in leaf_in))) (through S header section heard_before Added)
+      (e.is ∙ ap (λ r. with_front e.before (through S header section nothing r)) was_short)
+      (goes_more ∙ (ap (λ r. with_front e.before (through S header section nothing r)) next_is
+      ∙ (ap (with_front e.before) (passes_front section Is (after S header section) nothing e.reads.lines Added)
+      ∙ front_twice e.before (tells R Is nothing e.reads.lines) (through S header section heard_before Added))))
+      (short_told S header section e.before e.reads.lines Here outer_in leaf_in)
+      ∙ passed_tells S header section heard_before (Here + 1) Added added_now
+
+  here_is : Here ≡ 12 + length s
+  here_is = omega (arith, ap length e.since, length-append e.front e.octets)
 
   -- the text of the octet: its line or its fault, and its call
   pub text_here : (place : ℕ) → due_text S number place header s (b ∷ []) ≡
-      (lines_text number root (decoders.due (order header) T (12 + length front) octets b) ++ fault_text number (place + 1) (read (plain (order header)) [] T (12 + length front) (octets ++ b ∷ [])))
-      ++ told_text number place (12 + length s) (first_call root is heard_here (lines_of stepped_here))
+      (lines_text number R (decoders.due (order header) e.T A e.octets b) ++ fault_text number (place + 1) Next)
+      ++ told_text number place (12 + length s) (first_call R Is heard_before (lines_of Added))
   unfolding due_text
   text_here place =
-      let f = read_more C (order header) T (12 + length front) number root d octets reads fits b in
-      let now = subst (λ n. Now (n + 1) stepped_here) (here_is front octets s since) (stepped_now C (order header) T (12 + length front) number root d octets reads fits b) in
+      let now = subst (λ n. Now (n + 1) Added) here_is added_now in
       ap (told_text number place (12 + length s)) due_here
-      ∙ (step_text number place (12 + length s) root is heard_here stepped_here now
-      ∙ rw (lines_due C (order header) T (12 + length front) number root d octets reads fits b, f, fault_front number (place + 1) reads.lines stepped_here) refl)
+      ∙ (step_text number place (12 + length s) R Is heard_before Added now
+      ∙ rw (lines_due, next_is, fault_front number (place + 1) e.reads.lines Added) refl)
 
-  -- ---- where it ends, and where it is faulted
+  -- ---- where the message stands behind it
 
-  offset_is : (n : ℕ) (r st : Read) (lines : List Line) → r ≡ Spine.with_front lines st → Now n st → EndsAt n r
-  offset_is n r (Done ls at rest) lines e now = subst (EndsAt n) (sym e) now.1
-  offset_is n r (Short ls at outer leaf) lines e now = subst (EndsAt n) (sym e) tt
-  offset_is n r (Fault ls at why U) lines e now = subst (EndsAt n) (sym e) tt
+  abbrev pub on_here : (n : Decoder) → decoders.Reads C e.T (order header) A number R n (e.octets ++ b ∷ []) → Decodes C S number header (s ++ b ∷ []) section n
+  on_here n reads = record {
+    T = e.T;
+    before = e.before;
+    front = e.front;
+    octets = e.octets ++ b ∷ [];
+    since = ap (λ xs. xs ++ b ∷ []) e.since ∙ append_assoc e.front e.octets (b ∷ []);
+    is = goes_more;
+    first = e.first;
+    reads = reads;
+  }
 
-  done_by : (end : ℕ) (named : Bool) (n : ℕ) (r : Read) → decoders.IsAnswer end named progress.Done r → EndsAt n r →
-      (more : List Told) × (passes root is stage next nothing r ≡ with_front more (next (heard_of (is_header_root root) r) n []))
-  unfolding passes
-  done_by end named n (Done lines at rest) answer e = (tells root is nothing lines, rw (answer, e) refl)
-  done_by end named n (Short lines at outer leaf) answer e = absurd answer
-  done_by end named n (Fault lines at why U) answer e = absurd answer
-
-  fault_by : (end : ℕ) (named : Bool) (kind : Kind) (r : Read) → decoders.IsAnswer end named (progress.Fault kind) r → is_over (stage_of (passes root is stage next nothing r)) ≡ true
-  unfolding passes stage_of is_over
-  fault_by end named kind (Done lines at rest) answer = absurd answer
-  fault_by end named kind (Short lines at outer leaf) answer = absurd answer
-  fault_by end named kind (Fault lines at why U) answer = refl
-
-  abbrev pub read_here : Read
-  read_here = read (plain (order header)) [] T (12 + length front) (octets ++ b ∷ [])
-
-  ends_here : EndsAt (12 + length (s ++ b ∷ [])) read_here
+  ends_here : EndsAt (12 + length (s ++ b ∷ [])) Next
   ends_here =
-      let now = stepped_now C (order header) T (12 + length front) number root d octets reads fits b in
-      let e : ((12 + length front) + length octets) + 1 ≡ 12 + length (s ++ b ∷ []) = omega (arith, here_is front octets s since, length_one_more s b) in
-      subst (λ n. EndsAt n read_here) e (offset_is _ read_here stepped_here reads.lines (read_more C (order header) T (12 + length front) number root d octets reads fits b) now)
+      let e' : Here + 1 ≡ 12 + length (s ++ b ∷ []) = omega (arith, here_is, length_one_more s b) in
+      subst (λ n. EndsAt n Next) e' (offset_is _ Next Added e.reads.lines next_is added_now)
 
-  pub done_here : (end : ℕ) (named : Bool) (p : Progress) → p ≡ progress.Done → decoders.IsAnswer end named p read_here →
-      (more : List Told) × (message S header (s ++ b ∷ []) ≡ with_front more (next (heard_of (is_header_root root) read_here) (12 + length (s ++ b ∷ [])) []))
+  pub done_here : (end : ℕ) (named : Bool) (p : Progress) → p ≡ progress.Done → decoders.IsAnswer end named p Next →
+      (more : List Told) × (message S header (s ++ b ∷ []) ≡ with_front more (after S header section (heard_of (is_header_root R) Next) (12 + length (s ++ b ∷ [])) []))
   done_here end named p is_done answer =
-      let g = done_by end named (12 + length (s ++ b ∷ [])) read_here (subst (λ q. decoders.IsAnswer end named q read_here) is_done answer) ends_here in
-      (before ++ g.0, goes_more ∙ (ap (with_front before) g.1 ∙ front_twice before g.0 (next (heard_of (is_header_root root) read_here) (12 + length (s ++ b ∷ [])) [])))
+      let next = after S header section (heard_of (is_header_root R) Next) (12 + length (s ++ b ∷ [])) [] in
+      let g = done_by S header section end named (12 + length (s ++ b ∷ [])) Next (subst (λ q. decoders.IsAnswer end named q Next) is_done answer) ends_here in
+      (e.before ++ g.0, goes_more ∙ (ap (with_front e.before) g.1 ∙ front_twice e.before g.0 next))
 
-  pub fault_here : (end : ℕ) (named : Bool) (kind : Kind) (p : Progress) → p ≡ progress.Fault kind → decoders.IsAnswer end named p read_here → is_over (stage_of (message S header (s ++ b ∷ []))) ≡ true
+  pub fault_here : (end : ℕ) (named : Bool) (kind : Kind) (p : Progress) → p ≡ progress.Fault kind → decoders.IsAnswer end named p Next →
+      is_over (stage_of (message S header (s ++ b ∷ []))) ≡ true
   fault_here end named kind p is_fault answer =
-      ap (λ m. is_over (stage_of m)) goes_more ∙ (ap is_over (stage_front before (passes root is stage next nothing read_here))
-      ∙ fault_by end named kind read_here (subst (λ q. decoders.IsAnswer end named q read_here) is_fault answer))
+      ap (λ m. is_over (stage_of m)) goes_more ∙ (ap is_over (stage_front e.before (through S header section nothing Next))
+      ∙ fault_by S header section end named kind Next (subst (λ q. decoders.IsAnswer end named q Next) is_fault answer))

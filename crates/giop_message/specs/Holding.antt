@@ -1,29 +1,27 @@
 -- What a message holds of the octets that it has taken behind its header, one field a clause; and what its calls write (state).
-use Rattle.std.specs.Prelude.{◌≡◌, ℕ, ◌+◌, ◌-◌, ◌<◌, ◌≤◌, Bool, true, false, List, [], ◌∷◌, ◌++◌, length, take, drop, flat_map, Option, Some, None}
-use Rattle.giop_print.specs.declared.path.Root.{Root}
-use Rattle.giop_print.specs.declared.path.Root.TheVariants as roots
-use Rattle.giop_sig.specs.declared.types.Fixed.TheVariants.{ExceptionId}
+use Rattle.std.specs.Prelude.{◌≡◌, ℕ, ◌+◌, ◌-◌, ◌<◌, ◌≤◌, Bool, true, false, cond, List, [], ◌∷◌, ◌++◌, length, take, drop, flat_map, Option, Some, None}
 use Rattle.giop_sig.specs.Types.{Ty}
 use Rattle.giop_sig.specs.Table.{Table, operation_number}
 use Rattle.giop_sig.specs.Trees.{tree}
-use Rattle.giop_sig.specs.Headers.{header_type, fixed_type}
+use Rattle.giop_sig.specs.Headers.{header_type}
 use Rattle.giop_sig.specs.RequestList.{Entry, IsOf}
+use Rattle.giop_decode.specs.Spine.{plain}
 use Rattle.giop_decode.specs.declared.decoder.Decoder.{Decoder}
-use Rattle.giop_decode.specs.Spine.{plain, Place, Leaf}
 use Rattle.giop_decode.specs.Reading.{read}
-use Rattle.giop_decode.specs.Heard.{Heard, nothing}
+use Rattle.giop_decode.specs.Heard.{nothing}
 use Rattle.giop_decode.specs.Holding as decoder
 use Rattle.giop_message.specs.declared.message.Message.{Message}
-use Rattle.giop_message.specs.declared.message.Part.{Part}
-use Rattle.giop_message.specs.declared.message.Part.TheVariants as parts
+use Rattle.giop_message.specs.declared.part.Part.{Part}
+use Rattle.giop_message.specs.declared.part.Part.TheVariants as parts
+use Rattle.giop_message.specs.declared.part.Section.{Section}
+use Rattle.giop_message.specs.declared.part.Section.TheVariants as sections
 use Rattle.giop_message.specs.declared.wanted.Wanted.{Wanted}
 use Rattle.giop_message.specs.declared.wanted.Wanted.TheVariants as wanteds
 use Rattle.giop_message.specs.Headers.{minor, kind, order}
 use Rattle.giop_message.specs.Reading.{Saying, Remark}
 use Rattle.giop_message.specs.Text.{saying_line}
 use Rattle.giop_message.specs.Signatures.{Signatures, Kept, said_by}
-use Rattle.giop_message.specs.Messages
-use Rattle.giop_message.specs.Messages.{Speech, Incomplete, Told, BodyType, Untyped, Typed, Raised, Stage, In_padding, In_exception, In_body, In_rest, Comes, with_front, passes, rest, after_exception, message, told_of, stage_of, close}
+use Rattle.giop_message.specs.Messages.{Speech, Incomplete, Told, BodyType, Untyped, Typed, Raised, In_padding, In_rest, Comes, with_front, through, root_of, message, told_of, stage_of}
 use Rattle.giop_message.specs.MessageReading.{saying_of, text_of, id_said, is_over}
 
 -- ---- what is written
@@ -76,16 +74,15 @@ IsKnown C wanteds.Nothing = Unit {0}
 IsKnown C (wanteds.Type of) = of.0 < length C.types
 IsKnown C wanteds.Exception = Unit {0}
 
-abbrev pub FitsPart : Table → Decoder → Part → Type 0
-FitsPart C d parts.Header = decoder.Fits C d
-FitsPart C d (parts.Padding wanted) = IsKnown C wanted
-FitsPart C d parts.Exception = decoder.Fits C d
-FitsPart C d parts.Body = decoder.Fits C d
-FitsPart C d parts.Rest = Unit {0}
+-- a part of a message that has taken so many octets
+abbrev pub FitsPart : Table → ℕ → Part → Type 0
+FitsPart C at (parts.Typed section d) = decoder.Fits C d
+FitsPart C at (parts.Padding wanted) = IsKnown C wanted
+FitsPart C at (parts.Rest r) = r.offset + length r.held.items ≤ at
 
 -- a message that isn't faulted, and whose types are those of the table
 abbrev pub Fits : Table → Message → Type 0
-Fits C m = FitsPart C m.decoder m.part
+Fits C m = FitsPart C m.at m.part
 
 -- how many of its octets a message has taken, its header's 12 included
 abbrev pub reach : Message → ℕ
@@ -93,36 +90,53 @@ reach m = m.at
 
 -- ---- a message of a list
 
--- Lines, and then a part of the message that begins there: a decoder reads its octets as a value of a type.
-pub record Decodes (C : Table) (S : Signatures) (number : ℕ) (header : List ℕ) (root : Root) (stage : Heard → List Place → Leaf → Stage)
-    (next : Heard → ℕ → List ℕ → Messages.Message) (T : Ty) (d : Decoder) (s : List ℕ) : Type 0 where
+-- The header is the first section, and its type that of the header.
+abbrev pub IsFirst : List ℕ → Section → Ty → List Told → Type 0
+IsFirst header sections.Header T before = (header_type (minor header) (kind header) ≡ Some T) × (before ≡ [])
+IsFirst header sections.Exception T before = Unit {0}
+IsFirst header sections.Body T before = Unit {0}
+
+-- Lines, and then a section that begins there: a decoder reads its octets as a value of a type.
+pub record Decodes (C : Table) (S : Signatures) (number : ℕ) (header s : List ℕ) (section : Section) (d : Decoder)
+    : Type 0 where
+  pub T : Ty
   pub before : List Told
   pub front : List ℕ
   pub octets : List ℕ
   pub since : s ≡ front ++ octets
-  pub is : message S header s ≡ with_front before (passes root false stage next nothing (read (plain (order header)) [] T (12 + length front) octets))
-  pub reads : decoder.Reads C T (order header) (12 + length front) number root d octets
+  pub is : message S header s ≡ with_front before
+      (through S header section nothing (read (plain (order header)) [] T (12 + length front) octets))
+  pub first : IsFirst header section T before
+  pub reads : decoder.Reads C T (order header) (12 + length front) number (root_of section) d octets
 
--- where a message stands, by the part that the next octet belongs to
-abbrev pub Stands : Table → Kept → ℕ → List ℕ → Message → List ℕ → Part → Type 0
-Stands C kept number header m s parts.Header =
-    (T : Ty) × (header_type (minor header) (kind header) ≡ Some T) × decoder.Reads C T (order header) 12 number roots.Header m.decoder s
-Stands C kept number header m s (parts.Padding wanted) =
-    (told : List Told) × (message (said_by C kept) header s ≡ Comes told (12 + length s) (In_padding (body_type C wanted)))
-Stands C kept number header m s parts.Exception =
-    Decodes C (said_by C kept) number header roots.Exception In_exception (after_exception (said_by C kept) header) (fixed_type ExceptionId) m.decoder s
-Stands C kept number header m s parts.Body =
-    (T : Ty) × Decodes C (said_by C kept) number header roots.Body (λ h. In_body) (λ h. rest) T m.decoder s
-Stands C kept number header m s parts.Rest =
-    (told : List Told) × (message (said_by C kept) header s ≡ Comes told (12 + length s) (In_rest m.offset m.held.items))
+-- where a message of this number and header stands behind these octets, by the part that the next octet belongs to
+abbrev pub Stands : Table → Kept → ℕ → List ℕ → List ℕ → Part → Type 0
+Stands C kept number header s (parts.Typed section d) = Decodes C (said_by C kept) number header s section d
+Stands C kept number header s (parts.Padding wanted) =
+    (told : List Told) × (message (said_by C kept) header s
+    ≡ Comes told (12 + length s) (In_padding (body_type C wanted)))
+Stands C kept number header s (parts.Rest r) =
+    (told : List Told) × (message (said_by C kept) header s ≡ Comes told (12 + length s) (In_rest r.offset r.held.items))
 
--- The message's fields are what its header and these octets behind it come to.
+-- in the header
+abbrev pub is_header : Section → Bool
+is_header sections.Header = true
+is_header sections.Exception = false
+is_header sections.Body = false
+
+abbrev pub in_header : Part → Bool
+in_header (parts.Typed section d) = is_header section
+in_header (parts.Padding wanted) = false
+in_header (parts.Rest r) = false
+
+-- The message's fields are what its header and these octets behind it come to. While the header is read its decoder
+-- has the request id.
 pub record Follows (C : Table) (kept : Kept) (number : ℕ) (header : List ℕ) (m : Message) (s : List ℕ) : Type 0 where
   pub same_number : m.number ≡ number
   pub same_header : m.header ≡ header
-  pub id : m.id ≡ id_said (told_of (message (said_by C kept) header s))
+  pub id : m.id ≡ cond (in_header m.part) None (id_said (told_of (message (said_by C kept) header s)))
   pub at : m.at ≡ 12 + length s
-  pub stands : Stands C kept number header m s m.part
+  pub stands : Stands C kept number header s m.part
 
 -- ---- its calls
 

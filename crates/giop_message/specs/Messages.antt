@@ -11,6 +11,8 @@ use Rattle.giop_decode.specs.declared.progress.Kind.{Kind}
 use Rattle.giop_decode.specs.Spine.{plain, Seg, Value, Line, Place, Leaf, Read, Done, Short, Fault}
 use Rattle.giop_decode.specs.Reading.{read}
 use Rattle.giop_decode.specs.Heard.{Heard, nothing, hear, heard, ends_operation, is_header_root}
+use Rattle.giop_message.specs.declared.part.Section.{Section}
+use Rattle.giop_message.specs.declared.part.Section.TheVariants as sections
 use Rattle.giop_message.specs.Headers.{minor, kind, order}
 use Rattle.giop_message.specs.Signatures.{Signatures}
 
@@ -68,12 +70,16 @@ pub data BodyType : Type 0 where
   Typed : Ty → BodyType
   Raised : BodyType
 
+-- the root of a section's lines
+abbrev pub root_of : Section → Root
+root_of sections.Header = roots.Header
+root_of sections.Exception = roots.Exception
+root_of sections.Body = roots.Body
+
 pub data Stage : Type 0 where
-  -- in the header, or in the repository id of an exception: what is heard of it, and what is begun and not ended
-  In_header : Heard → List Place → Leaf → Stage
+  -- in a part that is read as a value: what is heard of it, and what is begun and not ended
+  In_typed : Section → Heard → List Place → Leaf → Stage
   In_padding : BodyType → Stage
-  In_exception : Heard → List Place → Leaf → Stage
-  In_body : List Place → Leaf → Stage
   -- in the rest: where its last part begins, and the octets of that
   In_rest : ℕ → List ℕ → Stage
   -- behind a fault
@@ -86,11 +92,17 @@ pub data Message : Type 0 where
 unfoldable pub with_front : List Told → Message → Message
 with_front front (Comes told at stage) = Comes (front ++ told) at stage
 
--- A typed part of the message, and what follows it. A fault takes the place of the value's line, and ends the message.
-unfoldable pub passes : Root → Bool → (Heard → List Place → Leaf → Stage) → (Heard → ℕ → List ℕ → Message) → Heard → Read → Message
-passes root is_request stage next h (Done lines at s) = with_front (tells root is_request h lines) (next (heard (is_header_root root) h lines) at s)
-passes root is_request stage next h (Short lines at outer leaf) = Comes (tells root is_request h lines) at (stage (heard (is_header_root root) h lines) outer leaf)
-passes root is_request stage next h (Fault lines at why T) = Comes (tells root is_request h lines ++ tell at (Wrong why) ∷ []) at Over
+-- A section, of a Request's header or not, and what follows it by what is heard of it. A fault takes the place of the
+-- value's line, and ends the message.
+unfoldable pub passes : Section → Bool → (Heard → ℕ → List ℕ → Message) → Heard → Read → Message
+passes section is_request next h (Done lines at s) =
+    let root = root_of section in
+    with_front (tells root is_request h lines) (next (heard (is_header_root root) h lines) at s)
+passes section is_request next h (Short lines at outer leaf) =
+    let root = root_of section in
+    Comes (tells root is_request h lines) at (In_typed section (heard (is_header_root root) h lines) outer leaf)
+passes section is_request next h (Fault lines at why T) =
+    Comes (tells (root_of section) is_request h lines ++ tell at (Wrong why) ∷ []) at Over
 
 -- ---- the rest
 
@@ -105,7 +117,7 @@ rest at s = rest_in (length s / 32) 0 at s
 -- ---- bodies
 
 unfoldable pub typed : Order → Ty → ℕ → List ℕ → Message
-typed o T at s = passes roots.Body false (λ h. In_body) (λ h. rest) nothing (read (plain o) [] T at s)
+typed o T at s = passes sections.Body false (λ h. rest) nothing (read (plain o) [] T at s)
 
 unfoldable pub option_typed : Order → Option Ty → ℕ → List ℕ → Message
 option_typed o None at s = rest at s
@@ -122,7 +134,8 @@ after_exception S header h = option_typed (order header) (members_of S h.name)
 unfoldable pub body : Signatures → List ℕ → BodyType → ℕ → List ℕ → Message
 body S header Untyped at s = rest at s
 body S header (Typed T) at s = typed (order header) T at s
-body S header Raised at s = passes roots.Exception false In_exception (after_exception S header) nothing (read (plain (order header)) [] S.exception_id at s)
+body S header Raised at s =
+    passes sections.Exception false (after_exception S header) nothing (read (plain (order header)) [] S.exception_id at s)
 
 unfoldable pub type_if : Option Ty → BodyType
 type_if None = Untyped
@@ -175,11 +188,28 @@ after_header S header h at s =
 
 unfoldable pub of_header : Signatures → List ℕ → Option Ty → ℕ → List ℕ → Message
 of_header S header None at s = rest at s
-of_header S header (Some T) at s = passes roots.Header (is_request header) In_header (after_header S header) nothing (read (plain (order header)) [] T at s)
+of_header S header (Some T) at s =
+    passes sections.Header (is_request header) (after_header S header) nothing (read (plain (order header)) [] T at s)
 
 -- of this header of 12 octets and these octets after it
 unfoldable pub message : Signatures → List ℕ → List ℕ → Message
 message S header s = of_header S header (S.header (minor header) (kind header)) 12 s
+
+-- whether a section's lines may have a call behind them
+abbrev pub may_call : List ℕ → Section → Bool
+may_call header sections.Header = is_request header
+may_call header sections.Exception = false
+may_call header sections.Body = false
+
+-- what follows a section, by what is heard of it
+abbrev pub after : Signatures → List ℕ → Section → Heard → ℕ → List ℕ → Message
+after S header sections.Header = after_header S header
+after S header sections.Exception = after_exception S header
+after S header sections.Body = λ h. rest
+
+-- a section that goes on from what was heard of it
+abbrev pub through : Signatures → List ℕ → Section → Heard → Read → Message
+through S header section = passes section (may_call header section) (after S header section)
 
 -- ---- its close
 
@@ -190,10 +220,8 @@ may_lack (Typed (Struct zero names parts)) = true
 may_lack b = false
 
 unfoldable pub close : Stage → List Speech
-close (In_header h outer leaf) = Incomplete ∷ []
+close (In_typed section h outer leaf) = Incomplete ∷ []
 close (In_padding b) = if may_lack b then Ends ∷ [] else Incomplete ∷ []
-close (In_exception h outer leaf) = Incomplete ∷ []
-close (In_body outer leaf) = Incomplete ∷ []
 close (In_rest offset []) = Ends ∷ []
 close (In_rest offset (x ∷ held)) = Left offset (x ∷ held) ∷ Ends ∷ []
 close Over = Ends ∷ []

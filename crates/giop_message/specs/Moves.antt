@@ -1,20 +1,25 @@
 -- What the parts of a message's code do: the text of an octet, and where a message stands behind a part that has ended (steps). Private
 -- contracts alone cite it.
-use Rattle.std.specs.Prelude.{◌≡◌, ℕ, ◌+◌, Bool, List, [], ◌∷◌, length, Option, Some, ◌&&◌, ◌==◌, nat_lt, if◌then◌else◌}
+use Rattle.std.specs.Prelude.{◌≡◌, ℕ, ◌+◌, Bool, false, List, [], ◌∷◌, length, Option, Some, ◌&&◌, ◌==◌, nat_lt, if◌then◌else◌}
 use Rattle.giop_cdr.specs.Alignment.{padding}
 use Rattle.giop_print.specs.Lines.{call_line, fault_line, rest_line}
+use Rattle.giop_sig.specs.Types.{Ty}
 use Rattle.giop_sig.specs.Table.{Table}
-use Rattle.giop_decode.specs.Spine.{Read, Done, Short, Fault}
-use Rattle.giop_decode.specs.Heard.{Heard}
+use Rattle.giop_decode.specs.Spine.{plain, Read, Done, Short, Fault}
+use Rattle.giop_decode.specs.Reading.{read}
+use Rattle.giop_decode.specs.Heard.{Heard, nothing}
+use Rattle.giop_decode.specs.Holding.{Minds}
 use Rattle.giop_message.specs.declared.message.Message.{Message}
-use Rattle.giop_message.specs.declared.message.Part.{Part}
-use Rattle.giop_message.specs.declared.message.Part.TheVariants as parts
-use Rattle.giop_message.specs.Headers.{minor}
+use Rattle.giop_message.specs.declared.part.Section.{Section}
+use Rattle.giop_message.specs.declared.part.Section.TheVariants as sections
+use Rattle.giop_message.specs.declared.part.Part.{Part}
+use Rattle.giop_message.specs.declared.part.Part.TheVariants as parts
+use Rattle.giop_message.specs.Headers.{minor, order}
 use Rattle.giop_message.specs.Text.{fault_word}
-use Rattle.giop_message.specs.Signatures.{Kept, said_by}
+use Rattle.giop_message.specs.Signatures.{Signatures, Kept, said_by}
 use Rattle.giop_message.specs.Messages
-use Rattle.giop_message.specs.Messages.{Told, is_shown, is_request, with_front, message}
-use Rattle.giop_message.specs.Holding.{Stands}
+use Rattle.giop_message.specs.Messages.{Told, BodyType, Untyped, is_shown, is_request, has_body, body_of, members_of, type_if, with_front, through, root_of, message}
+use Rattle.giop_message.specs.Holding.{IsFirst, Stands}
 
 -- the line of a reading's fault, whose octet has this place
 abbrev pub fault_text : ℕ → ℕ → Read → List ℕ
@@ -31,9 +36,21 @@ called_text number id operation = []
 unfoldable pub request_call : ℕ → List ℕ → Heard → List ℕ
 request_call number header h = if is_request header then called_text number h.request_id h.name else []
 
+-- the type of what follows a section, by what is heard of it
+abbrev pub wanted_after : Signatures → List ℕ → Section → Heard → BodyType
+wanted_after S header sections.Header h = if has_body header then body_of S header h else Untyped
+wanted_after S header sections.Exception h = type_if (members_of S h.name)
+wanted_after S header sections.Body h = Untyped
+
 -- In 1.2 there is padding in front of a body that would begin at this offset.
-unfoldable pub is_padded : List ℕ → ℕ → Bool
-is_padded header at = (minor header == 2) && nat_lt 0 (padding at 8)
+unfoldable pub is_unaligned : List ℕ → ℕ → Bool
+is_unaligned header at = (minor header == 2) && nat_lt 0 (padding at 8)
+
+-- which stands between a header and the body
+abbrev pub is_padded : List ℕ → Section → ℕ → Bool
+is_padded header sections.Header at = has_body header && is_unaligned header at
+is_padded header sections.Exception at = false
+is_padded header sections.Body at = false
 
 -- a message of this number and header, that has taken so many octets
 pub record IsAt (number : ℕ) (header : List ℕ) (m : Message) (s : List ℕ) : Type 0 where
@@ -44,13 +61,32 @@ pub record IsAt (number : ℕ) (header : List ℕ) (m : Message) (s : List ℕ) 
 -- a message that comes to these lines and then this stands where that does
 abbrev pub Arrives : Table → Kept → ℕ → List ℕ → Message → Message → List ℕ → Messages.Message → Type 0
 Arrives C kept number header old new s m =
-    IsAt number header old s → (before : List Told) → message (said_by C kept) header s ≡ with_front before m → Stands C kept number header new s new.part
+    IsAt number header old s → (before : List Told) → message (said_by C kept) header s ≡ with_front before m →
+    Stands C kept number header s new.part
+
+-- a message that comes to these lines and then a section of this type stands in that
+abbrev pub Enters : Table → Kept → ℕ → List ℕ → Message → Message → List ℕ → Section → Ty → Type 0
+Enters C kept number header old new s section T =
+    IsAt number header old s → (before : List Told) → IsFirst header section T before →
+    message (said_by C kept) header s
+    ≡ with_front before (through (said_by C kept) header section nothing (read (plain (order header)) [] T (12 + length s) [])) →
+    Stands C kept number header s new.part
+
+abbrev pub IsTyped : Part → Type 0
+IsTyped (parts.Typed section d) = Unit {0}
+IsTyped part = ⊥
+
+-- Lets go of what a decoder has in mind of a section, once that has ended.
+abbrev pub Ended : Part → Section → Read → Type 0
+Ended (parts.Typed held d) section r = (held ≡ section) × Minds (root_of section) d r
+Ended part section r = ⊥
 
 -- the last part of a rest
-abbrev pub rest_left : ℕ → Part → ℕ → List ℕ → List ℕ
-rest_left number parts.Rest offset [] = []
-rest_left number parts.Rest offset (x ∷ held) = rest_line number offset (x ∷ held)
-rest_left number part offset held = []
+abbrev pub held_text : ℕ → ℕ → List ℕ → List ℕ
+held_text number offset [] = []
+held_text number offset (x ∷ held) = rest_line number offset (x ∷ held)
 
-abbrev pub last_rest_text : Message → List ℕ
-last_rest_text m = rest_left m.number m.part m.offset m.held.items
+abbrev pub last_rest_text : ℕ → Part → List ℕ
+last_rest_text number (parts.Typed section d) = []
+last_rest_text number (parts.Padding wanted) = []
+last_rest_text number (parts.Rest r) = held_text number r.offset r.held.items

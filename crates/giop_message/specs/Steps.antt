@@ -1,13 +1,11 @@
 -- One octet more, on where a message stands (steps).
-use Rattle.std.specs.Prelude.{ℕ, ◌+◌, false, List, [], ◌∷◌, ◌++◌, length, ◌==◌, nat_lt, if◌then◌else◌}
+use Rattle.std.specs.Prelude.{ℕ, ◌+◌, List, [], ◌∷◌, ◌++◌, length, ◌==◌, nat_lt, if◌then◌else◌}
 use Rattle.giop_cdr.specs.Alignment.{padding}
-use Rattle.giop_print.specs.declared.path.Root.TheVariants as roots
 use Rattle.giop_decode.specs.Spine.{plain}
 use Rattle.giop_decode.specs.Steps as decoder
-use Rattle.giop_decode.specs.Heard.{nothing}
 use Rattle.giop_message.specs.Headers.{order}
 use Rattle.giop_message.specs.Signatures.{Signatures}
-use Rattle.giop_message.specs.Messages.{tell, Left, Stage, In_header, In_padding, In_exception, In_body, In_rest, Over, Message, Comes, with_front, passes, rest, after_exception, body, is_request, after_header}
+use Rattle.giop_message.specs.Messages.{tell, Left, Stage, In_typed, In_padding, In_rest, Over, Message, Comes, with_front, body, through}
 
 unfoldable pub rest_step : ℕ → List ℕ → ℕ → Message
 rest_step offset held at =
@@ -15,14 +13,10 @@ rest_step offset held at =
 
 -- The octet comes at that offset. A part that ends hands over to the reading of no octets of what follows it.
 unfoldable pub message_step : Signatures → List ℕ → ℕ → Stage → ℕ → Message
-message_step S header at (In_header h outer leaf) b =
-    passes roots.Header (is_request header) In_header (after_header S header) h (decoder.step (plain (order header)) [] outer leaf at b)
+message_step S header at (In_typed section h outer leaf) b =
+    through S header section h (decoder.step (plain (order header)) [] outer leaf at b)
 message_step S header at (In_padding t) b =
     if nat_lt 1 (padding at 8) then Comes [] (at + 1) (In_padding t) else body S header t (at + 1) []
-message_step S header at (In_exception h outer leaf) b =
-    passes roots.Exception false In_exception (after_exception S header) h (decoder.step (plain (order header)) [] outer leaf at b)
-message_step S header at (In_body outer leaf) b =
-    passes roots.Body false (λ h. In_body) (λ h. rest) nothing (decoder.step (plain (order header)) [] outer leaf at b)
 message_step S header at (In_rest offset held) b = rest_step offset (held ++ b ∷ []) (at + 1)
 message_step S header at Over b = Comes [] at Over
 

@@ -5,6 +5,7 @@ mod begin;
 mod header;
 mod laws;
 mod message;
+mod part;
 mod sayings;
 mod taking;
 mod wanted;

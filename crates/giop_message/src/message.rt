@@ -1,56 +1,31 @@
 //! One joined message: what it has begun and not ended, and what its octets say.
 
 ghost use Rattle.std.specs.Prelude.{◌≡◌, ℕ, ◌+◌, ◌^◌, ◌<◌, ◌≤◌, true, false, List, [], length, IfOk, IfSome, Some, None};
-ghost use Rattle.arrayvec.specs.ArrayVec.{array_vec_len};
 ghost use Rattle.giop_print.specs.Output.{Writes};
 
-use crate::header::{kind_of, minor_of, order_of};
-use crate::wanted::{Wanted, may_lack};
-use arrayvec::ArrayVec;
-use giop_decode::Decoder;
-use giop_print::{Out, OutFault, Root, end_line, fault_line, rest_line};
-use giop_sig::{Catalogue, Fixed, Requests, TypeId};
-
-/// What the next octet belongs to.
-#[derive(Clone, Copy, Debug, PartialEq, Eq)]
-pub enum Part {
-    Header,
-    /// The padding in front of a body of this type.
-    Padding(Wanted),
-    /// The repository id of an exception.
-    Exception,
-    Body,
-    Rest,
-}
+use crate::begin::id_behind;
+use crate::header::{kind_of, minor_of};
+use crate::part::{Part, Rest, Section};
+use crate::wanted::may_lack;
+use giop_print::{Out, OutFault, end_line, fault_line};
+use giop_sig::{Catalogue, Requests};
 
 /// One joined message that isn't faulted.
 #[derive(Drop)]
 pub struct Message {
     pub(crate) number: u64,
     pub(crate) header: [u8; 12],
-    // The request id, once it was said.
+    // The request id, once the header that says it has ended.
     pub(crate) id: Option<u32>,
     // The offset of the next octet.
     pub(crate) at: u64,
     pub(crate) part: Part,
-    // Of the header, the repository id or the body, while that is read.
-    pub(crate) decoder: Decoder,
-    // The octets of the rest before its last part, and those of its last part.
-    pub(crate) offset: u64,
-    pub(crate) held: ArrayVec<u8, 32>,
-    ghost room: { array_vec_len held < 32 },
-    ghost within: { offset + array_vec_len held ≤ at },
 }
 
 impl Message {
     ghost use Rattle.giop_message.specs.Signatures.{Kept, said_by};
     ghost use Rattle.giop_sig.specs.Table.{Table};
-    ghost use Rattle.giop_sig.specs.Trees.{tree};
-    ghost use Rattle.giop_sig.specs.Fits.{IsFit};
-    ghost use Rattle.giop_decode.specs.Reading.{read};
-    ghost use Rattle.giop_decode.specs.Holding.{Reads, Takes, Fits as FitsIt};
-    ghost use Rattle.giop_message.specs.Headers.{order};
-    ghost use Rattle.giop_message.specs.Messages.{message, rest, body, told_of, stage_of, close};
+    ghost use Rattle.giop_message.specs.Messages.{message, told_of, stage_of, close};
     ghost use Rattle.giop_message.specs.Moves.{last_rest_text};
     ghost use Rattle.giop_message.specs.MessageReading.{id_said};
     ghost use Rattle.giop_message.specs.Holding.{AreOf, Fits, Follows, due_text, TookAll, reach, closing_text, is_short};
@@ -61,44 +36,17 @@ impl Message {
         ensures fits { Fits catalogue.now result }
         ensures reach { reach result ≡ 12 }
     {
-        let Some(of) = catalogue.header(minor_of(&header), kind_of(&header)) else {
-            let unused = catalogue.fixed(Fixed::Addressing);
-            return Message::begun(catalogue, number, header, Part::Rest, unused);
-        };
-        Message::begun(catalogue, number, header, Part::Header, of)
-    }
-
-    /// A message that begins with this part, and a decoder of this type.
-    fn begun(
-        catalogue: &Catalogue,
-        number: u64,
-        header: [u8; 12],
-        part: Part,
-        of: TypeId,
-    ) -> Message
-        requires { of.0 < length catalogue.now.types }
-        ensures number { result.number ≡ number }
-        ensures header { result.header ≡ header }
-        ensures id { result.id ≡ None }
-        ensures at { result.at ≡ 12 }
-        ensures part { result.part ≡ part }
-        ensures offset { result.offset ≡ 0 }
-        ensures held { result.held.items ≡ [] }
-        ensures reads { Reads catalogue.now (tree catalogue.now of.0)
-            (order header) 12 number Root.Header result.decoder [] }
-        ensures fits { IsFit 24 (tree catalogue.now of.0) → FitsIt catalogue.now result.decoder }
-    {
-        let order = order_of(&header);
-        Message {
+        let mut message = Message {
             number,
             header,
             id: None,
             at: 12,
-            part,
-            decoder: Decoder::start(catalogue, of, order, 12, number, Root::Header),
-            offset: 0,
-            held: ArrayVec::new(),
+            part: Part::Rest(Rest::new()),
+        };
+        if let Some(of) = catalogue.header(minor_of(&header), kind_of(&header)) {
+            message.begin(catalogue, Section::Header, of);
         }
+        message
     }
 
     /// Takes octets, behind so many octets of the stream. Some(n) says that the n-th of these octets, from 1, is faulted:
@@ -173,27 +121,23 @@ impl Message {
             Follows catalogue.now kept number header self.now s →
             result ≡ is_short (close (stage_of (message (said_by catalogue.now kept) header s))) }
     {
-        match self.part {
-            Part::Header => true,
-            Part::Padding(wanted) => !may_lack(catalogue, wanted),
-            Part::Exception => true,
-            Part::Body => true,
-            Part::Rest => false,
+        match &self.part {
+            Part::Typed(_, _) => true,
+            Part::Padding(wanted) => !may_lack(catalogue, *wanted),
+            Part::Rest(_) => false,
         }
     }
 
     /// Writes the last part of its rest, where there is one.
     fn last_rest<O: Out>(&self, out: &mut O) -> Result<(), OutFault>
-        ensures { Writes result (O.log out.old) (O.log out.new) (last_rest_text self.now) }
+        ensures { Writes result (O.log out.old) (O.log out.new)
+            (last_rest_text self.now.number self.now.part) }
     {
-        match self.part {
-            Part::Rest => {}
-            _ => return Ok(()),
+        match &self.part {
+            Part::Typed(_, _) => Ok(()),
+            Part::Padding(_) => Ok(()),
+            Part::Rest(rest) => rest.end(self.number, out),
         }
-        if self.held.is_empty() {
-            return Ok(());
-        }
-        rest_line(out, self.number, self.offset, self.held.as_slice())
     }
 
     /// Its number.
@@ -216,6 +160,10 @@ impl Message {
             Follows C kept number header self.now s
             → result ≡ id_said (told_of (message (said_by C kept) header s)) }
     {
-        self.id
+        match &self.part {
+            Part::Typed(section, decoder) => id_behind(*section, decoder, self.id),
+            Part::Padding(_) => self.id,
+            Part::Rest(_) => self.id,
+        }
     }
 }

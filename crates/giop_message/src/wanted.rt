@@ -1,12 +1,20 @@
 //! Which type a body has (GIOP Message Formats, Request Body, Reply Body).
 
-ghost use Rattle.std.specs.Prelude.{◌≡◌, ◌<◌, length};
+ghost use Rattle.std.specs.Prelude.{◌≡◌, ◌<◌, length, true};
 ghost use Rattle.std.specs.Option.{option_map};
 ghost use Rattle.giop_sig.specs.Trees.{tree};
 ghost use Rattle.giop_message.specs.Signatures.{Kept, said_by};
-ghost use Rattle.giop_message.specs.Messages.{Typed, may_lack, request_body, result_body, reply_body};
+ghost use Rattle.giop_decode.specs.Spine.{Read};
+ghost use Rattle.giop_decode.specs.Heard.{heard_of, is_header_root};
+ghost use Rattle.giop_decode.specs.Holding.{Minds};
+ghost use Rattle.giop_message.specs.Messages.{Typed, root_of, may_lack, members_of, type_if, request_body, result_body, reply_body};
 ghost use Rattle.giop_message.specs.Holding.{AreOf, IsKnown, body_type};
+ghost use Rattle.giop_message.specs.Moves.{wanted_after};
 
+use crate::header::kind_of;
+use crate::part::Section;
+use giop_decode::Decoder;
+use giop_print::Root;
 use giop_sig::{Catalogue, Fixed, Requests, Shape, TypeId};
 
 /// The type of a body: none, this one, or that of the exception whose repository id comes first.
@@ -17,9 +25,70 @@ pub enum Wanted {
     Exception,
 }
 
+/// Of what follows a section, by what its decoder has in mind.
+pub fn wanted_after(
+    catalogue: &Catalogue,
+    requests: &Requests,
+    header: &[u8],
+    section: Section,
+    decoder: &Decoder,
+) -> Wanted
+    requires header { length header.now ≡ 12 }
+    requires of { AreOf catalogue.now requests.now }
+    ensures is { (r : Read) → Minds (root_of section) decoder.now r →
+        body_type catalogue.now result ≡ wanted_after (said_by catalogue.now requests.now)
+        header.now section (heard_of (is_header_root (root_of section)) r) }
+    ensures known { IsKnown catalogue.now result }
+{
+    match section {
+        Section::Header => header_body(catalogue, requests, header, decoder),
+        Section::Exception => members_body(catalogue, decoder.name()),
+        Section::Body => Wanted::Nothing,
+    }
+}
+
+/// Of a message, by its type and by what the decoder of its header has in mind.
+fn header_body(
+    catalogue: &Catalogue,
+    requests: &Requests,
+    header: &[u8],
+    decoder: &Decoder,
+) -> Wanted
+    requires header { length header.now ≡ 12 }
+    requires of { AreOf catalogue.now requests.now }
+    ensures is { (r : Read) → Minds Root.Header decoder.now r →
+        body_type catalogue.now result ≡ wanted_after (said_by catalogue.now requests.now)
+        header.now Section.Header (heard_of true r) }
+    ensures known { IsKnown catalogue.now result }
+{
+    if kind_of(header) == 0 {
+        return request_body(catalogue, decoder.name());
+    }
+    if kind_of(header) == 1 {
+        return reply_body(catalogue, requests, decoder.request_id(), decoder.status());
+    }
+    Wanted::Nothing
+}
+
+/// Of an exception, by its repository id.
+#[tactic(auto, unfolding(crate::specs::Messages::members_of, crate::specs::Messages::type_if, crate::specs::Signatures::said_by))]
+fn members_body(catalogue: &Catalogue, repository: Option<&[u8]>) -> Wanted
+    ensures is { (kept : Kept) → body_type catalogue.now result ≡ type_if (members_of
+        (said_by catalogue.now kept) (option_map (λ x. x.now) repository.entry)) }
+    ensures known { IsKnown catalogue.now result }
+{
+    let Some(repository) = repository else {
+        return Wanted::Nothing;
+    };
+    match catalogue.exception(repository) {
+        Some(of) => Wanted::Type(of),
+        None => Wanted::Nothing,
+    }
+}
+
 /// Of a Request, by its operation.
 #[tactic(auto, unfolding(crate::specs::Messages::request_body, crate::specs::Messages::type_if, crate::specs::Signatures::said_by))]
-pub fn request_body(catalogue: &Catalogue, name: Option<&[u8]>) -> Wanted
+fn request_body(catalogue: &Catalogue, name: Option<&[u8]>) -> Wanted
     ensures is { (kept : Kept) → body_type catalogue.now result ≡ request_body
         (said_by catalogue.now kept) (option_map (λ x. x.now) name.entry) }
     ensures known { IsKnown catalogue.now result }
@@ -52,7 +121,7 @@ fn result_body(catalogue: &Catalogue, requests: &Requests, id: Option<u32>) -> W
 
 /// Of a Reply, by its status and the id of its request.
 #[tactic(auto, unfolding(crate::specs::Messages::reply_body, crate::specs::Signatures::said_by))]
-pub fn reply_body(
+fn reply_body(
     catalogue: &Catalogue,
     requests: &Requests,
     id: Option<u32>,
@@ -89,7 +158,7 @@ pub fn may_lack(catalogue: &Catalogue, wanted: Wanted) -> bool
 }
 
 /// Whether a type is the struct without members.
-fn is_empty(catalogue: &Catalogue, of: TypeId) -> bool
+pub fn is_empty(catalogue: &Catalogue, of: TypeId) -> bool
     requires { of.0 < length catalogue.now.types }
     ensures { result ≡ may_lack (Typed (tree catalogue.now of.0)) }
 {

@@ -12,8 +12,8 @@ pub returns-then-is_last-clause-took : goal.returns-then-is_last-clause-took
 returns-then-is_last-clause-took c kept number header s octet f =
     let few : padding (12 + length s) 8 ≤ 1 = rw (← f.at, ← c.pad-is_last.ensures.value) c.if-is_last.true in
     let e = c.begin_body.ensures in
-    last_took c.args.catalogue.now kept number header c.args.self.now s f c.args.wanted c.requires.part octet few _ _ refl refl refl refl
-    (e.arrives kept number header (s ++ octet ∷ [])) e.number e.header e.at e.id
+    last_took c.args.catalogue.now kept number header c.args.self.now s f c.args.wanted c.requires.part octet few _ _ (record { number = refl; header = refl; at = refl })
+    (e.arrives kept number header (s ++ octet ∷ [])) (record { number = e.number; header = e.header; at = e.at }) e.id e.past
 
 pub returns-else-is_last-clause-told : goal.returns-else-is_last-clause-told
 returns-else-is_last-clause-told c kept number header s octet f =
@@ -23,4 +23,4 @@ returns-else-is_last-clause-told c kept number header s octet f =
 pub returns-else-is_last-clause-took : goal.returns-else-is_last-clause-took
 returns-else-is_last-clause-took c kept number header s octet f =
     let more : 1 < padding (12 + length s) 8 = rw (← f.at, ← c.pad-is_last.ensures.value) (omega (arith, c.if-is_last.false)) in
-    padding_took c.args.catalogue.now kept number header c.args.self.now s f c.args.wanted c.requires.part octet more _ refl refl refl refl refl
+    padding_took c.args.catalogue.now kept number header c.args.self.now s f c.args.wanted c.requires.part octet more _ (record { number = refl; header = refl; at = refl }) refl refl

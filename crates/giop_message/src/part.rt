@@ -1,0 +1,110 @@
+//! The parts of a message, each with what it needs of the octets that have come of it.
+
+ghost use Rattle.std.specs.Prelude.{◌≡◌, ℕ, ◌+◌, ◌^◌, ◌<◌, ◌≤◌, List, [], ◌∷◌, ◌++◌, length, OnOk};
+ghost use Rattle.arrayvec.specs.ArrayVec.{array_vec_len};
+ghost use Rattle.giop_print.specs.Output.{Writes};
+
+use crate::wanted::Wanted;
+use arrayvec::ArrayVec;
+use giop_decode::Decoder;
+use giop_print::{Out, OutFault, Root, rest_line};
+
+/// A part that is read as a value.
+#[derive(Clone, Copy, Debug, PartialEq, Eq)]
+pub enum Section {
+    Header,
+    /// The repository id of an exception.
+    Exception,
+    Body,
+}
+
+impl Section {
+    ghost use Rattle.giop_message.specs.Messages.{root_of};
+
+    /// The root of its lines.
+    pub(crate) fn root(self) -> Root
+        ensures { result ≡ root_of self }
+    {
+        match self {
+            Section::Header => Root::Header,
+            Section::Exception => Root::Exception,
+            Section::Body => Root::Body,
+        }
+    }
+}
+
+/// What the next octet belongs to.
+#[derive(Debug, Drop)]
+pub enum Part {
+    /// A value that has begun and not ended.
+    Typed(Section, Decoder),
+    /// The padding in front of a body of this type.
+    Padding(Wanted),
+    Rest(Rest),
+}
+
+/// The octets behind the body, or behind a header without one.
+#[derive(Debug, Drop)]
+pub struct Rest {
+    // How many of them stand before their last part: a multiple of 32.
+    pub(crate) offset: u64,
+    // Their last part.
+    pub(crate) held: ArrayVec<u8, 32>,
+    ghost room: { array_vec_len held < 32 },
+}
+
+impl Rest {
+    ghost use Rattle.giop_message.specs.Messages.{In_rest, told_of, stage_of};
+    ghost use Rattle.giop_message.specs.Steps.{rest_step};
+    ghost use Rattle.giop_message.specs.Holding.{told_text};
+    ghost use Rattle.giop_message.specs.Moves.{held_text};
+
+    /// Of no octets.
+    pub(crate) fn new() -> Rest
+        ensures offset { result.offset ≡ 0 }
+        ensures held { result.held.items ≡ [] }
+    {
+        Rest {
+            offset: 0,
+            held: ArrayVec::new(),
+        }
+    }
+
+    /// Takes an octet, and writes its last part where that is full.
+    pub(crate) fn take<O: Out>(
+        &mut self,
+        number: u64,
+        octet: u8,
+        out: &mut O,
+    ) -> Result<(), OutFault>
+        requires { self.old.offset ≤ 2 ^ 48 }
+        ensures writes { (place offset at : ℕ) →
+            Writes result (O.log out.old) (O.log out.new) (told_text number place offset
+            (told_of (rest_step self.old.offset (self.old.held.items ++ octet ∷ []) at))) }
+        ensures holds { OnOk result ((at : ℕ) →
+            stage_of (rest_step self.old.offset (self.old.held.items ++ octet ∷ []) at)
+            ≡ In_rest self.new.offset self.new.held.items) }
+        ensures more { OnOk result (self.new.offset + length self.new.held.items
+            ≡ self.old.offset + length self.old.held.items + 1) }
+    {
+        self.held.push(octet);
+        if self.held.len() < 32 {
+            return Ok(());
+        }
+        let written = rest_line(out, number, self.offset, self.held.as_slice());
+        self.held.clear();
+        self.offset += 32;
+        written
+    }
+
+    /// Writes its last part, where that has octets.
+    pub(crate) fn end<O: Out>(&self, number: u64, out: &mut O) -> Result<(), OutFault>
+        ensures { Writes result (O.log out.old) (O.log out.new)
+            (held_text number self.now.offset self.now.held.items) }
+    {
+        if self.held.is_empty() {
+            return Ok(());
+        }
+        rest_line(out, number, self.offset, self.held.as_slice())
+    }
+}
