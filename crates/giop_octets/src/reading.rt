@@ -1,0 +1,72 @@
+//! Readers of fields at offsets. Each reads what its writer wrote there; octets that no writer writes are read as any
+//! value, so whoever can't trust them writes anew what was read, and compares.
+
+ghost use Rattle.std.specs.Prelude.{◌≡◌, ℕ, ◌+◌, ◌^◌, ◌<◌, ◌≤◌, List, ◌∷◌, ◌++◌, length, drop, Option, IfSome};
+ghost use Rattle.giop_octets.specs.Fields.{four, eight, optional, held};
+
+use arrayvec::ArrayVec;
+
+/// The octet that stands there.
+pub fn octet_at(octets: &[u8], at: usize) -> u8
+    requires room { at < length octets.now }
+    ensures { (n : ℕ) (rest : List ℕ) → drop at octets.now ≡ n ∷ rest → result ≡ n }
+{
+    octets[at]
+}
+
+/// The octets that stand there.
+pub fn octets_at<const N: usize>(octets: &[u8], at: usize) -> [u8; N]
+    requires room { at + N ≤ length octets.now }
+    ensures { (inner rest : List ℕ) → length inner ≡ N → drop at octets.now ≡ inner ++ rest →
+        result ≡ inner }
+{
+    let mut inner = [0; N];
+    inner.copy_from_slice(&octets[at..at + N]);
+    inner
+}
+
+/// The number that stands there in four octets.
+#[tactic(auto, using(crate::proofs::FieldLaws::four_long, crate::proofs::FieldLaws::four_again))]
+pub fn four_at(octets: &[u8], at: usize) -> u32
+    requires room { at + 4 ≤ length octets.now }
+    ensures { (n : ℕ) (rest : List ℕ) → n < 2 ^ 32 → drop at octets.now ≡ four n ++ rest →
+        result ≡ n }
+{
+    u32::from_be_bytes(octets_at(octets, at))
+}
+
+/// The number that stands there in eight octets.
+#[tactic(auto, using(crate::proofs::FieldLaws::eight_long, crate::proofs::FieldLaws::eight_again))]
+pub fn eight_at(octets: &[u8], at: usize) -> u64
+    requires room { at + 8 ≤ length octets.now }
+    ensures { (n : ℕ) (rest : List ℕ) → n < 2 ^ 64 → drop at octets.now ≡ eight n ++ rest →
+        result ≡ n }
+{
+    u64::from_be_bytes(octets_at(octets, at))
+}
+
+/// The number that stands there in five octets, or is missing there.
+pub fn optional_at(octets: &[u8], at: usize) -> Option<u32>
+    requires room { at + 5 ≤ length octets.now }
+    ensures { (n : Option ℕ) (rest : List ℕ) → IfSome n (λ m. m < 2 ^ 32) →
+        drop at octets.now ≡ optional n ++ rest → result ≡ n }
+{
+    if octets[at] == 0 {
+        return None;
+    }
+    Some(four_at(octets, at + 1))
+}
+
+/// The few octets that stand there, with room for N: N of them where the octet that counts them says more.
+pub fn held_at<const N: usize>(octets: &[u8], at: usize) -> ArrayVec<u8, N>
+    requires room { at + 1 + N ≤ length octets.now }
+    ensures { (inner rest : List ℕ) → length inner ≤ N → drop at octets.now ≡ held N inner ++ rest →
+        result.items ≡ inner }
+{
+    let len = usize::from(octets[at]).min(N);
+    let mut inner = ArrayVec::new();
+    for octet in &octets[at + 1..at + 1 + len] {
+        inner.push(*octet);
+    }
+    inner
+}

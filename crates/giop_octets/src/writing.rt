@@ -1,0 +1,80 @@
+//! Writers of fields, each behind what was written before.
+
+ghost use Rattle.std.specs.Prelude.{◌≡◌, ◌+◌, ◌≤◌, ◌++◌, length, replicate};
+ghost use Rattle.arrayvec.specs.ArrayVec.{array_vec_len};
+ghost use Rattle.giop_octets.specs.Fields.{four, eight, optional, held};
+
+use arrayvec::ArrayVec;
+
+/// Writes octets.
+pub fn put_octets<const N: usize>(out: &mut ArrayVec<u8, N>, octets: &[u8])
+    requires room { array_vec_len out.old + length octets.now ≤ N }
+    ensures put { out.new.items ≡ out.old.items ++ octets.now }
+    ensures len { array_vec_len out.new ≡ array_vec_len out.old + length octets.now }
+{
+    for octet in octets {
+        out.push(*octet);
+    }
+}
+
+/// Writes so many zeros.
+pub fn put_zeros<const N: usize>(out: &mut ArrayVec<u8, N>, count: usize)
+    requires room { array_vec_len out.old + count ≤ N }
+    ensures put { out.new.items ≡ out.old.items ++ replicate count 0 }
+    ensures len { array_vec_len out.new ≡ array_vec_len out.old + count }
+{
+    for _ in 0..count {
+        out.push(0);
+    }
+}
+
+/// Writes a number in four octets.
+#[tactic(auto, unfolding(crate::specs::Fields::four))]
+pub fn put_four<const N: usize>(out: &mut ArrayVec<u8, N>, n: u32)
+    requires room { array_vec_len out.old + 4 ≤ N }
+    ensures put { out.new.items ≡ out.old.items ++ four n }
+    ensures len { array_vec_len out.new ≡ array_vec_len out.old + 4 }
+{
+    put_octets(out, &u32::to_be_bytes(n));
+}
+
+/// Writes a number in eight octets.
+#[tactic(auto, unfolding(crate::specs::Fields::eight))]
+pub fn put_eight<const N: usize>(out: &mut ArrayVec<u8, N>, n: u64)
+    requires room { array_vec_len out.old + 8 ≤ N }
+    ensures put { out.new.items ≡ out.old.items ++ eight n }
+    ensures len { array_vec_len out.new ≡ array_vec_len out.old + 8 }
+{
+    put_octets(out, &u64::to_be_bytes(n));
+}
+
+/// Writes a number that may be missing, in five octets.
+pub fn put_optional<const N: usize>(out: &mut ArrayVec<u8, N>, n: Option<u32>)
+    requires room { array_vec_len out.old + 5 ≤ N }
+    ensures put { out.new.items ≡ out.old.items ++ optional n }
+    ensures len { array_vec_len out.new ≡ array_vec_len out.old + 5 }
+{
+    match n {
+        None => {
+            out.push(0);
+            put_four(out, 0);
+        }
+        Some(n) => {
+            out.push(1);
+            put_four(out, n);
+        }
+    }
+}
+
+/// Writes a few octets: how many, the octets, and zeros up to the room for them.
+pub fn put_held<const N: usize>(out: &mut ArrayVec<u8, N>, octets: &[u8], room: usize)
+    requires room { array_vec_len out.old + 1 + room ≤ N }
+    requires few { length octets.now ≤ room }
+    requires small { room ≤ 255 }
+    ensures put { out.new.items ≡ out.old.items ++ held room octets.now }
+    ensures len { array_vec_len out.new ≡ array_vec_len out.old + 1 + room }
+{
+    out.push(octets.len() as u8);
+    put_octets(out, octets);
+    put_zeros(out, room - octets.len());
+}
