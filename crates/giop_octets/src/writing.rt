@@ -1,6 +1,6 @@
 //! Writers of fields, each behind what was written before.
 
-ghost use Rattle.std.specs.Prelude.{◌≡◌, ◌+◌, ◌≤◌, ◌++◌, length, replicate};
+ghost use Rattle.std.specs.Prelude.{◌≡◌, ◌+◌, ◌^◌, ◌<◌, ◌≤◌, ◌++◌, length, replicate, IfSome};
 ghost use Rattle.arrayvec.specs.ArrayVec.{array_vec_len};
 ghost use Rattle.giop_octets.specs.Fields.{four, eight, optional, held};
 
@@ -34,6 +34,7 @@ pub fn put_four<const N: usize>(out: &mut ArrayVec<u8, N>, n: u32)
     requires room { array_vec_len out.old + 4 ≤ N }
     ensures put { out.new.items ≡ out.old.items ++ four n }
     ensures len { array_vec_len out.new ≡ array_vec_len out.old + 4 }
+    ensures range { n < 2 ^ 32 }
 {
     put_octets(out, &u32::to_be_bytes(n));
 }
@@ -44,6 +45,7 @@ pub fn put_eight<const N: usize>(out: &mut ArrayVec<u8, N>, n: u64)
     requires room { array_vec_len out.old + 8 ≤ N }
     ensures put { out.new.items ≡ out.old.items ++ eight n }
     ensures len { array_vec_len out.new ≡ array_vec_len out.old + 8 }
+    ensures range { n < 2 ^ 64 }
 {
     put_octets(out, &u64::to_be_bytes(n));
 }
@@ -53,6 +55,7 @@ pub fn put_optional<const N: usize>(out: &mut ArrayVec<u8, N>, n: Option<u32>)
     requires room { array_vec_len out.old + 5 ≤ N }
     ensures put { out.new.items ≡ out.old.items ++ optional n }
     ensures len { array_vec_len out.new ≡ array_vec_len out.old + 5 }
+    ensures range { IfSome n (λ m. m < 2 ^ 32) }
 {
     match n {
         None => {
