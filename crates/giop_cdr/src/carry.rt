@@ -57,6 +57,14 @@ impl Carry {
         self.octets.is_empty()
     }
 
+    /// The octets that are held.
+    pub fn as_slice(&self) -> &[u8]
+        ensures value { result.now ≡ self.now }
+        ensures within { length self.now ≤ 8 }
+    {
+        &self.octets
+    }
+
     /// Lets go of all that is held.
     pub fn clear(&mut self)
         ensures { self.new ≡ [] }

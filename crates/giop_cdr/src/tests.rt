@@ -173,6 +173,7 @@ fn a_boolean_above_1_is_refused_and_stays_in_the_carry(rt: HostRuntime) -> Resul
 fn a_cleared_carry_begins_anew(rt: HostRuntime) -> Result<(), Fail> {
     let mut carry = carried(&rt, "12 34 56")?;
     assert_eq!(rt; carry.len(), 3);
+    assert_eq!(rt; carry.as_slice(), &[18, 52, 86][..]);
     carry.clear();
     assert!(rt; carry.is_empty());
     assert_eq!(rt; carry, Carry::default());
