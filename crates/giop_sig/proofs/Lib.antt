@@ -6,6 +6,7 @@ mod Kept
 mod Finds
 mod Solid
 mod Tables
+pub mod PartLaws
 pub mod Builtins
 pub mod HeaderLaws
 mod Added
