@@ -8,6 +8,10 @@ mod Rows
 mod Shapes
 mod Padding
 mod Linking
+mod StoredFields
+mod StoredFrames
+mod StoredChain
+mod StoredAgain
 mod Beginning
 mod Going
 mod Turning

@@ -32,19 +32,19 @@ use giop_sig::{Catalogue, TypeId};
 /// The parts of a value that are begun and not ended, and what was last heard of the value.
 #[derive(Debug, Drop)]
 pub struct Decoder {
-    order: Order,
-    root: Root,
-    message: u64,
+    pub(crate) order: Order,
+    pub(crate) root: Root,
+    pub(crate) message: u64,
     // The offset of the next octet, modulo 8.
     pub(crate) at: u8,
-    outer: ArrayVec<Frame, 24>,
+    pub(crate) outer: ArrayVec<Frame, 24>,
     // None once the value has ended.
     pub(crate) leaf: Option<Leaf>,
-    carry: Carry,
+    pub(crate) carry: Carry,
     pub(crate) piece: ArrayVec<u8, 32>,
-    memory: Memory,
+    pub(crate) memory: Memory,
     // Where the path of a line is spelled: nothing of it is kept from one line to the next.
-    path: Path,
+    pub(crate) path: Path,
 }
 
 impl Decoder {

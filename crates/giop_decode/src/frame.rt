@@ -56,7 +56,7 @@ pub(crate) fn is_empty(catalogue: &Catalogue, t: TypeId) -> bool
 
 /// How many parts a type has that begins with its first part: None for one that begins with a number.
 #[tactic(auto, using(crate::proofs::Shapes::shape_laws))]
-fn whole(catalogue: &Catalogue, t: TypeId) -> Option<u32>
+pub(crate) fn whole(catalogue: &Catalogue, t: TypeId) -> Option<u32>
     requires { t.0 < length catalogue.now.types }
     ensures whole { IfSome result (λ count. IsWhole (tree catalogue.now t.0) count) }
     ensures number { IfNone result (HasHead (tree catalogue.now t.0)) }

@@ -1,6 +1,7 @@
 //! The resumable decoder of typed values: recursive reading of a whole list of octets, an octet at a time.
 #![tactic(auto)]
 
+mod chain;
 mod contents;
 mod decoder;
 mod frame;
@@ -10,7 +11,9 @@ mod leaf;
 mod line;
 mod memory;
 mod progress;
+mod restored;
 mod run;
+mod stored;
 
 pub use decoder::Decoder;
 pub use laws::{memory_laws, reading_laws};

@@ -33,10 +33,10 @@ pub(crate) enum Buffer {
 #[derive(Debug, Drop)]
 pub(crate) struct Memory {
     // The first that was said.
-    request_id: Option<u32>,
-    status: Option<u32>,
-    name: ArrayVec<u8, 128>,
-    buffer: Buffer,
+    pub(crate) request_id: Option<u32>,
+    pub(crate) status: Option<u32>,
+    pub(crate) name: ArrayVec<u8, 128>,
+    pub(crate) buffer: Buffer,
 }
 
 impl Memory {

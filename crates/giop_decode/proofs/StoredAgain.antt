@@ -1,0 +1,93 @@
+-- What is restored of a decoder fits, reads and is stored as the decoder did and was.
+use Rattle.std.proofs.Common.{◌≡◌, ℕ, List, Option, Some, None, refl, sym, ap, ◌∙◌}
+use Rattle.giop_cdr.specs.declared.order.Order.{Order}
+use Rattle.giop_decode.specs.declared.decoder.Decoder.{Decoder}
+use Rattle.giop_decode.specs.declared.leaf.Leaf.{Leaf as Innermost}
+use Rattle.giop_decode.specs.declared.memory.Buffer.{Buffer}
+use Rattle.giop_decode.specs.declared.memory.Buffer.TheVariants as buffers
+use Rattle.giop_decode.specs.declared.memory.Memory.{Memory}
+use Rattle.giop_decode.specs.Heard.{Heard}
+use Rattle.giop_decode.specs.Holding.{Fits, IsHeld, Minds, Reads, Recalls, standing, standing_in}
+use Rattle.giop_decode.specs.Spine.{Line, Read}
+use Rattle.giop_decode.specs.Stored.{IsKept, IsRestored, Stored, fixed_octets, kept_name}
+use Rattle.giop_print.specs.declared.path.Root.{Root}
+use Rattle.giop_print.specs.declared.path.Root.TheVariants as roots
+use Rattle.giop_sig.specs.Table.{Table}
+use Rattle.giop_sig.specs.Types.{Ty}
+
+pub restored_fits : (C : Table) (d e : Decoder) → IsRestored d e → Fits C d → Fits C e
+restored_fits C d e r h = record {
+  leaf = h.leaf;
+  goes_on = r.leaf ∙ h.goes_on;
+  root = h.root;
+  known_root = h.known_root;
+  link = rw r.outer h.link;
+  fit = h.fit;
+  fits = rw (r.outer, r.carry, r.piece) h.fits;
+  known_outer = rw r.outer h.known_outer;
+  known = h.known;
+  clean = rw (r.carry, r.piece) h.clean;
+  at = rw r.at h.at;
+}
+
+-- ---- readings
+
+kept_held : (b : Buffer) (octets so_far : List ℕ) (name : Option (List ℕ)) → IsHeld b octets name so_far → IsHeld b (kept_name b octets) name so_far
+kept_held buffers.Begun octets so_far name held = held
+kept_held buffers.Whole octets so_far name held = held
+kept_held buffers.TooLong octets so_far name held = (held.0, refl, held.2)
+
+recalls_again : (m n : Memory) (h : Heard) → IsKept m n → Recalls m h → Recalls n h
+recalls_again m n h kept recalls = record {
+  request_id = kept.request_id ∙ recalls.request_id;
+  status = kept.status ∙ recalls.status;
+  name = rw (kept.buffer, kept.name) (kept_held m.buffer m.name.items h.so_far h.name recalls.name);
+}
+
+minds_again : (root : Root) (d e : Decoder) (r : Read) → IsRestored d e → Minds root d r → Minds root e r
+minds_again roots.Header d e r restored minds = recalls_again d.memory e.memory _ restored.memory minds
+minds_again roots.Exception d e r restored minds = recalls_again d.memory e.memory _ restored.memory minds
+minds_again roots.Body d e r restored minds = tt
+
+standing_again : (C : Table) (d e : Decoder) (lines : List Line) (at : ℕ) → IsRestored d e → standing C d lines at ≡ standing C e lines at
+standing_again C d e lines at r = same_in d.leaf ∙ ap (λ l. standing_in C e l lines at) (sym r.leaf)
+  where
+    same_in : (l : Option Innermost) → standing_in C d l lines at ≡ standing_in C e l lines at
+    same_in None = refl
+    same_in (Some leaf) = rw (r.outer, r.carry, r.piece) refl
+
+pub restored_reads : (C : Table) (d e : Decoder) (T : Ty) (order : Order) (at message : ℕ) (root : Root) (s : List ℕ) → IsRestored d e
+    → Reads C T order at message root d s → Reads C T order at message root e s
+restored_reads C d e T order at message root s r reads = record {
+  lines = reads.lines;
+  is = reads.is ∙ standing_again C d e reads.lines _ r;
+  minds = minds_again root d e _ r reads.minds;
+  same_order = r.order ∙ reads.same_order;
+  same_message = r.message ∙ reads.same_message;
+  same_root = r.root ∙ reads.same_root;
+  offset = r.at ∙ reads.offset;
+}
+
+-- ---- octets
+
+kept_again : (b : Buffer) (name : List ℕ) → kept_name b (kept_name b name) ≡ kept_name b name
+kept_again buffers.Begun name = refl
+kept_again buffers.Whole name = refl
+kept_again buffers.TooLong name = refl
+
+fixed_again : (d e : Decoder) (leaf : Innermost) → IsRestored d e → fixed_octets e leaf ≡ fixed_octets d leaf
+unfolding fixed_octets
+fixed_again d e leaf r =
+    rw (r.order, r.root, r.message, r.at, r.carry, r.piece, r.memory.request_id, r.memory.status, r.memory.buffer, r.memory.name, kept_again d.memory.buffer d.memory.name.items) refl
+
+-- both are stored in the same octets
+pub stored_same : (d e : Decoder) (fixed frames fixed_e frames_e : List ℕ) → IsRestored d e → Stored d fixed frames → Stored e fixed_e frames_e → (fixed_e ≡ fixed) × (frames_e ≡ frames)
+stored_same d e fixed frames fixed_e frames_e r h k =
+    let goes_on : Some k.leaf ≡ Some h.leaf = sym k.goes_on ∙ r.leaf ∙ h.goes_on in
+    let same : k.leaf ≡ h.leaf = cc in (
+      k.fixed_are ∙ fixed_again d e k.leaf r ∙ ap (fixed_octets d) same ∙ sym h.fixed_are,
+      k.frames_are ∙ rw (r.outer, same) refl ∙ sym h.frames_are,
+    )
+
+pub stored_by : (d : Decoder) (fixed frames fixed_d frames_d : List ℕ) → Stored d fixed_d frames_d → fixed_d ≡ fixed → frames_d ≡ frames → Stored d fixed frames
+stored_by d fixed frames fixed_d frames_d h e f = rw (← e, ← f) h

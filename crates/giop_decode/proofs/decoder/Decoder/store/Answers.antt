@@ -1,0 +1,12 @@
+use Rattle.std.proofs.Common.{arith}
+use Rattle.std.proofs.lemmas.Bool.Decides.{nat_tests}
+use Rattle.giop_decode.proofs.StoredChain.{fits_few, fits_depth}
+use Rattle.giop_decode.proofs.decoder.Decoder.store.Goals as goal
+
+pub returns-then-is_full-clause-stored : goal.returns-then-is_full-clause-stored
+returns-then-is_full-clause-stored c C fits =
+    let few = fits_few C c.args.self.now fits in
+    absurd (grind (arith, nat_tests))
+
+pub returns-clause-depth : goal.returns-clause-depth
+returns-clause-depth c C fits = omega (arith, fits_depth C c.args.self.now fits)

@@ -1,0 +1,40 @@
+-- Which frames and innermost part can stand in a table, by the numbers of the types: what is tested of a decoder that comes from
+-- octets (state).
+use Rattle.std.specs.Prelude.{◌≡◌, ℕ, ◌<◌, List, [], ◌∷◌, length, Some}
+use Rattle.giop_decode.specs.declared.decoder.Decoder.{Decoder}
+use Rattle.giop_decode.specs.declared.frame.Frame.{Frame}
+use Rattle.giop_decode.specs.declared.leaf.Leaf.{Leaf as Innermost}
+use Rattle.giop_decode.specs.Fits.{HasParts, FitsIn}
+use Rattle.giop_decode.specs.Turns.{leaf_of, leaf_type, IsClean}
+use Rattle.giop_sig.specs.Fits.{IsEmptyStruct}
+use Rattle.giop_sig.specs.Table.{Table, part_number}
+use Rattle.giop_sig.specs.Trees.{tree}
+use Rattle.giop_sig.specs.Types.{Ty, Union}
+
+-- a type has that part among so many; a union's cases are not counted
+abbrev pub HasPart : Ty → ℕ → ℕ → Type 0
+HasPart (Union n scalar select names cases) i count = (i < n) × (count ≡ 0)
+HasPart T i count = HasParts T count × (i < count)
+
+-- an innermost part of this type, with what is held of it
+abbrev pub LeafFits : Table → Innermost → List ℕ → List ℕ → Type 0
+LeafFits C leaf carry piece = FitsIn (tree C (leaf_type leaf)) [] (leaf_of C leaf carry piece) × IsClean leaf carry piece
+
+-- each frame is of the part of the one before at its place, and the innermost part of that of the last
+abbrev pub Chained : Table → ℕ → List Frame → Innermost → Type 0
+Chained C id [] leaf = leaf_type leaf ≡ id
+Chained C id (f ∷ frames) leaf = (f.of.0 ≡ id) × HasPart (tree C id) f.index f.count × Chained C (part_number C id f.index) frames leaf
+
+abbrev pub root_of : List Frame → Innermost → ℕ
+root_of [] leaf = leaf_type leaf
+root_of (f ∷ frames) leaf = f.of.0
+
+pub record Chains (C : Table) (d : Decoder) : Type 0 where
+  pub leaf : Innermost
+  pub goes_on : d.leaf ≡ Some leaf
+  pub known_leaf : leaf_type leaf < length C.types
+  pub known : root_of d.outer.items leaf < length C.types
+  pub some : IsEmptyStruct (tree C (root_of d.outer.items leaf)) → ⊥
+  pub chain : Chained C (root_of d.outer.items leaf) d.outer.items leaf
+  pub fits : LeafFits C leaf d.carry d.piece.items
+  pub at : d.at < 8

@@ -1,0 +1,143 @@
+-- What a checkpoint keeps of a decoder that goes on, as octets (docs/FORMATS.md; state). A decoder has 208 octets of its own:
+--
+--     at  octets
+--      0       1  byte order: 0 big, 1 little
+--      1       1  root: 0 header, 1 repository id, 2 body
+--      2       8  number of its message
+--     10       1  offset of its next octet in the message, modulo 8
+--     11       1  innermost part: 0 the number that begins it, 1 its content
+--     12       4  its type
+--     16       4  octets of the content; 0 in a number
+--     20       4  where in the content the piece on its way begins; 0 in a number
+--     24       9  the octets held of a number: how many, and room for 8; none in a content
+--     33      33  the octets held of a piece: how many, and room for 32; none in a number
+--     66       5  whether a header's request id was read, 0 or 1, and the id
+--     71       5  whether an enum was read, 0 or 1, and the number of the last
+--     76       1  the name buffer: 0 has begun, 1 has a whole name, 2 is too short for its string
+--     77     129  the octets in it: how many, and room for 128; none where it is too short
+--    206       2  zero
+--
+-- and a frame of 16 octets for each part that is begun and not ended, the outermost first: its type, the place of its own part
+-- that is being read, how many it has (0 in a union), and 4 zeros. The last frame is the innermost part's: its type and zeros.
+-- Numbers have the heaviest octet first; what is held is followed by zeros.
+use Rattle.std.specs.Prelude.{◌≡◌, ℕ, ◌^◌, ◌<◌, ◌≤◌, List, [], ◌∷◌, ◌++◌, length, replicate, Some, IfSome}
+use Rattle.std.specs.List.{flat_map, AllByRecursion}
+use Rattle.giop_cdr.specs.declared.order.Order.{Order}
+use Rattle.giop_cdr.specs.declared.order.Order.TheVariants as orders
+use Rattle.giop_decode.specs.declared.decoder.Decoder.{Decoder}
+use Rattle.giop_decode.specs.declared.frame.Frame.{Frame}
+use Rattle.giop_decode.specs.declared.leaf.Leaf.{Leaf as Innermost}
+use Rattle.giop_decode.specs.declared.leaf.Leaf.TheVariants as innermost
+use Rattle.giop_decode.specs.declared.memory.Memory.{Memory}
+use Rattle.giop_decode.specs.declared.memory.Buffer.{Buffer}
+use Rattle.giop_decode.specs.declared.memory.Buffer.TheVariants as buffers
+use Rattle.giop_decode.specs.Turns.{leaf_type}
+use Rattle.giop_octets.specs.Fields.{four, eight, optional, held}
+use Rattle.giop_print.specs.declared.path.Root.{Root}
+use Rattle.giop_print.specs.declared.path.Root.TheVariants as roots
+use Rattle.giop_sig.specs.Table.{type_id}
+
+-- ---- the octets
+
+abbrev pub order_octet : Order → ℕ
+order_octet orders.Big = 0
+order_octet orders.Little = 1
+
+abbrev pub root_octet : Root → ℕ
+root_octet roots.Header = 0
+root_octet roots.Exception = 1
+root_octet roots.Body = 2
+
+abbrev pub leaf_octets : Innermost → List ℕ
+leaf_octets (innermost.Number of) = 0 ∷ four of.0 ++ four 0 ++ four 0
+leaf_octets (innermost.Content of total offset) = 1 ∷ four of.0 ++ four total ++ four offset
+
+abbrev pub buffer_octet : Buffer → ℕ
+buffer_octet buffers.Begun = 0
+buffer_octet buffers.Whole = 1
+buffer_octet buffers.TooLong = 2
+
+-- what is kept of a name: nothing where the buffer is too short
+abbrev pub kept_name : Buffer → List ℕ → List ℕ
+kept_name buffers.TooLong name = []
+kept_name buffers.Begun name = name
+kept_name buffers.Whole name = name
+
+abbrev pub name_octets : Memory → List ℕ
+name_octets m = held 128 (kept_name m.buffer m.name.items)
+
+abbrev pub memory_octets : Memory → List ℕ
+memory_octets m = optional m.request_id ++ optional m.status ++ buffer_octet m.buffer ∷ name_octets m
+
+-- of a decoder whose innermost part this is
+unfoldable pub fixed_octets : Decoder → Innermost → List ℕ
+fixed_octets d leaf = order_octet d.order ∷ root_octet d.root ∷ eight d.message ++ d.at ∷ leaf_octets leaf ++ held 8 d.carry ++ held 32 d.piece.items ++ memory_octets d.memory ++ replicate 2 0
+
+-- the octets of a frame
+abbrev pub frame_size : ℕ
+frame_size = 16
+
+abbrev pub frame_octets : Frame → List ℕ
+frame_octets f = four f.of.0 ++ four f.index ++ four f.count ++ four 0
+
+abbrev pub frames_octets : List Frame → List ℕ
+frames_octets frames = flat_map frame_octets frames
+
+-- the innermost part's frame
+abbrev pub own_frame : Innermost → Frame
+own_frame leaf = record { of = type_id (leaf_type leaf); index = 0; count = 0 }
+
+-- ---- ranges
+
+pub record FrameHasRange (f : Frame) : Type 0 where
+  pub of : f.of.0 < 2 ^ 32
+  pub index : f.index < 2 ^ 32
+  pub count : f.count < 2 ^ 32
+
+abbrev pub LeafHasRange : Innermost → Type 0
+LeafHasRange (innermost.Number of) = of.0 < 2 ^ 32
+LeafHasRange (innermost.Content of total offset) = (of.0 < 2 ^ 32) × (total < 2 ^ 32) × (offset < 2 ^ 32)
+
+pub record MemoryHasRange (m : Memory) : Type 0 where
+  pub request_id : IfSome m.request_id (λ n. n < 2 ^ 32)
+  pub status : IfSome m.status (λ n. n < 2 ^ 32)
+  pub name : length m.name.items ≤ 128
+
+-- each of the decoder's own fields has room
+pub record HasRange (d : Decoder) : Type 0 where
+  pub message : d.message < 2 ^ 64
+  pub carry : length d.carry ≤ 8
+  pub piece : length d.piece.items ≤ 32
+  pub memory : MemoryHasRange d.memory
+
+-- ---- a decoder that is stored
+
+-- these octets are what is stored of the decoder
+pub record Stored (d : Decoder) (fixed frames : List ℕ) : Type 0 where
+  pub leaf : Innermost
+  pub goes_on : d.leaf ≡ Some leaf
+  pub fixed_are : fixed ≡ fixed_octets d leaf
+  pub frames_are : frames ≡ frames_octets (d.outer.items ++ own_frame leaf ∷ [])
+  pub range : HasRange d
+  pub leaf_range : LeafHasRange leaf
+  pub outer_range : AllByRecursion FrameHasRange d.outer.items
+  pub few : length d.outer.items < 24
+
+-- the memory is what is kept of another
+pub record IsKept (m n : Memory) : Type 0 where
+  pub request_id : n.request_id ≡ m.request_id
+  pub status : n.status ≡ m.status
+  pub buffer : n.buffer ≡ m.buffer
+  pub name : n.name.items ≡ kept_name m.buffer m.name.items
+
+-- the decoder is what is kept of another
+pub record IsRestored (d e : Decoder) : Type 0 where
+  pub order : e.order ≡ d.order
+  pub root : e.root ≡ d.root
+  pub message : e.message ≡ d.message
+  pub at : e.at ≡ d.at
+  pub leaf : e.leaf ≡ d.leaf
+  pub outer : e.outer.items ≡ d.outer.items
+  pub carry : e.carry ≡ d.carry
+  pub piece : e.piece.items ≡ d.piece.items
+  pub memory : IsKept d.memory e.memory

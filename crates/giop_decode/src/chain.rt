@@ -1,0 +1,121 @@
+//! Whether the parts of a decoder that comes from octets fit a catalogue.
+
+ghost use Rattle.std.specs.Prelude.{◌≡◌, ◌↔◌, IsTrue, ℕ, ◌+◌, ◌-◌, ◌<◌, ◌≤◌, List, [], length};
+ghost use Rattle.giop_decode.specs.Chained.{HasPart, LeafFits, Chained, Chains, root_of};
+ghost use Rattle.giop_decode.specs.Fits.{HasHead};
+ghost use Rattle.giop_decode.specs.Turns.{leaf_type};
+ghost use Rattle.giop_sig.specs.Trees.{tree};
+
+use crate::decoder::Decoder;
+use crate::frame::{Frame, is_empty, whole};
+use crate::heads::width;
+use crate::leaf::Leaf;
+use giop_cdr::Carry;
+use giop_sig::{Catalogue, Shape, TypeId};
+
+impl Decoder {
+    /// Whether the decoder goes on, and fits a catalogue.
+    pub(crate) fn chains(&self, catalogue: &Catalogue) -> bool
+        ensures { IsTrue result ↔ Chains catalogue.now self.now }
+    {
+        let Some(leaf) = self.leaf else {
+            return false;
+        };
+        let root = root_of(self.outer.as_slice(), leaf);
+        self.at < 8
+            && catalogue.has(leaf.of())
+            && catalogue.has(root)
+            && !is_empty(catalogue, root)
+            && follow(catalogue, root, self.outer.as_slice(), leaf)
+            && leaf_fits(catalogue, leaf, &self.carry, self.piece.as_slice())
+    }
+}
+
+/// The outermost part's type.
+fn root_of(frames: &[Frame], leaf: Leaf) -> TypeId
+    ensures { result.0 ≡ root_of frames.now leaf }
+{
+    match frames {
+        [] => leaf.of(),
+        [frame, ..] => frame.of,
+    }
+}
+
+/// Whether each frame is of the part of the one before at its place, from this type to the innermost part.
+fn follow(catalogue: &Catalogue, of: TypeId, frames: &[Frame], leaf: Leaf) -> bool
+    requires { of.0 < length catalogue.now.types }
+    ensures { IsTrue result ↔ Chained catalogue.now of.0 frames.now leaf }
+{
+    match frames {
+        [] => leaf.of() == of,
+        [frame, rest @ ..] => {
+            frame.of == of
+                && has_part(catalogue, of, frame.index, frame.count)
+                && follow(catalogue, catalogue.part(of, frame.index), rest, leaf)
+        }
+    }
+}
+
+/// Whether a type has that part among so many.
+fn has_part(catalogue: &Catalogue, of: TypeId, index: u32, count: u32) -> bool
+    requires { of.0 < length catalogue.now.types }
+    ensures { IsTrue result ↔ HasPart (tree catalogue.now of.0) index count }
+{
+    match catalogue.shape(of) {
+        Shape::Members(members) => count == members && index < count,
+        Shape::Array(elements) => count == elements && index < count,
+        Shape::Sequence(_) => index < count,
+        Shape::Union(cases) => index < cases && count == 0,
+        Shape::Prim(_) => false,
+        Shape::Enumeration(_) => false,
+        Shape::Text(_) => false,
+        Shape::Octets(_) => false,
+    }
+}
+
+/// Whether what is held of the innermost part fits its type.
+fn leaf_fits(catalogue: &Catalogue, leaf: Leaf, carry: &Carry, piece: &[u8]) -> bool
+    requires { leaf_type leaf < length catalogue.now.types }
+    ensures { IsTrue result ↔ LeafFits catalogue.now leaf carry.now piece.now }
+{
+    match leaf {
+        Leaf::Number(of) => {
+            piece.is_empty()
+                && has_head(catalogue, of)
+                && carry.len() < usize::from(width(catalogue, of))
+        }
+        Leaf::Content { of, total, offset } => {
+            carry.is_empty()
+                && match catalogue.shape(of) {
+                    Shape::Text(_) => content_fits(total, offset, piece.len(), 1),
+                    Shape::Octets(_) => content_fits(total, offset, piece.len(), 0),
+                    _ => false,
+                }
+        }
+    }
+}
+
+/// Whether a type begins with a number.
+fn has_head(catalogue: &Catalogue, of: TypeId) -> bool
+    requires { of.0 < length catalogue.now.types }
+    ensures { IsTrue result ↔ HasHead (tree catalogue.now of.0) }
+{
+    whole(catalogue, of).is_none()
+}
+
+/// Whether so many octets of a piece can be held, which begins there in the content, and which so many octets end.
+fn content_fits(total: u32, offset: u32, held: usize, tail: usize) -> bool
+    requires { tail ≤ 1 }
+    ensures { IsTrue result ↔ (offset ≤ total) × (32 < total - offset → held < 32)
+        × (total - offset ≤ 32 → held < total - offset + tail) }
+{
+    if offset > total {
+        return false;
+    }
+    let left = (total - offset) as usize;
+    if left > 32 {
+        held < 32
+    } else {
+        held < left + tail
+    }
+}

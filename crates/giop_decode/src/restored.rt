@@ -1,0 +1,203 @@
+//! A decoder from the octets that were stored of one. Octets that no decoder stores are read as any; what was read is stored
+//! anew and compared.
+
+ghost use Rattle.std.specs.Prelude.{◌≡◌, ◌↔◌, IsTrue, ℕ, ◌+◌, ◌<◌, ◌≤◌, List, [], ◌∷◌, ◌++◌, length, drop, Some, IfSome, IsSome};
+ghost use Rattle.std.specs.List.{AllByRecursion};
+ghost use Rattle.giop_cdr.specs.declared.order.Order.{Order as ByteOrder};
+ghost use Rattle.giop_decode.specs.declared.decoder.Decoder.{Decoder as State};
+ghost use Rattle.giop_decode.specs.declared.frame.Frame.{Frame as FrameState};
+ghost use Rattle.giop_decode.specs.declared.leaf.Leaf.{Leaf as Innermost};
+ghost use Rattle.giop_decode.specs.declared.memory.Buffer.{Buffer as BufferState};
+ghost use Rattle.giop_decode.specs.declared.memory.Memory.{Memory as MemoryState};
+ghost use Rattle.giop_decode.specs.Holding.{Fits, Reads};
+ghost use Rattle.giop_decode.specs.Stored.{order_octet, root_octet, leaf_octets, buffer_octet, memory_octets, frame_octets, frames_octets, frame_size, FrameHasRange, LeafHasRange, MemoryHasRange, Stored, IsKept, IsRestored};
+ghost use Rattle.giop_print.specs.declared.path.Root.{Root as PathRoot};
+ghost use Rattle.giop_sig.specs.Table.{Table};
+ghost use Rattle.giop_sig.specs.Types.{Ty};
+
+use crate::decoder::Decoder;
+use crate::frame::Frame;
+use crate::leaf::Leaf;
+use crate::memory::{Buffer, Memory};
+use crate::stored::FRAME_SIZE;
+use arrayvec::ArrayVec;
+use giop_cdr::{Carry, Order};
+use giop_octets::{eight_at, four_at, held_at, octet_at, optional_at};
+use giop_print::{Path, Root};
+use giop_sig::{Catalogue, TypeId};
+
+impl Decoder {
+    /// The decoder that was stored in these octets: its own, and those of its frames. None where no decoder that fits the
+    /// catalogue is stored so.
+    pub fn restore(catalogue: &Catalogue, fixed: &[u8; 208], frames: &[u8]) -> Option<Decoder>
+        ensures fits { IfSome result (λ d. Fits catalogue.now d) }
+        ensures stored { IfSome result (λ d. Stored d fixed.now frames.now) }
+        ensures again { (d : State) → Fits catalogue.now d → Stored d fixed.now frames.now → IsSome result }
+        // It reads whatever list the stored one reads.
+        ensures reads { IfSome result (λ e. (d : State) → Fits catalogue.now d → Stored d fixed.now frames.now →
+            (T : Ty) (order : ByteOrder) (at message : ℕ) (root : PathRoot) (s : List ℕ) →
+            Reads catalogue.now T order at message root d s →
+            Reads catalogue.now T order at message root e s) }
+    {
+        catalogue.laws();
+        let decoder = parsed(fixed, frames);
+        if !decoder.chains(catalogue) {
+            return None;
+        }
+        if !decoder.is_stored_as(fixed, frames) {
+            return None;
+        }
+        Some(decoder)
+    }
+
+    /// Whether these octets are what is stored of the decoder.
+    fn is_stored_as(&self, fixed: &[u8; 208], frames: &[u8]) -> bool
+        ensures stored { (C : Table) → Fits C self.now → IsTrue result → Stored self.now fixed.now frames.now }
+        ensures again { (C : Table) (d : State) → Fits C self.now → Stored d fixed.now frames.now →
+            IsRestored d self.now → IsTrue result }
+    {
+        let mut fixed_again = [0; 208];
+        let mut frames_again = [0; 384];
+        let count = usize::from(self.store(&mut fixed_again, &mut frames_again));
+        if !same(&fixed_again, fixed) {
+            return false;
+        }
+        same(&frames_again[..FRAME_SIZE * count], frames)
+    }
+}
+
+/// Whether octets are the same.
+fn same(octets: &[u8], others: &[u8]) -> bool
+    ensures { IsTrue result ↔ (octets.now ≡ others.now) }
+{
+    octets == others
+}
+
+/// What octets say of a decoder.
+fn parsed(fixed: &[u8; 208], frames: &[u8]) -> Decoder
+    ensures { (d : State) → Stored d fixed.now frames.now → IsRestored d result }
+{
+    let root = root_at(fixed, 1);
+    let carry: ArrayVec<u8, 8> = held_at(fixed, 24);
+    Decoder {
+        order: order_at(fixed, 0),
+        root,
+        message: eight_at(fixed, 2),
+        at: octet_at(fixed, 10),
+        outer: outer_at(frames),
+        leaf: Some(leaf_at(fixed, 11)),
+        carry: carried(carry.as_slice()),
+        piece: held_at(fixed, 33),
+        memory: memory_at(fixed, 66),
+        path: Path::new(root),
+    }
+}
+
+/// The byte order that stands there.
+fn order_at(octets: &[u8], at: usize) -> Order
+    requires room { at < length octets.now }
+    ensures { (order : ByteOrder) (rest : List ℕ) → drop at octets.now ≡ order_octet order ∷ rest →
+        result ≡ order }
+{
+    match octet_at(octets, at) {
+        0 => Order::Big,
+        _ => Order::Little,
+    }
+}
+
+/// The root that stands there.
+fn root_at(octets: &[u8], at: usize) -> Root
+    requires room { at < length octets.now }
+    ensures { (root : PathRoot) (rest : List ℕ) → drop at octets.now ≡ root_octet root ∷ rest →
+        result ≡ root }
+{
+    match octet_at(octets, at) {
+        0 => Root::Header,
+        1 => Root::Exception,
+        _ => Root::Body,
+    }
+}
+
+/// The innermost part that stands there.
+fn leaf_at(octets: &[u8], at: usize) -> Leaf
+    requires room { at + 13 ≤ length octets.now }
+    ensures { (leaf : Innermost) (rest : List ℕ) → LeafHasRange leaf →
+        drop at octets.now ≡ leaf_octets leaf ++ rest → result ≡ leaf }
+{
+    let of = TypeId(four_at(octets, at + 1));
+    if octet_at(octets, at) == 0 {
+        return Leaf::Number(of);
+    }
+    Leaf::Content {
+        of,
+        total: four_at(octets, at + 5),
+        offset: four_at(octets, at + 9),
+    }
+}
+
+/// A carry that holds these octets.
+fn carried(octets: &[u8]) -> Carry
+    requires { length octets.now ≤ 8 }
+    ensures { result ≡ octets.now }
+{
+    let mut carry = Carry::new();
+    for octet in octets {
+        carry.push(*octet);
+    }
+    carry
+}
+
+/// What was last heard, as it stands there.
+fn memory_at(octets: &[u8], at: usize) -> Memory
+    requires room { at + 140 ≤ length octets.now }
+    ensures { (memory : MemoryState) (rest : List ℕ) → MemoryHasRange memory →
+        drop at octets.now ≡ memory_octets memory ++ rest → IsKept memory result }
+{
+    Memory {
+        request_id: optional_at(octets, at),
+        status: optional_at(octets, at + 5),
+        buffer: buffer_at(octets, at + 10),
+        name: held_at(octets, at + 11),
+    }
+}
+
+/// What the name buffer has, as it stands there.
+fn buffer_at(octets: &[u8], at: usize) -> Buffer
+    requires room { at < length octets.now }
+    ensures { (buffer : BufferState) (rest : List ℕ) → drop at octets.now ≡ buffer_octet buffer ∷ rest →
+        result ≡ buffer }
+{
+    match octet_at(octets, at) {
+        0 => Buffer::Begun,
+        1 => Buffer::Whole,
+        _ => Buffer::TooLong,
+    }
+}
+
+/// The frames that stand in octets, but for the last, which is the innermost part's.
+fn outer_at(octets: &[u8]) -> ArrayVec<Frame, 24>
+    ensures { (frames : List FrameState) (own : FrameState) → AllByRecursion FrameHasRange frames →
+        length frames < 24 → octets.now ≡ frames_octets (frames ++ own ∷ []) → result.items ≡ frames }
+{
+    let mut outer = ArrayVec::new();
+    let mut rest = octets;
+    while rest.len() >= 2 * FRAME_SIZE && !outer.is_full() {
+        outer.push(frame_at(rest));
+        let (_, behind) = rest.split_at(FRAME_SIZE);
+        rest = behind;
+    }
+    outer
+}
+
+/// The frame that stands at the front of octets.
+fn frame_at(octets: &[u8]) -> Frame
+    requires { frame_size ≤ length octets.now }
+    ensures { (frame : FrameState) (rest : List ℕ) → FrameHasRange frame →
+        octets.now ≡ frame_octets frame ++ rest → result ≡ frame }
+{
+    Frame {
+        of: TypeId(four_at(octets, 0)),
+        index: four_at(octets, 4),
+        count: four_at(octets, 8),
+    }
+}

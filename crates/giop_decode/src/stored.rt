@@ -1,0 +1,182 @@
+//! What a checkpoint keeps of a decoder that goes on, as octets.
+
+ghost use Rattle.std.specs.Prelude.{◌≡◌, ◌+◌, ◌*◌, ◌<◌, ◌≤◌, [], ◌∷◌, ◌++◌, length, take};
+ghost use Rattle.std.specs.List.{AllByRecursion};
+ghost use Rattle.arrayvec.specs.ArrayVec.{array_vec_len};
+ghost use Rattle.giop_decode.specs.Holding.{Fits};
+ghost use Rattle.giop_decode.specs.Stored.{order_octet, root_octet, leaf_octets, buffer_octet, kept_name, memory_octets, fixed_octets, frame_size, frame_octets, frames_octets, own_frame, FrameHasRange, LeafHasRange, MemoryHasRange, HasRange, Stored};
+ghost use Rattle.giop_sig.specs.Table.{Table};
+ghost use Rattle.giop_sig.specs.Trees.{depth_of};
+
+use crate::decoder::Decoder;
+use crate::frame::Frame;
+use crate::leaf::Leaf;
+use crate::memory::{Buffer, Memory};
+use arrayvec::ArrayVec;
+use giop_cdr::Order;
+use giop_octets::{put_eight, put_four, put_held, put_optional, put_zeros};
+use giop_print::Root;
+
+/// How many octets a frame has.
+pub(crate) const FRAME_SIZE: usize = 16;
+
+impl Decoder {
+    /// Writes what is kept of a decoder that goes on: its own octets and those of its frames, of which it answers the number.
+    pub fn store(&self, fixed: &mut [u8; 208], frames: &mut [u8; 384]) -> u8
+        ensures few { result ≤ 24 }
+        ensures depth { (C : Table) → Fits C self.now → result ≤ depth_of C.types }
+        ensures stored { (C : Table) → Fits C self.now →
+            Stored self.now fixed.new (take (frame_size * result) frames.new) }
+    {
+        let Some(leaf) = self.leaf else {
+            return 0;
+        };
+        // What fits a catalogue leaves room for the innermost part's frame.
+        if self.outer.is_full() {
+            return 0;
+        }
+        let mut own = ArrayVec::new();
+        self.put_fixed(&mut own, leaf);
+        fixed.copy_from_slice(own.as_slice());
+        let mut all = ArrayVec::new();
+        put_frames(&mut all, self.outer.as_slice(), leaf);
+        let len = all.len();
+        frames[..len].copy_from_slice(all.as_slice());
+        self.outer.len() as u8 + 1
+    }
+
+    /// Writes the decoder's own octets.
+    fn put_fixed(&self, out: &mut ArrayVec<u8, 208>, leaf: Leaf)
+        requires { out.old.items ≡ [] }
+        ensures put { out.new.items ≡ fixed_octets self.now leaf }
+        ensures len { array_vec_len out.new ≡ 208 }
+        ensures range { HasRange self.now }
+        ensures leaf_range { LeafHasRange leaf }
+    {
+        out.push(order_octet(self.order));
+        out.push(root_octet(self.root));
+        put_eight(out, self.message);
+        out.push(self.at);
+        put_leaf(out, leaf);
+        put_held(out, self.carry.as_slice(), 8);
+        put_held(out, self.piece.as_slice(), 32);
+        put_memory(out, &self.memory);
+        put_zeros(out, 2);
+    }
+}
+
+/// The octet of a byte order.
+fn order_octet(order: Order) -> u8
+    ensures { result ≡ order_octet order }
+{
+    match order {
+        Order::Big => 0,
+        Order::Little => 1,
+    }
+}
+
+/// The octet of a root.
+fn root_octet(root: Root) -> u8
+    ensures { result ≡ root_octet root }
+{
+    match root {
+        Root::Header => 0,
+        Root::Exception => 1,
+        Root::Body => 2,
+    }
+}
+
+/// Writes the innermost part, in 13 octets.
+fn put_leaf(out: &mut ArrayVec<u8, 208>, leaf: Leaf)
+    requires room { array_vec_len out.old + 13 ≤ 208 }
+    ensures put { out.new.items ≡ out.old.items ++ leaf_octets leaf }
+    ensures len { array_vec_len out.new ≡ array_vec_len out.old + 13 }
+    ensures range { LeafHasRange leaf }
+{
+    match leaf {
+        Leaf::Number(of) => {
+            out.push(0);
+            put_four(out, of.0);
+            put_four(out, 0);
+            put_four(out, 0);
+        }
+        Leaf::Content { of, total, offset } => {
+            out.push(1);
+            put_four(out, of.0);
+            put_four(out, total);
+            put_four(out, offset);
+        }
+    }
+}
+
+/// Writes what was last heard, in 140 octets.
+fn put_memory(out: &mut ArrayVec<u8, 208>, memory: &Memory)
+    requires room { array_vec_len out.old + 140 ≤ 208 }
+    ensures put { out.new.items ≡ out.old.items ++ memory_octets memory.now }
+    ensures len { array_vec_len out.new ≡ array_vec_len out.old + 140 }
+    ensures range { MemoryHasRange memory.now }
+{
+    put_optional(out, memory.request_id);
+    put_optional(out, memory.status);
+    out.push(buffer_octet(memory.buffer));
+    put_held(out, kept_name(memory), 128);
+}
+
+/// The octet of a name buffer.
+fn buffer_octet(buffer: Buffer) -> u8
+    ensures { result ≡ buffer_octet buffer }
+{
+    match buffer {
+        Buffer::Begun => 0,
+        Buffer::Whole => 1,
+        Buffer::TooLong => 2,
+    }
+}
+
+/// What is kept of the name: nothing where the buffer is too short.
+fn kept_name(memory: &Memory) -> &[u8]
+    ensures name { result.now ≡ kept_name memory.now.buffer memory.now.name.items }
+    ensures short { length result.now ≤ 128 }
+    ensures room { length memory.now.name.items ≤ 128 }
+{
+    let name = memory.name.as_slice();
+    match memory.buffer {
+        Buffer::Begun => name,
+        Buffer::Whole => name,
+        Buffer::TooLong => &[],
+    }
+}
+
+/// Writes the frames, the innermost part's last.
+fn put_frames(out: &mut ArrayVec<u8, 384>, outer: &[Frame], leaf: Leaf)
+    requires empty { out.old.items ≡ [] }
+    requires few { length outer.now < 24 }
+    ensures put { out.new.items ≡ frames_octets (outer.now ++ own_frame leaf ∷ []) }
+    ensures len { array_vec_len out.new ≡ frame_size * (length outer.now + 1) }
+    ensures range { AllByRecursion FrameHasRange outer.now }
+{
+    for frame in outer {
+        put_frame(out, *frame);
+    }
+    put_frame(
+        out,
+        Frame {
+            of: leaf.of(),
+            index: 0,
+            count: 0,
+        },
+    );
+}
+
+/// Writes a frame.
+fn put_frame(out: &mut ArrayVec<u8, 384>, frame: Frame)
+    requires room { array_vec_len out.old + frame_size ≤ 384 }
+    ensures put { out.new.items ≡ out.old.items ++ frame_octets frame }
+    ensures len { array_vec_len out.new ≡ array_vec_len out.old + frame_size }
+    ensures range { FrameHasRange frame }
+{
+    put_four(out, frame.of.0);
+    put_four(out, frame.index);
+    put_four(out, frame.count);
+    put_four(out, 0);
+}
