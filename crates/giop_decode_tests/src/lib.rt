@@ -18,6 +18,8 @@ mod room_tests;
 #[cfg(test)]
 mod rows;
 #[cfg(test)]
+mod run_tests;
+#[cfg(test)]
 mod tests;
 #[cfg(test)]
 mod tracing;
