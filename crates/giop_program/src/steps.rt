@@ -32,8 +32,9 @@ pub fn program(rt: &HostRuntime) -> u8
     ensures { result ≤ 5 }
 {
     let alloc = rt.alloc();
-    let Ok(words) = env::args(rt) else {
-        return told(rt, &Err(ProgramFault::OutOfMemory));
+    let words = match env::args(rt) {
+        Ok(words) => words,
+        Err(error) => return told(rt, &Err(ProgramFault::of_words(&error))),
     };
     let Ok(words) = words.collect::<Vec<String>>(alloc) else {
         return told(rt, &Err(ProgramFault::OutOfMemory));

@@ -17,8 +17,9 @@ pub record Dumped (R : Reading) (ran : Result Report RunFault) (told : Option (L
   pub reader : before.left ≡ told
   pub did : Ran R ran [] octets before after x y
 
--- the status of what failed: a file refused, a file or a run that failed, no memory
+-- the status of what failed: no words, a file refused, a file or a run that failed, no memory
 abbrev pub fault_status : ProgramFault → ℕ
+fault_status faults.Words = 2
 fault_status (faults.Signatures name fault) = 3
 fault_status (faults.Requests name fault) = 3
 fault_status (faults.Unreadable name) = 4
@@ -28,6 +29,7 @@ fault_status faults.OutOfMemory = 5
 -- the fault of a run that failed
 abbrev pub run_fault : ProgramFault → Option RunFault
 run_fault (faults.Run fault) = Some fault
+run_fault faults.Words = None
 run_fault (faults.Signatures name fault) = None
 run_fault (faults.Requests name fault) = None
 run_fault (faults.Unreadable name) = None

@@ -65,6 +65,7 @@ NoCatalogue held asked (faults.Signatures name why) =
     × (length text ≤ signatures_most → IsFirstRefusal text why))
 NoCatalogue held asked (faults.Unreadable name) = asked ≡ Some name.now
 NoCatalogue held asked faults.OutOfMemory = Unit {0}
+NoCatalogue held asked faults.Words = ⊥
 NoCatalogue held asked (faults.Requests name why) = ⊥
 NoCatalogue held asked (faults.Run why) = ⊥
 
@@ -75,6 +76,7 @@ NoRequests held asked (faults.Requests name why) =
     × ((text : List ℕ) × IsFront requests_most (held name.now) text × IsRefusedAs text why.line why.kind)
 NoRequests held asked (faults.Unreadable name) = asked ≡ Some name.now
 NoRequests held asked faults.OutOfMemory = Unit {0}
+NoRequests held asked faults.Words = ⊥
 NoRequests held asked (faults.Signatures name why) = ⊥
 NoRequests held asked (faults.Run why) = ⊥
 
@@ -82,6 +84,7 @@ NoRequests held asked (faults.Run why) = ⊥
 abbrev pub NoStream : Option (List ℕ) → ProgramFault → Type 0
 NoStream asked (faults.Unreadable name) = asked ≡ Some name.now
 NoStream asked faults.OutOfMemory = Unit {0}
+NoStream asked faults.Words = ⊥
 NoStream asked (faults.Signatures name why) = ⊥
 NoStream asked (faults.Requests name why) = ⊥
 NoStream asked (faults.Run why) = ⊥

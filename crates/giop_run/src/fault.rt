@@ -1,9 +1,12 @@
 //! What can fail in a run and in the steps before it, as the program prints it.
 
 ghost use Rattle.std.specs.Prelude.{◌≡◌, ◌≢◌};
+ghost use Rattle.std.specs.IoError.{error_kind};
 ghost use Rattle.giop_run.specs.Console.{fault_status};
 
 use giop_sig::{ListFault, ListFaultKind, SigFault, SigFaultKind};
+use std::io;
+use std::io::ErrorKind;
 use thiserror::Error;
 
 /// A read that failed. It gave nothing.
@@ -31,6 +34,9 @@ pub enum RunFault {
 /// Why the program came to no end. `Display` is what it prints after its name (docs/FORMATS.md, The program).
 #[derive(Clone, Copy, Debug, Drop, PartialEq, Eq, Error)]
 pub enum ProgramFault<'a> {
+    /// A word of the command line is no text.
+    #[error("a word of the command line is not UTF-8")]
+    Words,
     /// The signature file is refused.
     #[error("{name}:{}: {fault}", .fault.line)]
     Signatures { name: &'a str, fault: SigFault },
@@ -49,6 +55,19 @@ pub enum ProgramFault<'a> {
 }
 
 impl<'a> ProgramFault<'a> {
+    /// Why the words of the command line can't be had.
+    pub fn of_words(error: &io::Error) -> ProgramFault<'a>
+        ensures text { error_kind error.now ≡ ErrorKind.InvalidData → result ≡ ProgramFault.Words }
+        ensures memory { error_kind error.now ≢ ErrorKind.InvalidData
+            → result ≡ ProgramFault.OutOfMemory }
+    {
+        if error.kind() == ErrorKind::InvalidData {
+            ProgramFault::Words
+        } else {
+            ProgramFault::OutOfMemory
+        }
+    }
+
     /// What the refusal of the signature file of this name is to the program.
     pub fn of_signatures(name: &'a str, fault: SigFault) -> ProgramFault<'a>
         ensures memory { fault.kind ≡ SigFaultKind.OutOfMemory → result ≡ ProgramFault.OutOfMemory }
@@ -78,6 +97,7 @@ impl<'a> ProgramFault<'a> {
         ensures { result ≡ fault_status self.now }
     {
         match self {
+            ProgramFault::Words => 2,
             ProgramFault::Signatures { .. } | ProgramFault::Requests { .. } => 3,
             ProgramFault::Unreadable { .. } | ProgramFault::Run(_) => 4,
             ProgramFault::OutOfMemory => 5,

@@ -1,10 +1,17 @@
 //! A reader of the standard library as a source.
 
-ghost use Rattle.std.specs.Prelude.{◌≡◌};
+ghost use Rattle.std.specs.Prelude.{◌≡◌, ◌≢◌, IfErr};
+ghost use Rattle.std.specs.IoError.{error_kind};
+ghost use Rattle.std.specs.Io.{ReadsAtMost};
+ghost use Rattle.std.specs.Io.KnownBytes.{ReadConsumes};
 
 use super::fault::SourceFault;
 use super::source::{Source, one_more};
-use std::io::Read;
+use std::io;
+use std::io::{ErrorKind, Read};
+
+/// How often a read is tried before it has failed: 2^16.
+const TRIES: u32 = 1 << 16;
 
 /// A reader, whose octets are told where the reader tells them.
 #[derive(Drop)]
@@ -39,7 +46,7 @@ impl<R: Read> Source for Reading<R> {
 
     fn read(&mut self, into: &mut [u8]) -> Result<usize, SourceFault> {
         self.reads = one_more(self.reads);
-        match self.reader.read(into) {
+        match retried(&mut self.reader, into) {
             Ok(given) => {
                 if given == 0 && !into.is_empty() {
                     self.ends = one_more(self.ends);
@@ -52,4 +59,19 @@ impl<R: Read> Source for Reading<R> {
             }
         }
     }
+}
+
+/// One read. It is tried again where it is interrupted, and gives up where it always is.
+fn retried<R: Read>(reader: &mut R, into: &mut [u8]) -> io::Result<usize>
+    ensures within { ReadsAtMost result into.new }
+    ensures octets { ReadConsumes (R.remaining reader.old) (R.remaining reader.new) result into.new }
+    ensures retried { IfErr result (λ e. error_kind e ≢ ErrorKind.Interrupted) }
+{
+    for _try in 0..TRIES {
+        match reader.read(into) {
+            Err(error) if error.kind() == ErrorKind::Interrupted => {}
+            read => return read,
+        }
+    }
+    Err(io::Error::from(ErrorKind::TimedOut))
 }

@@ -1,4 +1,4 @@
-//! A reader and a writer that fail at a call of the test's choice, and a reader that never ends.
+//! A reader and a writer that fail at a call of the test's choice, a reader that is interrupted, and one that never ends.
 
 use std::cell::{Cell, RefCell};
 use std::io;
@@ -37,6 +37,35 @@ impl Read for FailingReader<'_> {
             }
             _ => Ok(0),
         }
+    }
+}
+
+/// A reader that counts its reads, and is interrupted at so many of them before it gives all that it has.
+#[derive(Drop)]
+pub struct InterruptedReader<'a> {
+    left: &'a [u8],
+    reads: &'a Cell<usize>,
+    interrupts: usize,
+}
+
+impl<'a> InterruptedReader<'a> {
+    pub fn new(left: &'a [u8], reads: &'a Cell<usize>, interrupts: usize) -> InterruptedReader<'a> {
+        InterruptedReader {
+            left,
+            reads,
+            interrupts,
+        }
+    }
+}
+
+impl Read for InterruptedReader<'_> {
+    fn read(&mut self, into: &mut [u8]) -> io::Result<usize> {
+        let reads = self.reads.get();
+        self.reads.set(reads.saturating_add(1));
+        if reads < self.interrupts {
+            return Err(io::Error::from(ErrorKind::Interrupted));
+        }
+        self.left.read(into)
     }
 }
 

@@ -57,6 +57,15 @@ fn cannot_read(
 }
 
 #[test]
+fn words_that_are_no_text_are_told(rt: HostRuntime) -> Result<(), Fail> {
+    let refused = |kind| ProgramFault::of_words(&io::Error::from(kind));
+    let text = refused(ErrorKind::InvalidData);
+    let memory = refused(ErrorKind::OutOfMemory);
+    says(&rt, text, "a word of the command line is not UTF-8", 2)?;
+    says(&rt, memory, "out of memory", 5)
+}
+
+#[test]
 fn a_file_that_cannot_be_read_is_told(rt: HostRuntime) -> Result<(), Fail> {
     cannot_read(&rt, ErrorKind::NotFound, "a: cannot read", 4)?;
     cannot_read(&rt, ErrorKind::OutOfMemory, "out of memory", 5)

@@ -3,7 +3,7 @@
 ghost use Rattle.giop_stream.specs.Holding.{AreOf};
 
 use super::close::{CLOSE, CLOSED, COMPLETED, NOTHING, REFUSED, WRONG, built_in};
-use super::fakes::{FailingReader, FailingWriter};
+use super::fakes::{FailingReader, FailingWriter, InterruptedReader};
 use giop_print::{Sheet, Written};
 use giop_run::{Ending, Piecewise, Reading, Report, RunFault, run};
 use giop_sig::{Catalogue, Requests};
@@ -84,6 +84,59 @@ fn each_read_fails(rt: &impl Abort, catalogue: &Catalogue, requests: &Requests)
 fn a_failing_read_ends_the_run_and_keeps_the_lines(rt: HostRuntime) -> Result<(), Fail> {
     let known = built_in(rt.alloc())?;
     each_read_fails(&rt, &known.0, &known.1);
+    Ok(())
+}
+
+/// What differs where so many reads are interrupted: 65,536 of them are a failure.
+fn interrupt_differs(
+    ran: Result<Report, RunFault>,
+    reads: usize,
+    held: &[u8],
+    interrupts: usize,
+) -> &'static str {
+    let fails = interrupts > 65_535;
+    if ran.is_ok() == fails || (ran == Err(RunFault::Read)) != fails {
+        return "the answer";
+    }
+    if reads
+        != if fails {
+            65_536
+        } else {
+            interrupts.saturating_add(2)
+        }
+    {
+        return "the reads";
+    }
+    if held == if fails { b"" } else { CLOSED } {
+        ""
+    } else {
+        "the lines"
+    }
+}
+
+/// Runs a CloseConnection from a reader of which the first reads are interrupted.
+fn tries_again(rt: &impl Abort, engine: Engine, interrupts: usize) {
+    let mut room = [0; 512];
+    let mut sheet = Sheet::new(&mut room);
+    let reads = Cell::new(0);
+    let mut source = Reading::new(InterruptedReader::new(CLOSE, &reads, interrupts));
+    let ran = run(&mut source, &mut sheet, engine, Ending::Finish);
+    let differs = interrupt_differs(ran, reads.get(), sheet.held(), interrupts);
+    assert!(rt; differs.is_empty(), "{interrupts} interrupted: {differs}");
+}
+
+fn each_interrupt(rt: &impl Abort, catalogue: &Catalogue, requests: &Requests)
+    requires of { AreOf catalogue.now requests.now }
+{
+    for interrupts in [0, 1, 2, 65_535, 65_536] {
+        tries_again(rt, Engine::new(catalogue, requests), interrupts);
+    }
+}
+
+#[test]
+fn an_interrupted_read_is_tried_again(rt: HostRuntime) -> Result<(), Fail> {
+    let known = built_in(rt.alloc())?;
+    each_interrupt(&rt, &known.0, &known.1);
     Ok(())
 }
 
