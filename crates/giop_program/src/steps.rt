@@ -63,7 +63,8 @@ pub fn performed<'a, R: Inputs + AllocGlobal, O: Flush>(
 ) -> Result<Report, ProgramFault<'a>>
     // A run reads what the words name: the stream, by the catalogue and the list of the files.
     ensures dumped { let asked = asked_of asked.entry in let held = R.held rt.now in
-        IfSome (run_of result) (λ ran. (C : Table) × (l : Listed) × AreOf C l × ReadsBy held asked C l
+        IfSome (run_of result) (λ ran. (C : Table) × (l : Listed)
+        × AreOf C l × ReadsBy held asked C l
         × Dumped (message_reading C l) ran (stream_of held (R.given rt.now) asked.stream)
         (O.log out.old) (O.log out.new)) }
     // A step before the run that fails tells the file of that step, and writes nothing.

@@ -1,5 +1,5 @@
--- What the files that the words name have to do with a run (meaning). `held` is what the file of a name holds, where
--- that is told; a name is its text, and none is None.
+-- What the files that the words name have to do with a run (meaning). `held` is what the file of a
+-- name holds, where that is told; a name is its text, and none is None.
 use Rattle.std.specs.Prelude.{◌≡◌, ℕ, ◌<◌, ◌≤◌, List, [], length, take, Option, None, Some, IfSome, ◌⊎◌}
 use Rattle.giop_print.specs.Output.{counted}
 use Rattle.giop_sig.specs.Builtin.{builtin_table}
@@ -17,7 +17,7 @@ use Rattle.giop_run.specs.declared.fault.ProgramFault.TheVariants as faults
 abbrev pub Folder : Type 0
 Folder = List ℕ → Option (List ℕ)
 
--- a text is what is read of a file of which at most so many octets are wanted: one more, or all of it
+-- a text is what is read of a file of which at most so many octets are wanted: one more, or all
 abbrev pub IsFront : ℕ → Option (List ℕ) → List ℕ → Type 0
 IsFront most held text = IfSome held (λ octets. text ≡ take (counted most) octets)
 
@@ -44,19 +44,21 @@ pub record Requests (text : List ℕ) (C : Table) (kept : Listed) : Type 0 where
 -- the catalogue of the signature file, or without one the built-in types
 abbrev pub CatalogueOf : Folder → Option (List ℕ) → Table → Type 0
 CatalogueOf held None C = C ≡ builtin_table
-CatalogueOf held (Some name) C = (text : List ℕ) × IsFront signatures_most (held name) text × Declares text C
+CatalogueOf held (Some name) C =
+    (text : List ℕ) × IsFront signatures_most (held name) text × Declares text C
 
 -- the list of the request file, or without one no request
 abbrev pub RequestsOf : Folder → Option (List ℕ) → Table → Listed → Type 0
 RequestsOf held None C kept = kept ≡ []
-RequestsOf held (Some name) C kept = (text : List ℕ) × IsFront requests_most (held name) text × Requests text C kept
+RequestsOf held (Some name) C kept =
+    (text : List ℕ) × IsFront requests_most (held name) text × Requests text C kept
 
 -- what the stream gives: that of the file, or without one of standard input
 abbrev pub stream_of : Folder → Option (List ℕ) → Option (List ℕ) → Option (List ℕ)
 stream_of held given None = given
 stream_of held given (Some name) = held name
 
--- why there is no catalogue: no memory, or the signature file can't be read or is refused, by its name
+-- why there is no catalogue: no memory, or the signature file can't be read or is refused, by name
 abbrev pub NoCatalogue : Folder → Option (List ℕ) → ProgramFault → Type 0
 NoCatalogue held asked (faults.Signatures name why) =
     (asked ≡ Some name.now)
@@ -73,7 +75,8 @@ NoCatalogue held asked (faults.Run why) = ⊥
 abbrev pub NoRequests : Folder → Option (List ℕ) → ProgramFault → Type 0
 NoRequests held asked (faults.Requests name why) =
     (asked ≡ Some name.now)
-    × ((text : List ℕ) × IsFront requests_most (held name.now) text × IsRefusedAs text why.line why.kind)
+    × ((text : List ℕ) × IsFront requests_most (held name.now) text
+    × IsRefusedAs text why.line why.kind)
 NoRequests held asked (faults.Unreadable name) = asked ≡ Some name.now
 NoRequests held asked faults.OutOfMemory = Unit {0}
 NoRequests held asked faults.Words = ⊥

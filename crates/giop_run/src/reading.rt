@@ -64,7 +64,8 @@ impl<R: Read> Source for Reading<R> {
 /// One read. It is tried again where it is interrupted, and gives up where it always is.
 fn retried<R: Read>(reader: &mut R, into: &mut [u8]) -> io::Result<usize>
     ensures within { ReadsAtMost result into.new }
-    ensures octets { ReadConsumes (R.remaining reader.old) (R.remaining reader.new) result into.new }
+    ensures octets { ReadConsumes (R.remaining reader.old) (R.remaining reader.new)
+        result into.new }
     ensures retried { IfErr result (λ e. error_kind e ≢ ErrorKind.Interrupted) }
 {
     for _try in 0..TRIES {

@@ -1,4 +1,5 @@
-//! A reader and a writer that fail at a call of the test's choice, a reader that is interrupted, and one that never ends.
+//! A reader and a writer that fail at a call of the test's choice, a reader that is interrupted, and one without an
+//! end.
 
 use std::cell::{Cell, RefCell};
 use std::io;
