@@ -36,3 +36,13 @@ need_giopdump() {
     echo "$0: $giopdump is missing: build it with: cd crates/giopdump && rt run -- --version" >&2
     exit 1
 }
+
+# The library of checks/failing.c, as $failing. It is made in a folder of its own, which goes when the script ends.
+need_failing() {
+    need_program cc gcc
+    local folder
+    folder=$(mktemp -d)
+    trap 'rm -rf "'"$folder"'"' EXIT
+    failing=$folder/failing.so
+    cc -shared -fPIC -O2 -Wall -Wextra -Werror -o "$failing" checks/failing.c
+}

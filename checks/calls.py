@@ -1,0 +1,78 @@
+"""Fails each open, read and write of the program in turn, and all from it on, and cuts them short: what is written is a
+front of what it always is, and the status and the text on standard error say what failed. A read or write that
+is interrupted is made again."""
+
+from __future__ import annotations
+
+import errno
+import sys
+from typing import Tuple
+
+from failing import Case, Differences, Ended, cases, run
+
+ERRORS = (errno.EIO, errno.ENOSPC, errno.EAGAIN)
+ON = 2**63
+INTERRUPTIONS = 100
+FAILED = {
+    "open": (b"cannot read\n",),
+    "read": (b"cannot read\n", b"giopdump: read failed\n"),
+    "write": (b"giopdump: write failed\n", b""),
+}
+
+
+def is_told(call: str, ended: Ended, usual: Ended) -> bool:
+    """Whether what was written is a front of the usual lines, and the failure is told, unless it was of telling."""
+    if not usual.lines.startswith(ended.lines):
+        return False
+    if ended.status == usual.status and ended.lines == usual.lines:
+        return ended.said == usual.said or call == "write" and usual.said.startswith(ended.said)
+    return ended.status == 4 and any(ended.said.endswith(said) for said in FAILED[call])
+
+
+def fail_each(library: str, case: Case, call: str, usual: Ended, seen: Differences) -> None:
+    for at in range(1, usual.calls.get(call, 0) + 1):
+        for error in ERRORS:
+            for last, which in ((at, "alone"), (ON, "and all behind it")):
+                ended = run(library, case, call, at=at, last=last, how=error)
+                as_wanted = is_told(call, ended, usual) and ended.touched > 0
+                seen.note(as_wanted, f"{case.name}: {call} {at} {which}, {errno.errorcode[error]}", ended)
+
+
+def interrupt_each(library: str, case: Case, call: str, usual: Ended, seen: Differences) -> None:
+    for at in range(1, usual.calls.get(call, 0) + 1):
+        for times in (1, INTERRUPTIONS):
+            ended = run(library, case, call, at=at, last=at + times - 1, how=errno.EINTR)
+            as_wanted = ended.usual() == usual.usual() and ended.touched == times
+            seen.note(as_wanted, f"{case.name}: {call} {at} interrupted {times} times", ended)
+
+
+def cut_each(library: str, case: Case, call: str, usual: Ended, seen: Differences) -> None:
+    for at, last, cut in [(at, at, 1) for at in range(1, usual.calls.get(call, 0) + 1)] + cuts():
+        ended = run(library, case, call, at=at, last=last, cut=cut, seed=cut)
+        seen.note(ended.usual() == usual.usual(), f"{case.name}: {call} {at}, at most {cut} octets", ended)
+
+
+def cuts() -> "list[Tuple[int, int, int]]":
+    """All calls, each cut to at most so many octets."""
+    return [(1, ON, cut) for cut in (1, 2, 3, 7, 64, 1000)]
+
+
+def main(library: str) -> int:
+    seen = Differences()
+    counted = []
+    for case in cases():
+        usual = run(library, case)
+        seen.note_usual(case, usual)
+        counted.append("/".join(str(usual.calls.get(call, 0)) for call in FAILED))
+        for call in FAILED:
+            fail_each(library, case, call, usual, seen)
+        for call in ("read", "write"):
+            interrupt_each(library, case, call, usual, seen)
+            cut_each(library, case, call, usual, seen)
+    print(f"opens/reads/writes: {', '.join(f'{case.name} {made}' for case, made in zip(cases(), counted))}")
+    print(f"{seen.runs} runs, {seen.differ} differ")
+    return seen.status()
+
+
+if __name__ == "__main__":
+    sys.exit(main(sys.argv[1]))

@@ -1,0 +1,139 @@
+"""Streams made from the examples by seeds: messages are taken in any order, and octets of them changed, left out, put
+in and repeated. Of each the program writes the same text however its reads are cut, and a front of it when the stream
+ends early; it ends with status 0 or 1, its total line is right, and it makes as many requests for memory as ever."""
+
+from __future__ import annotations
+
+import os
+import random
+import sys
+import time
+from concurrent.futures import ThreadPoolExecutor
+from typing import Dict, List, Tuple
+
+from failing import EXAMPLES, TOUR, Case, Differences, Ended, run
+
+MOST = 20_000
+TYPES = [
+    (),
+    ("--signatures", str(EXAMPLES / "naming.sig"), "--requests", str(EXAMPLES / "naming.req")),
+    ("--signatures", str(TOUR / "data/tour.sig"), "--requests", str(TOUR / "data/tour.requests")),
+]
+Requests = Dict[Tuple[str, ...], int]
+CLOSING = (b"stream fault truncated ", b"total ")
+
+
+def messages() -> List[bytes]:
+    """The messages of the examples, each with its header."""
+    streams = [(EXAMPLES / name).read_bytes() for name in ("naming.giop", "naming-replies.giop")]
+    streams.append((TOUR / "stdin").read_bytes())
+    found = []
+    for stream in streams:
+        while len(stream) >= 12 and stream.startswith(b"GIOP"):
+            order = "little" if stream[6] & 1 else "big"
+            size = 12 + int.from_bytes(stream[8:12], order)
+            found.append(stream[:size])
+            stream = stream[size:]
+    return found
+
+
+def changed(draw: random.Random, octets: bytes) -> bytes:
+    """With some octets changed, left out, put in or repeated."""
+    at = draw.randrange(len(octets) + 1)
+    end = min(len(octets), at + draw.choice((1, 1, 1, 2, 4, 8, 40)))
+    sort = draw.randrange(6)
+    if sort == 0:
+        return octets[:at] + octets[end:]
+    if sort == 1:
+        return octets[:end] + octets[at:]
+    if sort == 2:
+        return octets[:at] + draw.randbytes(end - at) + octets[at:]
+    if sort == 3:
+        return octets[:at] + bytes([draw.choice((0, 1, 255))]) * (end - at) + octets[end:]
+    if sort == 4:
+        return octets[:at] + bytes(octet ^ 1 << draw.randrange(8) for octet in octets[at:end]) + octets[end:]
+    return octets[:at]
+
+
+def stream_of(seed: int, known: List[bytes]) -> Case:
+    draw = random.Random(seed)
+    made = [draw.choice(known) for _ in range(draw.choice((1, 2, 5, 20)))]
+    for _ in range(draw.choice((0, 1, 1, 2, 5))):
+        place = draw.randrange(len(made))
+        made[place] = changed(draw, made[place])
+    return Case(f"seed {seed}", draw.choice(TYPES), b"".join(made)[:MOST])
+
+
+def counts(text: bytes) -> Tuple[int, int]:
+    """The start lines and the fault lines of a text."""
+    words = [line.split(b" ", 2) for line in text.splitlines()]
+    return sum(word[1:2] == [b"start"] for word in words), sum(word[1:2] == [b"fault"] for word in words)
+
+
+def is_right(ended: Ended, octets: int) -> bool:
+    """Whether the status and the total line are those of the lines above, and all was read up to a stream fault."""
+    lines = ended.lines.splitlines()
+    words = lines[-1].split() if lines else []
+    if ended.said or ended.status not in (0, 1) or len(words) != 7:
+        return False
+    read = int(words[6])
+    stopped = any(line.startswith(b"stream fault ") for line in lines)
+    said = (int(words[2]), int(words[4]))
+    if said != counts(ended.lines) or (ended.status == 1) != (said[1] > 0):
+        return False
+    return read <= octets if stopped else read == octets
+
+
+def before_the_closing(text: bytes) -> bytes:
+    lines = text.splitlines(keepends=True)
+    while lines and (lines[-1].startswith(CLOSING) or lines[-1].endswith(b" unfinished\n")):
+        lines.pop()
+    return b"".join(lines)
+
+
+def try_seed(library: str, seed: int, known: List[bytes], requests: Requests) -> List[Tuple[bool, str, Ended]]:
+    """What came of the runs of a seed."""
+    case = stream_of(seed, known)
+    draw = random.Random(f"cuts of {seed}")
+    usual = run(library, case)
+    tried = [(is_right(usual, len(case.stream)), "whole", usual)]
+    cut = draw.choice((1, 3, 16, 64, 1000))
+    ended = run(library, case, "read", cut=cut, seed=seed)
+    tried.append((ended.usual() == usual.usual(), f"read by at most {cut} octets", ended))
+    end = draw.randrange(len(case.stream) + 1)
+    ended = run(library, Case(case.name, case.words, case.stream[:end]))
+    is_front = usual.lines.startswith(before_the_closing(ended.lines)) and is_right(ended, end)
+    tried.append((is_front, f"the first {end} octets", ended))
+    usually = requests[case.words]
+    return [
+        (as_wanted and ended.calls.get("memory") == usually, f"seed {seed}, {what}", ended)
+        for as_wanted, what, ended in tried
+    ]
+
+
+def requests_of(library: str, words: Tuple[str, ...]) -> int:
+    return run(library, Case("no octets", words)).calls.get("memory", -1)
+
+
+def main(library: str, seconds: float, first: int) -> int:
+    known, seen = messages(), Differences()
+    requests = {words: requests_of(library, words) for words in TYPES}
+    end, seed, faulted = time.monotonic() + seconds, first, 0
+    with ThreadPoolExecutor(os.cpu_count() or 1) as pool:
+        while time.monotonic() < end:
+            for tried in pool.map(lambda at: try_seed(library, at, known, requests), range(seed, seed + 200)):
+                faulted += tried[0][2].status == 1
+                for as_wanted, what, ended in tried:
+                    seen.note(as_wanted, what, ended)
+            seed += 200
+    for words in TYPES:
+        long = Case("long", words, b"".join(known) * 200)
+        ended = run(library, long)
+        seen.note(ended.calls.get("memory") == requests[words], "the examples 200 times over", ended)
+    print(f"seeds {first} to {seed - 1}, {faulted} of them with a fault: {seen.runs} runs, {seen.differ} differ")
+    print(f"requests for memory in each, by its files: {', '.join(map(str, requests.values()))}")
+    return seen.status()
+
+
+if __name__ == "__main__":
+    sys.exit(main(sys.argv[1], float(sys.argv[2]), int(sys.argv[3])))
