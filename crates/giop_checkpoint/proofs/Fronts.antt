@@ -1,0 +1,83 @@
+-- Octets that begin with the fixed part pass its checks.
+use Rattle.std.proofs.Common.{◌≡◌, false, IsTrue, ℕ, List, ◌++◌, length, take, drop, replicate, refl, ap, ◌∙◌, append_assoc, arith}
+use Rattle.std.proofs.lemmas.List.{length-append, take_at}
+use Rattle.giop_octets.specs.Fields.{four, eight}
+use Rattle.giop_octets.proofs.FieldLaws.{four_long, eight_long, behind}
+use Rattle.giop_checkpoint.specs.declared.sizes.TheConstants.{VERSION}
+use Rattle.giop_checkpoint.specs.declared.fixed.Counts.{Counts}
+use Rattle.giop_checkpoint.specs.declared.fixed.Fixed.{Fixed}
+use Rattle.giop_checkpoint.specs.Fixed.{HasRange, magic, counts_octets, place_octets, state_octets, fixed_octets}
+use Rattle.giop_checkpoint.specs.Refusals.{IsOurs, IsNotOurs, HasState}
+use Rattle.giop_checkpoint.specs.Records.{AreRecords}
+use Rattle.giop_checkpoint.specs.declared.fault.LoadFault.{LoadFault}
+use Rattle.giop_checkpoint.specs.declared.fault.LoadFault.TheVariants as faults
+use Rattle.giop_checkpoint.proofs.Places.{place_long}
+
+pub record Front (c : Counts) (f : Fixed) (s records : List ℕ) : Type 0 where
+  pub ours : IsOurs c s
+  pub state : HasState c f s
+  pub rest : drop 96 s ≡ records
+
+magic_long : length magic ≡ 8
+unfolding magic
+magic_long = refl
+
+counts_long : (c : Counts) → length (counts_octets c) ≡ 16
+unfolding counts_octets
+counts_long c =
+    omega (arith, length-append (four c.types ++ four c.operations ++ four c.exceptions) (four c.ids), length-append (four c.types ++ four c.operations) (four c.exceptions), length-append (four c.types) (four c.operations), four_long c.types, four_long c.operations, four_long c.exceptions, four_long c.ids)
+
+pub state_long : (f : Fixed) → HasRange f → length (state_octets f) ≡ 68
+unfolding state_octets
+state_long f h =
+    let a = four f.records in
+    let b = eight f.octets in
+    let d = eight f.messages in
+    let e = eight f.faults in
+    let p = place_octets f.place f.owner in
+    let zeros : List ℕ = replicate 16 0 in
+    omega (arith, length-append (a ++ b ++ d ++ e ++ p) zeros, length-append (a ++ b ++ d ++ e) p, length-append (a ++ b ++ d) e, length-append (a ++ b) d, length-append a b, four_long f.records, eight_long f.octets, eight_long f.messages, eight_long f.faults, place_long f.place f.owner h.place, zeros_long)
+  where
+    zeros_long : length (replicate {A = ℕ} 16 0) ≡ 16
+    zeros_long = refl
+
+five : (a b c d e : List ℕ) → a ++ b ++ c ++ d ++ e ≡ a ++ (b ++ (c ++ (d ++ e)))
+five a b c d e = append_assoc (a ++ b ++ c) d e ∙ append_assoc (a ++ b) c (d ++ e) ∙ append_assoc a b (c ++ (d ++ e))
+
+front_is : (at size : ℕ) (s field rest : List ℕ) → drop at s ≡ field ++ rest → length field ≡ size → take size (drop at s) ≡ field
+front_is at size s field rest e long = ap (take size) e ∙ take_at field rest size long
+
+pub front_of : (c : Counts) (f : Fixed) (s records : List ℕ) → f.counts ≡ c → HasRange f → s ≡ fixed_octets f ++ records → Front c f s records
+unfolding fixed_octets
+front_of c f s records own h e =
+    let version = four VERSION in
+    let counts = counts_octets f.counts in
+    let state = state_octets f in
+    let whole : drop 0 s ≡ magic ++ (version ++ (counts ++ (state ++ records))) = e ∙ five magic version counts state records in
+    let at_8 = behind 0 8 s magic _ whole magic_long in
+    let at_12 = behind 8 4 s version _ at_8 (four_long VERSION) in
+    let at_28 = behind 12 16 s counts _ at_12 (counts_long f.counts) in
+    let at_96 = behind 28 68 s state _ at_28 (state_long f h) in
+    record {
+      ours = (
+        omega (arith, ap length whole, length-append magic (version ++ (counts ++ (state ++ records))), length-append version (counts ++ (state ++ records)), length-append counts (state ++ records), length-append state records, magic_long, four_long VERSION, counts_long f.counts, state_long f h),
+        front_is 0 8 s magic _ whole magic_long,
+        front_is 8 4 s version _ at_8 (four_long VERSION),
+        front_is 12 16 s counts _ at_12 (counts_long f.counts) ∙ ap counts_octets own,
+      );
+      state = record { counts = own; octets = front_is 28 68 s state _ at_28 (state_long f h); range = h };
+      rest = at_96;
+    }
+
+pub ours_not : (c : Counts) (s : List ℕ) (why : LoadFault) → IsOurs c s → IsNotOurs c s why → ⊥
+ours_not c s faults.Magic h r = r.1 h.1
+ours_not c s faults.Version h r = r.2 h.2
+ours_not c s faults.Catalogue h r = r.3 h.3
+ours_not c s faults.Length h r = r h.0
+ours_not c s faults.State h r = r
+
+pub records_in : (n m : ℕ) (xs ys : List ℕ) → n ≡ m → xs ≡ ys → AreRecords m ys → AreRecords n xs
+records_in n m xs ys a b h = rw (a, b) h
+
+pub untrue : IsTrue false → ⊥
+untrue h = cc

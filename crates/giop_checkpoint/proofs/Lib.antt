@@ -1,0 +1,5 @@
+mod Puts
+mod Places
+mod States
+mod Fronts
+mod RecordFields

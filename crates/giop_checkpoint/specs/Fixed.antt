@@ -1,0 +1,94 @@
+-- The fixed part of a checkpoint, octet for octet (docs/FORMATS.md, Checkpoints; state).
+use Rattle.std.specs.Prelude.{◌≡◌, ℕ, ◌+◌, ◌-◌, ◌^◌, ◌<◌, ◌≤◌, List, [], ◌∷◌, ◌++◌, length, replicate, codes, Option, Some, None}
+use Rattle.giop_octets.specs.Fields.{four, eight}
+use Rattle.giop_checkpoint.specs.declared.sizes.TheConstants.{VERSION, MOST_RECORDS}
+use Rattle.giop_checkpoint.specs.declared.fault.StreamFault.{StreamFault}
+use Rattle.giop_checkpoint.specs.declared.fault.StreamFault.TheVariants as faults
+use Rattle.giop_checkpoint.specs.declared.fixed.Counts.{Counts}
+use Rattle.giop_checkpoint.specs.declared.fixed.Fixed.{Fixed}
+use Rattle.giop_checkpoint.specs.declared.fixed.Place.{Place}
+use Rattle.giop_checkpoint.specs.declared.fixed.Place.TheVariants.{Header, Payload, Stopped}
+
+-- ---- ranges
+
+abbrev pub CountsHaveRange : Counts → Type 0
+CountsHaveRange c = (c.types < 2 ^ 32) × (c.operations < 2 ^ 32) × (c.exceptions < 2 ^ 32) × (c.ids < 2 ^ 32)
+
+abbrev pub PlaceHasRange : Place → Type 0
+PlaceHasRange (Header held) = length held.items ≤ 11
+PlaceHasRange (Payload header left) = (length header ≡ 12) × (left < 2 ^ 32)
+PlaceHasRange (Stopped fault) = Unit {0}
+
+-- the payload's record is one of so many
+abbrev pub IsAmong : ℕ → Option ℕ → Type 0
+IsAmong records None = Unit {0}
+IsAmong records (Some k) = k < records
+
+-- the fields behind the counts
+pub record HasRange (f : Fixed) : Type 0 where
+  pub records : f.records ≤ MOST_RECORDS
+  pub octets : f.octets ≤ 2 ^ 48 + 1
+  pub messages : f.messages ≤ 2 ^ 45
+  pub faults : f.faults ≤ 2 ^ 45 + 1
+  pub place : PlaceHasRange f.place
+  pub owner : IsAmong f.records f.owner
+
+-- ---- layout
+
+unfoldable pub magic : List ℕ
+magic = codes "GIOPDUMP"
+
+unfoldable pub counts_octets : Counts → List ℕ
+counts_octets c = four c.types ++ four c.operations ++ four c.exceptions ++ four c.ids
+
+abbrev pub fault_octet : StreamFault → ℕ
+fault_octet faults.Magic = 1
+fault_octet faults.Version = 2
+fault_octet faults.ByteOrder = 3
+fault_octet faults.StreamLimit = 5
+
+abbrev pub owner_octet : Option ℕ → ℕ
+owner_octet None = 255
+owner_octet (Some k) = k
+
+-- Four octets for the place, the stream fault's number, how many header octets are held and the payload's record; the header
+-- octets; the payload octets still to come.
+abbrev pub place_octets : Place → Option ℕ → List ℕ
+place_octets (Header held) owner =
+    (0 ∷ 0 ∷ length held.items ∷ owner_octet owner ∷ []) ++ held.items ++ replicate (12 - length held.items) 0 ++ eight 0
+place_octets (Payload header left) owner = (1 ∷ 0 ∷ 0 ∷ owner_octet owner ∷ []) ++ header ++ eight left
+place_octets (Stopped fault) owner = (2 ∷ fault_octet fault ∷ 0 ∷ owner_octet owner ∷ []) ++ replicate 12 0 ++ eight 0
+
+-- These fields by themselves.
+abbrev pub place_octet : Place → ℕ
+place_octet (Header held) = 0
+place_octet (Payload header left) = 1
+place_octet (Stopped fault) = 2
+
+abbrev pub fault_in : Place → ℕ
+fault_in (Header held) = 0
+fault_in (Payload header left) = 0
+fault_in (Stopped fault) = fault_octet fault
+
+abbrev pub held_in : Place → ℕ
+held_in (Header held) = length held.items
+held_in (Payload header left) = 0
+held_in (Stopped fault) = 0
+
+abbrev pub header_in : Place → List ℕ
+header_in (Header held) = held.items ++ replicate (12 - length held.items) 0
+header_in (Payload header left) = header
+header_in (Stopped fault) = replicate 12 0
+
+abbrev pub left_in : Place → ℕ
+left_in (Header held) = 0
+left_in (Payload header left) = left
+left_in (Stopped fault) = 0
+
+-- the octets behind the counts
+unfoldable pub state_octets : Fixed → List ℕ
+state_octets f =
+    four f.records ++ eight f.octets ++ eight f.messages ++ eight f.faults ++ place_octets f.place f.owner ++ replicate 16 0
+
+unfoldable pub fixed_octets : Fixed → List ℕ
+fixed_octets f = magic ++ four VERSION ++ counts_octets f.counts ++ state_octets f

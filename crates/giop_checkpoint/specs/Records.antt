@@ -1,0 +1,65 @@
+-- The records of a checkpoint, octet for octet (docs/FORMATS.md, Checkpoints; state).
+use Rattle.std.specs.Prelude.{◌≡◌, ℕ, zero, suc, ◌+◌, ◌*◌, ◌^◌, ◌<◌, ◌≤◌, List, [], ◌∷◌, ◌++◌, length, drop, get_or, replicate}
+use Rattle.giop_octets.specs.Fields.{four, eight}
+use Rattle.giop_checkpoint.specs.declared.sizes.TheConstants.{RECORD_SIZE, MESSAGE_SIZE, FRAME_SIZE, MOST_FRAMES}
+use Rattle.giop_checkpoint.specs.declared.record.Record.{Record}
+use Rattle.giop_checkpoint.specs.declared.record.Standing.{Standing}
+use Rattle.giop_checkpoint.specs.declared.record.Standing.TheVariants.{Current, Open, Over}
+
+-- ---- ranges
+
+abbrev pub StandingHasRange : Standing → Type 0
+StandingHasRange Current = Unit {0}
+StandingHasRange (Open id) = id < 2 ^ 32
+StandingHasRange (Over id) = id < 2 ^ 32
+
+pub record RecordHasRange (r : Record) : Type 0 where
+  pub frames : r.frames ≤ MOST_FRAMES
+  pub standing : StandingHasRange r.standing
+  pub number : r.number < 2 ^ 64
+  pub header : length r.header ≡ 12
+
+-- ---- layout
+
+abbrev pub standing_octet : Standing → ℕ
+standing_octet Current = 0
+standing_octet (Open id) = 1
+standing_octet (Over id) = 2
+
+abbrev pub id_of : Standing → ℕ
+id_of Current = 0
+id_of (Open id) = id
+id_of (Over id) = id
+
+-- how many frames it has, and what its message is
+unfoldable pub kind_octets : Record → List ℕ
+kind_octets r = r.frames ∷ standing_octet r.standing ∷ []
+
+-- a record's own octets
+unfoldable pub own_octets : Record → List ℕ
+own_octets r = kind_octets r ++ eight r.number ++ r.header ++ four (id_of r.standing) ++ replicate 6 0
+
+-- A record with what is kept of its message: so many octets, and its frames.
+pub record Entry : Type 0 where
+  pub record_is : Record
+  pub message : List ℕ
+  pub frames : List ℕ
+
+abbrev pub entry_octets : Entry → List ℕ
+entry_octets e = own_octets e.record_is ++ e.message ++ e.frames
+
+pub record EntryHasRange (e : Entry) : Type 0 where
+  pub own : RecordHasRange e.record_is
+  pub message : length e.message ≡ MESSAGE_SIZE
+  pub frames : length e.frames ≡ FRAME_SIZE * e.record_is.frames
+
+-- ---- lengths
+
+-- how many octets a record has, by its first one
+abbrev pub used : List ℕ → ℕ
+used s = RECORD_SIZE + FRAME_SIZE * get_or s 0 0
+
+-- so many records, each as long as its first octet says, and nothing behind them
+abbrev pub AreRecords : ℕ → List ℕ → Type 0
+AreRecords zero s = s ≡ []
+AreRecords (suc n) s = (used s ≤ length s) × AreRecords n (drop (used s) s)

@@ -1,0 +1,149 @@
+//! The fixed part of a checkpoint: what is remembered of the stream itself.
+
+ghost use Rattle.std.specs.Prelude.{◌≡◌, ℕ, List, ◌+◌, ◌≤◌, ◌∷◌, ◌++◌, length, Option, Some};
+ghost use Rattle.arrayvec.specs.ArrayVec.{array_vec_len};
+ghost use Rattle.giop_octets.specs.Fields.{four};
+ghost use Rattle.giop_checkpoint.specs.Fixed.{HasRange, magic, fault_octet, counts_octets, place_octets, state_octets, fixed_octets};
+ghost use Rattle.giop_checkpoint.specs.declared.fixed.Fixed.{Fixed as FixedPart};
+
+use crate::fault::StreamFault;
+use crate::sizes::VERSION;
+use arrayvec::ArrayVec;
+use giop_octets::{eight_at, four_at, put_eight, put_four, put_octets, put_zeros};
+
+/// What the catalogue and the request list of the reading have: how many types, operations and exceptions a signature file
+/// declares, and how many different request ids a list has.
+#[derive(Clone, Copy, Debug, PartialEq, Eq)]
+pub struct Counts {
+    pub types: u32,
+    pub operations: u32,
+    pub exceptions: u32,
+    pub ids: u32,
+}
+
+/// Where in the stream the next octet stands.
+#[derive(Drop)]
+pub enum Place {
+    /// In a header of which these octets have come, or in front of one.
+    Header(ArrayVec<u8, 11>),
+    /// In the payload of the message with this header, of which so many octets are still to come.
+    Payload { header: [u8; 12], left: u32 },
+    /// Behind this stream fault.
+    Stopped(StreamFault),
+}
+
+/// The fixed part.
+#[derive(Drop)]
+pub struct Fixed {
+    pub counts: Counts,
+    /// How many records there are, at most 17.
+    pub records: u32,
+    /// The octets read, the offending one of a stream fault among them: at most 2^48 + 1.
+    pub octets: u64,
+    /// The messages that have begun, at most 2^45.
+    pub messages: u64,
+    /// The faults of messages and of the stream, at most 2^45 + 1.
+    pub faults: u64,
+    pub place: Place,
+    /// The record whose message the payload belongs to, counted from 0.
+    pub owner: Option<u8>,
+}
+
+impl Fixed {
+    /// Writes the fixed part.
+    pub fn write<const N: usize>(&self, out: &mut ArrayVec<u8, N>)
+        requires room { array_vec_len out.old + 96 ≤ N }
+        ensures put { out.new.items ≡ out.old.items ++ fixed_octets self.now }
+        ensures len { array_vec_len out.new ≡ array_vec_len out.old + 96 }
+    {
+        put_octets(out, &magic());
+        put_octets(out, &version());
+        self.counts.write(out);
+        self.write_state(out);
+    }
+
+    /// Writes what stands behind the counts.
+    pub fn write_state<const N: usize>(&self, out: &mut ArrayVec<u8, N>)
+        requires room { array_vec_len out.old + 68 ≤ N }
+        ensures put { out.new.items ≡ out.old.items ++ state_octets self.now }
+        ensures len { array_vec_len out.new ≡ array_vec_len out.old + 68 }
+    {
+        put_four(out, self.records);
+        put_eight(out, self.octets);
+        put_eight(out, self.messages);
+        put_eight(out, self.faults);
+        self.place.write(self.owner, out);
+        put_zeros(out, 16);
+    }
+}
+
+impl Counts {
+    /// Writes the counts.
+    pub fn write<const N: usize>(&self, out: &mut ArrayVec<u8, N>)
+        requires room { array_vec_len out.old + 16 ≤ N }
+        ensures put { out.new.items ≡ out.old.items ++ counts_octets self.now }
+        ensures len { array_vec_len out.new ≡ array_vec_len out.old + 16 }
+    {
+        put_four(out, self.types);
+        put_four(out, self.operations);
+        put_four(out, self.exceptions);
+        put_four(out, self.ids);
+    }
+}
+
+impl Place {
+    /// Writes the place, with the record of the payload.
+    fn write<const N: usize>(&self, owner: Option<u8>, out: &mut ArrayVec<u8, N>)
+        requires room { array_vec_len out.old + 24 ≤ N }
+        ensures put { out.new.items ≡ out.old.items ++ place_octets self.now owner }
+        ensures len { array_vec_len out.new ≡ array_vec_len out.old + 24 }
+    {
+        let owner = owner.unwrap_or(255);
+        match self {
+            Place::Header(held) => {
+                put_octets(out, &[0, 0, held.len() as u8, owner]);
+                put_octets(out, held.as_slice());
+                put_zeros(out, 12 - held.len());
+                put_eight(out, 0);
+            }
+            Place::Payload { header, left } => {
+                put_octets(out, &[1, 0, 0, owner]);
+                put_octets(out, header);
+                put_eight(out, u64::from(*left));
+            }
+            Place::Stopped(fault) => {
+                put_octets(out, &[2, number_of(*fault), 0, owner]);
+                put_zeros(out, 12);
+                put_eight(out, 0);
+            }
+        }
+    }
+}
+
+/// The text that a checkpoint begins with.
+#[tactic(auto, unfolding(crate::specs::Fixed::magic))]
+pub fn magic() -> [u8; 8]
+    ensures { result ≡ magic }
+{
+    *b"GIOPDUMP"
+}
+
+/// The octets of the layout's version.
+#[tactic(auto, unfolding(giop_octets::specs::Fields::four))]
+pub fn version() -> [u8; 4]
+    ensures { result ≡ four VERSION }
+{
+    VERSION.to_be_bytes()
+}
+
+/// The octet of a stream fault: its number.
+fn number_of(fault: StreamFault) -> u8
+    ensures { result ≡ fault_octet fault }
+{
+    match fault {
+        StreamFault::Magic => 1,
+        StreamFault::Version => 2,
+        StreamFault::ByteOrder => 3,
+        StreamFault::StreamLimit => 5,
+    }
+}

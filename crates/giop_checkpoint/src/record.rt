@@ -1,0 +1,202 @@
+//! The records of a checkpoint: what is remembered of each message that has begun and not ended.
+
+ghost use Rattle.std.specs.Prelude.{◌≡◌, ◌↔◌, ℕ, List, ◌+◌, ◌*◌, ◌≤◌, ◌++◌, length, take, drop, Option, Some, IfSome, IsSomeAnd, IsTrue};
+ghost use Rattle.arrayvec.specs.ArrayVec.{array_vec_len};
+ghost use Rattle.giop_checkpoint.specs.Records.{Entry, EntryHasRange, RecordHasRange, StandingHasRange, AreRecords, used, kind_octets, own_octets, entry_octets, standing_octet, id_of};
+ghost use Rattle.giop_checkpoint.specs.declared.record.Record.{Record as RecordOf};
+ghost use Rattle.giop_checkpoint.specs.declared.record.Standing.{Standing as StandingOf};
+
+use crate::sizes::{FRAME_SIZE, MESSAGE_SIZE, MOST_FRAMES, RECORD_SIZE};
+use crate::state::same;
+use arrayvec::ArrayVec;
+use giop_octets::{
+    eight_at, four_at, octet_at, octets_at, put_eight, put_four, put_octets, put_zeros,
+};
+
+/// What a message is to its stream.
+#[derive(Clone, Copy, Debug)]
+pub enum Standing {
+    /// The message whose payload comes, which is neither open nor over.
+    Current,
+    /// Open under this request id.
+    Open(u32),
+    /// Open under this request id, and over.
+    Over(u32),
+}
+
+/// A record's own octets.
+#[derive(Clone, Copy, Debug)]
+pub struct Record {
+    /// How many frames it has, at most 24.
+    pub frames: u8,
+    pub standing: Standing,
+    /// The message's number in its stream, from 1.
+    pub number: u64,
+    pub header: [u8; 12],
+}
+
+impl Standing {
+    /// Its octet.
+    fn octet(self) -> u8
+        ensures { result ≡ standing_octet self }
+    {
+        match self {
+            Standing::Current => 0,
+            Standing::Open(_) => 1,
+            Standing::Over(_) => 2,
+        }
+    }
+
+    /// The request id, 0 where it isn't open.
+    fn id(self) -> u32
+        ensures { result ≡ id_of self }
+    {
+        match self {
+            Standing::Current => 0,
+            Standing::Open(id) => id,
+            Standing::Over(id) => id,
+        }
+    }
+}
+
+impl Record {
+    /// Writes how many frames it has, and what its message is.
+    #[tactic(auto, unfolding(crate::specs::Records::kind_octets))]
+    fn write_kind<const N: usize>(&self, out: &mut ArrayVec<u8, N>)
+        requires room { array_vec_len out.old + 2 ≤ N }
+        ensures put { out.new.items ≡ out.old.items ++ kind_octets self.now }
+        ensures len { array_vec_len out.new ≡ array_vec_len out.old + 2 }
+    {
+        put_octets(out, &[self.frames, self.standing.octet()]);
+    }
+
+    /// Writes the record's own octets.
+    pub fn write<const N: usize>(&self, out: &mut ArrayVec<u8, N>)
+        requires room { array_vec_len out.old + 32 ≤ N }
+        ensures put { out.new.items ≡ out.old.items ++ own_octets self.now }
+        ensures len { array_vec_len out.new ≡ array_vec_len out.old + 32 }
+    {
+        self.write_kind(out);
+        put_eight(out, self.number);
+        put_octets(out, &self.header);
+        put_four(out, self.standing.id());
+        put_zeros(out, 6);
+    }
+}
+
+/// The first of a checkpoint's records, and what follows it.
+#[derive(Clone, Copy, Debug)]
+pub struct FirstRecord<'a> {
+    pub record: Record,
+    /// What is kept of its message, but for the frames.
+    pub message: [u8; 224],
+    pub frames: &'a [u8],
+    /// The octets of the records behind it.
+    pub rest: &'a [u8],
+}
+
+/// The first of these records, where each field of its own is in its range, and zero where nothing is.
+pub fn first_record<'a>(octets: &'a [u8]) -> Option<FirstRecord<'a>>
+    requires whole { used octets.now ≤ length octets.now }
+    ensures own { IfSome result (λ first. take 32 octets.now ≡ own_octets first.record) }
+    ensures range { IfSome result (λ first. RecordHasRange first.record) }
+    ensures message { IfSome result (λ first. first.message ≡ take 224 (drop 32 octets.now)) }
+    ensures frames { IfSome result (λ first. length first.frames.now ≡ FRAME_SIZE * first.record.frames) }
+    ensures rest { IfSome result (λ first. first.rest.now ≡ drop (used octets.now) octets.now) }
+    // What was written is read.
+    ensures again { (e : Entry) (rest : List ℕ) → EntryHasRange e → octets.now ≡ entry_octets e ++ rest →
+        IsSomeAnd result (λ first. (first.record ≡ e.record_is) × (first.message ≡ e.message)
+        × (first.frames.now ≡ e.frames) × (first.rest.now ≡ rest)) }
+{
+    let (own, behind) = octets.split_at(32);
+    let Some(record) = record_at(own) else {
+        return None;
+    };
+    let (message, behind) = behind.split_at(MESSAGE_SIZE);
+    let (frames, rest) = behind.split_at(FRAME_SIZE * record.frames as usize);
+    Some(FirstRecord {
+        record,
+        message: whole_message(message),
+        frames,
+        rest,
+    })
+}
+
+/// The octets of a message, by themselves.
+fn whole_message(octets: &[u8]) -> [u8; 224]
+    requires { length octets.now ≡ 224 }
+    ensures { result ≡ octets.now }
+{
+    let mut message = [0; 224];
+    message.copy_from_slice(octets);
+    message
+}
+
+/// The record whose own octets these are, where each field is in its range, and zero where nothing is.
+fn record_at(octets: &[u8]) -> Option<Record>
+    requires long { length octets.now ≡ 32 }
+    ensures own { IfSome result (λ r. octets.now ≡ own_octets r) }
+    ensures range { IfSome result (λ r. RecordHasRange r) }
+    ensures again { (r : RecordOf) → RecordHasRange r → octets.now ≡ own_octets r → result ≡ Some r }
+{
+    let Some(record) = parsed(octets) else {
+        return None;
+    };
+    if record.frames > MOST_FRAMES {
+        return None;
+    }
+    let mut again: ArrayVec<u8, 32> = ArrayVec::new();
+    record.write(&mut again);
+    if !same(again.as_slice(), octets) {
+        return None;
+    }
+    Some(record)
+}
+
+/// What octets say, those without a use apart.
+fn parsed(octets: &[u8]) -> Option<Record>
+    requires long { length octets.now ≡ 32 }
+    ensures standing { IfSome result (λ r. StandingHasRange r.standing) }
+    ensures again { (r : RecordOf) → RecordHasRange r → octets.now ≡ own_octets r → result ≡ Some r }
+{
+    let Some(standing) = standing_of(octet_at(octets, 1), four_at(octets, 22)) else {
+        return None;
+    };
+    Some(Record {
+        frames: octet_at(octets, 0),
+        standing,
+        number: eight_at(octets, 2),
+        header: octets_at(octets, 10),
+    })
+}
+
+/// What a message is, by its octet and its request id.
+fn standing_of(octet: u8, id: u32) -> Option<Standing>
+    ensures range { IfSome result (λ s. StandingHasRange s) }
+    ensures again { (s : StandingOf) → octet ≡ standing_octet s → id ≡ id_of s → result ≡ Some s }
+{
+    match octet {
+        0 => Some(Standing::Current),
+        1 => Some(Standing::Open(id)),
+        2 => Some(Standing::Over(id)),
+        _ => None,
+    }
+}
+
+/// Whether octets are so many records, each as long as its first octet says.
+pub fn are_records(records: u32, octets: &[u8]) -> bool
+    ensures { IsTrue result ↔ AreRecords records octets.now }
+{
+    if records == 0 {
+        return octets.is_empty();
+    }
+    if octets.is_empty() {
+        return false;
+    }
+    let used = RECORD_SIZE + FRAME_SIZE * octets[0] as usize;
+    if octets.len() < used {
+        return false;
+    }
+    let (_, rest) = octets.split_at(used);
+    are_records(records - 1, rest)
+}

@@ -1,0 +1,158 @@
+//! The fields of the fixed part behind the counts, as they are read.
+
+ghost use Rattle.std.specs.Prelude.{◌≡◌, ◌↔◌, ℕ, List, ◌+◌, ◌≤◌, ◌++◌, length, Option, Some, IfSome, IsTrue};
+ghost use Rattle.giop_checkpoint.specs.Fixed.{HasRange, PlaceHasRange, IsAmong, fault_octet, owner_octet, place_octets, place_octet, fault_in, held_in, header_in, left_in, state_octets};
+ghost use Rattle.giop_checkpoint.specs.declared.fixed.Fixed.{Fixed as FixedPart};
+ghost use Rattle.giop_checkpoint.specs.declared.fixed.Place.{Place as PlaceOf};
+ghost use Rattle.giop_checkpoint.specs.declared.fault.StreamFault.{StreamFault as Fault};
+
+use crate::fault::StreamFault;
+use crate::fixed::{Counts, Fixed, Place};
+use crate::sizes::MOST_RECORDS;
+use arrayvec::ArrayVec;
+use giop_octets::{eight_at, four_at, octet_at, octets_at};
+
+/// The fixed part with these counts, where the octets behind them are its fields: each in its range, and zero where nothing
+/// is.
+pub fn state_at(counts: Counts, octets: &[u8]) -> Option<Fixed>
+    requires long { length octets.now ≡ 68 }
+    ensures counts { IfSome result (λ f. f.counts ≡ counts) }
+    ensures octets { IfSome result (λ f. octets.now ≡ state_octets f) }
+    ensures range { IfSome result (λ f. HasRange f) }
+    ensures again { (f : FixedPart) → f.counts ≡ counts → HasRange f → octets.now ≡ state_octets f → result ≡ Some f }
+{
+    let Some(fixed) = parsed(counts, octets) else {
+        return None;
+    };
+    if !fixed.is_in_range() {
+        return None;
+    }
+    let mut again: ArrayVec<u8, 68> = ArrayVec::new();
+    fixed.write_state(&mut again);
+    if !same(again.as_slice(), octets) {
+        return None;
+    }
+    Some(fixed)
+}
+
+/// What octets say, those without a use and the ranges apart.
+fn parsed(counts: Counts, octets: &[u8]) -> Option<Fixed>
+    requires long { length octets.now ≡ 68 }
+    ensures counts { IfSome result (λ f. f.counts ≡ counts) }
+    ensures place { IfSome result (λ f. PlaceHasRange f.place) }
+    ensures again { (f : FixedPart) → f.counts ≡ counts → HasRange f → octets.now ≡ state_octets f → result ≡ Some f }
+{
+    let (_, behind) = octets.split_at(28);
+    let Some(place) = place_at(behind) else {
+        return None;
+    };
+    Some(Fixed {
+        counts,
+        records: four_at(octets, 0),
+        octets: eight_at(octets, 4),
+        messages: eight_at(octets, 12),
+        faults: eight_at(octets, 20),
+        place,
+        owner: owner_of(octet_at(octets, 31)),
+    })
+}
+
+/// The place that stands at the front.
+fn place_at(octets: &[u8]) -> Option<Place>
+    requires long { 24 ≤ length octets.now }
+    ensures range { IfSome result (λ place. PlaceHasRange place) }
+    ensures again { (place : PlaceOf) (owner : Option ℕ) (rest : List ℕ) → PlaceHasRange place →
+        octets.now ≡ place_octets place owner ++ rest → result ≡ Some place }
+{
+    place_of(
+        octet_at(octets, 0),
+        octet_at(octets, 1),
+        octet_at(octets, 2),
+        octets_at(octets, 4),
+        eight_at(octets, 16),
+    )
+}
+
+/// The place that these fields say.
+fn place_of(kind: u8, fault: u8, held: u8, header: [u8; 12], left: u64) -> Option<Place>
+    ensures range { IfSome result (λ place. PlaceHasRange place) }
+    ensures again { (place : PlaceOf) → PlaceHasRange place → kind ≡ place_octet place → fault ≡ fault_in place →
+        held ≡ held_in place → header ≡ header_in place → left ≡ left_in place → result ≡ Some place }
+{
+    match kind {
+        0 => Some(Place::Header(front_of(&header, held))),
+        1 => match u32::try_from(left) {
+            Ok(left) => Some(Place::Payload { header, left }),
+            Err(_) => None,
+        },
+        2 => match fault_of(fault) {
+            Some(fault) => Some(Place::Stopped(fault)),
+            None => None,
+        },
+        _ => None,
+    }
+}
+
+/// The header octets that are held: so many of these.
+fn front_of(header: &[u8; 12], count: u8) -> ArrayVec<u8, 11>
+    ensures few { length result.items ≤ 11 }
+    ensures again { (held rest : List ℕ) → length held ≤ 11 → length held ≡ count → header.now ≡ held ++ rest → result.items ≡ held }
+{
+    let len = usize::from(count).min(11);
+    let mut held = ArrayVec::new();
+    for octet in &header[..len] {
+        held.push(*octet);
+    }
+    held
+}
+
+/// The stream fault of this number.
+fn fault_of(number: u8) -> Option<StreamFault>
+    ensures { (fault : Fault) → number ≡ fault_octet fault → result ≡ Some fault }
+{
+    match number {
+        1 => Some(StreamFault::Magic),
+        2 => Some(StreamFault::Version),
+        3 => Some(StreamFault::ByteOrder),
+        5 => Some(StreamFault::StreamLimit),
+        _ => None,
+    }
+}
+
+/// The record that an octet names.
+fn owner_of(octet: u8) -> Option<u8>
+    ensures { (owner : Option ℕ) → IsAmong 255 owner → octet ≡ owner_octet owner → result ≡ owner }
+{
+    if octet == 255 { None } else { Some(octet) }
+}
+
+/// Whether octets are the same.
+pub fn same(octets: &[u8], others: &[u8]) -> bool
+    ensures { IsTrue result ↔ (octets.now ≡ others.now) }
+{
+    octets == others
+}
+
+impl Fixed {
+    /// Whether each field is in its range, but for the place.
+    fn is_in_range(&self) -> bool
+        requires { PlaceHasRange self.now.place }
+        ensures { IsTrue result ↔ HasRange self.now }
+    {
+        self.records <= MOST_RECORDS
+            && self.octets <= (1 << 48) + 1
+            && self.messages <= 1 << 45
+            && self.faults <= (1 << 45) + 1
+            && is_among(self.records, self.owner)
+    }
+}
+
+/// Whether there is such a record, where one is named.
+fn is_among(records: u32, owner: Option<u8>) -> bool
+    ensures { IsTrue result ↔ IsAmong records owner }
+{
+    match owner {
+        Some(record) => u32::from(record) < records,
+        None => true,
+    }
+}
