@@ -1,5 +1,5 @@
-mod Puts
+pub mod Puts
 mod Places
 mod States
-mod Fronts
-mod RecordFields
+pub mod Fronts
+pub mod RecordFields

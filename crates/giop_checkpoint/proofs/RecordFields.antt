@@ -31,7 +31,7 @@ fields_of r octets h e =
     kind_is r octets rest (e ∙ five (kind_octets r) (eight r.number) r.header (four (id_of r.standing)) zeros) in
     let at_2 : drop 2 octets ≡ rest = ap (drop 2) whole in
     let at_10 = behind 2 8 octets _ _ at_2 (eight_long r.number) in
-    let at_22 = behind 10 12 octets _ _ at_10 h.header in
+    let at_22 = behind 10 12 octets _ _ at_10 h.typed.header in
     record {
       frames = whole ∙ ap (λ (xs : List ℕ). r.frames ∷ xs) (sym (ap (drop 1) whole));
       standing = ap (drop 1) whole ∙ ap (λ (xs : List ℕ). standing_octet r.standing ∷ xs) (sym at_2);
@@ -45,7 +45,7 @@ unfolding own_octets kind_octets
 own_long r h =
     let zeros : List ℕ = replicate 6 0 in
     let zeros_long : length zeros ≡ 6 = refl in
-    omega (arith, length-append (kind_octets r ++ eight r.number ++ r.header ++ four (id_of r.standing)) zeros, length-append (kind_octets r ++ eight r.number ++ r.header) (four (id_of r.standing)), length-append (kind_octets r ++ eight r.number) r.header, length-append (kind_octets r) (eight r.number), eight_long r.number, four_long (id_of r.standing), h.header, zeros_long)
+    omega (arith, length-append (kind_octets r ++ eight r.number ++ r.header ++ four (id_of r.standing)) zeros, length-append (kind_octets r ++ eight r.number ++ r.header) (four (id_of r.standing)), length-append (kind_octets r ++ eight r.number) r.header, length-append (kind_octets r) (eight r.number), eight_long r.number, four_long (id_of r.standing), h.typed.header, zeros_long)
 
 -- a record's first octet is its number of frames
 pub first_is : (r : Record) (s : List ℕ) → RecordHasRange r → take 32 s ≡ own_octets r → get_or s 0 0 ≡ r.frames

@@ -13,11 +13,15 @@ StandingHasRange Current = Unit {0}
 StandingHasRange (Open id) = id < 2 ^ 32
 StandingHasRange (Over id) = id < 2 ^ 32
 
-pub record RecordHasRange (r : Record) : Type 0 where
-  pub frames : r.frames ≤ MOST_FRAMES
+-- what any record of the code has
+pub record IsTyped (r : Record) : Type 0 where
   pub standing : StandingHasRange r.standing
   pub number : r.number < 2 ^ 64
   pub header : length r.header ≡ 12
+
+pub record RecordHasRange (r : Record) : Type 0 where
+  pub frames : r.frames ≤ MOST_FRAMES
+  pub typed : IsTyped r
 
 -- ---- layout
 

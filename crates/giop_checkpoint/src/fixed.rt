@@ -63,7 +63,7 @@ impl Fixed {
     }
 
     /// Writes what stands behind the counts.
-    pub fn write_state<const N: usize>(&self, out: &mut ArrayVec<u8, N>)
+    pub(crate) fn write_state<const N: usize>(&self, out: &mut ArrayVec<u8, N>)
         requires room { array_vec_len out.old + 68 ≤ N }
         ensures put { out.new.items ≡ out.old.items ++ state_octets self.now }
         ensures len { array_vec_len out.new ≡ array_vec_len out.old + 68 }

@@ -2,7 +2,7 @@
 
 ghost use Rattle.std.specs.Prelude.{◌≡◌, ◌↔◌, ℕ, List, ◌+◌, ◌*◌, ◌≤◌, ◌++◌, length, take, drop, Option, Some, IfSome, IsSomeAnd, IsTrue};
 ghost use Rattle.arrayvec.specs.ArrayVec.{array_vec_len};
-ghost use Rattle.giop_checkpoint.specs.Records.{Entry, EntryHasRange, RecordHasRange, StandingHasRange, AreRecords, used, kind_octets, own_octets, entry_octets, standing_octet, id_of};
+ghost use Rattle.giop_checkpoint.specs.Records.{Entry, EntryHasRange, IsTyped, RecordHasRange, StandingHasRange, AreRecords, used, kind_octets, own_octets, entry_octets, standing_octet, id_of};
 ghost use Rattle.giop_checkpoint.specs.declared.record.Record.{Record as RecordOf};
 ghost use Rattle.giop_checkpoint.specs.declared.record.Standing.{Standing as StandingOf};
 
@@ -74,6 +74,7 @@ impl Record {
     pub fn write<const N: usize>(&self, out: &mut ArrayVec<u8, N>)
         requires room { array_vec_len out.old + 32 ≤ N }
         ensures put { out.new.items ≡ out.old.items ++ own_octets self.now }
+        ensures typed { IsTyped self.now }
         ensures len { array_vec_len out.new ≡ array_vec_len out.old + 32 }
     {
         self.write_kind(out);
