@@ -1,0 +1,29 @@
+//! A record at stated octets.
+
+use arrayvec::ArrayVec;
+use giop_checkpoint::{Record, Standing, first_record};
+use std::test::Fail;
+
+const OVER: Record = Record {
+    frames: 0,
+    standing: Standing::Over(5),
+    number: 258,
+    header: *b"GIOP\x01\x02\x02\x00\x00\x00\x00\x28",
+};
+
+#[test]
+fn a_record_is_written_and_read(rt: HostRuntime) -> Result<(), Fail> {
+    let mut out: ArrayVec<u8, 256> = ArrayVec::new();
+    OVER.write(&mut out);
+    let own =
+        b"\x00\x02\x00\x00\x00\x00\x00\x00\x01\x02GIOP\x01\x02\x02\x00\x00\x00\x00\x28\x00\x00\x00\x05\x00\x00\x00\x00\x00\x00";
+    assert!(rt; out.as_slice() == own.as_slice());
+    let mut octets = [0; 256];
+    octets[..32].copy_from_slice(own);
+    let first = first_record(&octets).ok_or("a record")?;
+    assert!(rt; first.record.number == 258 && first.frames.is_empty() && first.rest.is_empty());
+    assert!(rt; matches!(first.record.standing, Standing::Over(5)));
+    octets[31] = 1;
+    assert!(rt; first_record(&octets).is_none());
+    Ok(())
+}
