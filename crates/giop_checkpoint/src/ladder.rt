@@ -43,8 +43,10 @@ pub fn fixed_part<'a>(octets: &'a [u8], counts: Counts) -> Result<(Fixed, &'a [u
     ensures passes { IfOk result (λ r. Passes counts octets.now r.0 r.1.now) }
     ensures refused { IfErr result (λ why. Refused counts octets.now why) }
     // What was written is read.
-    ensures again { (f : FixedPart) (records : List ℕ) → f.counts ≡ counts → HasRange f → AreRecords f.records records →
-        octets.now ≡ fixed_octets f ++ records → IsOkAnd result (λ r. (r.0 ≡ f) × (r.1.now ≡ records)) }
+    ensures again { (f : FixedPart) (records : List ℕ) → f.counts ≡ counts → HasRange f →
+        AreRecords f.records records →
+        octets.now ≡ fixed_octets f ++ records → IsOkAnd result (λ r. (r.0 ≡ f)
+        × (r.1.now ≡ records)) }
 {
     let behind = match behind_counts(octets, counts) {
         Ok(behind) => behind,

@@ -105,7 +105,8 @@ pub fn first_record<'a>(octets: &'a [u8]) -> Option<FirstRecord<'a>>
     ensures frames { IfSome result (λ first. length first.frames.now ≡ FRAME_SIZE * first.record.frames) }
     ensures rest { IfSome result (λ first. first.rest.now ≡ drop (used octets.now) octets.now) }
     // What was written is read.
-    ensures again { (e : Entry) (rest : List ℕ) → EntryHasRange e → octets.now ≡ entry_octets e ++ rest →
+    ensures again { (e : Entry) (rest : List ℕ) → EntryHasRange e →
+        octets.now ≡ entry_octets e ++ rest →
         IsSomeAnd result (λ first. (first.record ≡ e.record_is) × (first.message ≡ e.message)
         × (first.frames.now ≡ e.frames) × (first.rest.now ≡ rest)) }
 {
@@ -138,7 +139,8 @@ fn record_at(octets: &[u8]) -> Option<Record>
     requires long { length octets.now ≡ 32 }
     ensures own { IfSome result (λ r. octets.now ≡ own_octets r) }
     ensures range { IfSome result (λ r. RecordHasRange r) }
-    ensures again { (r : RecordOf) → RecordHasRange r → octets.now ≡ own_octets r → result ≡ Some r }
+    ensures again { (r : RecordOf) → RecordHasRange r → octets.now ≡ own_octets r →
+        result ≡ Some r }
 {
     let Some(record) = parsed(octets) else {
         return None;
@@ -158,7 +160,8 @@ fn record_at(octets: &[u8]) -> Option<Record>
 fn parsed(octets: &[u8]) -> Option<Record>
     requires long { length octets.now ≡ 32 }
     ensures standing { IfSome result (λ r. StandingHasRange r.standing) }
-    ensures again { (r : RecordOf) → RecordHasRange r → octets.now ≡ own_octets r → result ≡ Some r }
+    ensures again { (r : RecordOf) → RecordHasRange r → octets.now ≡ own_octets r →
+        result ≡ Some r }
 {
     let Some(standing) = standing_of(octet_at(octets, 1), four_at(octets, 22)) else {
         return None;

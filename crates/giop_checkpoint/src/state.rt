@@ -19,7 +19,8 @@ pub fn state_at(counts: Counts, octets: &[u8]) -> Option<Fixed>
     ensures counts { IfSome result (λ f. f.counts ≡ counts) }
     ensures octets { IfSome result (λ f. octets.now ≡ state_octets f) }
     ensures range { IfSome result (λ f. HasRange f) }
-    ensures again { (f : FixedPart) → f.counts ≡ counts → HasRange f → octets.now ≡ state_octets f → result ≡ Some f }
+    ensures again { (f : FixedPart) → f.counts ≡ counts → HasRange f →
+        octets.now ≡ state_octets f → result ≡ Some f }
 {
     let Some(fixed) = parsed(counts, octets) else {
         return None;
@@ -40,7 +41,8 @@ fn parsed(counts: Counts, octets: &[u8]) -> Option<Fixed>
     requires long { length octets.now ≡ 68 }
     ensures counts { IfSome result (λ f. f.counts ≡ counts) }
     ensures place { IfSome result (λ f. PlaceHasRange f.place) }
-    ensures again { (f : FixedPart) → f.counts ≡ counts → HasRange f → octets.now ≡ state_octets f → result ≡ Some f }
+    ensures again { (f : FixedPart) → f.counts ≡ counts → HasRange f →
+        octets.now ≡ state_octets f → result ≡ Some f }
 {
     let (_, behind) = octets.split_at(28);
     let Some(place) = place_at(behind) else {
@@ -76,8 +78,10 @@ fn place_at(octets: &[u8]) -> Option<Place>
 /// The place that these fields say.
 fn place_of(kind: u8, fault: u8, held: u8, header: [u8; 12], left: u64) -> Option<Place>
     ensures range { IfSome result (λ place. PlaceHasRange place) }
-    ensures again { (place : PlaceOf) → PlaceHasRange place → kind ≡ place_octet place → fault ≡ fault_in place →
-        held ≡ held_in place → header ≡ header_in place → left ≡ left_in place → result ≡ Some place }
+    ensures again { (place : PlaceOf) → PlaceHasRange place → kind ≡ place_octet place →
+        fault ≡ fault_in place →
+        held ≡ held_in place → header ≡ header_in place → left ≡ left_in place →
+        result ≡ Some place }
 {
     match kind {
         0 => Some(Place::Header(front_of(&header, held))),
@@ -96,7 +100,8 @@ fn place_of(kind: u8, fault: u8, held: u8, header: [u8; 12], left: u64) -> Optio
 /// The header octets that are held: so many of these.
 fn front_of(header: &[u8; 12], count: u8) -> ArrayVec<u8, 11>
     ensures few { length result.items ≤ 11 }
-    ensures again { (held rest : List ℕ) → length held ≤ 11 → length held ≡ count → header.now ≡ held ++ rest → result.items ≡ held }
+    ensures again { (held rest : List ℕ) → length held ≤ 11 → length held ≡ count →
+        header.now ≡ held ++ rest → result.items ≡ held }
 {
     let len = usize::from(count).min(11);
     let mut held = ArrayVec::new();
