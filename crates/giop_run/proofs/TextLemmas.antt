@@ -6,7 +6,7 @@ use Rattle.giop_message.specs.Reading.{Reading}
 use Rattle.giop_stream.specs.Framing.{cut, fault_of}
 use Rattle.giop_stream.specs.Stream.{text}
 use Rattle.giop_stream.specs.Holding.{added, status_of, reading_of}
-use Rattle.giop_stream.specs.declared.fault.StreamFault.{StreamFault}
+use Rattle.giop_checkpoint.specs.declared.fault.StreamFault.{StreamFault}
 use Rattle.giop_stream.specs.declared.status.Status.TheVariants.{Running, Stopped}
 use Rattle.giop_stream.specs.Remembering.{EngineMemory}
 use Rattle.giop_stream.proofs.StreamLaws.{added_both}

@@ -1,7 +1,7 @@
 -- Which messages are unfinished: the open ones and the current one, unless they are over.
 use Rattle.std.proofs.Common.{◌≡◌, ℕ, Bool, true, false, cond, not, List, [], ◌∷◌, ◌++◌, length, refl, sym, ap, ◌∙◌, Option, Some, None}
 use Rattle.std.specs.Prelude.{if◌then◌else◌, ◌||◌, ◌&&◌, nat_le, flat_map, option_map}
-use Rattle.giop_stream.specs.declared.fault.StreamFault.{StreamFault}
+use Rattle.giop_checkpoint.specs.declared.fault.StreamFault.{StreamFault}
 use Rattle.giop_message.specs.Headers.{is_fragment}
 use Rattle.giop_stream.specs.Framing.{Message, Cut, cut, read_of}
 use Rattle.giop_message.specs.Reading.{Reading, IsCausal, IsEnding, IsInTurn}

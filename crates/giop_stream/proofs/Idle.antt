@@ -8,8 +8,8 @@ use Rattle.giop_message.specs.Headers.{size}
 use Rattle.giop_message.specs.Reading.{Reading}
 use Rattle.giop_message.specs.Signatures.{Kept as Listed}
 use Rattle.giop_message.specs.MessageReading.{message_reading}
-use Rattle.giop_stream.specs.declared.fault.StreamFault.{StreamFault}
-use Rattle.giop_stream.specs.declared.fault.StreamFault.TheVariants.{StreamLimit}
+use Rattle.giop_checkpoint.specs.declared.fault.StreamFault.{StreamFault}
+use Rattle.giop_checkpoint.specs.declared.fault.StreamFault.TheVariants.{StreamLimit}
 use Rattle.giop_stream.specs.declared.status.Totals.{Totals}
 use Rattle.giop_stream.specs.declared.slots.Payload.{Payload}
 use Rattle.giop_stream.specs.declared.slots.Payload.TheVariants as payload

@@ -6,7 +6,7 @@ use Rattle.std.proofs.lemmas.List.Elements.{All-take, All-drop}
 use Rattle.giop_cdr.specs.Numbers.{AreOctets}
 use Rattle.giop_cdr.proofs.NumberLaws.{num_bound-4}
 use Rattle.giop_message.specs.Headers.{order, size}
-use Rattle.giop_stream.specs.declared.fault.StreamFault.{StreamFault}
+use Rattle.giop_checkpoint.specs.declared.fault.StreamFault.{StreamFault}
 use Rattle.giop_stream.specs.Headers.{offence}
 use Rattle.giop_stream.specs.Framing.{Cut, with_first, cut_from, limit, stop_or_limit, limited, cut}
 use Rattle.giop_stream.proofs.Cutting.{cut_wrong, cut_short, cut_open, cut_more}

@@ -11,8 +11,8 @@ use Rattle.giop_message.specs.Signatures.{Kept as Listed, said_by}
 use Rattle.giop_message.specs.Messages.{message, told_of}
 use Rattle.giop_message.specs.MessageReading.{id_said}
 use Rattle.giop_message.proofs.MessageLaws.{begins_with_id, id_is_said}
-use Rattle.giop_stream.specs.declared.fault.StreamFault.{StreamFault}
-use Rattle.giop_stream.specs.declared.fault.StreamFault.TheVariants.{Version}
+use Rattle.giop_checkpoint.specs.declared.fault.StreamFault.{StreamFault}
+use Rattle.giop_checkpoint.specs.declared.fault.StreamFault.TheVariants.{Version}
 use Rattle.giop_stream.specs.Headers.{unless, wrong, fronts, first_wrong, offence}
 use Rattle.giop_stream.specs.Framing.{Message}
 use Rattle.giop_stream.specs.Events.{id}

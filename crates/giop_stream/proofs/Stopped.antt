@@ -1,7 +1,7 @@
 -- Behind a stream fault no octet adds a line or is counted.
 use Rattle.std.proofs.Common.{◌≡◌, ℕ, List, [], ◌∷◌, ◌++◌, length, refl, ◌∙◌, sym, ap, append_assoc, Some, arith}
 use Rattle.std.proofs.lemmas.List.{append-nil, length_push}
-use Rattle.giop_stream.specs.declared.fault.StreamFault.{StreamFault}
+use Rattle.giop_checkpoint.specs.declared.fault.StreamFault.{StreamFault}
 use Rattle.giop_message.specs.Reading.{Reading, IsCausal}
 use Rattle.giop_stream.specs.Framing.{Cut, cut, messages, read_of}
 use Rattle.giop_stream.specs.Events.{events_from, events}

@@ -1,7 +1,7 @@
 -- A message header of 12 octets: its fields, and which of its octets is wrong (GIOP Message Formats, GIOP Message Header; meaning).
 use Rattle.std.specs.Prelude.{ℕ, ◌-◌, Bool, true, false, ◌||◌, List, [], ◌∷◌, length, get_or, map, Option, Some, None, nat_lt, ◌==◌, if◌then◌else◌}
-use Rattle.giop_stream.specs.declared.fault.StreamFault.{StreamFault}
-use Rattle.giop_stream.specs.declared.fault.StreamFault.TheVariants.{Magic, Version, ByteOrder}
+use Rattle.giop_checkpoint.specs.declared.fault.StreamFault.{StreamFault}
+use Rattle.giop_checkpoint.specs.declared.fault.StreamFault.TheVariants.{Magic, Version, ByteOrder}
 
 -- the fronts of a list, from the empty one to the whole
 unfoldable pub fronts : {A : Type 0} → List A → List (List A)

@@ -7,7 +7,7 @@ use Rattle.giop_message.specs.Reading.{Reading}
 use Rattle.giop_message.specs.Signatures.{Kept as Listed}
 use Rattle.giop_message.specs.MessageReading.{message_reading}
 use Rattle.giop_message.specs.Holding as messages
-use Rattle.giop_stream.specs.declared.fault.StreamFault.{StreamFault}
+use Rattle.giop_checkpoint.specs.declared.fault.StreamFault.{StreamFault}
 use Rattle.giop_stream.specs.declared.status.Status.{Status}
 use Rattle.giop_stream.specs.declared.status.Status.TheVariants.{Running, Stopped}
 use Rattle.giop_stream.specs.declared.fault.Stop.{Stop}

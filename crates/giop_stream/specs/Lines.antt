@@ -1,6 +1,6 @@
 -- The lines of a stream, each stamped with the place of its octet and its class (docs/FORMATS.md, Order; meaning).
 use Rattle.std.specs.Prelude.{ℕ, zero, suc, Bool, true, false, ◌&&◌, ◌||◌, List, [], ◌∷◌, ◌++◌, length, map, filter, flat_map, Option, Some, None, ◌==◌, if◌then◌else◌}
-use Rattle.giop_stream.specs.declared.fault.StreamFault.{StreamFault}
+use Rattle.giop_checkpoint.specs.declared.fault.StreamFault.{StreamFault}
 use Rattle.giop_stream.specs.declared.fault.ImposedFault.{ImposedFault}
 use Rattle.giop_stream.specs.Framing.{cut}
 use Rattle.giop_message.specs.Reading.{Saying, Value, Call, Rest, Fault, End, Reading, is_last}

@@ -1,6 +1,6 @@
 -- What the calls of the framing do to the fields that are remembered (steps): private clauses alone cite these.
 use Rattle.std.specs.Prelude.{ℕ, suc, Bool, [], ◌∷◌, ◌++◌, length, Some, is_none, ◌&&◌, ◌==◌, nat_lt, if◌then◌else◌}
-use Rattle.giop_stream.specs.declared.fault.StreamFault.{StreamFault}
+use Rattle.giop_checkpoint.specs.declared.fault.StreamFault.{StreamFault}
 use Rattle.giop_stream.specs.declared.status.Totals.{Totals}
 use Rattle.giop_stream.specs.Stream.{with_truncated}
 use Rattle.giop_stream.specs.Remembering.{Memory}

@@ -1,7 +1,7 @@
 -- The text of a stream, its totals, and its closing: what is written at the finish (docs/FORMATS.md, Lines; meaning).
 use Rattle.std.specs.Prelude.{ℕ, ◌+◌, Bool, true, false, not, ◌&&◌, ◌||◌, List, [], ◌++◌, length, map, filter, flat_map, Option, is_some, is_none, nat_lt, if◌then◌else◌}
 use Rattle.std.specs.List.{list_any}
-use Rattle.giop_stream.specs.declared.fault.StreamFault.{StreamFault}
+use Rattle.giop_checkpoint.specs.declared.fault.StreamFault.{StreamFault}
 use Rattle.giop_stream.specs.declared.status.Totals.{Totals}
 use Rattle.giop_stream.specs.Framing.{Message, Cut, cut, messages, read_of}
 use Rattle.giop_message.specs.Reading.{Value, Call, Rest, Fault, End, Reading}

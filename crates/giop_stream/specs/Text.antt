@@ -2,8 +2,8 @@
 use Rattle.std.specs.Prelude.{ℕ, List, flat_map, codes}
 use Rattle.giop_print.specs.Lines.{fault_line, stream_fault_line, continues_line, cancelled_line}
 use Rattle.giop_print.specs.Lines as print
-use Rattle.giop_stream.specs.declared.fault.StreamFault.{StreamFault}
-use Rattle.giop_stream.specs.declared.fault.StreamFault.TheVariants.{Magic, Version, ByteOrder, StreamLimit}
+use Rattle.giop_checkpoint.specs.declared.fault.StreamFault.{StreamFault}
+use Rattle.giop_checkpoint.specs.declared.fault.StreamFault.TheVariants.{Magic, Version, ByteOrder, StreamLimit}
 use Rattle.giop_stream.specs.declared.fault.ImposedFault.{ImposedFault}
 use Rattle.giop_stream.specs.declared.fault.ImposedFault.TheVariants.{MessageType, OldFragment, Short, NoOpen, IdOpen, TooManyOpen, FragmentOrder}
 use Rattle.giop_message.specs.Headers.{minor, order, kind, size, has_more}

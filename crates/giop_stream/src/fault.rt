@@ -1,24 +1,9 @@
-//! What ends a stream, and the refusals of an engine.
+//! What faults a message by the stream, and the refusals of an engine. What ends a stream stands with its checkpoint.
+
+pub use giop_checkpoint::StreamFault;
 
 use giop_print::OutFault;
 use thiserror::Error;
-
-/// What ends the reading of a stream, at its offending octet. `Display` is the word of its line.
-#[derive(Clone, Copy, Debug, PartialEq, Eq, Error)]
-pub enum StreamFault {
-    /// One of the first four octets of a header isn't that of `GIOP`.
-    #[error("magic")]
-    Magic = 1,
-    /// A major version other than 1, or a minor version above 2.
-    #[error("version")]
-    Version = 2,
-    /// A byte order above 1 in a header of 1.0.
-    #[error("byte-order")]
-    ByteOrder = 3,
-    /// An octet behind the first 2^48.
-    #[error("stream-limit")]
-    StreamLimit = 5,
-}
 
 /// What the stream faults a message for, by its header, its request id or its size alone. `Display` is the word of its
 /// line.

@@ -2,7 +2,7 @@
 
 ghost use Rattle.std.specs.Prelude.{◌≡◌, ◌≤◌, ◌<◌, ◌==◌, ◌&&◌, ℕ, suc, List, [], ◌∷◌, ◌++◌, length, filter, true, Some, None, slice_get, slice_set};
 ghost use Rattle.std.specs.List.{remove};
-ghost use Rattle.giop_stream.specs.declared.fault.StreamFault.{StreamFault};
+ghost use Rattle.giop_checkpoint.specs.declared.fault.StreamFault.{StreamFault};
 ghost use Rattle.giop_message.specs.Reading.{Reading, IsCausal, IsEnding, IsInTurn};
 ghost use Rattle.giop_stream.specs.Framing.{cut, messages};
 ghost use Rattle.giop_stream.specs.Events.{Event, Open, Opens, Continues, most_open, events, open_after, joined, Rising};
