@@ -20,6 +20,7 @@ pub struct Message {
     // The offset of the next octet.
     pub(crate) at: u64,
     pub(crate) part: Part,
+    ghost begun: { 12 ≤ at },
 }
 
 impl Message {
@@ -43,9 +44,10 @@ impl Message {
             at: 12,
             part: Part::Rest(Rest::new()),
         };
-        if let Some(of) = catalogue.header(minor_of(&header), kind_of(&header)) {
-            message.begin(catalogue, Section::Header, of);
-        }
+        let Some(of) = catalogue.header(minor_of(&header), kind_of(&header)) else {
+            return message;
+        };
+        message.begin(catalogue, Section::Header, of);
         message
     }
 

@@ -10,9 +10,9 @@ use Rattle.giop_message.proofs.message.Message.start.Goals as goal
 pub begin-requires-clause-some : goal.begin-requires-clause-some
 begin-requires-clause-some c = fit_some (tree c.args.catalogue.now c.in-Some.of.0) c.in-Some.ensures.fit
 
-pub returns-in-Some-clause-follows : goal.returns-in-Some-clause-follows
+pub returns-clause-follows : goal.returns-clause-follows
 unfolding said_by
-returns-in-Some-clause-follows c kept =
+returns-clause-follows c kept =
     let e = c.begin.ensures in
     let found : header_type (minor c.args.header) (kind c.args.header) ≡ Some (tree c.args.catalogue.now c.in-Some.of.0) = rw (← c.minor_of.ensures, ← c.kind_of.ensures) (sym c.in-Some.ensures.tree) in
     record {

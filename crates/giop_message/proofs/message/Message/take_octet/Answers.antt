@@ -154,14 +154,17 @@ returns-in-Padding-clause-writes g c number header s f =
     let kept = c.args.requests.now in
     let m = c.args.self.now in
     let here = subst (λ p. Follows C kept number header (record m { part = p }) s) c.in-Padding.is f in
-    rw (no_text (said_by C kept) number c.args.place header s (c.args.octet ∷ []) (c.take_padding.ensures.told kept number header s c.args.octet here)) (wrote-nil _)
+    rw (no_text (said_by C kept) number c.args.place header s (c.args.octet ∷ []) (c.take_padding.ensures.told kept number header s c.args.octet
+    (record { same_number = here.same_number; same_header = here.same_header; id = here.id; at = here.at; stands = here.stands }))) (wrote-nil _)
 
 pub returns-in-Padding-clause-took : goal.returns-in-Padding-clause-took
 returns-in-Padding-clause-took g c number header s f =
     let C = c.args.catalogue.now in
     let kept = c.args.requests.now in
     let m = c.args.self.now in
-    c.take_padding.ensures.took kept number header s c.args.octet (subst (λ p. Follows C kept number header (record m { part = p }) s) c.in-Padding.is f)
+    let here = subst (λ p. Follows C kept number header (record m { part = p }) s) c.in-Padding.is f in
+    c.take_padding.ensures.took kept number header s c.args.octet
+    (record { same_number = here.same_number; same_header = here.same_header; id = here.id; at = here.at; stands = here.stands })
 
 pub returns-in_err-take-in-Rest-clause-writes : goal.returns-in_err-take-in-Rest-clause-writes
 returns-in_err-take-in-Rest-clause-writes g c number header s f =
