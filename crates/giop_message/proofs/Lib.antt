@@ -23,4 +23,5 @@ mod Leaving
 mod Closes
 mod Apart
 mod Rows
+mod Storing
 pub mod MessageLaws

@@ -8,3 +8,4 @@ pub mod Steps
 pub mod MessageReading
 pub mod Holding
 pub mod Moves
+pub mod Stored

@@ -1,0 +1,199 @@
+-- What was stored of a message is read.
+use Rattle.std.proofs.Common.{◌≡◌, ◌≢◌, Bool, true, false, cond, IsTrue, Option, Some, None, ℕ, ◌^◌, ◌<◌, List, ◌∷◌, ◌++◌, length, take, drop, get_or, replicate, refl, sym, ap, ◌∙◌, append_assoc, length-append, length-drop, arith}
+use Rattle.std.specs.Option.{IsSomeAnd}
+use Rattle.std.proofs.lemmas.List.{take-append-drop, length-take-le}
+use Rattle.giop_sig.specs.Table.{Table}
+use Rattle.giop_octets.specs.Fields.{four, eight, optional, held}
+use Rattle.giop_octets.proofs.FieldLaws.{eight_long, optional_long, behind}
+use Rattle.giop_message.specs.declared.message.Message.{Message}
+use Rattle.giop_message.specs.declared.part.Part.{Part}
+use Rattle.giop_message.specs.declared.part.Part.TheVariants as parts
+use Rattle.giop_message.specs.declared.part.Rest.{Rest}
+use Rattle.giop_message.specs.declared.wanted.Wanted.{Wanted}
+use Rattle.giop_message.specs.declared.wanted.Wanted.TheVariants as wanteds
+use Rattle.giop_message.specs.Signatures.{Kept}
+use Rattle.giop_message.specs.Holding.{FitsPart, Fits, in_header, Stands}
+use Rattle.giop_message.specs.Stored.{part_octet, kept_id, own_octets, padding_octets, rest_octets, IsOwnOf, IsPaddingOf, IsRestOf, PartStored, Stored, IsSameRest, GoesOn}
+
+pub not_both : {b : Bool} → b ≡ false → IsTrue b → ⊥
+not_both f t = cc
+
+pub there : {X : Type 0} (P : X → Type 0) (r : Option X) → IsSomeAnd r P
+    → ((x : X) → r ≡ Some x → ⊥) → ⊥
+there P (Some x) is not = not x refl
+there P None is not = is
+
+-- ---- padding
+
+abbrev wanted_octet : Wanted → ℕ
+wanted_octet wanteds.Nothing = 0
+wanted_octet (wanteds.Type of) = 1
+wanted_octet wanteds.Exception = 2
+
+said : (wanted : Wanted) (octets : List ℕ) → IsPaddingOf octets wanted
+    → get_or octets 0 0 ≡ wanted_octet wanted
+unfolding padding_octets
+said wanteds.Nothing octets e = ap (λ (xs : List ℕ). get_or xs 0 0) e.is
+said (wanteds.Type of) octets e = ap (λ (xs : List ℕ). get_or xs 0 0) e.is
+said wanteds.Exception octets e = ap (λ (xs : List ℕ). get_or xs 0 0) e.is
+
+pub nothing_again : (wanted : Wanted) (octets : List ℕ) → IsPaddingOf octets wanted
+    → get_or octets 0 0 ≡ 0 → wanteds.Nothing ≡ wanted
+nothing_again wanteds.Nothing octets e first = refl
+nothing_again (wanteds.Type of) octets e first =
+    absurd (omega (arith, said (wanteds.Type of) octets e))
+nothing_again wanteds.Exception octets e first =
+    absurd (omega (arith, said wanteds.Exception octets e))
+
+pub type_again : (wanted : Wanted) (octets : List ℕ) (n : ℕ) → IsPaddingOf octets wanted
+    → get_or octets 0 0 ≡ 1
+    → ((m : ℕ) (rest : List ℕ) → m < 2 ^ 32 → drop 1 octets ≡ four m ++ rest → n ≡ m)
+    → wanteds.Type (record { 0 = n }) ≡ wanted
+unfolding padding_octets
+type_again wanteds.Nothing octets n e first number =
+    absurd (omega (arith, said wanteds.Nothing octets e))
+type_again (wanteds.Type of) octets n e first number =
+    rw (number of.0 (replicate 203 0) e.range (ap (drop 1) e.is)) refl
+type_again wanteds.Exception octets n e first number =
+    absurd (omega (arith, said wanteds.Exception octets e))
+
+pub exception_again : (wanted : Wanted) (octets : List ℕ) → IsPaddingOf octets wanted
+    → get_or octets 0 0 ≢ 0 → get_or octets 0 0 ≢ 1 → wanteds.Exception ≡ wanted
+exception_again wanteds.Nothing octets e other another =
+    absurd (other (said wanteds.Nothing octets e))
+exception_again (wanteds.Type of) octets e other another =
+    absurd (another (said (wanteds.Type of) octets e))
+exception_again wanteds.Exception octets e other another = refl
+
+-- ---- a rest
+
+pub rest_front : (octets : List ℕ) (r : Rest) → IsRestOf octets r
+    → drop 0 octets ≡ eight r.offset ++ (held 32 r.held.items ++ replicate 167 0)
+unfolding rest_octets
+rest_front octets r e =
+    e.is ∙ append_assoc (eight r.offset) (held 32 r.held.items) (replicate 167 0)
+
+pub rest_held : (octets : List ℕ) (r : Rest) → IsRestOf octets r
+    → drop 8 octets ≡ held 32 r.held.items ++ replicate 167 0
+rest_held octets r e =
+    behind 0 8 octets (eight r.offset) _ (rest_front octets r e) (eight_long r.offset)
+
+pub same_octets : (q r : Rest) → IsSameRest q r → rest_octets q ≡ rest_octets r
+unfolding rest_octets
+same_octets q r same = rw (same.offset, same.held) refl
+
+-- ---- a message's own octets, and those behind them
+
+pub behind_own : (fixed : List ℕ) → length fixed ≡ 224 → length (drop 16 fixed) ≡ 208
+behind_own fixed long = omega (arith, length-drop 16 fixed)
+
+pub of_own : (fixed : List ℕ) → length fixed ≡ 224 → length (take 16 fixed) ≡ 16
+of_own fixed long = length-take-le 16 fixed (omega arith)
+
+pub both : (fixed : List ℕ) → drop 0 fixed ≡ take 16 fixed ++ drop 16 fixed
+both fixed = sym (take-append-drop 16 fixed)
+
+-- where its fields stand
+pub record OwnFields (m : Message) (fixed : List ℕ) : Type 0 where
+  pub rest : List ℕ
+  pub part : drop 0 fixed
+      ≡ part_octet m.part ∷ (eight m.at ++ (optional (kept_id m.part m.id) ++ rest))
+  pub at : drop 1 fixed ≡ eight m.at ++ (optional (kept_id m.part m.id) ++ rest)
+  pub id : drop 9 fixed ≡ optional (kept_id m.part m.id) ++ rest
+
+four_parts : (a b c d : List ℕ) → a ++ b ++ c ++ d ≡ a ++ (b ++ (c ++ d))
+four_parts a b c d = append_assoc (a ++ b) c d ∙ append_assoc a b (c ++ d)
+
+pub own_fields : (m : Message) (fixed : List ℕ) → IsOwnOf (take 16 fixed) m → OwnFields m fixed
+unfolding own_octets
+own_fields m fixed own =
+    let id : List ℕ = optional (kept_id m.part m.id) in
+    let rest : List ℕ = replicate 2 0 ++ drop 16 fixed in
+    let split : eight m.at ++ id ++ replicate 2 0 ++ drop 16 fixed ≡ eight m.at ++ (id ++ rest) =
+    four_parts (eight m.at) id (replicate 2 0) (drop 16 fixed) in
+    let part : drop 0 fixed ≡ part_octet m.part ∷ (eight m.at ++ (id ++ rest)) =
+    both fixed
+    ∙ ap (λ (xs : List ℕ). xs ++ drop 16 fixed) own.is
+    ∙ ap (λ (xs : List ℕ). part_octet m.part ∷ xs) split in
+    let at : drop 1 fixed ≡ eight m.at ++ (id ++ rest) = ap (drop 1) part in
+    record {
+      rest = rest;
+      part = part;
+      at = at;
+      id = behind 1 8 fixed (eight m.at) _ at (eight_long m.at);
+    }
+
+pub own_long : (m : Message) → length (own_octets m) ≡ 16
+unfolding own_octets
+own_long m =
+    omega (
+      arith,
+      length-append (eight m.at ++ optional (kept_id m.part m.id)) (replicate 2 0),
+      length-append (eight m.at) (optional (kept_id m.part m.id)),
+      eight_long m.at,
+      optional_long (kept_id m.part m.id),
+    )
+
+pub same_own : (e m : Message) → e.at ≡ m.at → part_octet e.part ≡ part_octet m.part
+    → kept_id e.part e.id ≡ kept_id m.part m.id → own_octets e ≡ own_octets m
+unfolding own_octets
+same_own e m at octet id = rw (octet, at, id) refl
+
+-- ---- a part in the place of another
+
+-- the part that stands in what is read of the octets
+pub goes_on : (C : Table) (m : Message) (fixed frames octets : List ℕ) (at octet : ℕ)
+    (r : Option Part)
+    → Fits C m → Stored m fixed frames
+    → ((n : ℕ) (rest : List ℕ) → n < 2 ^ 64 → drop 1 fixed ≡ eight n ++ rest → at ≡ n)
+    → ((n : ℕ) (rest : List ℕ) → drop 0 fixed ≡ n ∷ rest → octet ≡ n)
+    → octets ≡ drop 16 fixed
+    → ((p : Part) → FitsPart C at p → part_octet p ≡ octet → PartStored p octets frames
+    → IsSomeAnd r (λ q. GoesOn C p q))
+    → IsSomeAnd r (λ q. GoesOn C m.part q)
+goes_on C m fixed frames octets at octet r fits stored at_read octet_read octets_read again =
+    let fields = own_fields m fixed stored.own in
+    let at_is : at ≡ m.at = at_read m.at _ stored.own.at fields.at in
+    let octet_is = sym (octet_read _ _ fields.part) in
+    again m.part (rw at_is fits) octet_is (rw octets_read stored.part)
+
+pub same_place : (C : Table) (p q : Part) → GoesOn C p q → in_header q ≡ in_header p
+same_place C (parts.Typed section d) (parts.Typed other e) on = rw on.0 refl
+same_place C (parts.Padding wanted) (parts.Padding other) on = refl
+same_place C (parts.Rest r) (parts.Rest other) on = refl
+same_place C p q on = absurd on
+
+cond_again : {A : Type 0} (b : Bool) (x y : A) → cond b x (cond b x y) ≡ cond b x y
+cond_again true x y = refl
+cond_again false x y = refl
+
+-- What is kept of the request id is kept again.
+pub kept_again : (C : Table) (p q : Part) (id : Option ℕ) → GoesOn C p q
+    → kept_id q (kept_id p id) ≡ kept_id p id
+kept_again C p q id on = rw (same_place C p q on) (cond_again (in_header p) None id)
+
+pub id_on : (C : Table) (p q : Part) (id given said : Option ℕ) → GoesOn C p q
+    → given ≡ kept_id p id → id ≡ kept_id p said → given ≡ kept_id q said
+id_on C p q id given said on is was =
+    is
+    ∙ ap (kept_id p) was
+    ∙ cond_again (in_header p) None said
+    ∙ sym (ap (λ (b : Bool). cond b None said) (same_place C p q on))
+
+pub stands_on : (C : Table) (kept : Kept) (number : ℕ) (header s : List ℕ) (p q : Part)
+    → GoesOn C p q → Stands C kept number header s p → Stands C kept number header s q
+stands_on C kept number header s (parts.Typed section d) (parts.Typed other e) on is =
+    rw on.0 record {
+      T = is.T;
+      before = is.before;
+      front = is.front;
+      octets = is.octets;
+      since = is.since;
+      is = is.is;
+      first = is.first;
+      reads = on.1.reads _ _ _ _ _ _ is.reads;
+    }
+stands_on C kept number header s (parts.Padding wanted) (parts.Padding other) on is = rw on is
+stands_on C kept number header s (parts.Rest r) (parts.Rest other) on is =
+    rw (on.offset, on.held) is
+stands_on C kept number header s p q on is = absurd on

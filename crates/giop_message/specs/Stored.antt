@@ -1,0 +1,129 @@
+-- What a checkpoint keeps of a message, as octets (docs/FORMATS.md; state). A message has 224 octets, its number and its header
+-- apart. Of these 16 are its own:
+--
+--     at  octets
+--      0       1  what it stands in: 0 header, 1 repository id, 2 body, 3 padding, 4 rest
+--      1       8  offset of its next octet, at least 12
+--      9       5  whether its request id was said, 0 or 1, and the id; zero in the header, whose decoder keeps it
+--     14       2  zero
+--
+-- and 208 are those of the decoder of a header, a repository id or a body, or of padding:
+--
+--      0       1  the body behind it: 0 none, 1 of a type, 2 an exception
+--      1       4  the type; else 0
+--      5     203  zero
+--
+-- or of a rest:
+--
+--      0       8  how many octets stand before its last part
+--      8      33  its last part: how many octets, and room for 32
+--     41     167  zero
+--
+-- A decoder has its frames besides. Numbers have the heaviest octet first; what is held is followed by zeros.
+use Rattle.std.specs.Prelude.{◌≡◌, ℕ, ◌^◌, ◌<◌, cond, List, [], ◌∷◌, ◌++◌, take, drop, replicate, Option, None, IfSome}
+use Rattle.giop_octets.specs.Fields.{four, eight, optional, held}
+use Rattle.giop_cdr.specs.declared.order.Order.{Order}
+use Rattle.giop_print.specs.declared.path.Root.{Root}
+use Rattle.giop_sig.specs.Types.{Ty}
+use Rattle.giop_sig.specs.Table.{Table}
+use Rattle.giop_decode.specs.declared.decoder.Decoder.{Decoder}
+use Rattle.giop_decode.specs.Holding as decoder
+use Rattle.giop_decode.specs.Stored as decoders
+use Rattle.giop_message.specs.declared.message.Message.{Message}
+use Rattle.giop_message.specs.declared.part.Part.{Part}
+use Rattle.giop_message.specs.declared.part.Part.TheVariants as parts
+use Rattle.giop_message.specs.declared.part.Rest.{Rest}
+use Rattle.giop_message.specs.declared.part.Section.{Section}
+use Rattle.giop_message.specs.declared.part.Section.TheVariants as sections
+use Rattle.giop_message.specs.declared.wanted.Wanted.{Wanted}
+use Rattle.giop_message.specs.declared.wanted.Wanted.TheVariants as wanteds
+use Rattle.giop_message.specs.Holding.{in_header}
+
+-- ---- the octets
+
+-- the octet that says the section
+abbrev pub section_octet : Section → ℕ
+section_octet sections.Header = 0
+section_octet sections.Exception = 1
+section_octet sections.Body = 2
+
+-- the octet that says the part
+abbrev pub part_octet : Part → ℕ
+part_octet (parts.Typed section d) = section_octet section
+part_octet (parts.Padding wanted) = 3
+part_octet (parts.Rest r) = 4
+
+-- The request id has a place of its own once the header has ended: until then it stands in the decoder.
+abbrev pub kept_id : Part → Option ℕ → Option ℕ
+kept_id part id = cond (in_header part) None id
+
+-- the 16 octets of its own: the part, the offset of the next octet, and the request id
+unfoldable pub own_octets : Message → List ℕ
+own_octets m = part_octet m.part ∷ eight m.at ++ optional (kept_id m.part m.id) ++ replicate 2 0
+
+-- what type a body has, and its number
+abbrev pub wanted_octets : Wanted → List ℕ
+wanted_octets wanteds.Nothing = 0 ∷ four 0
+wanted_octets (wanteds.Type of) = 1 ∷ four of.0
+wanted_octets wanteds.Exception = 2 ∷ four 0
+
+-- the 208 octets of the padding in front of such a body
+unfoldable pub padding_octets : Wanted → List ℕ
+padding_octets wanted = wanted_octets wanted ++ replicate 203 0
+
+-- the 208 octets of a rest: the offset of its last part, and the octets of that
+unfoldable pub rest_octets : Rest → List ℕ
+rest_octets r = eight r.offset ++ held 32 r.held.items ++ replicate 167 0
+
+-- ---- a message in them
+
+-- what the fields can hold
+abbrev pub WantedHasRange : Wanted → Type 0
+WantedHasRange wanteds.Nothing = Unit {0}
+WantedHasRange (wanteds.Type of) = of.0 < 2 ^ 32
+WantedHasRange wanteds.Exception = Unit {0}
+
+-- these 208 octets are those of the padding in front of such a body
+pub record IsPaddingOf (octets : List ℕ) (wanted : Wanted) : Type 0 where
+  pub is : octets ≡ padding_octets wanted
+  pub range : WantedHasRange wanted
+
+-- these 208 octets are those of a rest
+pub record IsRestOf (octets : List ℕ) (r : Rest) : Type 0 where
+  pub is : octets ≡ rest_octets r
+  pub range : r.offset < 2 ^ 64
+
+-- these 16 octets are a message's own
+pub record IsOwnOf (octets : List ℕ) (m : Message) : Type 0 where
+  pub is : octets ≡ own_octets m
+  pub at : m.at < 2 ^ 64
+  pub id : IfSome (kept_id m.part m.id) (λ n. n < 2 ^ 32)
+
+-- A part stands in these 208 octets and these frames. Only a decoder has frames.
+abbrev pub PartStored : Part → List ℕ → List ℕ → Type 0
+PartStored (parts.Typed section d) octets frames = decoders.Stored d octets frames
+PartStored (parts.Padding wanted) octets frames = IsPaddingOf octets wanted × (frames ≡ [])
+PartStored (parts.Rest r) octets frames = IsRestOf octets r × (frames ≡ [])
+
+-- These 224 octets and these frames are what is stored of the message.
+pub record Stored (m : Message) (fixed frames : List ℕ) : Type 0 where
+  pub own : IsOwnOf (take 16 fixed) m
+  pub part : PartStored m.part (drop 16 fixed) frames
+
+-- ---- a part in the place of another
+
+pub record IsSameRest (q r : Rest) : Type 0 where
+  pub offset : q.offset ≡ r.offset
+  pub held : q.held.items ≡ r.held.items
+
+-- The other decoder reads whatever this one does.
+pub record ReadsOn (C : Table) (d e : Decoder) : Type 0 where
+  pub reads : (T : Ty) (order : Order) (at message : ℕ) (root : Root) (s : List ℕ) →
+      decoder.Reads C T order at message root d s → decoder.Reads C T order at message root e s
+
+-- The other part goes on where this one stands.
+abbrev pub GoesOn : Table → Part → Part → Type 0
+GoesOn C (parts.Typed section d) (parts.Typed other e) = (other ≡ section) × ReadsOn C d e
+GoesOn C (parts.Padding wanted) (parts.Padding other) = other ≡ wanted
+GoesOn C (parts.Rest r) (parts.Rest other) = IsSameRest other r
+GoesOn C part other = ⊥

@@ -1,0 +1,244 @@
+//! A message from the octets that were stored of one. Octets that no message stores are read as any; what was read is
+//! stored anew and compared.
+
+ghost use Rattle.std.specs.Prelude.{◌≡◌, ℕ, ◌+◌, ◌<◌, ◌≤◌, ◌↔◌, List, length, IfSome, IsSome, IsTrue, Some};
+ghost use Rattle.std.specs.Option.{IsSomeAnd};
+ghost use Rattle.giop_sig.specs.Table.{Table};
+
+use crate::message::Message;
+use crate::part::{Part, Rest, Section};
+use crate::wanted::Wanted;
+use arrayvec::ArrayVec;
+use giop_decode::Decoder;
+use giop_octets::{eight_at, four_at, held_at, octet_at, octets_at, optional_at};
+use giop_sig::{Catalogue, TypeId};
+
+/// Whether octets are the same.
+fn same(octets: &[u8], others: &[u8]) -> bool
+    ensures { IsTrue result ↔ (octets.now ≡ others.now) }
+{
+    octets == others
+}
+
+/// Whether an octet behind a message's header has this offset.
+fn is_behind_header(at: u64) -> bool
+    ensures { IsTrue result ↔ (12 ≤ at) }
+{
+    at >= 12
+}
+
+/// Whether a rest can have so many octets before its last part and so many in it, of a message that has taken so many.
+fn is_rest(offset: u64, held: usize, at: u64) -> bool
+    ensures { IsTrue result ↔ (held < 32) × (offset + held ≤ at) }
+{
+    held < 32 && offset <= at && held as u64 <= at - offset
+}
+
+impl Wanted {
+    ghost use Rattle.giop_message.specs.declared.wanted.Wanted.{Wanted as BodyType};
+    ghost use Rattle.giop_message.specs.Holding.{IsKnown};
+    ghost use Rattle.giop_message.specs.Stored.{IsPaddingOf};
+
+    /// The body behind the padding that was stored in these octets: None where no padding of a body of the catalogue is
+    /// stored so.
+    fn restore(catalogue: &Catalogue, octets: &[u8; 208]) -> Option<Wanted>
+        ensures known { IfSome result (λ w. IsKnown catalogue.now w) }
+        ensures stored { IfSome result (λ w. IsPaddingOf octets.now w) }
+        ensures again { (w : BodyType) → IsKnown catalogue.now w → IsPaddingOf octets.now w →
+            result ≡ Some w }
+    {
+        let wanted = Wanted::parsed(octets);
+        if !wanted.is_known(catalogue) {
+            return None;
+        }
+        if !same(&wanted.octets(), octets) {
+            return None;
+        }
+        Some(wanted)
+    }
+
+    /// What octets say of a body.
+    fn parsed(octets: &[u8; 208]) -> Wanted
+        ensures { (w : BodyType) → IsPaddingOf octets.now w → result ≡ w }
+    {
+        match octets[0] {
+            0 => Wanted::Nothing,
+            1 => Wanted::Type(TypeId(four_at(octets, 1))),
+            _ => Wanted::Exception,
+        }
+    }
+
+    /// Whether its type is one of the catalogue.
+    fn is_known(self, catalogue: &Catalogue) -> bool
+        ensures { IsTrue result ↔ IsKnown catalogue.now self }
+    {
+        match self {
+            Wanted::Nothing => true,
+            Wanted::Type(of) => catalogue.has(of),
+            Wanted::Exception => true,
+        }
+    }
+}
+
+impl Rest {
+    ghost use Rattle.giop_message.specs.declared.part.Rest.{Rest as StoredRest};
+    ghost use Rattle.giop_message.specs.Stored.{IsRestOf, IsSameRest};
+
+    /// The rest that was stored in these octets, of a message that has taken so many: None where no rest of such a message
+    /// is stored so.
+    fn restore(octets: &[u8; 208], at: u64) -> Option<Rest>
+        ensures within { IfSome result (λ r. r.offset + length r.held.items ≤ at) }
+        ensures stored { IfSome result (λ r. IsRestOf octets.now r) }
+        ensures again { (r : StoredRest) → r.offset + length r.held.items ≤ at →
+            IsRestOf octets.now r → IsSomeAnd result (λ other. IsSameRest other r) }
+    {
+        let offset = eight_at(octets, 0);
+        let held: ArrayVec<u8, 32> = held_at(octets, 8);
+        if !is_rest(offset, held.len(), at) {
+            return None;
+        }
+        let rest = Rest { offset, held };
+        if !same(&rest.octets(), octets) {
+            return None;
+        }
+        Some(rest)
+    }
+}
+
+impl Part {
+    ghost use Rattle.giop_message.specs.declared.part.Part.{Part as StoredPart};
+    ghost use Rattle.giop_message.specs.Holding.{FitsPart};
+    ghost use Rattle.giop_message.specs.Stored.{section_octet, part_octet, PartStored, GoesOn};
+
+    /// The part that was stored in these octets and frames, of a message that has taken so many octets and has this octet
+    /// for the part: None where no part of such a message is stored so.
+    fn restore(
+        catalogue: &Catalogue,
+        octet: u8,
+        at: u64,
+        octets: &[u8; 208],
+        frames: &[u8],
+    ) -> Option<Part>
+        ensures fits { IfSome result (λ p. FitsPart catalogue.now at p) }
+        ensures stored { IfSome result (λ p. PartStored p octets.now frames.now) }
+        ensures octet { IfSome result (λ p. part_octet p ≡ octet) }
+        ensures again { (p : StoredPart) → FitsPart catalogue.now at p → part_octet p ≡ octet →
+            PartStored p octets.now frames.now →
+            IsSomeAnd result (λ other. GoesOn catalogue.now p other) }
+    {
+        match octet {
+            0 => Part::restore_typed(catalogue, Section::Header, octets, frames),
+            1 => Part::restore_typed(catalogue, Section::Exception, octets, frames),
+            2 => Part::restore_typed(catalogue, Section::Body, octets, frames),
+            3 => Part::restore_padding(catalogue, octets, frames),
+            4 => Part::restore_rest(at, octets, frames),
+            _ => None,
+        }
+    }
+
+    /// The section whose decoder was stored in these octets and frames.
+    fn restore_typed(
+        catalogue: &Catalogue,
+        section: Section,
+        octets: &[u8; 208],
+        frames: &[u8],
+    ) -> Option<Part>
+        ensures fits { (at : ℕ) → IfSome result (λ p. FitsPart catalogue.now at p) }
+        ensures stored { IfSome result (λ p. PartStored p octets.now frames.now) }
+        ensures octet { IfSome result (λ p. part_octet p ≡ section_octet section) }
+        ensures again { (at : ℕ) (p : StoredPart) → FitsPart catalogue.now at p →
+            part_octet p ≡ section_octet section → PartStored p octets.now frames.now →
+            IsSomeAnd result (λ other. GoesOn catalogue.now p other) }
+    {
+        let Some(decoder) = Decoder::restore(catalogue, octets, frames) else {
+            return None;
+        };
+        Some(Part::Typed(section, decoder))
+    }
+
+    /// The padding that was stored in these octets. It has no frames.
+    fn restore_padding(catalogue: &Catalogue, octets: &[u8; 208], frames: &[u8]) -> Option<Part>
+        ensures fits { (at : ℕ) → IfSome result (λ p. FitsPart catalogue.now at p) }
+        ensures stored { IfSome result (λ p. PartStored p octets.now frames.now) }
+        ensures octet { IfSome result (λ p. part_octet p ≡ 3) }
+        ensures again { (at : ℕ) (p : StoredPart) → FitsPart catalogue.now at p →
+            part_octet p ≡ 3 → PartStored p octets.now frames.now →
+            IsSomeAnd result (λ other. GoesOn catalogue.now p other) }
+    {
+        let Some(wanted) = Wanted::restore(catalogue, octets) else {
+            return None;
+        };
+        if !frames.is_empty() {
+            return None;
+        }
+        Some(Part::Padding(wanted))
+    }
+
+    /// The rest that was stored in these octets. It has no frames.
+    fn restore_rest(at: u64, octets: &[u8; 208], frames: &[u8]) -> Option<Part>
+        ensures fits { (C : Table) → IfSome result (λ p. FitsPart C at p) }
+        ensures stored { IfSome result (λ p. PartStored p octets.now frames.now) }
+        ensures octet { IfSome result (λ p. part_octet p ≡ 4) }
+        ensures again { (C : Table) (p : StoredPart) → FitsPart C at p →
+            part_octet p ≡ 4 → PartStored p octets.now frames.now →
+            IsSomeAnd result (λ other. GoesOn C p other) }
+    {
+        let Some(rest) = Rest::restore(octets, at) else {
+            return None;
+        };
+        if !frames.is_empty() {
+            return None;
+        }
+        Some(Part::Rest(rest))
+    }
+}
+
+impl Message {
+    ghost use Rattle.giop_message.specs.declared.message.Message.{Message as StoredMessage};
+    ghost use Rattle.giop_message.specs.Signatures.{Kept};
+    ghost use Rattle.giop_message.specs.Holding.{Fits, Follows};
+    ghost use Rattle.giop_message.specs.Stored.{Stored};
+
+    /// The message of this number and header that was stored in these octets and frames: None where no message that fits
+    /// the catalogue is stored so.
+    pub fn restore(
+        catalogue: &Catalogue,
+        number: u64,
+        header: [u8; 12],
+        fixed: &[u8; 224],
+        frames: &[u8],
+    ) -> Option<Message>
+        ensures number { IfSome result (λ m. m.number ≡ number) }
+        ensures header { IfSome result (λ m. m.header ≡ header) }
+        ensures fits { IfSome result (λ m. Fits catalogue.now m) }
+        ensures stored { IfSome result (λ m. Stored m fixed.now frames.now) }
+        ensures again { (m : StoredMessage) → Fits catalogue.now m →
+            Stored m fixed.now frames.now → IsSome result }
+        // It follows whatever list the stored one follows.
+        ensures follows { IfSome result (λ e. (m : StoredMessage) → Fits catalogue.now m →
+            m.number ≡ number → m.header ≡ header → Stored m fixed.now frames.now →
+            (kept : Kept) (n : ℕ) (h s : List ℕ) → Follows catalogue.now kept n h m s →
+            Follows catalogue.now kept n h e s) }
+    {
+        let at = eight_at(fixed, 1);
+        if !is_behind_header(at) {
+            return None;
+        }
+        let octets: [u8; 208] = octets_at(fixed, 16);
+        let Some(part) = Part::restore(catalogue, octet_at(fixed, 0), at, &octets, frames) else {
+            return None;
+        };
+        let message = Message {
+            number,
+            header,
+            id: optional_at(fixed, 9),
+            at,
+            part,
+        };
+        let own: [u8; 16] = octets_at(fixed, 0);
+        if !same(&message.own_octets(), &own) {
+            return None;
+        }
+        Some(message)
+    }
+}

@@ -1,0 +1,159 @@
+//! What a checkpoint keeps of a message, as octets (docs/FORMATS.md): 16 of its own, and 208 of the part that it stands in.
+
+ghost use Rattle.std.specs.Prelude.{◌≡◌, ℕ, ◌*◌, ◌≤◌, take};
+ghost use Rattle.giop_sig.specs.Table.{Table};
+ghost use Rattle.giop_sig.specs.Trees.{depth_of};
+ghost use Rattle.giop_decode.specs.Stored.{frame_size};
+
+use crate::message::Message;
+use crate::part::{Part, Rest, Section};
+use crate::wanted::Wanted;
+use arrayvec::ArrayVec;
+use giop_octets::{put_eight, put_four, put_held, put_octets, put_optional, put_zeros};
+
+impl Section {
+    ghost use Rattle.giop_message.specs.Stored.{section_octet};
+
+    /// The octet that says it.
+    pub(crate) fn octet(self) -> u8
+        ensures { result ≡ section_octet self }
+    {
+        match self {
+            Section::Header => 0,
+            Section::Exception => 1,
+            Section::Body => 2,
+        }
+    }
+}
+
+impl Wanted {
+    ghost use Rattle.giop_message.specs.Stored.{IsPaddingOf};
+
+    /// The octets of the padding in front of such a body.
+    #[tactic(auto, unfolding(crate::specs::Stored::padding_octets))]
+    pub(crate) fn octets(self) -> [u8; 208]
+        ensures { IsPaddingOf result self }
+    {
+        let (what, of) = match self {
+            Wanted::Nothing => (0, 0),
+            Wanted::Type(of) => (1, of.0),
+            Wanted::Exception => (2, 0),
+        };
+        let mut out: ArrayVec<u8, 208> = ArrayVec::new();
+        out.push(what);
+        put_four(&mut out, of);
+        put_zeros(&mut out, 203);
+        let mut octets = [0; 208];
+        octets.copy_from_slice(out.as_slice());
+        octets
+    }
+}
+
+impl Rest {
+    ghost use Rattle.giop_message.specs.Stored.{IsRestOf};
+
+    /// Its octets.
+    #[tactic(auto, unfolding(crate::specs::Stored::rest_octets))]
+    pub(crate) fn octets(&self) -> [u8; 208]
+        ensures { IsRestOf result self.now }
+    {
+        let mut out: ArrayVec<u8, 208> = ArrayVec::new();
+        put_eight(&mut out, self.offset);
+        put_held(&mut out, self.held.as_slice(), 32);
+        put_zeros(&mut out, 167);
+        let mut octets = [0; 208];
+        octets.copy_from_slice(out.as_slice());
+        octets
+    }
+}
+
+impl Part {
+    ghost use Rattle.giop_message.specs.Holding.{FitsPart};
+    ghost use Rattle.giop_message.specs.Stored.{part_octet, PartStored};
+
+    /// The octet that says it.
+    fn octet(&self) -> u8
+        ensures { result ≡ part_octet self.now }
+    {
+        match self {
+            Part::Typed(section, _) => section.octet(),
+            Part::Padding(_) => 3,
+            Part::Rest(_) => 4,
+        }
+    }
+
+    /// Writes what is kept of it, and answers the number of its decoder's frames: 0 where it has none.
+    fn store(&self, octets: &mut [u8; 208], frames: &mut [u8; 384]) -> u8
+        ensures few { result ≤ 24 }
+        ensures depth { (C : Table) (at : ℕ) → FitsPart C at self.now → result ≤ depth_of C.types }
+        ensures stored { (C : Table) (at : ℕ) → FitsPart C at self.now →
+            PartStored self.now octets.new (take (frame_size * result) frames.new) }
+    {
+        match self {
+            Part::Typed(_, decoder) => decoder.store(octets, frames),
+            Part::Padding(wanted) => {
+                *octets = wanted.octets();
+                0
+            }
+            Part::Rest(rest) => {
+                *octets = rest.octets();
+                0
+            }
+        }
+    }
+}
+
+impl Message {
+    ghost use Rattle.giop_message.specs.Holding.{Fits, reach};
+    ghost use Rattle.giop_message.specs.Stored.{kept_id, IsOwnOf, Stored};
+
+    /// How many of its octets it has taken, its header's 12 included.
+    pub fn reach(&self) -> u64
+        ensures { result ≡ reach self.now }
+    {
+        self.at
+    }
+
+    /// Writes what is kept of it, its number and its header apart: its octets, and the frames of its decoder, of which it
+    /// answers the number.
+    pub fn store(&self, fixed: &mut [u8; 224], frames: &mut [u8; 384]) -> u8
+        ensures few { result ≤ 24 }
+        ensures depth { (C : Table) → Fits C self.now → result ≤ depth_of C.types }
+        ensures stored { (C : Table) → Fits C self.now →
+            Stored self.now fixed.new (take (frame_size * result) frames.new) }
+    {
+        let mut part = [0; 208];
+        let count = self.part.store(&mut part, frames);
+        let own = self.own_octets();
+        let mut out: ArrayVec<u8, 224> = ArrayVec::new();
+        put_octets(&mut out, &own);
+        put_octets(&mut out, &part);
+        fixed.copy_from_slice(out.as_slice());
+        count
+    }
+
+    /// The octets of its own.
+    #[tactic(auto, unfolding(crate::specs::Stored::own_octets))]
+    pub(crate) fn own_octets(&self) -> [u8; 16]
+        ensures { IsOwnOf result self.now }
+    {
+        let mut out: ArrayVec<u8, 16> = ArrayVec::new();
+        out.push(self.part.octet());
+        put_eight(&mut out, self.at);
+        put_optional(&mut out, self.kept_id());
+        put_zeros(&mut out, 2);
+        let mut octets = [0; 16];
+        octets.copy_from_slice(out.as_slice());
+        octets
+    }
+
+    /// The request id, where its decoder doesn't keep that.
+    fn kept_id(&self) -> Option<u32>
+        ensures { result ≡ kept_id self.now.part self.now.id }
+    {
+        match self.part {
+            Part::Typed(Section::Header, _) => None,
+            _ => self.id,
+        }
+    }
+}
