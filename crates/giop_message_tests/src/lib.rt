@@ -8,4 +8,6 @@ mod pieces;
 #[cfg(test)]
 mod rows;
 #[cfg(test)]
+mod stored;
+#[cfg(test)]
 mod tests;

@@ -1,0 +1,291 @@
+//! Messages that are stored and restored on their way, and the octets that are stored of them.
+ghost use Rattle.std.specs.Prelude.{◌≡◌, ◌≤◌, length, IfSome};
+ghost use Rattle.giop_message.specs.Holding.{AreOf, Fits};
+
+use crate::known::{built_in, octets_of};
+use crate::rows::{Closing, Row, row_of, rows};
+use giop_message::Message;
+use giop_print::{OutFault, Sheet};
+use giop_sig::{Catalogue, Requests};
+use std::alloc::Global;
+use std::process::Abort;
+use std::test::Fail;
+
+/// The message that is restored from what is stored of one.
+fn again(catalogue: &Catalogue, message: &Message) -> Option<Message>
+    ensures { IfSome result (λ m. Fits catalogue.now m) }
+{
+    let mut fixed = [0; 224];
+    let mut frames = [0; 384];
+    let count = usize::from(message.store(&mut fixed, &mut frames));
+    let (number, header) = (message.number(), message.header());
+    Message::restore(catalogue, number, header, &fixed, &frames[..16 * count])
+}
+
+/// Takes the octets behind a header in two pieces, as message 1 of a stream, and closes the message, which is stored and
+/// restored between the pieces: None where it can't be restored.
+fn takes_restored(
+    catalogue: &Catalogue,
+    requests: &Requests,
+    header: [u8; 12],
+    front: &[u8],
+    back: &[u8],
+    out: &mut Sheet,
+) -> Result<Option<Closing>, OutFault>
+    requires of { AreOf catalogue.now requests.now }
+    requires front { length front.now ≤ 1000 }
+    requires back { length back.now ≤ 1000 }
+{
+    let mut message = Message::start(catalogue, 1, header);
+    if let Some(n) = message.take(catalogue, requests, front, 12, out)? {
+        return Ok(Some(Closing::Fault(12 + n)));
+    }
+    let place = 12 + front.len();
+    let Some(mut message) = again(catalogue, &message) else {
+        return Ok(None);
+    };
+    if message.reach() != place as u64 {
+        return Ok(None);
+    }
+    if let Some(n) = message.take(catalogue, requests, back, place as u64, out)? {
+        return Ok(Some(Closing::Fault(place + n)));
+    }
+    let place = place + back.len();
+    if message.close(catalogue, place as u64, out)? {
+        Ok(Some(Closing::Short))
+    } else {
+        Ok(Some(Closing::Ends))
+    }
+}
+
+#[test]
+fn a_restored_message_goes_on_as_the_stored_one(rt: HostRuntime) -> Result<(), Fail> {
+    let known = built_in(rt.alloc())?;
+    each_row_is_restored(&rt, &known.0, &known.1)
+}
+
+fn each_row_is_restored(
+    rt: &(impl Abort + AllocGlobal),
+    catalogue: &Catalogue,
+    requests: &Requests,
+) -> Result<(), Fail>
+    requires of { AreOf catalogue.now requests.now }
+{
+    for text in rows() {
+        let row = row_of(text);
+        let octets = octets_of(rt.alloc(), row.octets)?;
+        is_restored_anywhere(rt, catalogue, requests, row, &octets);
+    }
+    Ok(())
+}
+
+fn is_restored_anywhere(
+    rt: &impl Abort,
+    catalogue: &Catalogue,
+    requests: &Requests,
+    row: Row,
+    octets: &[u8],
+)
+    requires of { AreOf catalogue.now requests.now }
+{
+    for cut in 12..octets.len() + 1 {
+        let differs = restored_differs(catalogue, requests, row, octets, cut);
+        assert!(rt;
+            differs.is_empty(),
+            "{}, stored at {cut}: {differs}",
+            row.name
+        );
+    }
+}
+
+/// What differs where the message is stored and restored behind so many of its octets.
+fn restored_differs(
+    catalogue: &Catalogue,
+    requests: &Requests,
+    row: Row,
+    octets: &[u8],
+    cut: usize,
+) -> &'static str
+    requires of { AreOf catalogue.now requests.now }
+{
+    if octets.len() > 1000 || cut < 12 || cut > octets.len() {
+        return "the octets";
+    }
+    let mut room = [0; 1024];
+    let mut sheet = Sheet::new(&mut room);
+    let (front, back) = octets.split_at(cut);
+    let Some((header, front)) = front.split_first_chunk::<12>() else {
+        return "the header";
+    };
+    if takes_restored(catalogue, requests, *header, front, back, &mut sheet)
+        != Ok(Some(row.closing))
+    {
+        return "the closing";
+    }
+    if sheet.held() == row.lines.as_bytes() {
+        ""
+    } else {
+        "the lines"
+    }
+}
+
+/// The first octets of a message, the first 12 of them its header; the octets that are stored of it behind them, as message 1
+/// of a stream; and those of its frames.
+#[derive(Clone, Copy)]
+struct Case {
+    name: &'static str,
+    octets: &'static str,
+    own: &'static str,
+    part: &'static str,
+    frames: &'static str,
+}
+
+/// In padding, in its rest, and behind "IDL:" in the first string of a body.
+const CASES: [Case; 3] = [
+    Case {
+        name: "in front of a system exception",
+        octets: "47494f50 0102 01 01 37000000 01000000 02000000 01000000 07000000 01000000 aa",
+        own: "03 0000000000000021 01 00000001 0000",
+        part: "01 00000015 00*203",
+        frames: "",
+    },
+    Case {
+        name: "in a rest, behind its first line",
+        octets: "47494f50 0100 00 05 00000023 aa*32 010203",
+        own: "04 000000000000002f 00 00000000 0000",
+        part: "0000000000000020 03 010203 00*29 00*167",
+        frames: "",
+    },
+    Case {
+        name: "in the type id of a forward",
+        octets: "47494f50 0100 00 01 00000036 00000001 00000007 00000004 aabbccdd 00000001 00000003 0000000a 49444c3a",
+        own: "02 000000000000002c 01 00000001 0000",
+        part: "00 02 0000000000000001 04 01 0000000b 00000009 00000000 00 00*8 04 49444c3a 00*28 00*5 00*5 00 00*129 00*2",
+        frames: "00000011 00000000 00000002 00000000 0000000b 00000000 00000000 00000000",
+    },
+];
+
+#[test]
+fn a_message_is_stored_in_these_octets(rt: HostRuntime) -> Result<(), Fail> {
+    let known = built_in(rt.alloc())?;
+    each_case_is_stored(&rt, &known.0, &known.1)
+}
+
+fn each_case_is_stored(
+    rt: &(impl Abort + AllocGlobal),
+    catalogue: &Catalogue,
+    requests: &Requests,
+) -> Result<(), Fail>
+    requires of { AreOf catalogue.now requests.now }
+{
+    for case in CASES {
+        let octets = octets_of(rt.alloc(), case.octets)?;
+        let own = octets_of(rt.alloc(), case.own)?;
+        let part = octets_of(rt.alloc(), case.part)?;
+        let frames = octets_of(rt.alloc(), case.frames)?;
+        let differs = stored_differs(catalogue, requests, &octets, &own, &part, &frames);
+        assert!(rt; differs.is_empty(), "{}: {differs}", case.name);
+    }
+    Ok(())
+}
+
+/// What differs of what is stored of a message of these octets.
+fn stored_differs(
+    catalogue: &Catalogue,
+    requests: &Requests,
+    octets: &[u8],
+    own: &[u8],
+    part: &[u8],
+    frames: &[u8],
+) -> &'static str
+    requires of { AreOf catalogue.now requests.now }
+{
+    let Some((header, behind)) = octets.split_first_chunk::<12>() else {
+        return "the header";
+    };
+    if behind.len() > 1000 {
+        return "the octets";
+    }
+    let mut room = [0; 1024];
+    let mut sheet = Sheet::new(&mut room);
+    let mut message = Message::start(catalogue, 1, *header);
+    if message.take(catalogue, requests, behind, 12, &mut sheet) != Ok(None) {
+        return "the answer";
+    }
+    let mut fixed = [0; 224];
+    let mut all = [0; 384];
+    let count = usize::from(message.store(&mut fixed, &mut all));
+    if &fixed[..16] != own {
+        return "its own octets";
+    }
+    if &fixed[16..] != part {
+        return "the octets of its part";
+    }
+    if &all[..16 * count] != frames {
+        return "the frames";
+    }
+    ""
+}
+
+/// One octet of a case that is another, so that no message is stored so: the case, where the octet stands, and what it is.
+#[derive(Clone, Copy)]
+struct Wrong(&'static str, usize, usize, u8);
+
+const WRONG: [Wrong; 11] = [
+    Wrong("a part of no kind", 0, 0, 5),
+    Wrong("a next octet in the message header", 0, 8, 11),
+    Wrong("a request id that was neither said nor not", 0, 9, 2),
+    Wrong("an octet without a use behind the id", 0, 15, 1),
+    Wrong("a body of no kind", 0, 16, 3),
+    Wrong("a type that the catalogue doesn't have", 0, 20, 37),
+    Wrong("an octet without a use behind a type", 0, 223, 1),
+    Wrong("more octets of a rest than there were", 1, 23, 45),
+    Wrong("a last part that is full", 1, 24, 32),
+    Wrong("an octet without a use behind a last part", 1, 28, 1),
+    Wrong("a request id beside that of the header's decoder", 2, 0, 0),
+];
+
+#[test]
+fn octets_that_no_message_stores_are_refused(rt: HostRuntime) -> Result<(), Fail> {
+    let known = built_in(rt.alloc())?;
+    for Wrong(name, case, at, octet) in WRONG {
+        let right = octets_of_case(rt.alloc(), case)?;
+        let frames = octets_of(rt.alloc(), CASES[case % 3].frames)?;
+        assert!(rt;
+            is_restored(&known.0, &right, &frames),
+            "{name}: the right octets"
+        );
+        let mut octets = right;
+        if let Some(place) = octets.get_mut(at) {
+            *place = octet;
+        }
+        assert!(rt; !is_restored(&known.0, &octets, &frames), "{name}");
+    }
+    Ok(())
+}
+
+/// The octets that are stored of a case.
+fn octets_of_case(alloc: Global, case: usize) -> Result<Vec<u8>, Fail> {
+    let case = &CASES[case % 3];
+    let mut octets = octets_of(alloc, case.own)?;
+    octets.extend_from_slice(&octets_of(alloc, case.part)?)?;
+    Ok(octets)
+}
+
+/// Whether a message is stored in these octets and frames.
+fn is_restored(catalogue: &Catalogue, octets: &[u8], frames: &[u8]) -> bool {
+    match octets.first_chunk::<224>() {
+        Some(fixed) => Message::restore(catalogue, 1, [0; 12], fixed, frames).is_some(),
+        None => false,
+    }
+}
+
+#[test]
+fn padding_and_a_rest_have_no_frames(rt: HostRuntime) -> Result<(), Fail> {
+    let known = built_in(rt.alloc())?;
+    for case in 0..2 {
+        let octets = octets_of_case(rt.alloc(), case)?;
+        assert!(rt; !is_restored(&known.0, &octets, &[0; 16]));
+    }
+    Ok(())
+}
