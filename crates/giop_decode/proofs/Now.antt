@@ -20,9 +20,6 @@ pub each_append : {A : Type 0} (P : A → Type 0) (xs ys : List A) → Each P xs
 each_append P [] ys h k = k
 each_append P (x ∷ xs) ys h k = (h.0, each_append P xs ys h.1 k)
 
-none_at : (n : ℕ) (lines : List Line) → lines ≡ [] → OneAt n lines
-none_at n lines e = rw e tt
-
 now_front : (n : ℕ) (front : List Line) (r : Read) → OneAt n front → Quiet n r → Now n (with_front front r)
 now_front n front (Done lines at rest) h k = rw (k.0, append-nil front) (h, k.1, k.2)
 now_front n front (Short lines at outer leaf) h k = rw (k.0, append-nil front) (h, k.1)

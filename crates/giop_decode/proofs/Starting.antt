@@ -1,5 +1,5 @@
 -- A decoder before the first octet.
-use Rattle.std.proofs.Common.{◌≡◌, ℕ, zero, suc, ◌+◌, ◌%◌, ◌<◌, [], length, Some, None, refl, sym, ◌∙◌, ap, subst, add-zero, inl, inr}
+use Rattle.std.proofs.Common.{◌≡◌, ℕ, ◌+◌, ◌%◌, ◌<◌, [], length, Some, refl, sym, ◌∙◌, ap, subst, add-zero, inl, inr}
 use Rattle.giop_cdr.specs.declared.order.Order.{Order}
 use Rattle.giop_decode.specs.declared.decoder.Decoder.{Decoder}
 use Rattle.giop_decode.specs.declared.leaf.Leaf.TheVariants as innermost
@@ -18,32 +18,10 @@ use Rattle.giop_sig.specs.declared.types.TypeId.{TypeId}
 use Rattle.giop_sig.specs.Fits.{IsFit, IsEmptyStruct, IsRoot}
 use Rattle.giop_sig.specs.Table.{Table}
 use Rattle.giop_sig.specs.Trees.{tree}
-use Rattle.giop_sig.specs.Types.{Ty, Single, Text, Octets, Struct, Union, Sequence, Array}
+use Rattle.giop_sig.specs.Types.{Ty}
 
 module _ (C : Table) (T : Ty) (order : Order) (at message : ℕ) (root : Root) (d : Decoder) where
-  -- the empty struct ends before its first octet
-  pub empty_reads : IsEmptyStruct T → d.leaf ≡ None → Recalls d.memory nothing → d.order ≡ order → d.message ≡ message → d.root ≡ root → d.at ≡ at % 8 → Reads C T order at message root d []
-  empty_reads empty none recalls same_order same_message same_root offset = by_type T empty
-    where
-      by_type : (U : Ty) → IsEmptyStruct U → Reads C U order at message root d []
-      by_type (Struct zero names parts) e = record {
-        lines = [];
-        is = sym (ap (λ l. standing_in C d l [] (at + 0)) none ∙ rw (add-zero at) refl);
-        minds = minds_by root d (read (plain order) [] (Struct zero names parts) at []) (λ asked. recalls);
-        same_order = same_order;
-        same_message = same_message;
-        same_root = same_root;
-        offset = rw (add-zero at) offset;
-      }
-      by_type (Struct (suc n) names parts) e = absurd e
-      by_type (Single scalar) e = absurd e
-      by_type (Text bound) e = absurd e
-      by_type (Octets bound) e = absurd e
-      by_type (Union choice scalar select names cases) e = absurd e
-      by_type (Sequence bound U) e = absurd e
-      by_type (Array n U) e = absurd e
-
-  -- any other type begins with a number
+  -- a type that isn't the empty struct begins with a number
   pub first_reads : (first : TypeId) → IsFit 24 T → d.leaf ≡ Some (innermost.Number first) → d.carry ≡ [] → places C d.outer.items ≡ start_outer T → start_leaf T ≡ Head (tree C first.0) [] →
       Recalls d.memory nothing → d.order ≡ order → d.message ≡ message → d.root ≡ root → d.at ≡ at % 8 → Reads C T order at message root d []
   first_reads first fit goes_on empty are leaf recalls same_order same_message same_root offset =
