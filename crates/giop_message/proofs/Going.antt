@@ -117,11 +117,6 @@ pub rest_goes : (S : Signatures) (header : List ℕ) → Goes S header rest
 unfolding rest
 rest_goes S header at s b = rest_in_goes S header (length s / 32) (length (s ++ b ∷ []) / 32) 0 at s b refl (ap (λ n. n / 32) (length_one_more s b))
 
--- a line of no Request's header has no call
-pub no_call : (l : Line) (h : Heard) → calls false l h ≡ []
-unfolding calls
-no_call l h = refl
-
 -- ---- the padding
 
 padded_waits : (S : Signatures) (header : List ℕ) (t : BodyType) (at : ℕ) (s : List ℕ) → length s < padding at 8 → padded S header t at s ≡ Comes [] (at + length s) (In_padding t)

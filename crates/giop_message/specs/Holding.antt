@@ -90,7 +90,7 @@ reach m = m.at
 
 -- ---- a message of a list
 
--- The header is the first section, and its type that of the header.
+-- The header is the first section of a message: there is no line before it, and its type is the header's.
 abbrev pub IsFirst : List ℕ → Section → Ty → List Told → Type 0
 IsFirst header sections.Header T before = (header_type (minor header) (kind header) ≡ Some T) × (before ≡ [])
 IsFirst header sections.Exception T before = Unit {0}

@@ -64,7 +64,7 @@ Arrives C kept number header old new s m =
     IsAt number header old s → (before : List Told) → message (said_by C kept) header s ≡ with_front before m →
     Stands C kept number header s new.part
 
--- a message that comes to these lines and then a section of this type stands in that
+-- A message that comes to these lines, and then to a section of this type of which nothing has come, stands in that.
 abbrev pub Enters : Table → Kept → ℕ → List ℕ → Message → Message → List ℕ → Section → Ty → Type 0
 Enters C kept number header old new s section T =
     IsAt number header old s → (before : List Told) → IsFirst header section T before →
@@ -72,11 +72,12 @@ Enters C kept number header old new s section T =
     ≡ with_front before (through (said_by C kept) header section nothing (read (plain (order header)) [] T (12 + length s) [])) →
     Stands C kept number header s new.part
 
+-- a part that is read as a value
 abbrev pub IsTyped : Part → Type 0
 IsTyped (parts.Typed section d) = Unit {0}
 IsTyped part = ⊥
 
--- Lets go of what a decoder has in mind of a section, once that has ended.
+-- a part that is this section, and whose decoder has this reading of it in mind
 abbrev pub Ended : Part → Section → Read → Type 0
 Ended (parts.Typed held d) section r = (held ≡ section) × Minds (root_of section) d r
 Ended part section r = ⊥
