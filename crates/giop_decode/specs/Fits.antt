@@ -12,6 +12,7 @@ HasHead (Struct count names parts) = ⊥
 HasHead (Array count T) = ⊥
 HasHead T = Unit {0}
 
+-- a type that has a content behind its length: a string, or an octet sequence
 abbrev pub HasContent : Ty → Type 0
 HasContent (Text bound) = Unit {0}
 HasContent (Octets bound) = Unit {0}
@@ -29,11 +30,13 @@ abbrev pub HasCase : Ty → ℕ → Type 0
 HasCase (Union choice scalar select names cases) i = i < places_of choice
 HasCase T i = ⊥
 
+-- a number that begins a type: some of its octets are missing
 pub record HeadFits (T U : Ty) (carry : List ℕ) : Type 0 where
   pub same : U ≡ T
   pub kind : HasHead T
   pub room : length carry < head_width T
 
+-- a content of a type: its piece begins in it, and is not whole
 pub record ContentFits (T U : Ty) (total offset : ℕ) (piece : List ℕ) : Type 0 where
   pub same : U ≡ T
   pub kind : HasContent T
@@ -42,15 +45,18 @@ pub record ContentFits (T U : Ty) (total offset : ℕ) (piece : List ℕ) : Type
   pub room_full : 32 < total - offset → length piece < 32
   pub room_last : total - offset ≤ 32 → length piece < total - offset + tail T
 
+-- a part of a type at a place, of so many
 pub record PartFits (T U : Ty) (i count : ℕ) : Type 0 where
   pub same : U ≡ T
   pub kind : HasParts T count
   pub below : i < count
 
+-- a case of a union at a place
 pub record MemberFits (T U : Ty) (i : ℕ) : Type 0 where
   pub same : U ≡ T
   pub kind : HasCase T i
 
+-- places and a leaf that can stand in a type, each in the one before
 abbrev pub FitsIn : Ty → List Place → Leaf → Type 0
 FitsIn T [] (Head U carry) = HeadFits T U carry
 FitsIn T [] (Content U total offset piece) = ContentFits T U total offset piece
@@ -62,6 +68,7 @@ abbrev pub IsOpen : ℕ → Place → Type 0
 IsOpen d (Part T i count) = HasParts T count × (i < count) × IsFit d T
 IsOpen d (Member T i) = HasCase T i × IsFit d T
 
+-- places one in the other, the outermost of which has so much depth left
 abbrev pub OpenFrom : ℕ → List Place → Type 0
 OpenFrom d [] = Unit {0}
 OpenFrom zero (place ∷ outer) = ⊥

@@ -48,6 +48,7 @@ standing_in C d None lines at = Done lines at []
 standing_in C d (Some leaf) lines at =
     Short lines at (places C d.outer.items) (leaf_of C leaf d.carry d.piece.items)
 
+-- what a decoder's fields stand for, by whether it has an innermost part
 abbrev pub standing : Table → Decoder → List Line → ℕ → Read
 standing C d lines at = standing_in C d d.leaf lines at
 
@@ -57,6 +58,7 @@ IsHeld buffers.Whole octets name so_far = (name ≡ Some octets) × (so_far ≡ 
 IsHeld buffers.Begun octets name so_far = (name ≡ None) × (so_far ≡ octets) × (length octets ≤ 128)
 IsHeld buffers.TooLong octets name so_far = (name ≡ None) × (octets ≡ []) × (128 < length so_far)
 
+-- a memory has what was heard: request id, status, and name or the pieces of one
 pub record Recalls (m : Memory) (h : Heard) : Type 0 where
   pub request_id : m.request_id ≡ h.request_id
   pub status : m.status ≡ h.status
@@ -96,11 +98,13 @@ IsAnswer end named progress.Done (Done lines at rest) = rest ≡ []
 IsAnswer end named (progress.Fault kind) (Fault lines at why T) = (kind ≡ why) × (at ≡ end)
 IsAnswer end named p r = ⊥
 
+-- the value goes on
 abbrev pub GoesOn : Progress → Type 0
 GoesOn progress.More = Unit {0}
 GoesOn progress.Named = Unit {0}
 GoesOn p = ⊥
 
+-- the octet breaks a rule
 abbrev pub IsFault : Progress → Type 0
 IsFault (progress.Fault kind) = Unit {0}
 IsFault p = ⊥

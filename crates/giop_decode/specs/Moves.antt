@@ -45,6 +45,7 @@ IsGoing named None p = p ≡ progress.Done
 IsGoing true (Some leaf) p = p ≡ progress.Named
 IsGoing false (Some leaf) p = p ≡ progress.More
 
+-- what is answered behind a turn of the innermost part: its fault, or whether more is to come
 abbrev pub IsProgress : Bool → Turn → Option Innermost → Progress → Type 0
 IsProgress named (turns.Refused kind) leaf p = p ≡ progress.Fault kind
 IsProgress named turn leaf p = IsGoing named leaf p

@@ -12,6 +12,7 @@ pub data Grab : Type 0 where
   Waiting : List ℕ → ℕ → Grab
   Got : List ℕ → ℕ → List ℕ → Grab
 
+-- the next n octets
 unfoldable pub block : ℕ → ℕ → List ℕ → Grab
 block n at s =
     cond (ltb (length s) n) (Waiting s (at + length s)) (Got (take n s) (at + n) (drop n s))
@@ -40,15 +41,18 @@ abbrev pub tail : Ty → ℕ
 tail (Text bound) = 1
 tail T = 0
 
+-- why a content of n octets, with those behind it, ends wrongly: a string ends in a zero
 abbrev pub ends : Ty → ℕ → List ℕ → Option Kind
 ends (Text bound) n octets = cond (eqb (get_or octets n 0) 0) None (Some kinds.StringEnd)
 ends T n octets = None
 
+-- the last piece of a content, or the wait for it: up to 32 octets from an offset in the content
 abbrev pub last_piece : Ty → List Seg → ℕ → ℕ → Grab → Read
 last_piece T path total offset (Waiting piece at) = Short [] at [] (Content T total offset piece)
 last_piece T path total offset (Got octets at rest) = unless T (ends T (total - offset) octets) at
     (Done (line at path (Piece T offset (take (total - offset) octets) false) ∷ []) at rest)
 
+-- a piece of 32 octets at an offset in the content, and what comes next
 abbrev pub full_piece : Ty → List Seg → ℕ → ℕ → (ℕ → List ℕ → Read) → Grab → Read
 full_piece T path total offset next (Waiting piece at) =
     Short [] at [] (Content T total offset piece)

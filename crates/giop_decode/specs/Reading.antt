@@ -21,6 +21,7 @@ wrong (Plain prims.Boolean) n = cond (ltb n 2) None (Some kinds.Boolean)
 wrong (Plain p) n = None
 wrong (Enum count names) n = cond (ltb n count) None (Some kinds.Enum)
 
+-- a value of one number, behind its octets
 abbrev pub single : List Seg → Scalar → ℕ → ℕ → List ℕ → Read
 single path scalar n at rest =
     unless (Single scalar) (wrong scalar n) at (Done (line at path (Number scalar n) ∷ []) at rest)
@@ -36,6 +37,7 @@ member (Case i) case at s = case i at s
 member Nothing case at s = Done [] at s
 member Refused case at s = Done [] at s
 
+-- why what a discriminator selects is a fault: none of the dispositions
 abbrev pub refused : Selected → Option Kind
 refused Refused = Some kinds.Disposition
 refused _ = None

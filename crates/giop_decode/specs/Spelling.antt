@@ -11,15 +11,18 @@ use Rattle.giop_print.specs.Text.{joined, quoted}
 use Rattle.giop_print.specs.declared.path.Root.{Root}
 use Rattle.giop_sig.specs.Types.{Plain, Enum, Text, Octets}
 
+-- the text of a segment: a name behind a point, or an index in brackets
 abbrev pub seg_text : Seg → List ℕ
 seg_text (Name name) = name_segment name
 seg_text (Index i) = index_segment i
 seg_text Switch = name_segment (codes "switch")
 
+-- the text of segments, one after the other
 abbrev pub segs_text : List Seg → List ℕ
 segs_text [] = []
 segs_text (s ∷ ss) = seg_text s ++ segs_text ss
 
+-- the text of a path below a root
 unfoldable pub path_text : Root → List Seg → List ℕ
 path_text root path = root_word root ++ segs_text path
 
@@ -44,9 +47,11 @@ abbrev pub value_text : ℕ → List ℕ → Value → List ℕ
 value_text message path value =
     joined (codes "m" ∷ decimal message ∷ codes " " ∷ path ∷ (value_words value ++ codes "\n" ∷ []))
 
+-- the line of a value, in the message of this number and below a root
 abbrev pub line_text : ℕ → Root → Line → List ℕ
 line_text message root l = value_text message (path_text root l.path) l.value
 
+-- the text of lines, one after the other
 unfoldable pub lines_text : ℕ → Root → List Line → List ℕ
 lines_text message root [] = []
 lines_text message root (l ∷ ls) = line_text message root l ++ lines_text message root ls

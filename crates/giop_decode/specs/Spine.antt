@@ -12,6 +12,7 @@ pub data Seg : Type 0 where
   Index : ℕ → Seg
   Switch : Seg
 
+-- what a line tells
 pub data Value : Type 0 where
   -- the whole number that the octets of a primitive or of an enum spell
   Number : Scalar → ℕ → Value
@@ -26,6 +27,7 @@ pub record Line : Type 0 where
   pub path : List Seg
   pub value : Value
 
+-- the line of a value at a path, at the offset just past its last octet
 abbrev pub line : ℕ → List Seg → Value → Line
 line at path value = record { at = at; path = path; value = value }
 
@@ -36,6 +38,7 @@ pub record Coding : Type 0 where
   pub order : Order
   pub origin : ℕ
 
+-- this order, and alignment counted from this offset
 abbrev pub coded : Order → ℕ → Coding
 coded order origin = record { order = order; origin = origin }
 
@@ -68,11 +71,13 @@ pub data Read : Type 0 where
   Short : List Line → ℕ → List Place → Leaf → Read
   Fault : List Line → ℕ → Kind → Ty → Read
 
+-- the lines of a reading
 abbrev pub lines_of : Read → List Line
 lines_of (Done lines at rest) = lines
 lines_of (Short lines at outer leaf) = lines
 lines_of (Fault lines at kind S) = lines
 
+-- a reading with these lines before its own
 abbrev pub with_front : List Line → Read → Read
 with_front front (Done lines at rest) = Done (front ++ lines) at rest
 with_front front (Short lines at outer leaf) = Short (front ++ lines) at outer leaf

@@ -7,6 +7,7 @@ use Rattle.giop_decode.specs.Reading.{chosen, headed, parts_from, read, single}
 use Rattle.giop_decode.specs.Spine.{Coding, Line, Content, Count, Done, Fault, Head, Index, Leaf, Member, Name, Part, Place, Read, Seg, Short, followed, line, with_front, within}
 use Rattle.giop_sig.specs.Types.{part_of, Octets, Sequence, Single, Struct, Text, Ty, Union, width}
 
+-- one octet more of n that are taken together, of which some are held
 unfoldable pub block_step : ℕ → ℕ → List ℕ → ℕ → Grab
 block_step n at held b =
     cond (ltb (length held + 1) n) (Waiting (held ++ b ∷ []) (at + 1))
@@ -34,6 +35,7 @@ seg_of T i = Index i
 abbrev pub inner_path : List Seg → Ty → ℕ → List Seg
 inner_path path T i = path ++ seg_of T i ∷ []
 
+-- the reading of a part in a place of a type, from an offset on
 abbrev pub part_at : Coding → List Seg → Ty → ℕ → ℕ → ℕ → List ℕ → Read
 part_at coding path T count i at s =
     within (Part T i count) (read coding (path ++ seg_of T i ∷ []) (part_of T i) at s)
@@ -52,6 +54,7 @@ after coding path (Union choice scalar select names cases) n at rest =
     (read coding (path ++ Name (names i) ∷ []) (cases i) at s)) at rest
 after coding path T n at rest = Done [] at rest
 
+-- one octet more of a content of so many octets, whose piece begins at an offset in it
 abbrev pub content_step : Ty → List Seg → ℕ → ℕ → ℕ → List ℕ → ℕ → Read
 content_step T path total offset at piece b = cond (ltb 32 (total - offset))
     (full_piece T path total offset
@@ -67,6 +70,7 @@ leaf_step coding path (Head T carry) at b =
 leaf_step coding path (Content T total offset piece) at b =
     content_step T path total offset at piece b
 
+-- the segment of a place
 abbrev pub seg_in : Place → Seg
 seg_in (Part T i count) = seg_of T i
 seg_in (Member T i) = seg_of T i
@@ -78,11 +82,13 @@ resumed coding path (Part T i count) r =
     (parts_from (part_at coding path T count) (count - suc i) (suc i))
 resumed coding path (Member T i) r = within (Member T i) r
 
+-- what places, the outermost first, come to once what is read in the innermost has come so far
 abbrev pub around : Coding → List Seg → List Place → Read → Read
 around coding path [] r = r
 around coding path (place ∷ outer) r =
     resumed coding path place (around coding (path ++ seg_in place ∷ []) outer r)
 
+-- the path inside places
 abbrev pub path_in : List Seg → List Place → List Seg
 path_in path [] = path
 path_in path (place ∷ outer) = path_in (path ++ seg_in place ∷ []) outer

@@ -27,9 +27,11 @@ abbrev pub place_in : Ty → ℕ → ℕ → Place
 place_in (Union choice scalar select names cases) i count = Member (Union choice scalar select names cases) i
 place_in T i count = Part T i count
 
+-- the place that a frame of a table stands for
 abbrev pub place : Table → Frame → Place
 place C f = place_in (tree C f.of.0) f.index f.count
 
+-- the places of frames, the outermost first
 abbrev pub places : Table → List Frame → List Place
 places C frames = map (place C) frames
 
@@ -39,6 +41,7 @@ pub record IsKnown (C : Table) (f : Frame) : Type 0 where
   pub place : HasPlace (shape_in (tree C f.of.0)) f.index
   pub uncounted : IsUnion (shape_in (tree C f.of.0)) → f.count ≡ 0
 
+-- frames of types of the table
 abbrev pub AreKnown : Table → List Frame → Type 0
 AreKnown C frames = AllByRecursion (IsKnown C) frames
 
@@ -60,10 +63,12 @@ gone_on C at outer (Some of) = Short [] at (places C outer) (Head (tree C of) []
 
 -- ---- the innermost part
 
+-- the leaf that an innermost part stands for, with the octets that are held
 abbrev pub leaf_of : Table → Innermost → List ℕ → List ℕ → Leaf
 leaf_of C (innermost.Number of) carry piece = Head (tree C of.0) carry
 leaf_of C (innermost.Content of total offset) carry piece = Content (tree C of.0) total offset piece
 
+-- the number of the type of an innermost part
 abbrev pub leaf_type : Innermost → ℕ
 leaf_type (innermost.Number of) = of.0
 leaf_type (innermost.Content of total offset) = of.0
@@ -75,6 +80,7 @@ IsClean (innermost.Content of total offset) carry piece = carry ≡ []
 
 -- ---- turns
 
+-- what the reading of an innermost part comes to by a turn, with these lines at this offset
 abbrev pub turned : Table → Ty → Turn → List ℕ → List ℕ → List Line → ℕ → Read
 turned C T (turns.More leaf) carry piece lines at = Short lines at [] (leaf_of C leaf carry piece)
 turned C T turns.Ended carry piece lines at = Done lines at []

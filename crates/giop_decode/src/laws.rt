@@ -13,7 +13,6 @@ ghost use Rattle.giop_decode.specs.Memories.{TextPiece, pieces_of, AreUnended, I
 
 /// The reading of a list is told by the parts that the reading of a front of it has begun and not ended. It has no body,
 /// and is called for its contract.
-
 pub fn reading_laws()
     // One octet more is one step on those parts.
     ensures step { (coding : Coding) (path : List Seg) (T : Ty) (at : ℕ) (s : List ℕ) (b : ℕ) →
