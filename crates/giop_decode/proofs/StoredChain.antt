@@ -16,13 +16,13 @@ use Rattle.giop_sig.specs.Fits.{IsFit, IsEmptyStruct}
 use Rattle.giop_sig.specs.Headers.{IsTable}
 use Rattle.giop_sig.specs.Table.{Table, part_number}
 use Rattle.giop_sig.specs.Trees.{tree, depth_of}
-use Rattle.giop_sig.specs.Types.{Ty, Single, Text, Octets, Struct, Union, Sequence, Array, HasPlace, IsUnion, part_of, shape_in, depth, most}
+use Rattle.giop_sig.specs.Types.{Cases, Ty, Single, Text, Octets, Struct, Union, Sequence, Array, HasPlace, IsUnion, part_of, shape_in, depth, most}
 use Rattle.giop_sig.proofs.PartLaws.{part_is, root_is, depth_is}
 
 -- ---- one place
 
 pub part_place : (T : Ty) (i count : ℕ) → HasPart T i count → HasPlace (shape_in T) i
-part_place (Union n scalar select names cases) i count has = has.0
+part_place (Union (Cases n) scalar select names cases) i count has = has.0
 part_place (Struct n names parts) i count has = let below : i < n = omega (arith, has.0, has.1) in below
 part_place (Array n T) i count has = tt
 part_place (Sequence bound T) i count has = tt
@@ -31,7 +31,7 @@ part_place (Text bound) i count has = absurd has.0
 part_place (Octets bound) i count has = absurd has.0
 
 part_uncounted : (T : Ty) (i count : ℕ) → HasPart T i count → IsUnion (shape_in T) → count ≡ 0
-part_uncounted (Union n scalar select names cases) i count has is = has.1
+part_uncounted (Union (Cases n) scalar select names cases) i count has is = has.1
 part_uncounted (Struct n names parts) i count has is = absurd is
 part_uncounted (Array n T) i count has is = absurd is
 part_uncounted (Sequence bound T) i count has is = absurd is
@@ -40,7 +40,7 @@ part_uncounted (Text bound) i count has is = absurd has.0
 part_uncounted (Octets bound) i count has is = absurd has.0
 
 fits_one_more : (T : Ty) (i count : ℕ) (outer : List Place) (leaf : Leaf) → HasPart T i count → FitsIn (part_of T i) outer leaf → FitsIn T (place_in T i count ∷ outer) leaf
-fits_one_more (Union n scalar select names cases) i count outer leaf has fits = (record { same = refl; kind = has.0 }, fits)
+fits_one_more (Union (Cases n) scalar select names cases) i count outer leaf has fits = (record { same = refl; kind = has.0 }, fits)
 fits_one_more (Struct n names parts) i count outer leaf has fits = (record { same = refl; kind = has.0; below = has.1 }, fits)
 fits_one_more (Array n T) i count outer leaf has fits = (record { same = refl; kind = has.0; below = has.1 }, fits)
 fits_one_more (Sequence bound T) i count outer leaf has fits = (record { same = refl; kind = has.0; below = has.1 }, fits)
@@ -49,7 +49,7 @@ fits_one_more (Text bound) i count outer leaf has fits = absurd has.0
 fits_one_more (Octets bound) i count outer leaf has fits = absurd has.0
 
 fits_part : (T : Ty) (i count : ℕ) (outer : List Place) (leaf : Leaf) → FitsIn T (place_in T i count ∷ outer) leaf → (IsUnion (shape_in T) → count ≡ 0) → HasPart T i count × FitsIn (part_of T i) outer leaf
-fits_part (Union n scalar select names cases) i count outer leaf fits uncounted = ((fits.0.kind, uncounted tt), fits.1)
+fits_part (Union (Cases n) scalar select names cases) i count outer leaf fits uncounted = ((fits.0.kind, uncounted tt), fits.1)
 fits_part (Struct n names parts) i count outer leaf fits uncounted = ((fits.0.kind, fits.0.below), fits.1)
 fits_part (Array n T) i count outer leaf fits uncounted = ((fits.0.kind, fits.0.below), fits.1)
 fits_part (Sequence bound T) i count outer leaf fits uncounted = ((fits.0.kind, fits.0.below), fits.1)
@@ -117,7 +117,7 @@ some_fit (Sequence bound T) fit empty = empty
 some_fit (Single scalar) fit empty = empty
 some_fit (Text bound) fit empty = empty
 some_fit (Octets bound) fit empty = empty
-some_fit (Union n scalar select names cases) fit empty = empty
+some_fit (Union (Cases n) scalar select names cases) fit empty = empty
 
 root_linked : (C : Table) (root : ℕ) (frames : List Frame) (leaf : Innermost) → Link C root frames (leaf_type leaf) → root ≡ root_of frames leaf
 root_linked C root [] leaf link = sym link
@@ -174,21 +174,21 @@ depth_some (Sequence bound T) = omega arith
 depth_some (Single scalar) = omega arith
 depth_some (Text bound) = omega arith
 depth_some (Octets bound) = omega arith
-depth_some (Union n scalar select names cases) = omega arith
+depth_some (Union (Cases n) scalar select names cases) = omega arith
 
 part_shallower : (T : Ty) (i count : ℕ) → HasParts T count → i < count → depth (part_of T i) < depth T
 unfolding depth
 part_shallower (Struct n names parts) i count kind lt = let below : i < n = omega (arith, kind) in omega (arith, most_at n i (λ j. depth (parts j)) below)
 part_shallower (Array n T) i count kind lt = omega arith
 part_shallower (Sequence bound T) i count kind lt = omega arith
-part_shallower (Union n scalar select names cases) i count kind lt = absurd kind
+part_shallower (Union (Cases n) scalar select names cases) i count kind lt = absurd kind
 part_shallower (Single scalar) i count kind lt = absurd kind
 part_shallower (Text bound) i count kind lt = absurd kind
 part_shallower (Octets bound) i count kind lt = absurd kind
 
 case_shallower : (T : Ty) (i : ℕ) → HasCase T i → depth (part_of T i) < depth T
 unfolding depth
-case_shallower (Union n scalar select names cases) i kind = omega (arith, most_at n i (λ j. depth (cases j)) kind)
+case_shallower (Union (Cases n) scalar select names cases) i kind = omega (arith, most_at n i (λ j. depth (cases j)) kind)
 case_shallower (Struct n names parts) i kind = absurd kind
 case_shallower (Array n T) i kind = absurd kind
 case_shallower (Sequence bound T) i kind = absurd kind

@@ -9,11 +9,11 @@ use Rattle.giop_decode.specs.Turns.{leaf_of, leaf_type, IsClean}
 use Rattle.giop_sig.specs.Fits.{IsEmptyStruct}
 use Rattle.giop_sig.specs.Table.{Table, part_number}
 use Rattle.giop_sig.specs.Trees.{tree}
-use Rattle.giop_sig.specs.Types.{Ty, Union}
+use Rattle.giop_sig.specs.Types.{Ty, Union, places_of}
 
 -- a type has that part among so many; a union's cases are not counted
 abbrev pub HasPart : Ty → ℕ → ℕ → Type 0
-HasPart (Union n scalar select names cases) i count = (i < n) × (count ≡ 0)
+HasPart (Union choice scalar select names cases) i count = (i < places_of choice) × (count ≡ 0)
 HasPart T i count = HasParts T count × (i < count)
 
 -- an innermost part of this type, with what is held of it
