@@ -20,6 +20,8 @@ mod rows;
 #[cfg(test)]
 mod run_tests;
 #[cfg(test)]
+mod stored_tests;
+#[cfg(test)]
 mod tests;
 #[cfg(test)]
 mod tracing;
