@@ -42,12 +42,40 @@ pub fn compare<'w, 'g>(
     status: u8,
 ) -> Option<Difference<'w, 'g>> {
     let got = str::from_utf8(written).unwrap_or("octets that are no text");
-    if got.strip_suffix('\n') != Some(wanted) {
+    if !is_same(wanted, got) {
         return Some(first_line(wanted, got));
     }
     if status != wanted_status {
         return Some(Difference::Status {
             wanted: wanted_status,
+            got: status,
+        });
+    }
+    None
+}
+
+/// Whether a text is these lines, of which the last one's end is left out; or no line.
+fn is_same(wanted: &str, got: &str) -> bool {
+    if wanted.is_empty() {
+        return got.is_empty();
+    }
+    got.strip_suffix('\n') == Some(wanted)
+}
+
+/// Compares the lines that are wanted with those that were written up to a put that failed: a front of them, the last one
+/// perhaps cut, and the status of a run that failed.
+pub fn compare_front<'w, 'g>(
+    wanted: &'w str,
+    written: &'g [u8],
+    status: u8,
+) -> Option<Difference<'w, 'g>> {
+    let got = str::from_utf8(written).unwrap_or("octets that are no text");
+    if !wanted.starts_with(got.strip_suffix('\n').unwrap_or(got)) {
+        return Some(first_line(wanted, got));
+    }
+    if status != 4 {
+        return Some(Difference::Status {
+            wanted: 4,
             got: status,
         });
     }

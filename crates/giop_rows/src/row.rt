@@ -2,11 +2,13 @@
 
 use std::alloc::Global;
 
-/// A row: its name, the status of the program, the octets in hexadecimal text, and the lines, the last one's end left out.
+/// A row: its name, the status of the program, what is written where its stream ends early (or nothing), the octets in
+/// hexadecimal text, and the lines, the last one's end left out.
 #[derive(Clone, Copy)]
 pub struct Row<'a> {
     pub name: &'a str,
     pub status: u8,
+    pub early: &'a str,
     pub stream: &'a str,
     pub lines: &'a str,
 }
@@ -16,13 +18,26 @@ impl<'a> Row<'a> {
     pub fn read(text: &'a str) -> Option<Row<'a>> {
         let (head, lines) = text.split_once("\nlines\n")?;
         let mut parts = head.splitn(3, '\n');
+        let name = parts.next()?;
+        let status = parts.next()?.strip_prefix("status ")?.parse().ok()?;
+        let (early, stream) = named(parts.next().unwrap_or(""), "early ");
         Some(Row {
-            name: parts.next()?,
-            status: parts.next()?.strip_prefix("status ")?.parse().ok()?,
-            stream: parts.next().unwrap_or(""),
+            name,
+            status,
+            early,
+            stream,
             lines,
         })
     }
+}
+
+/// What stands behind a name in the first line of a text, and the other lines. Nothing, and the text, where the name
+/// isn't there.
+fn named<'a>(text: &'a str, name: &str) -> (&'a str, &'a str) {
+    let Some(behind) = text.strip_prefix(name) else {
+        return ("", text);
+    };
+    behind.split_once('\n').unwrap_or((behind, ""))
 }
 
 /// The octets of hexadecimal text, in which spaces and line ends stand anywhere. None where it is no such text, and for

@@ -2,14 +2,10 @@
 
 ghost use Rattle.giop_stream.specs.Holding.{AreOf};
 
-use super::difference::{Difference, compare};
 use super::row::{Row, list, octets};
 use super::tally::Tally;
-use super::way::Way;
-use giop_print::Sheet;
-use giop_run::{ProgramFault, Report, RunFault, status};
+use super::trying::is_dumped_each_way;
 use giop_sig::{Catalogue, Requests, SigFault};
-use giop_stream::Engine;
 use std::alloc::Global;
 use std::io;
 
@@ -129,91 +125,4 @@ fn told(rt: &HostRuntime, name: &str, is_as_told: bool) -> io::Result<()> {
         println!(rt; "ok {name}")?;
     }
     Ok(())
-}
-
-/// Dumps a row in every way, up to the first in which it differs.
-fn is_dumped_each_way(
-    rt: &HostRuntime,
-    catalogue: &Catalogue,
-    requests: &Requests,
-    row: &Row,
-    stream: &[u8],
-) -> io::Result<bool>
-    requires of { AreOf catalogue.now requests.now }
-{
-    if !is_dumped(
-        rt,
-        Engine::new(catalogue, requests),
-        row,
-        stream,
-        Way::Whole,
-    )? {
-        return Ok(false);
-    }
-    for at in 0..stream.len() + 1 {
-        if !is_dumped_at(rt, catalogue, requests, row, stream, at)? {
-            return Ok(false);
-        }
-    }
-    Ok(true)
-}
-
-/// Dumps a row in each way that has a place.
-fn is_dumped_at(
-    rt: &HostRuntime,
-    catalogue: &Catalogue,
-    requests: &Requests,
-    row: &Row,
-    stream: &[u8],
-    at: usize,
-) -> io::Result<bool>
-    requires of { AreOf catalogue.now requests.now }
-{
-    for way in Way::at(at) {
-        if !is_dumped(rt, Engine::new(catalogue, requests), row, stream, way)? {
-            return Ok(false);
-        }
-    }
-    Ok(true)
-}
-
-/// Dumps a row in one way.
-fn is_dumped(
-    rt: &HostRuntime,
-    engine: Engine,
-    row: &Row,
-    stream: &[u8],
-    way: Way,
-) -> io::Result<bool> {
-    let mut room = [0; 16_384];
-    let mut sheet = Sheet::new(&mut room);
-    let ended = way.dump(engine, stream, &mut sheet);
-    is_as_told(rt, row, way, sheet.held(), status_of(ended))
-}
-
-/// The status of the program after such a run.
-fn status_of(ended: Result<Report, RunFault>) -> u8 {
-    match ended {
-        Ok(report) => status(&Ok(report)),
-        Err(fault) => status(&Err(ProgramFault::Run(fault))),
-    }
-}
-
-/// Whether these are the lines and the status of the row.
-fn is_as_told(
-    rt: &HostRuntime,
-    row: &Row,
-    way: Way,
-    written: &[u8],
-    status: u8,
-) -> io::Result<bool> {
-    match compare(row.lines, row.status, written, status) {
-        None => Ok(true),
-        Some(found) => differs(rt, row.name, way, &found),
-    }
-}
-
-fn differs(rt: &HostRuntime, name: &str, way: Way, found: &Difference) -> io::Result<bool> {
-    println!(rt; "DIFFERS {name}, {way}, {found}")?;
-    Ok(false)
 }

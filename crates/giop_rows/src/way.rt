@@ -1,5 +1,6 @@
 //! The ways in which a stream is dumped.
 
+use super::faulty::Octets;
 use giop_print::Out;
 use giop_run::{Ending, Piecewise, Reading, Report, RunFault, run};
 use giop_stream::{Engine, Stop};
@@ -14,12 +15,29 @@ pub enum Way {
     Cut(usize),
     /// Each read gives so many octets.
     Pieces(usize),
+    /// The out takes one octet at each put.
+    Narrow,
+    /// The stream ends behind so many octets.
+    Early(usize),
+    /// A read fails behind so many octets.
+    Broken(usize),
+    /// A put fails behind so many others.
+    Failing(usize),
 }
 
 impl Way {
     /// The ways that have this place.
     pub fn at(at: usize) -> [Way; 2] {
         [Way::Cut(at), Way::Pieces(at.saturating_add(1))]
+    }
+
+    /// How many octets the out takes at each put, and how many puts.
+    pub fn puts(self) -> (usize, usize) {
+        match self {
+            Way::Narrow => (1, usize::MAX),
+            Way::Failing(puts) => (usize::MAX, puts),
+            _ => (usize::MAX, usize::MAX),
+        }
     }
 
     /// Dumps a stream.
@@ -30,9 +48,12 @@ impl Way {
         out: &mut O,
     ) -> Result<Report, RunFault> {
         match self {
-            Way::Whole => whole(engine, stream, out),
+            Way::Whole | Way::Narrow => read(engine, Octets::whole(stream), out),
             Way::Cut(at) => cut(engine, stream, at, out),
             Way::Pieces(step) => pieces(engine, stream, step, out),
+            Way::Early(at) => read(engine, Octets::whole(front(stream, at)), out),
+            Way::Broken(at) => read(engine, Octets::broken(front(stream, at)), out),
+            Way::Failing(_) => failing(engine, stream, out),
         }
     }
 }
@@ -43,13 +64,21 @@ impl fmt::Display for Way {
             Way::Whole => write!(f, "whole"),
             Way::Cut(at) => write!(f, "cut at {at}"),
             Way::Pieces(step) => write!(f, "in pieces of {step}"),
+            Way::Narrow => write!(f, "an octet at each put"),
+            Way::Early(at) => write!(f, "ended at {at}"),
+            Way::Broken(at) => write!(f, "a read failed at {at}"),
+            Way::Failing(puts) => write!(f, "a put failed behind {puts}"),
         }
     }
 }
 
-fn whole<O: Out>(engine: Engine, stream: &[u8], out: &mut O) -> Result<Report, RunFault> {
-    let mut source = Reading::new(stream);
-    run(&mut source, out, engine, Ending::Finish)
+/// So many octets of a stream, from its front.
+fn front(stream: &[u8], at: usize) -> &[u8] {
+    stream.split_at(at.min(stream.len())).0
+}
+
+fn read<O: Out>(engine: Engine, octets: Octets, out: &mut O) -> Result<Report, RunFault> {
+    run(&mut Reading::new(octets), out, engine, Ending::Finish)
 }
 
 fn cut<O: Out>(engine: Engine, stream: &[u8], at: usize, out: &mut O) -> Result<Report, RunFault> {
@@ -72,4 +101,19 @@ fn pieces<O: Out>(
 ) -> Result<Report, RunFault> {
     let mut source = Piecewise::new(stream, step.max(1));
     run(&mut source, out, engine, Ending::Finish)
+}
+
+/// Feeds a stream. Where a put fails the engine is failed: it is fed once more, and run to its finish.
+fn failing<O: Out>(engine: Engine, stream: &[u8], out: &mut O) -> Result<Report, RunFault> {
+    let mut engine = engine;
+    match engine.feed(stream, out) {
+        Ok(_) => {}
+        Err(_) => match engine.feed(stream, out) {
+            Err(Stop::Failed) => {}
+            Err(Stop::Out(_)) => return Err(RunFault::Out),
+            Ok(_) => return Err(RunFault::Read),
+        },
+    }
+    let mut nothing = Piecewise::new(&[], 1);
+    run(&mut nothing, out, engine, Ending::Finish)
 }

@@ -1,0 +1,107 @@
+//! What is written where the stream of a row ends early.
+
+use std::alloc::Global;
+
+/// What is written where the stream ends behind so many octets: how many of the row's lines, and what its closing says.
+#[derive(Clone, Copy)]
+pub struct Early<'a> {
+    /// The lines of the octets up to there.
+    pub lines: usize,
+    messages: &'a str,
+    faults: &'a str,
+    is_truncated: bool,
+    /// The numbers of the messages that are unfinished, between commas.
+    unfinished: &'a str,
+    /// The octets that are counted, where these are fewer, as the stream has stopped before.
+    octets: Option<&'a str>,
+}
+
+impl<'a> Early<'a> {
+    /// What a word spells, and for how many octets of the stream, one behind the other, it is so.
+    pub fn read(word: &'a str) -> Option<(Early<'a>, usize)> {
+        let (word, count) = times(word)?;
+        let (word, octets) = split(word, '@');
+        let (word, unfinished) = split(word, 'u');
+        let (word, is_truncated) = match word.strip_suffix('t') {
+            Some(word) => (word, true),
+            None => (word, false),
+        };
+        let (lines, totals) = word.split_once(':')?;
+        let (messages, faults) = totals.split_once('.')?;
+        let early = Early {
+            lines: lines.parse().ok()?,
+            messages,
+            faults,
+            is_truncated,
+            unfinished: unfinished.unwrap_or(""),
+            octets,
+        };
+        Some((early, count))
+    }
+
+    /// The lines that are written behind so many octets, the last one's end left out, of a stream that has these lines.
+    pub fn text(&self, alloc: Global, lines: &str, at: usize) -> Option<String> {
+        let mut text = self.front(alloc, lines)?;
+        if self.is_truncated {
+            writeln!(text, "stream fault truncated at {at}").ok()?;
+        }
+        for number in self.unfinished.split(',') {
+            unfinished(&mut text, number)?;
+        }
+        let (messages, faults) = (self.messages, self.faults);
+        write!(text, "total messages {messages} faults {faults} octets ").ok()?;
+        match self.octets {
+            Some(octets) => write!(text, "{octets}").ok()?,
+            None => write!(text, "{at}").ok()?,
+        }
+        Some(text)
+    }
+
+    /// The lines of the octets up to there.
+    pub fn front(&self, alloc: Global, lines: &str) -> Option<String> {
+        let mut text = String::new(alloc);
+        for line in lines.split('\n').take(self.lines) {
+            writeln!(text, "{line}").ok()?;
+        }
+        Some(text)
+    }
+
+    /// Whether the stream has stopped there at a fault, so that no more of it is read.
+    pub fn is_stopped(&self, lines: &str) -> bool {
+        let Some(last) = self.lines.checked_sub(1) else {
+            return false;
+        };
+        match lines.split('\n').nth(last) {
+            Some(line) => line.starts_with("stream fault"),
+            None => false,
+        }
+    }
+
+    /// The status of the program behind such a closing.
+    pub fn status(&self) -> u8 {
+        if self.faults == "0" { 0 } else { 1 }
+    }
+}
+
+fn unfinished(text: &mut String, number: &str) -> Option<()> {
+    if number.is_empty() {
+        return Some(());
+    }
+    writeln!(text, "m{number} unfinished").ok()
+}
+
+/// A word in front of `*` and a number, or one alone, which stands for itself once.
+pub fn times(word: &str) -> Option<(&str, usize)> {
+    match word.split_once('*') {
+        Some((word, count)) => Some((word, count.parse().ok()?)),
+        None => Some((word, 1)),
+    }
+}
+
+/// What stands in front of a letter, and what behind it, where it has that.
+fn split(word: &str, letter: char) -> (&str, Option<&str>) {
+    match word.split_once(letter) {
+        Some((front, behind)) => (front, Some(behind)),
+        None => (word, None),
+    }
+}

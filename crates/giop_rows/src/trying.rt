@@ -1,0 +1,268 @@
+//! A row, dumped in every way.
+
+ghost use Rattle.giop_stream.specs.Holding.{AreOf};
+
+use super::difference::{Difference, compare, compare_front};
+use super::early::Early;
+use super::faulty::Narrow;
+use super::row::Row;
+use super::way::Way;
+use giop_print::{Sheet, Written};
+use giop_run::{ProgramFault, Report, RunFault, status};
+use giop_sig::{Catalogue, Requests};
+use giop_stream::Engine;
+use std::io;
+
+/// Dumps a row in every way, up to the first in which it differs, which is told.
+pub fn is_dumped_each_way(
+    rt: &HostRuntime,
+    catalogue: &Catalogue,
+    requests: &Requests,
+    row: &Row,
+    stream: &[u8],
+) -> io::Result<bool>
+    requires of { AreOf catalogue.now requests.now }
+{
+    for way in [Way::Whole, Way::Narrow] {
+        if !is_dumped(rt, Engine::new(catalogue, requests), row, stream, way)? {
+            return Ok(false);
+        }
+    }
+    Ok(
+        is_dumped_cut(rt, catalogue, requests, row, stream)?
+            && is_dumped_early(rt, catalogue, requests, row, stream)?
+            && is_dumped_over_failing(rt, catalogue, requests, row, stream)?,
+    )
+}
+
+/// Dumps a row in the ways that have a place, with each place.
+fn is_dumped_cut(
+    rt: &HostRuntime,
+    catalogue: &Catalogue,
+    requests: &Requests,
+    row: &Row,
+    stream: &[u8],
+) -> io::Result<bool>
+    requires of { AreOf catalogue.now requests.now }
+{
+    for at in 0..stream.len() + 1 {
+        for way in Way::at(at) {
+            if !is_dumped(rt, Engine::new(catalogue, requests), row, stream, way)? {
+                return Ok(false);
+            }
+        }
+    }
+    Ok(true)
+}
+
+/// Ends the stream of a row behind each of its octets, in the order in which the row tells what is written then.
+fn is_dumped_early(
+    rt: &HostRuntime,
+    catalogue: &Catalogue,
+    requests: &Requests,
+    row: &Row,
+    stream: &[u8],
+) -> io::Result<bool>
+    requires of { AreOf catalogue.now requests.now }
+{
+    if row.early.is_empty() {
+        return Ok(true);
+    }
+    let mut at = 0usize;
+    for word in row.early.split(' ') {
+        let Some((early, count)) = Early::read(word) else {
+            return malformed(rt, row.name, word);
+        };
+        if !is_dumped_alike(rt, catalogue, requests, row, stream, &early, at, count)? {
+            return Ok(false);
+        }
+        at = at.saturating_add(count);
+    }
+    if at != stream.len() + 1 {
+        return malformed(rt, row.name, row.early);
+    }
+    Ok(true)
+}
+
+/// Ends the stream of a row at some places, one behind the other, that are alike in what is written then.
+fn is_dumped_alike(
+    rt: &HostRuntime,
+    catalogue: &Catalogue,
+    requests: &Requests,
+    row: &Row,
+    stream: &[u8],
+    early: &Early,
+    from: usize,
+    count: usize,
+) -> io::Result<bool>
+    requires of { AreOf catalogue.now requests.now }
+{
+    for at in from..from.saturating_add(count) {
+        let ended = is_dumped_to(rt, Engine::new(catalogue, requests), row, stream, early, at)?;
+        if !ended
+            || !is_dumped_up_to(rt, Engine::new(catalogue, requests), row, stream, early, at)?
+        {
+            return Ok(false);
+        }
+    }
+    Ok(true)
+}
+
+/// Ends the stream of a row behind so many octets.
+fn is_dumped_to(
+    rt: &HostRuntime,
+    engine: Engine,
+    row: &Row,
+    stream: &[u8],
+    early: &Early,
+    at: usize,
+) -> io::Result<bool> {
+    let Some(lines) = early.text(rt.alloc(), row.lines, at) else {
+        return malformed(rt, row.name, row.early);
+    };
+    let ended = Row {
+        status: early.status(),
+        lines: &lines,
+        ..*row
+    };
+    is_dumped(rt, engine, &ended, stream, Way::Early(at))
+}
+
+/// Lets a read of the stream of a row fail behind so many octets. A stream that has stopped there isn't read on.
+fn is_dumped_up_to(
+    rt: &HostRuntime,
+    engine: Engine,
+    row: &Row,
+    stream: &[u8],
+    early: &Early,
+    at: usize,
+) -> io::Result<bool> {
+    if early.is_stopped(row.lines) {
+        return Ok(true);
+    }
+    let Some(front) = early.front(rt.alloc(), row.lines) else {
+        return malformed(rt, row.name, row.early);
+    };
+    let broken = Row {
+        status: 4,
+        lines: front.strip_suffix('\n').unwrap_or(""),
+        ..*row
+    };
+    is_dumped(rt, engine, &broken, stream, Way::Broken(at))
+}
+
+/// Dumps a row over an out of which each put fails in turn, up to a number of puts that isn't reached.
+fn is_dumped_over_failing(
+    rt: &HostRuntime,
+    catalogue: &Catalogue,
+    requests: &Requests,
+    row: &Row,
+    stream: &[u8],
+) -> io::Result<bool>
+    requires of { AreOf catalogue.now requests.now }
+{
+    for puts in 0..row.lines.len() {
+        let way = Way::Failing(puts);
+        match dumped_over(rt, Engine::new(catalogue, requests), row, stream, way)? {
+            Failed::Rightly => {}
+            Failed::Never => return Ok(true),
+            Failed::Wrongly => return Ok(false),
+        }
+    }
+    Ok(true)
+}
+
+/// How a dump over a failing out went.
+enum Failed {
+    /// A front of the lines was written, and nothing behind the put that failed.
+    Rightly,
+    /// As it should not, which is told.
+    Wrongly,
+    /// No put failed, and all was written as the row says.
+    Never,
+}
+
+/// Dumps a row over an out that fails.
+fn dumped_over(
+    rt: &HostRuntime,
+    engine: Engine,
+    row: &Row,
+    stream: &[u8],
+    way: Way,
+) -> io::Result<Failed> {
+    let mut room = [0; 16_384];
+    let mut sheet = Sheet::new(&mut room);
+    let found = match dump(engine, stream, way, &mut sheet) {
+        Ok(report) => {
+            if is_as_told(rt, row, way, sheet.held(), status_of(Ok(report)))? {
+                return Ok(Failed::Never);
+            }
+            return Ok(Failed::Wrongly);
+        }
+        Err(fault) => compare_front(row.lines, sheet.held(), status_of(Err(fault))),
+    };
+    match found {
+        None => Ok(Failed::Rightly),
+        Some(found) => {
+            differs(rt, row.name, way, &found)?;
+            Ok(Failed::Wrongly)
+        }
+    }
+}
+
+/// Dumps a row in one way.
+fn is_dumped(
+    rt: &HostRuntime,
+    engine: Engine,
+    row: &Row,
+    stream: &[u8],
+    way: Way,
+) -> io::Result<bool> {
+    let mut room = [0; 16_384];
+    let mut sheet = Sheet::new(&mut room);
+    let ended = dump(engine, stream, way, &mut sheet);
+    is_as_told(rt, row, way, sheet.held(), status_of(ended))
+}
+
+/// Dumps a stream in one way, over a writer to a sheet. There is one sort of out, since the engine is built for each.
+fn dump(engine: Engine, stream: &[u8], way: Way, sheet: &mut Sheet) -> Result<Report, RunFault> {
+    let (width, puts) = way.puts();
+    way.dump(
+        engine,
+        stream,
+        &mut Written::new(Narrow::new(sheet, width, puts)),
+    )
+}
+
+/// The status of the program after such a run.
+fn status_of(ended: Result<Report, RunFault>) -> u8 {
+    match ended {
+        Ok(report) => status(&Ok(report)),
+        Err(fault) => status(&Err(ProgramFault::Run(fault))),
+    }
+}
+
+/// Whether these are the lines and the status of the row.
+fn is_as_told(
+    rt: &HostRuntime,
+    row: &Row,
+    way: Way,
+    written: &[u8],
+    status: u8,
+) -> io::Result<bool> {
+    match compare(row.lines, row.status, written, status) {
+        None => Ok(true),
+        Some(found) => differs(rt, row.name, way, &found),
+    }
+}
+
+fn differs(rt: &HostRuntime, name: &str, way: Way, found: &Difference) -> io::Result<bool> {
+    println!(rt; "DIFFERS {name}, {way}, {found}")?;
+    Ok(false)
+}
+
+/// Tells of what a row says of ends and can't be read.
+fn malformed(rt: &HostRuntime, name: &str, text: &str) -> io::Result<bool> {
+    println!(rt; "MALFORMED {name}: {text}")?;
+    Ok(false)
+}
