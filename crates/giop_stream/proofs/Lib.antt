@@ -56,3 +56,4 @@ mod RequestIds
 mod Owning
 mod Titled
 mod Held
+mod Saved

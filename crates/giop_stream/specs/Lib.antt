@@ -21,3 +21,4 @@ pub mod Octet
 pub mod Engine
 pub mod Step
 pub mod Showing
+pub mod Checkpoint

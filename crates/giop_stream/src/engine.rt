@@ -1,6 +1,6 @@
 //! The engine: one direction of a connection in, its lines out.
 
-ghost use Rattle.std.specs.Prelude.{◌≡◌, ◌++◌, ◌+◌, Err, ℕ, List, [], true, false, length, drop, IfOk, OnOk};
+ghost use Rattle.std.specs.Prelude.{◌≡◌, ◌++◌, ◌+◌, Err, ℕ, List, [], true, false, length, drop, IfOk, OnOk, IsOk};
 ghost use Rattle.std.specs.List.{concat};
 ghost use Rattle.giop_sig.specs.Table.{Table};
 ghost use Rattle.giop_message.specs.Signatures.{Kept as Listed};
@@ -9,10 +9,13 @@ ghost use Rattle.giop_stream.specs.Framing.{cut, fault_of};
 ghost use Rattle.giop_stream.specs.Stream.{text, closing, final};
 ghost use Rattle.giop_stream.specs.Holding.{AreOf, Holds, StopWrites, Leaves, added, reading_of, status_of};
 ghost use Rattle.giop_stream.specs.Pieces.{fed};
+ghost use Rattle.giop_stream.specs.Checkpoint.{Saves};
 
 use crate::fault::Stop;
 use crate::framing::Framing;
+use crate::saving;
 use crate::status::{Status, Totals};
+use arrayvec::ArrayVec;
 use giop_print::Out;
 use giop_sig::{Catalogue, Requests};
 use std::marker::Model;
@@ -110,6 +113,26 @@ impl<'a> Engine<'a> {
             Ok(()) => Ok(self.framing.final_totals()),
             Err(fault) => Err(Stop::Out(fault)),
         }
+    }
+
+    /// Writes the checkpoint of what was read into the front of these octets, and says how many it has: a fresh engine by
+    /// the same catalogue and list goes on from them.
+    pub fn save(&self, into: &mut [u8; 10_976]) -> Result<usize, Stop>
+        // They are the checkpoint of each stream that it holds.
+        ensures saves { (p : List ℕ) → Holds self.now p →
+            IfOk result (λ n. Saves n into.new self.now.table self.now.listed p) }
+        // It is refused exactly where the engine was failed; nothing is written then.
+        ensures failed { self.now.failed ≡ true → (result ≡ Err Stop.Failed) × (into.new ≡ into.old) }
+        ensures sound { self.now.failed ≡ false → IsOk result }
+    {
+        if self.failed {
+            return Err(Stop::Failed);
+        }
+        let mut out: ArrayVec<u8, 10_976> = ArrayVec::new();
+        saving::write(&self.framing, self.catalogue, self.requests, &mut out);
+        let len = out.len();
+        into[..len].copy_from_slice(out.as_slice());
+        Ok(len)
     }
 
     /// The totals of what was read; after a failed put those from before that call.

@@ -12,6 +12,7 @@ mod kinds;
 mod laws;
 mod lines;
 mod pieces;
+mod saving;
 mod slots;
 mod status;
 

@@ -1,0 +1,29 @@
+use Rattle.std.proofs.Common.{◌≡◌, ℕ, ◌*◌, ◌++◌, take, refl, ap, ◌∙◌, arith}
+use Rattle.std.proofs.lemmas.List.{length-take-le}
+use Rattle.giop_checkpoint.specs.Records.{Entry}
+use Rattle.giop_stream.proofs.Saved.{kept_put}
+use Rattle.giop_stream.proofs.saving.write_message.Goals as goal
+
+pub returns-clause-put : goal.returns-clause-put
+returns-clause-put c C fits =
+    let few = c.store-count.ensures.few in
+    let entry : Entry = record {
+        record_is = record { frames = c.store-count.result; standing = c.args.standing; number = c.args.number; header = c.args.header };
+        message = c.store-count.new.fixed;
+        frames = take (16 * c.store-count.result) c.store-count.new.frames;
+      } in
+    record {
+      entry = entry;
+      is = record {
+        range = record {
+          own = record { frames = few; typed = c.write.ensures.typed };
+          message = c.store-count.array_long;
+          frames = length-take-le _ _ (omega (arith, few, c.store-count.array_long2));
+        };
+        standing_is = refl;
+        number_is = refl;
+        header_is = refl;
+        message = c.store-count.ensures.stored C fits;
+      };
+      put = kept_put _ _ _ _ entry c.write.ensures.put c.put_octets.ensures.put c.put_octets-2.ensures.put;
+    }

@@ -1,0 +1,153 @@
+-- Which fields of an engine a checkpoint has, and which streams its octets spell (docs/FORMATS.md, Checkpoints; state).
+use Rattle.std.specs.Prelude.{◌≡◌, ◌≤◌, ℕ, ◌+◌, ◌-◌, ◌*◌, List, [], ◌∷◌, ◌++◌, length, map, sum, take, flat_map, replicate, nat_lt, Option, Some, None, if◌then◌else◌}
+use Rattle.giop_cdr.specs.Numbers.{AreOctets}
+use Rattle.giop_sig.specs.Table.{Table}
+use Rattle.giop_sig.specs.Trees.{depth_of}
+use Rattle.giop_message.specs.declared.message.Message.{Message}
+use Rattle.giop_message.specs.Headers.{size}
+use Rattle.giop_message.specs.MessageReading.{message_reading}
+use Rattle.giop_message.specs.Signatures.{Kept as Listed}
+use Rattle.giop_checkpoint.specs.declared.sizes.TheConstants.{FIXED_SIZE, RECORD_SIZE, MESSAGE_SIZE, FRAME_SIZE, MOST_RECORDS}
+use Rattle.giop_checkpoint.specs.declared.fault.StreamFault.{StreamFault}
+use Rattle.giop_checkpoint.specs.declared.fixed.Counts.{Counts}
+use Rattle.giop_checkpoint.specs.declared.fixed.Fixed.{Fixed}
+use Rattle.giop_checkpoint.specs.declared.fixed.Place.{Place}
+use Rattle.giop_checkpoint.specs.declared.fixed.Place.TheVariants.{Header, Payload, Stopped}
+use Rattle.giop_checkpoint.specs.declared.record.Standing.{Standing}
+use Rattle.giop_checkpoint.specs.declared.record.Standing.TheVariants as standings
+use Rattle.giop_checkpoint.specs.Fixed.{fixed_octets}
+use Rattle.giop_checkpoint.specs.Records.{Entry, EntryHasRange, entry_octets}
+use Rattle.giop_message.specs.Stored.{Stored}
+use Rattle.giop_stream.specs.declared.slots.Slot.{Slot}
+use Rattle.giop_stream.specs.declared.slots.Slots.{Slots}
+use Rattle.giop_stream.specs.declared.slots.Payload.{Payload as Whose}
+use Rattle.giop_stream.specs.declared.slots.Payload.TheVariants as payload
+use Rattle.giop_stream.specs.Keeping.{AreReady}
+use Rattle.giop_stream.specs.Remembering.{Memory}
+use Rattle.giop_stream.specs.Engine.{state_of}
+use Rattle.giop_stream.specs.Showing.{Shows}
+
+-- ---- the fixed part
+
+-- what the table and the list have that an engine reads by
+unfoldable pub counts_of : Table → Listed → Counts
+counts_of C l = record { types = C.declared; operations = length C.operations; exceptions = length C.exceptions; ids = length l }
+
+-- Behind a stream fault nothing is held of a header; else fewer than 12 octets, or a payload comes.
+abbrev pub place_of : Option StreamFault → List ℕ → ℕ → Place
+place_of (Some fault) header come = Stopped fault
+place_of None header come =
+    if nat_lt (length header) 12 then Header (record { items = header }) else Payload header (size header - come)
+
+-- the record of the current message itself, behind those of the open ones
+abbrev pub own_record : ℕ → Option Message → Option ℕ
+own_record many None = None
+own_record many (Some m) = Some many
+
+-- the record of the message that the payload belongs to
+abbrev pub owner_of : Whose → ℕ → Option Message → Option ℕ
+owner_of payload.Own many own = own_record many own
+owner_of (payload.Open k) many own = if nat_lt k many then Some k else None
+owner_of payload.Nobody many own = None
+
+abbrev pub count_own : Option Message → ℕ
+count_own None = 0
+count_own (Some m) = 1
+
+unfoldable pub fixed_of : Table → Listed → Memory → Fixed
+fixed_of C l m = record {
+  counts = counts_of C l;
+  records = length m.slots.slots.items + count_own m.slots.own;
+  octets = m.totals.octets;
+  messages = m.totals.messages;
+  faults = m.totals.faults;
+  place = place_of m.stopped m.header m.come;
+  owner = owner_of m.slots.payload (length m.slots.slots.items) m.slots.own;
+}
+
+-- ---- the records
+
+abbrev pub standing_of : Option Message → ℕ → Standing
+standing_of None id = standings.Over id
+standing_of (Some m) id = standings.Open id
+
+-- what a record keeps of a message; zeros of one that is over
+abbrev pub IsStored : Option Message → Entry → Type 0
+IsStored None e = (e.message ≡ replicate MESSAGE_SIZE 0) × (e.frames ≡ [])
+IsStored (Some m) e = Stored m e.message e.frames
+
+-- the record of an open message
+pub record IsOpen (slot : Slot) (e : Entry) : Type 0 where
+  pub range : EntryHasRange e
+  pub standing : e.record_is.standing ≡ standing_of slot.message slot.id
+  pub number : e.record_is.number ≡ slot.number
+  pub header : e.record_is.header ≡ slot.header
+  pub message : IsStored slot.message e
+
+-- the record of a message that isn't over
+pub record IsKept (standing : Standing) (number : ℕ) (header : List ℕ) (m : Message) (e : Entry) : Type 0 where
+  pub range : EntryHasRange e
+  pub standing_is : e.record_is.standing ≡ standing
+  pub number_is : e.record_is.number ≡ number
+  pub header_is : e.record_is.header ≡ header
+  pub message : Stored m e.message e.frames
+
+-- that of the current one, where it isn't open
+abbrev pub IsCurrent : Message → Entry → Type 0
+IsCurrent m e = IsKept standings.Current m.number m.header m e
+
+abbrev pub IsLast : Option Message → List Entry → Type 0
+IsLast None [] = Unit {0}
+IsLast None (e ∷ es) = ⊥
+IsLast (Some m) [] = ⊥
+IsLast (Some m) (e ∷ es) = IsCurrent m e × (es ≡ [])
+
+-- the open messages in their order, and then the current one
+abbrev pub AreEntries : List Slot → Option Message → List Entry → Type 0
+AreEntries [] own es = IsLast own es
+AreEntries (slot ∷ slots) own [] = ⊥
+AreEntries (slot ∷ slots) own (e ∷ es) = IsOpen slot e × AreEntries slots own es
+
+-- ---- what a call writes behind these octets: an entry of which this is so, or several
+
+pub record IsPutOne (before after : List ℕ) (Is : Entry → Type 0) : Type 0 where
+  pub entry : Entry
+  pub is : Is entry
+  pub put : after ≡ before ++ entry_octets entry
+
+pub record IsPut (before after : List ℕ) (Are : List Entry → Type 0) : Type 0 where
+  pub entries : List Entry
+  pub are : Are entries
+  pub put : after ≡ before ++ flat_map entry_octets entries
+
+abbrev pub AreOpen : List Slot → List Entry → Type 0
+AreOpen slots entries = AreEntries slots None entries
+
+-- ---- a checkpoint
+
+unfoldable pub checkpoint_octets : Table → Listed → Memory → List Entry → List ℕ
+checkpoint_octets C l m entries = fixed_octets (fixed_of C l m) ++ flat_map entry_octets entries
+
+-- the checkpoint of this memory
+pub record IsPutWhole (C : Table) (l : Listed) (m : Memory) (octets : List ℕ) : Type 0 where
+  pub entries : List Entry
+  pub are : AreEntries m.slots.slots.items m.slots.own entries
+  pub put : octets ≡ checkpoint_octets C l m entries
+
+-- These octets are the checkpoint of an engine that holds the stream p, by this table and list.
+pub record Spells (octets : List ℕ) (C : Table) (l : Listed) (p : List ℕ) : Type 0 where
+  pub memory : Memory
+  pub entries : List Entry
+  pub octets_are : octets ≡ checkpoint_octets C l memory entries
+  pub entries_are : AreEntries memory.slots.slots.items memory.slots.own entries
+  pub stream : AreOctets p
+  pub shows : Shows C l memory (state_of (message_reading C l) p)
+  pub ready : AreReady C (memory.totals.octets + 1) memory.slots
+
+-- the greatest checkpoint for a catalogue of this depth
+unfoldable pub limit : ℕ → ℕ
+limit depth = FIXED_SIZE + MOST_RECORDS * (RECORD_SIZE + FRAME_SIZE * depth)
+
+-- The first so many octets are a checkpoint of p.
+pub record Saves (n : ℕ) (octets : List ℕ) (C : Table) (l : Listed) (p : List ℕ) : Type 0 where
+  pub spells : Spells (take n octets) C l p
