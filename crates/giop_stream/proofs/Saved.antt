@@ -139,7 +139,6 @@ whole_own C l m x fixed between after some e p one = record {
     own_some None e = absurd (let no : None ≡ Some x = e in cc)
     own_some (Some y) e = let P : Message → Type 0 = λ z. AreEntries m.slots.slots.items (Some z) (p.entries ++ one.entry ∷ []) in subst P (sym (same y e)) (entries_own m.slots.slots.items x p.entries one.entry p.are one.is)
 
-
 -- ---- the loop over the open messages
 
 pub put_read : (slots : List Slot) (i : ℕ) (slot : Slot) (before between after : List ℕ) → i < length slots → slot ≡ get_or slots i slot → IsPut before between (AreOpen (take i slots)) → IsPutOne between after (IsOpen slot)

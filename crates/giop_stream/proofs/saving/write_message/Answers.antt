@@ -8,10 +8,10 @@ pub returns-clause-put : goal.returns-clause-put
 returns-clause-put c C fits =
     let few = c.store-count.ensures.few in
     let entry : Entry = record {
-        record_is = record { frames = c.store-count.result; standing = c.args.standing; number = c.args.number; header = c.args.header };
-        message = c.store-count.new.fixed;
-        frames = take (16 * c.store-count.result) c.store-count.new.frames;
-      } in
+      record_is = record { frames = c.store-count.result; standing = c.args.standing; number = c.args.number; header = c.args.header };
+      message = c.store-count.new.fixed;
+      frames = take (16 * c.store-count.result) c.store-count.new.frames;
+    } in
     record {
       entry = entry;
       is = record {
