@@ -56,4 +56,5 @@ mod RequestIds
 mod Owning
 mod Titled
 mod Held
+mod SavedSizes
 mod Saved

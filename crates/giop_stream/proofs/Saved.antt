@@ -1,24 +1,23 @@
 -- What is written of the messages is their entries.
-use Rattle.std.proofs.Common.{◌≡◌, ℕ, zero, suc, ◌+◌, ◌*◌, ◌<◌, ◌≤◌, get_or, List, [], ◌∷◌, ◌++◌, length, take, flat_map, replicate, Option, Some, None, refl, sym, ap, subst, ◌∙◌, append_assoc, append-nil, arith}
+use Rattle.std.proofs.Common.{◌≡◌, ℕ, zero, suc, ◌+◌, ◌<◌, ◌≤◌, get_or, List, [], ◌∷◌, ◌++◌, length, take, flat_map, replicate, Option, Some, None, refl, sym, ap, subst, ◌∙◌, append_assoc, append-nil, arith}
 use Rattle.std.specs.List.{AllByRecursion as Each}
 use Rattle.std.proofs.lemmas.List.{take_all}
 use Rattle.std.proofs.lemmas.Grind.{take_at_read}
 use Rattle.giop_message.specs.declared.message.Message.{Message}
 use Rattle.giop_checkpoint.specs.declared.record.Record.{Record}
-use Rattle.giop_checkpoint.specs.declared.record.Standing.{Standing}
-use Rattle.giop_checkpoint.specs.Records.{Entry, EntryHasRange, RecordHasRange, own_octets, entry_octets}
+use Rattle.giop_checkpoint.specs.Records.{Entry, RecordHasRange, own_octets, entry_octets}
 use Rattle.giop_checkpoint.proofs.Puts.{then}
 use Rattle.giop_sig.specs.Table.{Table}
 use Rattle.giop_message.specs.Holding.{Fits}
 use Rattle.giop_message.specs.Signatures.{Kept as Listed}
 use Rattle.giop_checkpoint.specs.Fixed.{fixed_octets}
 use Rattle.giop_stream.specs.declared.slots.Slot.{Slot}
-use Rattle.giop_stream.specs.Keeping.{IsReady, AreReady}
+use Rattle.giop_stream.specs.Keeping.{IsReady}
 use Rattle.giop_stream.specs.Holding.{Holds}
 use Rattle.giop_stream.specs.Remembering.{Memory, EngineMemory}
-use Rattle.giop_message.specs.Stored.{Stored}
 use Rattle.giop_checkpoint.specs.declared.record.Standing.TheVariants as standings
-use Rattle.giop_stream.specs.Checkpoint.{standing_of, IsStored, IsOpen, IsKept, IsCurrent, IsPutOne, IsPut, AreOpen, AreEntries, fixed_of, checkpoint_octets, IsPutWhole, Saves}
+use Rattle.giop_stream.proofs.SavedSizes.{HasRoom, whole_long, whole_within}
+use Rattle.giop_stream.specs.Checkpoint.{standing_of, IsHeld, IsStored, IsOpen, IsKept, IsCurrent, IsPutOne, IsPut, AreOpen, AreEntries, fixed_of, checkpoint_octets, IsPutWhole, Saves}
 
 pub flat_append : (xs ys : List Entry) → flat_map entry_octets (xs ++ ys) ≡ flat_map entry_octets xs ++ flat_map entry_octets ys
 flat_append [] ys = refl
@@ -92,7 +91,7 @@ open_is slot m before after some put = record {
 
     stored_kept : (n : Option Message) → n ≡ Some m → IsStored n put.entry
     stored_kept None e = absurd (let no : None ≡ Some m = e in cc)
-    stored_kept (Some n) e = let P : Message → Type 0 = λ x. Stored x put.entry.message put.entry.frames in subst P (sym (some_is n m e)) put.is.message
+    stored_kept (Some n) e = subst (λ x. IsHeld x put.entry) (sym (some_is n m e)) put.is.message
 
 -- three parts, written in turn
 pub kept_put : (before a b after : List ℕ) (e : Entry) → a ≡ before ++ own_octets e.record_is → b ≡ a ++ e.message → after ≡ b ++ e.frames → after ≡ before ++ entry_octets e
@@ -174,12 +173,13 @@ current_is m number header before after n h put = record {
 
 -- ---- an engine's checkpoint
 
-pub saved_is : (e v : EngineMemory) (n : ℕ) (octets written p : List ℕ) → e ≡ v → Holds e p → IsPutWhole v.table v.listed v.stream written
-    → AreReady v.table (v.stream.totals.octets + 1) v.stream.slots → take n octets ≡ written → Saves n octets e.table e.listed p
-saved_is e v n octets written p same holds put ready front =
-    let P : EngineMemory → Type 0 = λ x. IsPutWhole x.table x.listed x.stream written in
-    let Q : EngineMemory → Type 0 = λ x. AreReady x.table (x.stream.totals.octets + 1) x.stream.slots in
-    let whole = subst P (sym same) put in
+pub saved_is : (e v : EngineMemory) (n : ℕ) (octets written p : List ℕ) → e ≡ v → Holds e p →
+    IsPutWhole v.table v.listed v.stream written → HasRoom v.table v.listed v.stream →
+    n ≡ length written → take n octets ≡ written → Saves n octets e.table e.listed p
+saved_is e v n octets written p same holds put room long front =
+    let whole = subst (λ x. IsPutWhole x.table x.listed x.stream written) (sym same) put in
+    let here = subst (λ x. HasRoom x.table x.listed x.stream) (sym same) room in
+    let size = long ∙ whole_long e.table e.listed e.stream written whole here in
     record {
       spells = record {
         memory = e.stream;
@@ -188,6 +188,8 @@ saved_is e v n octets written p same holds put ready front =
         entries_are = whole.are;
         stream = holds.octets;
         shows = holds.shows;
-        ready = subst Q (sym same) ready;
+        ready = here.ready;
       };
+      size = size;
+      within = omega (arith, size, whole_within e.table e.listed e.stream written whole here);
     }

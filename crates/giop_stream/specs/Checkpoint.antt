@@ -1,9 +1,10 @@
 -- Which fields of an engine a checkpoint has, and which streams its octets spell (docs/FORMATS.md, Checkpoints; state).
-use Rattle.std.specs.Prelude.{◌≡◌, ◌≤◌, ℕ, ◌+◌, ◌-◌, ◌*◌, List, [], ◌∷◌, ◌++◌, length, map, sum, take, flat_map, replicate, nat_lt, Option, Some, None, if◌then◌else◌}
+use Rattle.std.specs.Prelude.{◌≡◌, ◌≤◌, ℕ, ◌+◌, ◌-◌, ◌*◌, List, [], ◌∷◌, ◌++◌, length, take, flat_map, replicate, nat_lt, Option, Some, None, if◌then◌else◌}
 use Rattle.giop_cdr.specs.Numbers.{AreOctets}
 use Rattle.giop_sig.specs.Table.{Table}
 use Rattle.giop_sig.specs.Trees.{depth_of}
 use Rattle.giop_message.specs.declared.message.Message.{Message}
+use Rattle.giop_message.specs.Holding.{Fits}
 use Rattle.giop_message.specs.Headers.{size}
 use Rattle.giop_message.specs.MessageReading.{message_reading}
 use Rattle.giop_message.specs.Signatures.{Kept as Listed}
@@ -19,7 +20,6 @@ use Rattle.giop_checkpoint.specs.Fixed.{fixed_octets}
 use Rattle.giop_checkpoint.specs.Records.{Entry, EntryHasRange, entry_octets}
 use Rattle.giop_message.specs.Stored.{Stored}
 use Rattle.giop_stream.specs.declared.slots.Slot.{Slot}
-use Rattle.giop_stream.specs.declared.slots.Slots.{Slots}
 use Rattle.giop_stream.specs.declared.slots.Payload.{Payload as Whose}
 use Rattle.giop_stream.specs.declared.slots.Payload.TheVariants as payload
 use Rattle.giop_stream.specs.Keeping.{AreReady}
@@ -71,10 +71,15 @@ abbrev pub standing_of : Option Message → ℕ → Standing
 standing_of None id = standings.Over id
 standing_of (Some m) id = standings.Open id
 
+-- what is kept of a message that isn't over, in no more frames than the types that it fits are deep
+pub record IsHeld (m : Message) (e : Entry) : Type 0 where
+  pub stored : Stored m e.message e.frames
+  pub shallow : (C : Table) → Fits C m → e.record_is.frames ≤ depth_of C.types
+
 -- what a record keeps of a message; zeros of one that is over
 abbrev pub IsStored : Option Message → Entry → Type 0
 IsStored None e = (e.message ≡ replicate MESSAGE_SIZE 0) × (e.frames ≡ [])
-IsStored (Some m) e = Stored m e.message e.frames
+IsStored (Some m) e = IsHeld m e
 
 -- the record of an open message
 pub record IsOpen (slot : Slot) (e : Entry) : Type 0 where
@@ -90,7 +95,7 @@ pub record IsKept (standing : Standing) (number : ℕ) (header : List ℕ) (m : 
   pub standing_is : e.record_is.standing ≡ standing
   pub number_is : e.record_is.number ≡ number
   pub header_is : e.record_is.header ≡ header
-  pub message : Stored m e.message e.frames
+  pub message : IsHeld m e
 
 -- that of the current one, where it isn't open
 abbrev pub IsCurrent : Message → Entry → Type 0
@@ -148,6 +153,13 @@ pub record Spells (octets : List ℕ) (C : Table) (l : Listed) (p : List ℕ) : 
 unfoldable pub limit : ℕ → ℕ
 limit depth = FIXED_SIZE + MOST_RECORDS * (RECORD_SIZE + FRAME_SIZE * depth)
 
--- The first so many octets are a checkpoint of p.
+-- how many octets records have with their frames
+abbrev pub entries_size : List Entry → ℕ
+entries_size [] = 0
+entries_size (e ∷ es) = (RECORD_SIZE + FRAME_SIZE * e.record_is.frames) + entries_size es
+
+-- The first so many octets are a checkpoint of p: the fixed part, and each record with its frames.
 pub record Saves (n : ℕ) (octets : List ℕ) (C : Table) (l : Listed) (p : List ℕ) : Type 0 where
   pub spells : Spells (take n octets) C l p
+  pub size : n ≡ FIXED_SIZE + entries_size spells.entries
+  pub within : n ≤ limit (depth_of C.types)

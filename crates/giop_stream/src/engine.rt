@@ -115,12 +115,14 @@ impl<'a> Engine<'a> {
         }
     }
 
-    /// Writes the checkpoint of what was read into the front of these octets, and says how many it has: a fresh engine by
-    /// the same catalogue and list goes on from them.
+    /// Writes the checkpoint of what was read into the front of these octets, and says how many it has
+    /// (docs/FORMATS.md, Checkpoints).
     pub fn save(&self, into: &mut [u8; 10_976]) -> Result<usize, Stop>
         // They are the checkpoint of each stream that it holds.
         ensures saves { (p : List ℕ) → Holds self.now p →
             IfOk result (λ n. Saves n into.new self.now.table self.now.listed p) }
+        // The octets behind them are as they were.
+        ensures behind { IfOk result (λ n. drop n into.new ≡ drop n into.old) }
         // It is refused exactly where the engine was failed; nothing is written then.
         ensures failed { self.now.failed ≡ true → (result ≡ Err Stop.Failed) × (into.new ≡ into.old) }
         ensures sound { self.now.failed ≡ false → IsOk result }

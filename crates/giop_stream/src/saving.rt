@@ -5,6 +5,7 @@ ghost use Rattle.std.specs.Prelude.{◌≡◌, ℕ, ◌+◌, ◌*◌, ◌<◌, �
 ghost use Rattle.std.specs.List.{AllByRecursion as Each};
 ghost use Rattle.arrayvec.specs.ArrayVec.{array_vec_len};
 ghost use Rattle.giop_sig.specs.Table.{Table};
+ghost use Rattle.giop_checkpoint.specs.Fixed.{fixed_octets};
 ghost use Rattle.giop_message.specs.Holding.{Fits};
 ghost use Rattle.giop_stream.specs.Keeping.{AreReady, IsReady};
 ghost use Rattle.giop_stream.specs.Shown.{shown};
@@ -28,7 +29,9 @@ pub fn write(
 )
     requires ready { AreReady catalogue.now (framing.now.totals.octets + 1) framing.now.slots }
     requires empty { out.old.items ≡ [] }
-    ensures { IsPutWhole catalogue.now requests.now (shown framing.now) out.new.items }
+    ensures whole { IsPutWhole catalogue.now requests.now (shown framing.now) out.new.items }
+    ensures long { length (fixed_octets (fixed_of catalogue.now requests.now (shown framing.now))) ≡ 96 }
+    ensures few { length framing.now.slots.slots.items ≤ 16 }
 {
     fixed_part(framing, catalogue, requests).write(out);
     write_open(framing.slots.slots.as_slice(), out);

@@ -3,3 +3,5 @@
 
 #[cfg(test)]
 mod own_out;
+#[cfg(test)]
+mod saved;

@@ -1,4 +1,4 @@
-use Rattle.std.proofs.Common.{◌≡◌, ℕ, ◌*◌, ◌++◌, take, refl, ap, ◌∙◌, arith}
+use Rattle.std.proofs.Common.{◌*◌, take, refl, arith}
 use Rattle.std.proofs.lemmas.List.{length-take-le}
 use Rattle.giop_checkpoint.specs.Records.{Entry}
 use Rattle.giop_stream.proofs.Saved.{kept_put}
@@ -23,7 +23,7 @@ returns-clause-put c C fits =
         standing_is = refl;
         number_is = refl;
         header_is = refl;
-        message = c.store-count.ensures.stored C fits;
+        message = record { stored = c.store-count.ensures.stored C fits; shallow = c.store-count.ensures.depth };
       };
       put = kept_put _ _ _ _ entry c.write.ensures.put c.put_octets.ensures.put c.put_octets-2.ensures.put;
     }

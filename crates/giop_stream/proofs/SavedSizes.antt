@@ -1,0 +1,120 @@
+-- How many octets a checkpoint has.
+use Rattle.std.proofs.Common.{◌≡◌, ℕ, suc, ◌+◌, ◌*◌, ◌≤◌, List, [], ◌∷◌, ◌++◌, length, flat_map, arith, Option, Some, None, refl, ap, ◌∙◌}
+use Rattle.std.specs.List.{AllByRecursion as Each}
+use Rattle.std.proofs.lemmas.List.{length-append}
+use Rattle.std.proofs.Math.Nat.{suc-mul, mul-le-mul_right}
+use Rattle.giop_sig.specs.Table.{Table}
+use Rattle.giop_sig.specs.Trees.{depth_of}
+use Rattle.giop_message.specs.declared.message.Message.{Message}
+use Rattle.giop_message.specs.Signatures.{Kept as Listed}
+use Rattle.giop_checkpoint.specs.Fixed.{fixed_octets}
+use Rattle.giop_checkpoint.specs.Records.{Entry, EntryHasRange, own_octets, entry_octets}
+use Rattle.giop_checkpoint.proofs.RecordFields.{own_long}
+use Rattle.giop_stream.specs.declared.slots.Slot.{Slot}
+use Rattle.giop_stream.specs.Keeping.{IsReady, AreReady}
+use Rattle.giop_stream.specs.Remembering.{Memory}
+use Rattle.giop_stream.specs.Checkpoint.{IsStored, AreEntries, fixed_of, count_own, entries_size, checkpoint_octets, IsPutWhole, limit}
+
+-- ---- records
+
+entry_long : (e : Entry) → EntryHasRange e → length (entry_octets e) ≡ 256 + 16 * e.record_is.frames
+entry_long e h =
+    omega (
+      arith,
+      length-append (own_octets e.record_is ++ e.message) e.frames,
+      length-append (own_octets e.record_is) e.message,
+      own_long e.record_is h.own,
+      h.message,
+      h.frames,
+    )
+
+entries_long : (es : List Entry) → Each EntryHasRange es → length (flat_map entry_octets es) ≡ entries_size es
+entries_long [] h = refl
+entries_long (e ∷ es) h =
+    let here : ℕ = 256 + 16 * e.record_is.frames in
+    length-append (entry_octets e) (flat_map entry_octets es)
+    ∙ (ap (λ n. n + length (flat_map entry_octets es)) (entry_long e h.0) ∙ ap (λ n. here + n) (entries_long es h.1))
+
+more_within : (w n here rest : ℕ) → here ≤ w → rest ≤ n * w → here + rest ≤ suc n * w
+more_within w n here rest one others = omega (arith, one, others, suc-mul n w)
+
+entries_within : (d : ℕ) (es : List Entry) → Each (λ e. e.record_is.frames ≤ d) es → entries_size es ≤ length es * (256 + 16 * d)
+entries_within d [] h = omega arith
+entries_within d (e ∷ es) h =
+    more_within (256 + 16 * d) (length es) (256 + 16 * e.record_is.frames) (entries_size es) (omega (arith, h.0)) (entries_within d es h.1)
+
+-- ---- those of the messages
+
+entries_count : (slots : List Slot) (own : Option Message) (es : List Entry) → AreEntries slots own es → length es ≡ length slots + count_own own
+entries_count [] None [] are = refl
+entries_count [] None (e ∷ es) are = absurd are
+entries_count [] (Some m) [] are = absurd are
+entries_count [] (Some m) (e ∷ es) are = ap (λ (xs : List Entry). suc (length xs)) are.1
+entries_count (slot ∷ slots) own [] are = absurd are
+entries_count (slot ∷ slots) own (e ∷ es) are = omega (arith, entries_count slots own es are.1)
+
+entries_range : (slots : List Slot) (own : Option Message) (es : List Entry) → AreEntries slots own es → Each EntryHasRange es
+entries_range [] None [] are = tt
+entries_range [] None (e ∷ es) are = absurd are
+entries_range [] (Some m) [] are = absurd are
+entries_range [] (Some m) (e ∷ []) are = (are.0.range, tt)
+entries_range [] (Some m) (e ∷ f ∷ es) are = absurd (let none : suc (length es) ≡ 0 = ap length are.1 in omega (arith, none))
+entries_range (slot ∷ slots) own [] are = absurd are
+entries_range (slot ∷ slots) own (e ∷ es) are = (are.0.range, entries_range slots own es are.1)
+
+stored_shallow : (C : Table) (at : ℕ) (m : Option Message) (e : Entry) → EntryHasRange e → IsReady C at m → IsStored m e →
+    e.record_is.frames ≤ depth_of C.types
+stored_shallow C at None e range ready is = let none : length e.frames ≡ 0 = ap length is.1 in omega (arith, none, range.frames)
+stored_shallow C at (Some m) e range ready is = is.shallow C ready.0
+
+entries_shallow : (C : Table) (at : ℕ) (slots : List Slot) (own : Option Message) (es : List Entry) → AreEntries slots own es →
+    Each (λ s. IsReady C at s.message) slots → IsReady C at own → Each (λ e. e.record_is.frames ≤ depth_of C.types) es
+entries_shallow C at [] None [] are each ready = tt
+entries_shallow C at [] None (e ∷ es) are each ready = absurd are
+entries_shallow C at [] (Some m) [] are each ready = absurd are
+entries_shallow C at [] (Some m) (e ∷ []) are each ready = (are.0.message.shallow C ready.0, tt)
+entries_shallow C at [] (Some m) (e ∷ f ∷ es) are each ready =
+    absurd (let none : suc (length es) ≡ 0 = ap length are.1 in omega (arith, none))
+entries_shallow C at (slot ∷ slots) own [] are each ready = absurd are
+entries_shallow C at (slot ∷ slots) own (e ∷ es) are each ready =
+    (stored_shallow C at slot.message e are.0.range each.0 are.0.message, entries_shallow C at slots own es are.1 each.1 ready)
+
+one_own : (own : Option Message) → count_own own ≤ 1
+one_own None = omega arith
+one_own (Some m) = omega arith
+
+-- ---- a checkpoint
+
+-- what the code has of its fields: so long a fixed part, at most 16 open messages, and messages that fit the table
+pub record HasRoom (C : Table) (l : Listed) (m : Memory) : Type 0 where
+  pub fixed : length (fixed_octets (fixed_of C l m)) ≡ 96
+  pub few : length m.slots.slots.items ≤ 16
+  pub ready : AreReady C (m.totals.octets + 1) m.slots
+
+pub whole_long : (C : Table) (l : Listed) (m : Memory) (written : List ℕ) (whole : IsPutWhole C l m written) → HasRoom C l m →
+    length written ≡ 96 + entries_size whole.entries
+unfolding checkpoint_octets
+whole_long C l m written whole room =
+    ap length whole.put
+    ∙ omega (
+      arith,
+      length-append (fixed_octets (fixed_of C l m)) (flat_map entry_octets whole.entries),
+      room.fixed,
+      entries_long whole.entries (entries_range m.slots.slots.items m.slots.own whole.entries whole.are),
+    )
+
+many_within : (n w sum : ℕ) → n ≤ 17 → sum ≤ n * w → sum ≤ 17 * w
+many_within n w sum few most = omega (arith, most, mul-le-mul_right w few)
+
+pub whole_within : (C : Table) (l : Listed) (m : Memory) (written : List ℕ) (whole : IsPutWhole C l m written) → HasRoom C l m →
+    96 + entries_size whole.entries ≤ limit (depth_of C.types)
+unfolding limit
+whole_within C l m written whole room =
+    let many = entries_count m.slots.slots.items m.slots.own whole.entries whole.are in
+    let shallow = entries_shallow C (m.totals.octets + 1) m.slots.slots.items m.slots.own whole.entries whole.are
+    room.ready.each_ready room.ready.own_ready in
+    omega (
+      arith,
+      many_within (length whole.entries) (256 + 16 * depth_of C.types) (entries_size whole.entries)
+          (omega (arith, many, room.few, one_own m.slots.own)) (entries_within (depth_of C.types) whole.entries shallow),
+    )
