@@ -1,4 +1,5 @@
 mod Lists
+mod Counts
 mod Cutting
 mod Happenings
 mod HappeningsKeep

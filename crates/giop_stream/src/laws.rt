@@ -1,10 +1,10 @@
 //! The laws of a stream whose messages are joined from their fragments, for any reading of one message.
 
-ghost use Rattle.std.specs.Prelude.{◌≡◌, ◌≤◌, ◌<◌, ◌==◌, ◌&&◌, ℕ, suc, List, [], ◌∷◌, ◌++◌, length, filter, true, Some, None, slice_get, slice_set};
+ghost use Rattle.std.specs.Prelude.{◌≡◌, ◌≤◌, ◌<◌, ◌==◌, ◌&&◌, ℕ, suc, List, [], ◌∷◌, ◌++◌, ◌*◌, length, filter, true, Some, None, slice_get, slice_set};
 ghost use Rattle.std.specs.List.{remove};
 ghost use Rattle.giop_checkpoint.specs.declared.fault.StreamFault.{StreamFault};
 ghost use Rattle.giop_message.specs.Reading.{Reading, IsCausal, IsEnding, IsInTurn};
-ghost use Rattle.giop_stream.specs.Framing.{cut, messages};
+ghost use Rattle.giop_stream.specs.Framing.{cut, limit, messages};
 ghost use Rattle.giop_stream.specs.Events.{Event, Open, Opens, Continues, most_open, events, open_after, joined, Rising};
 ghost use Rattle.giop_stream.specs.Shares.{shares};
 ghost use Rattle.giop_stream.specs.Lines.{Class, has_class, lines};
@@ -85,4 +85,15 @@ pub fn each_step()
         closing R p ≡ finish (state_of R p) }
     ensures totals { (R : Reading) → IsCausal R → IsInTurn R → (p : List ℕ) →
         final R p ≡ final_totals (state_of R p) }
+{}
+
+/// No count of a stream overflows.
+pub fn counts_are_bounded()
+    // At most one octet is read beyond the limit, that of the stream fault;
+    ensures octets { (R : Reading) (p : List ℕ) → (tally R p).octets ≤ suc limit }
+    // and none where the stream has no fault.
+    ensures free { (R : Reading) (p : List ℕ) → (cut p).stop ≡ None → (tally R p).octets ≤ limit }
+    // Each message has a header of 12 octets.
+    ensures messages { (R : Reading) → IsCausal R → IsInTurn R → (p : List ℕ) →
+        12 * (tally R p).messages ≤ (tally R p).octets }
 {}
