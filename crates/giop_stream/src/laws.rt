@@ -87,7 +87,7 @@ pub fn each_step()
         final R p ≡ final_totals (state_of R p) }
 {}
 
-/// No count of a stream overflows.
+/// How many octets and messages a stream can count.
 pub fn counts_are_bounded()
     // At most one octet is read beyond the limit, that of the stream fault;
     ensures octets { (R : Reading) (p : List ℕ) → (tally R p).octets ≤ suc limit }
