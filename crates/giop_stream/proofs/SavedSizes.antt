@@ -13,7 +13,7 @@ use Rattle.giop_checkpoint.proofs.RecordFields.{own_long}
 use Rattle.giop_stream.specs.declared.slots.Slot.{Slot}
 use Rattle.giop_stream.specs.Keeping.{IsReady, AreReady}
 use Rattle.giop_stream.specs.Remembering.{Memory}
-use Rattle.giop_stream.specs.Checkpoint.{IsStored, AreEntries, fixed_of, count_own, entries_size, checkpoint_octets, IsPutWhole, limit}
+use Rattle.giop_stream.specs.Checkpoint.{IsStored, AreEntries, fixed_of, count_own, entries_size, checkpoint_octets, IsPutWhole, checkpoint_limit}
 
 -- ---- records
 
@@ -107,8 +107,8 @@ many_within : (n w sum : ℕ) → n ≤ 17 → sum ≤ n * w → sum ≤ 17 * w
 many_within n w sum few most = omega (arith, most, mul-le-mul_right w few)
 
 pub whole_within : (C : Table) (l : Listed) (m : Memory) (written : List ℕ) (whole : IsPutWhole C l m written) → HasRoom C l m →
-    96 + entries_size whole.entries ≤ limit (depth_of C.types)
-unfolding limit
+    96 + entries_size whole.entries ≤ checkpoint_limit (depth_of C.types)
+unfolding checkpoint_limit
 whole_within C l m written whole room =
     let many = entries_count m.slots.slots.items m.slots.own whole.entries whole.are in
     let shallow = entries_shallow C (m.totals.octets + 1) m.slots.slots.items m.slots.own whole.entries whole.are

@@ -150,8 +150,8 @@ pub record Spells (octets : List ℕ) (C : Table) (l : Listed) (p : List ℕ) : 
   pub ready : AreReady C (memory.totals.octets + 1) memory.slots
 
 -- the greatest checkpoint for a catalogue of this depth
-unfoldable pub limit : ℕ → ℕ
-limit depth = FIXED_SIZE + MOST_RECORDS * (RECORD_SIZE + FRAME_SIZE * depth)
+unfoldable pub checkpoint_limit : ℕ → ℕ
+checkpoint_limit depth = FIXED_SIZE + MOST_RECORDS * (RECORD_SIZE + FRAME_SIZE * depth)
 
 -- how many octets records have with their frames
 abbrev pub entries_size : List Entry → ℕ
@@ -162,4 +162,4 @@ entries_size (e ∷ es) = (RECORD_SIZE + FRAME_SIZE * e.record_is.frames) + entr
 pub record Saves (n : ℕ) (octets : List ℕ) (C : Table) (l : Listed) (p : List ℕ) : Type 0 where
   pub spells : Spells (take n octets) C l p
   pub size : n ≡ FIXED_SIZE + entries_size spells.entries
-  pub within : n ≤ limit (depth_of C.types)
+  pub within : n ≤ checkpoint_limit (depth_of C.types)
