@@ -43,10 +43,12 @@ fn taken(catalogue: &Catalogue, of: TypeId, root: Root, octets: &[u8]) -> Result
     if decoder.is_done() {
         return Err(Fail::from("done before any octet"));
     }
-    for octet in octets {
-        take(catalogue, &mut decoder, *octet)?;
+    let mut room = [0; 512];
+    let mut sheet = Sheet::new(&mut room);
+    match decoder.take_run(catalogue, octets, &mut sheet) {
+        Ok((_, Progress::More)) => Ok(decoder),
+        _ => Err(Fail::from("over before the last octet")),
     }
-    Ok(decoder)
 }
 
 /// Takes an octet behind which the value goes on.
