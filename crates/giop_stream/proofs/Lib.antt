@@ -58,4 +58,6 @@ mod Owning
 mod Titled
 mod Held
 mod SavedSizes
+mod FaultsBound
+mod LoadRanges
 mod Saved

@@ -87,7 +87,7 @@ pub fn each_step()
         final R p ≡ final_totals (state_of R p) }
 {}
 
-/// How many octets and messages a stream can count.
+/// How many octets, messages and faults a stream can count.
 pub fn counts_are_bounded()
     // At most one octet is read beyond the limit, that of the stream fault;
     ensures octets { (R : Reading) (p : List ℕ) → (tally R p).octets ≤ suc limit }
@@ -96,4 +96,10 @@ pub fn counts_are_bounded()
     // Each message has a header of 12 octets.
     ensures messages { (R : Reading) → IsCausal R → IsInTurn R → (p : List ℕ) →
         12 * (tally R p).messages ≤ (tally R p).octets }
+    // Each message has one fault at most,
+    ensures faults { (R : Reading) → IsCausal R → IsInTurn R → (p : List ℕ) → (cut p).stop ≡ None →
+        (tally R p).faults ≤ (tally R p).messages }
+    // and the stream one, its stream fault or the truncated end.
+    ensures all_faults { (R : Reading) → IsCausal R → IsInTurn R → (p : List ℕ) →
+        (final R p).faults ≤ suc (final R p).messages }
 {}
