@@ -26,7 +26,8 @@ IsNumber n i = (0 < i) × (i ≤ n)
 abbrev Numbered : ℕ → Cut → Type 0
 Numbered first c = Each (λ m. (first ≤ m.number) × (m.number < first + length (messages c))) (messages c)
 
-numbered_first : (first : ℕ) (m : Message) (c : Cut) → m.number ≡ first → Numbered (suc first) c → Numbered first (with_first m c)
+numbered_first : (first : ℕ) (m : Message) (c : Cut) → m.number ≡ first → Numbered (suc first) c
+    → Numbered first (with_first m c)
 unfolding with_first messages
 numbered_first first m c number h =
     let count = length (messages c) in (
@@ -35,7 +36,8 @@ numbered_first first m c number h =
           (λ k. (first ≤ k.number) × (k.number < first + suc count)) (λ k j. (omega (arith, j.0), omega (arith, j.1))) (messages c) h,
     )
 
-numbered_by : (fuel first before : ℕ) (xs : List ℕ) → ((first before : ℕ) (ys : List ℕ) → Numbered first (cut_from fuel first before ys))
+numbered_by : (fuel first before : ℕ) (xs : List ℕ)
+    → ((first before : ℕ) (ys : List ℕ) → Numbered first (cut_from fuel first before ys))
     → (o : Option (ℕ × StreamFault)) → offence (take 12 xs) ≡ o → Numbered first (cut_from (suc fuel) first before xs)
 unfolding messages
 numbered_by fuel first before xs ih (Some found) e = rw (cut_wrong fuel first before xs found e) tt
@@ -48,14 +50,16 @@ numbered_by fuel first before xs ih None e = elim (cases_lt (length xs) 12) [
         let left = drop (size header) (drop 12 xs) in
         let m : Message = record { number = first; before = before; header = header; payload = take (size header) (drop 12 xs) } in
         let more : Cut = cut_from fuel (suc first) (before + 12 + size header) left in
-        rw (cut_more fuel first before xs e long full) (numbered_first first m more refl (ih (suc first) (before + 12 + size header) left))
+        rw (cut_more fuel first before xs e long full)
+        (numbered_first first m more refl (ih (suc first) (before + 12 + size header) left))
   ]
 ]
 
 numbered_from : (fuel first before : ℕ) (xs : List ℕ) → Numbered first (cut_from fuel first before xs)
 unfolding cut_from messages
 numbered_from zero first before xs = tt
-numbered_from (suc fuel) first before xs = numbered_by fuel first before xs (numbered_from fuel) (offence (take 12 xs)) refl
+numbered_from (suc fuel) first before xs =
+    numbered_by fuel first before xs (numbered_from fuel) (offence (take 12 xs)) refl
 
 numbered : (p : List ℕ) → Numbered 1 (cut p)
 unfolding cut limited messages
@@ -78,61 +82,83 @@ numbered p = go (nat_lt limit (length p))
 -- ---- and so have the events, and the lines.
 
 module _ (P : ℕ → Type 0) where
-  fronts_each : (live : List Open) (m : Message) → P m.number → Each (λ o. P o.opener.number) live → (fs : List (List ℕ))
-      → Each (λ e. P e.whom.number) (flat_map (λ front. happens live (with_payload m front)) fs)
-  fronts_each live m h k [] = tt
-  fronts_each live m h k (front ∷ fs) =
-      let one = with_payload m front in
-      each_append (λ e. P e.whom.number) (happens live one) (flat_map (λ front. happens live (with_payload m front)) fs)
-      (happens_each (λ e. P e.whom.number) live one (λ what. h) (each_weaker (λ o. P o.opener.number) (λ o. (what : Happening) → P o.opener.number) (λ o j what. j) live k))
-      (fronts_each live m h k fs)
+  abbrev Named : List Event → Type 0
+  Named es = Each (λ e. P e.whom.number) es
 
-  events_each : (live : List Open) (ms : List Message) → Each (λ o. P o.opener.number) live → Each (λ m. P m.number) ms → Each (λ e. P e.whom.number) (events_from live ms)
-  unfolding events_from events_of
+  abbrev Live : List Open → Type 0
+  Live live = Each (λ o. P o.opener.number) live
+
+  events_of_each : (live : List Open) (m : Message) → P m.number → Live live → Named (events_of live m)
+  unfolding events_of
+  events_of_each live m h k = go (fronts m.payload)
+    where
+      here : (front : List ℕ) → Named (happens live (with_payload m front))
+      here front =
+          happens_each (λ e. P e.whom.number) live (with_payload m front) (λ what. h)
+          (each_weaker (λ o. P o.opener.number) (λ o. (what : Happening) → P o.opener.number) (λ o j what. j) live k)
+
+      go : (fs : List (List ℕ)) → Named (flat_map (λ front. happens live (with_payload m front)) fs)
+      go [] = tt
+      go (front ∷ fs) = each_append (λ e. P e.whom.number) (happens live (with_payload m front)) _ (here front) (go fs)
+
+  events_each : (live : List Open) (ms : List Message) → Live live → Each (λ m. P m.number) ms
+      → Named (events_from live ms)
+  unfolding events_from
   events_each live [] h k = tt
   events_each live (m ∷ ms) h k =
       let es = events_of live m in
-      let here : Each (λ e. P e.whom.number) es = fronts_each live m k.0 h (fronts m.payload) in
-      each_append (λ e. P e.whom.number) es (events_from (opened live es) ms) here (events_each (opened live es) ms (opened_each (λ whom. P whom.number) live es h here) k.1)
+      let here = events_of_each live m k.0 h in
+      let then_live = opened_each (λ whom. P whom.number) live es h here in
+      each_append (λ e. P e.whom.number) es (events_from (opened live es) ms) here
+      (events_each (opened live es) ms then_live k.1)
 
 -- a line of one of so many messages, which is its last one where it is a fault
 record IsOne (n : ℕ) (l : Line) : Type 0 where
   number : IsNumber n l.number
   last : is_fault l.content ≡ true → ends l.content ≡ true
 
-one_line : (n : ℕ) (e : Event) → IsNumber n e.whom.number → (content : Content) → (is_fault content ≡ true → ends content ≡ true) → IsOne n (line e content)
+one_line : (n : ℕ) (e : Event) → IsNumber n e.whom.number → (content : Content)
+    → (is_fault content ≡ true → ends content ≡ true) → IsOne n (line e content)
 unfolding line
 one_line n e h content last = record { number = h; last = last }
 
-one_said : (n : ℕ) (e : Event) → IsNumber n e.whom.number → (s : Saying) (text : List ℕ) → IsOne n (line e (Said s text))
+one_said : (n : ℕ) (e : Event) → IsNumber n e.whom.number → (s : Saying) (text : List ℕ)
+    → IsOne n (line e (Said s text))
 one_said n e h Value text = one_line n e h (Said Value text) (λ no. absurd cc)
 one_said n e h Call text = one_line n e h (Said Call text) (λ no. absurd cc)
 one_said n e h Rest text = one_line n e h (Said Rest text) (λ no. absurd cc)
 one_said n e h Fault text = one_line n e h (Said Fault text) (λ yes. refl)
 one_said n e h End text = one_line n e h (Said End text) (λ no. absurd cc)
 
-one_each : (R : Reading) (n : ℕ) (e : Event) → IsNumber n e.whom.number → (so_far all : List ℕ) (what : Happening) → Each (IsOne n) (tells R e so_far all what)
+one_each : (R : Reading) (n : ℕ) (e : Event) → IsNumber n e.whom.number → (so_far all : List ℕ) (what : Happening)
+    → Each (IsOne n) (tells R e so_far all what)
 unfolding tells
 one_each R n e h so_far all Begins = (one_line n e h (Started e.whom.header) (λ no. absurd cc), tt)
-one_each R n e h so_far all (Takes x) = each_map (IsOne n) (λ r. line e (Said r.saying r.text)) (λ r. one_said n e h r.saying r.text) (filter (λ r. r.at == suc (length so_far)) (R.reads e.whom.header all))
+one_each R n e h so_far all (Takes x) =
+    each_map (IsOne n) (λ r. line e (Said r.saying r.text)) (λ r. one_said n e h r.saying r.text)
+    (filter (λ r. r.at == suc (length so_far)) (R.reads e.whom.header all))
 one_each R n e h so_far all (Opens id) = tt
 one_each R n e h so_far all (Continues i) = (one_line n e h (Goes_on i) (λ no. absurd cc), tt)
 one_each R n e h so_far all (Cancelled j) = (one_line n e h (Ended_by j) (λ no. absurd cc), tt)
 one_each R n e h so_far all (Imposed fault) = (one_line n e h (Faulted fault) (λ yes. refl), tt)
-one_each R n e h so_far all Closes = each_map (IsOne n) (λ l. line e (Said l.0 l.1)) (λ l. one_said n e h l.0 l.1) (R.closes e.whom.header so_far)
+one_each R n e h so_far all Closes =
+    each_map (IsOne n) (λ l. line e (Said l.0 l.1)) (λ l. one_said n e h l.0 l.1) (R.closes e.whom.header so_far)
 
-told_each : (R : Reading) (n : ℕ) (all past es : List Event) → Each (λ e. IsNumber n e.whom.number) es → Each (IsOne n) (told R all past es)
+told_each : (R : Reading) (n : ℕ) (all past es : List Event) → Each (λ e. IsNumber n e.whom.number) es
+    → Each (IsOne n) (told R all past es)
 unfolding told
 told_each R n all past [] h = tt
 told_each R n all past (e ∷ es) h =
-    each_append (IsOne n) _ (told R all (past ++ e ∷ []) es) (one_each R n e h.0 _ _ e.what) (told_each R n all (past ++ e ∷ []) es h.1)
+    each_append (IsOne n) _ (told R all (past ++ e ∷ []) es) (one_each R n e h.0 _ _ e.what)
+    (told_each R n all (past ++ e ∷ []) es h.1)
 
 order_each : (P : Line → Type 0) (n : ℕ) (ls : List Line) → Each P ls → Each P (in_order n ls)
 unfolding in_order by_class
 order_each P zero ls h = tt
 order_each P (suc n) ls h =
     let here = filter (λ l. l.place == suc n) ls in
-    each_append P (in_order n ls) (by_class here) (order_each P n ls h) (classes_each P here classes (each_filter P (λ l. l.place == suc n) ls h))
+    each_append P (in_order n ls) (by_class here) (order_each P n ls h)
+    (classes_each P here classes (each_filter P (λ l. l.place == suc n) ls h))
 
 -- ---- Of the messages that are not over, each has one fault at most.
 
@@ -171,7 +197,8 @@ module _ (f g : ℕ → Bool) (more : (i : ℕ) → f i ≡ true → g i ≡ tru
         omega (arith, one, less_free k n (h.0, omega (arith, h.1, other)) e d)
   ]
 
-faults_free : (n : ℕ) (over : ℕ → Bool) (ls : List Line) → Each (IsOne n) ls → fault_count (standing over ls) ≤ free over n
+faults_free : (n : ℕ) (over : ℕ → Bool) (ls : List Line) → Each (IsOne n) ls
+    → fault_count (standing over ls) ≤ free over n
 unfolding standing fault_count is_last_of
 faults_free n over [] h = omega arith
 faults_free n over (l ∷ ls) h = go (over l.number) (is_fault l.content) refl refl (λ f. faults_free n f ls h.1)
@@ -182,7 +209,9 @@ faults_free n over (l ∷ ls) h = go (over l.number) (is_fault l.content) refl r
     more : (i : ℕ) → over i ≡ true → then_over i ≡ true
     more i e = rw e refl
 
-    go : (b c : Bool) → over l.number ≡ b → is_fault l.content ≡ c → ((f : ℕ → Bool) → fault_count (standing f ls) ≤ free f n) → fault_count (if b then standing over ls else l ∷ standing then_over ls) ≤ free over n
+    go : (b c : Bool) → over l.number ≡ b → is_fault l.content ≡ c
+        → ((f : ℕ → Bool) → fault_count (standing f ls) ≤ free f n)
+        → fault_count (if b then standing over ls else l ∷ standing then_over ls) ≤ free over n
     go true c e k ih = ih over
     go false true e k ih =
         let last : then_over l.number ≡ true = rw (e, eq-eqb l.number l.number refl, h.0.last k) refl in
@@ -191,14 +220,20 @@ faults_free n over (l ∷ ls) h = go (over l.number) (is_fault l.content) refl r
 
 -- ---- Of a stream.
 
+numbers : (p : List ℕ) → Each (λ m. IsNumber (length (messages (cut p))) m.number) (messages (cut p))
+numbers p =
+    let n = length (messages (cut p)) in
+    each_weaker (λ m. (1 ≤ m.number) × (m.number < 1 + n)) (λ m. IsNumber n m.number)
+    (λ m h. (omega (arith, h.0), omega (arith, h.1))) (messages (cut p)) (numbered p)
+
 said_few : (R : Reading) (p : List ℕ) → fault_count (said R p) ≤ length (messages (cut p))
 unfolding said events
 said_few R p =
     let n = length (messages (cut p)) in
-    let numbers : Each (λ m. IsNumber n m.number) (messages (cut p)) =
-    each_weaker (λ m. (1 ≤ m.number) × (m.number < 1 + n)) (λ m. IsNumber n m.number) (λ m h. (omega (arith, h.0), omega (arith, h.1))) (messages (cut p)) (numbered p) in
-    let ones = told_each R n (events p) [] (events p) (events_each (IsNumber n) [] (messages (cut p)) tt numbers) in
-    omega (arith, faults_free n (λ i. false) (in_order (length p) (told R (events p) [] (events p))) (order_each (IsOne n) (length p) (told R (events p) [] (events p)) ones), all_free n)
+    let all = told R (events p) [] (events p) in
+    let ones = told_each R n (events p) [] (events p) (events_each (IsNumber n) [] (messages (cut p)) tt (numbers p)) in
+    let most = faults_free n (λ i. false) (in_order (length p) all) (order_each (IsOne n) (length p) all ones) in
+    omega (arith, most, all_free n)
 
 -- the stream's own
 unfoldable pub stop_count : Option (ℕ × StreamFault) → ℕ
@@ -224,7 +259,8 @@ unfolding stop_count
 free_stop None e = refl
 free_stop (Some found) e = absurd cc
 
-one_end : (stop : Option (ℕ × StreamFault)) (current : Option Message) (held : List ℕ) → stop_count stop + (if is_inside current held stop then 1 else 0) ≤ 1
+one_end : (stop : Option (ℕ × StreamFault)) (current : Option Message) (held : List ℕ)
+    → stop_count stop + (if is_inside current held stop then 1 else 0) ≤ 1
 unfolding stop_count is_inside
 one_end (Some found) current held = omega arith
 one_end None current held = go (is_inside current held None)

@@ -1,5 +1,5 @@
 -- What is remembered of a stream lies in the ranges of a checkpoint's fixed part, and is what an engine may remember.
-use Rattle.std.proofs.Common.{◌≡◌, ℕ, suc, ◌+◌, ◌*◌, ◌-◌, ◌^◌, ◌<◌, ◌≤◌, Bool, true, false, List, [], ◌∷◌, ◌++◌, length, refl, sym, ap, ◌∙◌, Option, Some, None, arith}
+use Rattle.std.proofs.Common.{◌≡◌, ℕ, ◌+◌, ◌*◌, ◌-◌, ◌^◌, ◌<◌, ◌≤◌, Bool, true, false, List, [], ◌∷◌, ◌++◌, length, refl, sym, ◌∙◌, Option, Some, None, arith}
 use Rattle.std.specs.Prelude.{nat_lt, if◌then◌else◌, IfSome}
 use Rattle.std.proofs.lemmas.Bool.{ltb-true, ltb-false}
 use Rattle.giop_cdr.specs.Numbers.{AreOctets}
@@ -27,9 +27,9 @@ use Rattle.giop_stream.specs.Checkpoint.{place_of, owner_of, count_own, fixed_of
 use Rattle.giop_stream.proofs.Lists.{by_growth}
 use Rattle.giop_stream.proofs.Start.{cut_nothing}
 use Rattle.giop_stream.proofs.Cutting.{stopped_at, of_parts, settle_stop}
-use Rattle.giop_stream.proofs.Soundness.{CurrentFits, Fits, IsSound}
+use Rattle.giop_stream.proofs.Soundness.{CurrentFits, Fits}
 use Rattle.giop_stream.proofs.OneOctet.{Then, then_is}
-use Rattle.giop_stream.proofs.OfOctets.{header_octets, size_fits}
+use Rattle.giop_stream.proofs.OfOctets.{HeaderOctets, header_octets, size_fits}
 use Rattle.giop_stream.proofs.EngineAlive.{sound, few_open}
 use Rattle.giop_stream.proofs.Parts.{in_turn}
 use Rattle.giop_stream.proofs.Keepers.{slots_many, are_as_many}
@@ -60,7 +60,8 @@ place_by false header come h e =
     let twelve : length header ≡ 12 = omega (arith, h.most, ltb-false (length header) 12 e) in
     (twelve, omega (arith, h.small twelve))
 
-place_range : (stopped : Option StreamFault) (header : List ℕ) (come : ℕ) → IsHeader header → PlaceHasRange (place_of stopped header come)
+place_range : (stopped : Option StreamFault) (header : List ℕ) (come : ℕ) → IsHeader header
+    → PlaceHasRange (place_of stopped header come)
 place_range (Some fault) header come h = tt
 place_range None header come h = place_by (nat_lt (length header) 12) header come h refl
 
@@ -84,16 +85,17 @@ read_late p (Some found) h = omega (arith, h)
 IsWithin : ℕ → List ℕ → Type 0
 IsWithin n header = IsHeader header × (length header ≤ n)
 
-current_within : (n : ℕ) (c : Cut) (o : Option Message) (held : List ℕ) → IfSome o (CurrentFits n c) → IfSome o (λ m. AreOctets m.header) → length held < 12 → length held ≤ n
-    → IsWithin n (header_of o held)
+header_fits : (n : ℕ) (c : Cut) → Fits n c → HeaderOctets c → IsWithin n (header_of c.current c.held)
 unfolding IsWithin place
-current_within n c None held fits octets short few = (record { most = omega (arith, short); small = λ no. absurd (omega (arith, short, no)) }, few)
-current_within n c (Some m) held fits octets short few =
-    (record { most = omega (arith, fits.twelve); small = λ twelve. size_fits m.header octets twelve }, omega (arith, fits.twelve, fits.place_is))
-
-octets_in : (o : Option Message) → IfSome o (λ m. AreOctets m.header × (offence m.header ≡ None)) → IfSome o (λ m. AreOctets m.header)
-octets_in None h = tt
-octets_in (Some m) h = h.0
+header_fits n c fits octets = go c.current fits.current octets
+  where
+    go : (o : Option Message) → IfSome o (CurrentFits n c) → IfSome o (λ m. AreOctets m.header × (offence m.header ≡ None))
+        → IsWithin n (header_of o c.held)
+    go None f h =
+        (record { most = omega (arith, fits.short); small = λ no. absurd (omega (arith, fits.short, no)) }, fits.held)
+    go (Some m) f h =
+        let within : length m.header ≤ n = omega (arith, f.twelve, f.place_is) in
+        (record { most = omega (arith, f.twelve); small = λ twelve. size_fits m.header h.0 twelve }, within)
 
 module _ (R : Reading) (causal : IsCausal R) (laws : IsInTurn R) where
   late_by : (p : List ℕ) (x : ℕ) (o : Octet) → Then R p x o → Late (cut p).stop → Late (cut (p ++ x ∷ [])).stop
@@ -105,15 +107,15 @@ module _ (R : Reading) (causal : IsCausal R) (laws : IsInTurn R) where
 
   late : (p : List ℕ) → Late (cut p).stop
   unfolding of_parts
-  late = by_growth (λ p. Late (cut p).stop) (rw cut_nothing tt) (λ p x h. late_by p x (octet_of (cut p) (length p) x) (then_is R causal laws p x (sound R causal laws p)) h)
+  late = by_growth (λ p. Late (cut p).stop) (rw cut_nothing tt)
+      (λ p x. late_by p x (octet_of (cut p) (length p) x) (then_is R causal laws p x (sound R causal laws p)))
 
   module _ (p : List ℕ) (octets : AreOctets p) where
-    held_by : (stop : Option (ℕ × StreamFault)) → (cut p).stop ≡ stop → IsWithin (read_of p stop) (unless stop [] (header_of (cut p).current (cut p).held))
+    held_by : (stop : Option (ℕ × StreamFault)) → (cut p).stop ≡ stop
+        → IsWithin (read_of p stop) (unless stop [] (header_of (cut p).current (cut p).held))
     unfolding IsWithin read_of
     held_by (Some found) e = (record { most = omega arith; small = λ no. absurd (omega (arith, no)) }, omega arith)
-    held_by None e =
-        let fits = (sound R causal laws p).fits e in
-        current_within (length p) (cut p) (cut p).current (cut p).held fits.current (octets_in (cut p).current (header_octets p octets)) fits.short fits.held
+    held_by None e = header_fits (length p) (cut p) ((sound R causal laws p).fits e) (header_octets p octets)
 
     header_within : IsWithin (tally R p).octets (state_of R p).held
     unfolding tally state_of
@@ -159,7 +161,10 @@ module _ (octets p : List ℕ) (C : Table) (l : Listed) (s : Spells octets C l p
 
   few_slots : length s.memory.slots.slots.items ≤ 16
   unfolding state_of
-  few_slots = omega (arith, are_as_many C l s.memory.slots.slots.items (slots_of (octets_of R p) (open_after p)) s.shows.slots, slots_many (octets_of R p) (open_after p), few_open p)
+  few_slots =
+      let K = octets_of R p in
+      let many = are_as_many C l s.memory.slots.slots.items (slots_of K (open_after p)) s.shows.slots in
+      omega (arith, many, slots_many K (open_after p), few_open p)
 
   header_is : IsWithin s.memory.totals.octets s.memory.header
   header_is = rw (totals_are, s.shows.header) (header_within R causal laws p s.stream)
