@@ -111,6 +111,16 @@ abbrev pub split_piece_line : ℕ → List ℕ → Piece → List ℕ → ℕ �
 split_piece_line message path held octets offset more =
     content_line message path (piece_word held) offset (split_text held octets) (more_word more)
 
+-- an encapsulation: how many octets it has, their order, and what is left of them behind its value
+abbrev pub encapsulation_line : ℕ → List ℕ → ℕ → List ℕ
+encapsulation_line message path length = kind_line message path (codes " encapsulation ") (decimal length)
+
+abbrev pub order_line : ℕ → List ℕ → Order → List ℕ
+order_line message path order = kind_line message path (codes " order ") (order_word order)
+
+abbrev pub inner_rest_line : ℕ → List ℕ → ℕ → List ℕ → List ℕ
+inner_rest_line message path offset octets = content_line message path (codes " rest @") offset (spaced_hex octets) []
+
 unfoldable pub rest_line : ℕ → ℕ → List ℕ → List ℕ
 rest_line message offset octets =
     joined (codes "m" ∷ decimal message ∷ codes " rest @" ∷ decimal offset ∷ codes " " ∷ hex octets

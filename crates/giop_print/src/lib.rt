@@ -1,6 +1,7 @@
 //! The lines of a dump: their text, and where they are written.
 #![tactic(auto)]
 
+mod encapsulation_lines;
 mod lines;
 mod path;
 mod sheet;
@@ -10,6 +11,9 @@ mod value;
 mod words;
 mod written;
 
+pub use encapsulation_lines::{
+    encapsulation_line, inner_rest_line, order_line, split_inner_rest_line,
+};
 pub use lines::{
     call_line, cancelled_line, continues_line, end_line, fault_line, piece_line, rest_line,
     split_piece_line, split_rest_line, start_line, stream_fault_line, total_line, unfinished_line,

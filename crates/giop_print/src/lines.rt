@@ -62,7 +62,7 @@ fn number_line<O: Out>(
 
 /// The line of a value of a kind, whose word has its spaces.
 #[tactic(auto, unfolding(crate::specs::Lines::kind_line))]
-fn kind_line<'a, O: Out>(
+pub fn kind_line<'a, O: Out>(
     out: &mut O,
     message: u64,
     path: &'a Path,
@@ -131,7 +131,7 @@ pub fn split_piece_line<O: Out>(
 
 /// The line of a part of a content.
 #[tactic(auto, unfolding(crate::specs::Lines::content_line))]
-fn content_line<'a, O: Out>(
+pub fn content_line<'a, O: Out>(
     out: &mut O,
     message: u64,
     path: &'a Path,

@@ -1,8 +1,10 @@
 //! The lines of worked streams, and of pieces.
 
 use crate::streams::{FRAGMENTS, REQUEST, fragments, request};
+use giop_cdr::Order;
 use giop_print::{
-    OutFault, Path, Piece, Root, Sheet, piece_line, split_piece_line, split_rest_line,
+    OutFault, Path, Piece, Root, Sheet, encapsulation_line, inner_rest_line, order_line,
+    piece_line, split_inner_rest_line, split_piece_line, split_rest_line,
 };
 use std::test::Fail;
 
@@ -83,5 +85,34 @@ fn parts_that_came_in_two_are_written_as_one(rt: HostRuntime) -> Result<(), Fail
     let path = Path::new(Root::Exception);
     split_parts(&mut sheet, &path)?;
     assert!(rt; sheet.held() == SPLIT_PARTS);
+    Ok(())
+}
+
+/// An encapsulation and its order, and what is left of it behind its value, whole and in two.
+fn encapsulations(sheet: &mut Sheet, path: &Path) -> Result<(), OutFault> {
+    encapsulation_line(sheet, 1, path, 12)?;
+    order_line(sheet, 1, path, Order::Big)?;
+    order_line(sheet, 1, path, Order::Little)?;
+    inner_rest_line(sheet, 1, path, 0, &[0xab; 32])?;
+    inner_rest_line(sheet, 1, path, 32, b"\x00\x2a")?;
+    split_inner_rest_line(sheet, 1, path, 64, b"\x00", b"\x2a\x09")
+}
+
+const ENCAPSULATIONS: &[u8] = b"m1 body.e encapsulation 12
+m1 body.e order big
+m1 body.e order little
+m1 body.e rest @0 abababababababababababababababababababababababababababababababab
+m1 body.e rest @32 002a
+m1 body.e rest @64 002a09
+";
+
+#[test]
+fn an_encapsulation_has_its_lines(rt: HostRuntime) -> Result<(), Fail> {
+    let mut room = [0; 512];
+    let mut sheet = Sheet::new(&mut room);
+    let mut path = Path::new(Root::Body);
+    path.push_name(b"e");
+    encapsulations(&mut sheet, &path)?;
+    assert!(rt; sheet.held() == ENCAPSULATIONS);
     Ok(())
 }

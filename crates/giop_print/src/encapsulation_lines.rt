@@ -1,0 +1,76 @@
+//! The lines of an encapsulation, over any out (docs/FORMATS.md): how many octets it has, their order, and what is left
+//! of them behind its value. Each answers as the other lines do.
+
+ghost use Rattle.std.specs.Prelude.{◌+◌, ◌≤◌, ◌++◌, length};
+ghost use Rattle.giop_print.specs.Output.{Writes};
+ghost use Rattle.giop_print.specs.Lines.{encapsulation_line, order_line, inner_rest_line};
+
+use crate::lines::{content_line, kind_line};
+use crate::path::Path;
+use crate::sink::{Out, OutFault};
+use crate::text::split_text;
+use crate::value::Piece;
+use crate::words::order_word;
+use giop_cdr::Order;
+use itoa::Buffer;
+
+/// The line of an encapsulation: how many octets it has.
+pub fn encapsulation_line<O: Out>(
+    out: &mut O,
+    message: u64,
+    path: &Path,
+    length: u32,
+) -> Result<(), OutFault>
+    ensures { Writes result (O.log out.old) (O.log out.new)
+        (encapsulation_line message path.now.text length) }
+{
+    let mut digits = Buffer::new();
+    let length = digits.format(length).as_bytes();
+    kind_line(out, message, path, b" encapsulation ", length)
+}
+
+/// The line of an encapsulation's byte order.
+pub fn order_line<O: Out>(
+    out: &mut O,
+    message: u64,
+    path: &Path,
+    order: Order,
+) -> Result<(), OutFault>
+    ensures { Writes result (O.log out.old) (O.log out.new)
+        (order_line message path.now.text order) }
+{
+    kind_line(out, message, path, b" order ", order_word(order))
+}
+
+/// The line of at most 32 octets that stand at this offset in the rest of an encapsulation.
+pub fn inner_rest_line<O: Out>(
+    out: &mut O,
+    message: u64,
+    path: &Path,
+    offset: u64,
+    octets: &[u8],
+) -> Result<(), OutFault>
+    requires { length octets.now ≤ 32 }
+    ensures { Writes result (O.log out.old) (O.log out.new)
+        (inner_rest_line message path.now.text offset octets.now) }
+{
+    split_inner_rest_line(out, message, path, offset, octets, &[])
+}
+
+/// The line of a part of an encapsulation's rest that came in two: the octets that were held, and those that follow
+/// them, at most 32 in all.
+pub fn split_inner_rest_line<O: Out>(
+    out: &mut O,
+    message: u64,
+    path: &Path,
+    offset: u64,
+    held: &[u8],
+    octets: &[u8],
+) -> Result<(), OutFault>
+    requires { length held.now + length octets.now ≤ 32 }
+    ensures { Writes result (O.log out.old) (O.log out.new)
+        (inner_rest_line message path.now.text offset (held.now ++ octets.now)) }
+{
+    let text = split_text(Piece::Octets(held), octets);
+    content_line(out, message, path, b" rest @", offset, &text, b"")
+}
