@@ -61,3 +61,5 @@ mod SavedSizes
 mod FaultsBound
 mod LoadRanges
 mod Saved
+mod Loaded
+mod LoadedFields

@@ -17,7 +17,7 @@ use Rattle.giop_stream.specs.Checkpoint.{IsStored, AreEntries, fixed_of, count_o
 
 -- ---- records
 
-entry_long : (e : Entry) → EntryHasRange e → length (entry_octets e) ≡ 256 + 16 * e.record_is.frames
+pub entry_long : (e : Entry) → EntryHasRange e → length (entry_octets e) ≡ 256 + 16 * e.record_is.frames
 entry_long e h =
     omega (
       arith,
@@ -45,7 +45,7 @@ entries_within d (e ∷ es) h =
 
 -- ---- those of the messages
 
-entries_count : (slots : List Slot) (own : Option Message) (es : List Entry) → AreEntries slots own es → length es ≡ length slots + count_own own
+pub entries_count : (slots : List Slot) (own : Option Message) (es : List Entry) → AreEntries slots own es → length es ≡ length slots + count_own own
 entries_count [] None [] are = refl
 entries_count [] None (e ∷ es) are = absurd are
 entries_count [] (Some m) [] are = absurd are
@@ -53,7 +53,7 @@ entries_count [] (Some m) (e ∷ es) are = ap (λ (xs : List Entry). suc (length
 entries_count (slot ∷ slots) own [] are = absurd are
 entries_count (slot ∷ slots) own (e ∷ es) are = omega (arith, entries_count slots own es are.1)
 
-entries_range : (slots : List Slot) (own : Option Message) (es : List Entry) → AreEntries slots own es → Each EntryHasRange es
+pub entries_range : (slots : List Slot) (own : Option Message) (es : List Entry) → AreEntries slots own es → Each EntryHasRange es
 entries_range [] None [] are = tt
 entries_range [] None (e ∷ es) are = absurd are
 entries_range [] (Some m) [] are = absurd are

@@ -1,5 +1,5 @@
 -- Which fields of an engine a checkpoint has, and which streams its octets spell (docs/FORMATS.md, Checkpoints; state).
-use Rattle.std.specs.Prelude.{◌≡◌, ◌≤◌, ℕ, ◌+◌, ◌-◌, ◌*◌, List, [], ◌∷◌, ◌++◌, length, take, flat_map, replicate, nat_lt, Option, Some, None, if◌then◌else◌}
+use Rattle.std.specs.Prelude.{◌≡◌, ◌≤◌, ◌⊎◌, ℕ, ◌+◌, ◌-◌, ◌*◌, List, [], ◌∷◌, ◌++◌, length, take, flat_map, replicate, nat_lt, Option, Some, None, if◌then◌else◌}
 use Rattle.giop_cdr.specs.Numbers.{AreOctets}
 use Rattle.giop_sig.specs.Table.{Table}
 use Rattle.giop_sig.specs.Trees.{depth_of}
@@ -10,6 +10,8 @@ use Rattle.giop_message.specs.MessageReading.{message_reading}
 use Rattle.giop_message.specs.Signatures.{Kept as Listed}
 use Rattle.giop_checkpoint.specs.declared.sizes.TheConstants.{FIXED_SIZE, RECORD_SIZE, MESSAGE_SIZE, FRAME_SIZE, MOST_RECORDS}
 use Rattle.giop_checkpoint.specs.declared.fault.StreamFault.{StreamFault}
+use Rattle.giop_checkpoint.specs.declared.fault.LoadFault.{LoadFault}
+use Rattle.giop_checkpoint.specs.declared.fault.LoadFault.TheVariants as refusals
 use Rattle.giop_checkpoint.specs.declared.fixed.Counts.{Counts}
 use Rattle.giop_checkpoint.specs.declared.fixed.Fixed.{Fixed}
 use Rattle.giop_checkpoint.specs.declared.fixed.Place.{Place}
@@ -18,6 +20,7 @@ use Rattle.giop_checkpoint.specs.declared.record.Standing.{Standing}
 use Rattle.giop_checkpoint.specs.declared.record.Standing.TheVariants as standings
 use Rattle.giop_checkpoint.specs.Fixed.{fixed_octets}
 use Rattle.giop_checkpoint.specs.Records.{Entry, EntryHasRange, entry_octets}
+use Rattle.giop_checkpoint.specs.Refusals.{HasState, HasRecords, IsOurs, IsNotOurs, IsOutOfRange, Refused}
 use Rattle.giop_message.specs.Stored.{Stored}
 use Rattle.giop_stream.specs.declared.slots.Slot.{Slot}
 use Rattle.giop_stream.specs.declared.slots.Payload.{Payload as Whose}
@@ -163,3 +166,17 @@ pub record Saves (n : ℕ) (octets : List ℕ) (C : Table) (l : Listed) (p : Lis
   pub spells : Spells (take n octets) C l p
   pub size : n ≡ FIXED_SIZE + entries_size spells.entries
   pub within : n ≤ checkpoint_limit (depth_of C.types)
+
+-- ---- what is no checkpoint
+
+-- These pass up to the records' lengths. What is wrong then is a field of a record, or totals that no stream has.
+abbrev pub PassesLengths : Counts → List ℕ → Type 0
+PassesLengths c s = (f : Fixed) × HasState c f s × HasRecords f s
+
+-- the first check that fails
+abbrev pub IsRefused : Counts → List ℕ → LoadFault → Type 0
+IsRefused c s refusals.Magic = IsNotOurs c s refusals.Magic
+IsRefused c s refusals.Version = IsNotOurs c s refusals.Version
+IsRefused c s refusals.Catalogue = IsNotOurs c s refusals.Catalogue
+IsRefused c s refusals.Length = Refused c s refusals.Length
+IsRefused c s refusals.State = IsOurs c s × (IsOutOfRange c s refusals.State ⊎ PassesLengths c s)

@@ -22,3 +22,4 @@ pub mod Engine
 pub mod Step
 pub mod Showing
 pub mod Checkpoint
+pub mod Reloading

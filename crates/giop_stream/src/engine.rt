@@ -1,18 +1,20 @@
 //! The engine: one direction of a connection in, its lines out.
 
-ghost use Rattle.std.specs.Prelude.{◌≡◌, ◌++◌, ◌+◌, Err, ℕ, List, [], true, false, length, drop, IfOk, OnOk, IsOk};
+ghost use Rattle.std.specs.Prelude.{◌≡◌, ◌++◌, ◌+◌, Err, ℕ, List, [], true, false, length, drop, IfOk, IfErr, OnOk, IsOk, IsOkAnd};
 ghost use Rattle.std.specs.List.{concat};
 ghost use Rattle.giop_sig.specs.Table.{Table};
+ghost use Rattle.giop_checkpoint.specs.Refusals.{IsOurs};
 ghost use Rattle.giop_message.specs.Signatures.{Kept as Listed};
 ghost use Rattle.giop_message.specs.MessageReading.{message_reading};
 ghost use Rattle.giop_stream.specs.Framing.{cut, fault_of};
 ghost use Rattle.giop_stream.specs.Stream.{text, closing, final};
 ghost use Rattle.giop_stream.specs.Holding.{AreOf, Holds, StopWrites, Leaves, added, reading_of, status_of};
 ghost use Rattle.giop_stream.specs.Pieces.{fed};
-ghost use Rattle.giop_stream.specs.Checkpoint.{Saves};
+ghost use Rattle.giop_stream.specs.Checkpoint.{counts_of, IsRefused, Saves, Spells};
 
-use crate::fault::Stop;
+use crate::fault::{LoadFault, Stop};
 use crate::framing::Framing;
+use crate::loading;
 use crate::saving;
 use crate::status::{Status, Totals};
 use arrayvec::ArrayVec;
@@ -59,6 +61,36 @@ impl<'a> Engine<'a> {
             requests,
             framing: Framing::new(),
             failed: false,
+        }
+    }
+
+    /// The engine that a checkpoint was saved of, by the same types and the same list: it goes on from there. From any
+    /// other octets that pass the checks it is an engine that is safe to use (docs/FORMATS.md, Checkpoints).
+    pub fn load(
+        catalogue: &'a Catalogue,
+        requests: &'a Requests,
+        octets: &[u8],
+    ) -> Result<Engine<'a>, LoadFault>
+        requires of { AreOf catalogue.now requests.now }
+        // It holds the stream that the octets are the checkpoint of.
+        ensures again { (p : List ℕ) → Spells octets.now catalogue.now requests.now p →
+            IsOkAnd result (λ e. Holds e p) }
+        // The first check that fails refuses them.
+        ensures refused { IfErr result (λ why.
+            IsRefused (counts_of catalogue.now requests.now) octets.now why) }
+        ensures ours { IfOk result (λ e. IsOurs (counts_of catalogue.now requests.now) octets.now) }
+        ensures sound { IfOk result (λ e. e.failed ≡ false) }
+        ensures table { IfOk result (λ e. e.table ≡ catalogue.now) }
+        ensures listed { IfOk result (λ e. e.listed ≡ requests.now) }
+    {
+        match loading::read(catalogue, requests, octets) {
+            Ok(framing) => Ok(Engine {
+                catalogue,
+                requests,
+                framing,
+                failed: false,
+            }),
+            Err(why) => Err(why),
         }
     }
 

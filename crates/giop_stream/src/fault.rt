@@ -1,6 +1,6 @@
 //! What faults a message by the stream, and the refusals of an engine. What ends a stream stands with its checkpoint.
 
-pub use giop_checkpoint::StreamFault;
+pub use giop_checkpoint::{LoadFault, StreamFault};
 use giop_print::OutFault;
 use thiserror::Error;
 

@@ -11,12 +11,13 @@ mod kept;
 mod kinds;
 mod laws;
 mod lines;
+mod loading;
 mod pieces;
 mod saving;
 mod slots;
 mod status;
 
 pub use engine::{Engine, any_pieces, text_begins};
-pub use fault::{ImposedFault, Stop, StreamFault};
+pub use fault::{ImposedFault, LoadFault, Stop, StreamFault};
 pub use laws::{behind_a_stop, each_joined, each_slot, each_step, one_of_each, open_messages};
 pub use status::{Status, Totals};

@@ -2,6 +2,8 @@
 #![tactic(auto)]
 
 #[cfg(test)]
+mod loaded;
+#[cfg(test)]
 mod own_out;
 #[cfg(test)]
 mod saved;

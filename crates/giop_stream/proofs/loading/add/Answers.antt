@@ -1,0 +1,30 @@
+use Rattle.std.proofs.Common.{◌+◌}
+use Rattle.giop_stream.proofs.Loaded.{open_not_current, current_not_open, current_not_over}
+use Rattle.giop_stream.proofs.loading.add.Goals as goal
+
+pub returns-in-Current-clause-one_open : goal.returns-in-Current-clause-one_open
+returns-in-Current-clause-one_open c l held is room = absurd (open_not_current c.args.catalogue.now l (c.args.octets + 1) c.args.first.now held is c.in-Current.is)
+
+pub returns-in-Current-clause-one_current : goal.returns-in-Current-clause-one_current
+returns-in-Current-clause-one_current c l own is =
+    let made = c.add_current.ensures.again l own is in
+    (made.0, c.add_current.ensures.same, made.1)
+
+pub returns-in-Open-clause-one_open : goal.returns-in-Open-clause-one_open
+returns-in-Open-clause-one_open c l held is room =
+    let made = c.add_open.ensures.again l held is c.in-Open.is room in
+    (made.0, made.1, c.add_open.ensures.own)
+
+pub returns-in-Open-clause-one_current : goal.returns-in-Open-clause-one_current
+returns-in-Open-clause-one_current c l own is = absurd (current_not_open c.args.catalogue.now l (c.args.octets + 1) c.args.first.now own _ is c.in-Open.is)
+
+pub returns-in-Over-clause-ready : goal.returns-in-Over-clause-ready
+returns-in-Over-clause-ready c e = c.add_over.ensures.ready c.args.catalogue.now (c.args.octets + 1) c.requires.ready
+
+pub returns-in-Over-clause-one_open : goal.returns-in-Over-clause-one_open
+returns-in-Over-clause-one_open c l held is room =
+    let made = c.add_over.ensures.again c.args.catalogue.now l (c.args.octets + 1) held is c.in-Over.is room in
+    (made.0, made.1, c.add_over.ensures.own)
+
+pub returns-in-Over-clause-one_current : goal.returns-in-Over-clause-one_current
+returns-in-Over-clause-one_current c l own is = absurd (current_not_over c.args.catalogue.now l (c.args.octets + 1) c.args.first.now own _ is c.in-Over.is)

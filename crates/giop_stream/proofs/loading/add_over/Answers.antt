@@ -1,0 +1,12 @@
+use Rattle.std.proofs.Common.{◌+◌}
+use Rattle.giop_stream.proofs.Loaded.{over_again, added_one}
+use Rattle.giop_stream.proofs.loading.add_over.Goals as goal
+
+pub returns-then-is_zero-clause-ready : goal.returns-then-is_zero-clause-ready
+returns-then-is_zero-clause-ready c C n ready = c.push.ensures.ready C n ready tt
+
+pub returns-then-is_zero-clause-again : goal.returns-then-is_zero-clause-again
+returns-then-is_zero-clause-again c C l n held is over room =
+    let made = over_again C l n c.args.first.now held c.args.id is over in
+    let put = c.push.ensures.added room in
+    (put.0, added_one C l _ _ _ held put.1 made.2)

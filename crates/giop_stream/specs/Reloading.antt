@@ -1,0 +1,107 @@
+-- What the parts of a checkpoint say of an engine's fields (state); and what is known of its records while they are read.
+use Rattle.std.specs.Prelude.{◌≡◌, ℕ, ◌-◌, Bool, false, not, ◌&&◌, List, [], ◌∷◌, ◌++◌, length, flat_map, Option, Some, None, nat_lt, nat_le, if◌then◌else◌}
+use Rattle.std.specs.List.{AllByRecursion as Each}
+use Rattle.giop_sig.specs.Table.{Table}
+use Rattle.giop_message.specs.Headers.{size, is_fragment}
+use Rattle.giop_message.specs.Signatures.{Kept as Listed}
+use Rattle.giop_message.specs.declared.message.Message.{Message}
+use Rattle.giop_checkpoint.specs.declared.fault.StreamFault.{StreamFault}
+use Rattle.giop_checkpoint.specs.declared.fixed.Place.{Place}
+use Rattle.giop_checkpoint.specs.declared.fixed.Place.TheVariants.{Header, Payload, Stopped}
+use Rattle.giop_checkpoint.specs.declared.record.FirstRecord.{FirstRecord}
+use Rattle.giop_checkpoint.specs.Records.{Entry, entry_octets}
+use Rattle.giop_stream.specs.declared.slots.Slot.{Slot}
+use Rattle.giop_stream.specs.declared.slots.Slots.{Slots}
+use Rattle.giop_stream.specs.declared.slots.Payload.{Payload as Whose}
+use Rattle.giop_stream.specs.declared.slots.Payload.TheVariants as payload
+use Rattle.giop_stream.specs.State.{Slot as Held}
+use Rattle.giop_stream.specs.Engine.{Own}
+use Rattle.giop_stream.specs.Keeping.{IsReady, IsSlot, AreSlots}
+use Rattle.giop_stream.specs.Showing.{IsOwn}
+use Rattle.giop_stream.specs.Checkpoint.{IsOpen, IsCurrent, AreEntries}
+
+-- ---- the fixed part
+
+abbrev pub stop_in : Place → Option StreamFault
+stop_in (Header held) = None
+stop_in (Payload header left) = None
+stop_in (Stopped fault) = Some fault
+
+-- the header octets that have come
+abbrev pub header_in : Place → List ℕ
+header_in (Header held) = held.items
+header_in (Payload header left) = header
+header_in (Stopped fault) = []
+
+-- the payload octets that have come
+abbrev pub come_in : Place → ℕ
+come_in (Header held) = 0
+come_in (Payload header left) = size header - left
+come_in (Stopped fault) = 0
+
+-- the octets to come are the current message's own: it is no Fragment whose request id is complete
+abbrev pub comes_in : Place → Bool
+comes_in (Header held) = false
+comes_in (Payload header left) = not (is_fragment header && nat_le 4 (size header - left))
+comes_in (Stopped fault) = false
+
+abbrev pub by_turn : Bool → Whose
+by_turn itself = if itself then payload.Own else payload.Nobody
+
+-- whose they are: behind the records of the open messages is the current one's
+abbrev pub payload_of : Option ℕ → Bool → ℕ → Whose
+payload_of None itself many = by_turn itself
+payload_of (Some k) itself many = if nat_lt k many then payload.Open k else payload.Own
+
+-- ---- a record
+
+-- a record that was read is this entry
+pub record IsEntry (first : FirstRecord) (e : Entry) : Type 0 where
+  pub own : first.«record» ≡ e.record_is
+  pub message : first.message ≡ e.message
+  pub frames : first.frames.now ≡ e.frames
+
+-- the open message of it
+abbrev pub pushed : FirstRecord → ℕ → Option Message → Slot
+pushed first id message =
+    record { number = first.«record».number; header = first.«record».header; id = id; message = message }
+
+-- It is the entry of an open message, of which this is to know.
+pub record IsOpenEntry (C : Table) (l : Listed) (at : ℕ) (first : FirstRecord) (held : Held) : Type 0 where
+  pub kept : Slot
+  pub entry : Entry
+  pub entry_is : IsOpen kept entry
+  pub read : IsEntry first entry
+  pub slot_is : IsSlot C l kept held
+  pub ready : IsReady C at kept.message
+
+-- It is the entry of the current message, of which this is to know.
+pub record IsCurrentEntry (C : Table) (l : Listed) (at : ℕ) (first : FirstRecord) (own : Own) : Type 0 where
+  pub message : Message
+  pub entry : Entry
+  pub entry_is : IsCurrent message entry
+  pub read : IsEntry first entry
+  pub own_is : IsOwn C l (Some message) (Some own)
+  pub ready : IsReady C at (Some message)
+
+-- ---- the records that are left
+
+-- These octets are so many entries, of messages of which this is to know.
+pub record AreLeft (C : Table) (l : Listed) (at count : ℕ) (octets : List ℕ) (held : List Held) (own : Option Own)
+    : Type 0 where
+  pub kept : List Slot
+  pub current : Option Message
+  pub entries : List Entry
+  pub entries_are : AreEntries kept current entries
+  pub count_is : count ≡ length entries
+  pub octets_are : octets ≡ flat_map entry_octets entries
+  pub slots_are : AreSlots C l kept held
+  pub own_is : IsOwn C l current own
+  pub each_ready : Each (λ slot. IsReady C at slot.message) kept
+  pub own_ready : IsReady C at current
+
+-- Open messages of which this is to know were added.
+pub record HasAdded (C : Table) (l : Listed) (before after : Slots) (held : List Held) : Type 0 where
+  pub kept : List Slot
+  pub are : AreSlots C l kept held
+  pub put : after.slots.items ≡ before.slots.items ++ kept

@@ -1,0 +1,327 @@
+//! The checkpoint of an engine, read: its fixed part, and its records, each in its range (docs/FORMATS.md, Checkpoints).
+
+ghost use Rattle.std.specs.Prelude.{◌≡◌, ℕ, List, ◌+◌, ◌<◌, ◌≤◌, ◌^◌, ◌*◌, length, true, Option, Some, None, IfOk, IfErr, IfSome, IsSomeAnd, IsOkAnd, [], ◌∷◌, ◌++◌, flat_map, replicate};
+ghost use Rattle.giop_sig.specs.Table.{Table};
+ghost use Rattle.giop_message.specs.Holding.{Follows};
+ghost use Rattle.giop_message.specs.MessageReading.{message_reading};
+ghost use Rattle.giop_message.specs.Signatures.{Kept as Listed};
+ghost use Rattle.giop_message.specs.Stored.{Stored};
+ghost use Rattle.giop_message.specs.declared.message.Message.{Message as Kept_message};
+ghost use Rattle.giop_checkpoint.specs.Fixed.{HasRange};
+ghost use Rattle.giop_checkpoint.specs.Records.{AreRecords, entry_octets};
+ghost use Rattle.giop_checkpoint.specs.Refusals.{IsOurs};
+ghost use Rattle.giop_checkpoint.specs.declared.record.Standing.TheVariants as standings;
+ghost use Rattle.giop_stream.specs.State.{Slot as Held};
+ghost use Rattle.giop_stream.specs.Keeping.{AreReady, IsReady};
+ghost use Rattle.giop_stream.specs.Shown.{shown};
+ghost use Rattle.giop_stream.specs.Engine.{state_of, Own};
+ghost use Rattle.giop_stream.specs.Showing.{Shows, IsOwn};
+ghost use Rattle.giop_stream.specs.Checkpoint.{counts_of, fixed_of, IsRefused, Spells};
+ghost use Rattle.giop_stream.specs.Reloading.{stop_in, header_in, come_in, comes_in, payload_of, pushed, IsOpenEntry, IsCurrentEntry, HasAdded, AreLeft};
+
+use crate::framing::Framing;
+use crate::header::size_of;
+use crate::kinds::is_fragment;
+use crate::saving::counts_of;
+use crate::slots::{Payload, Slot, Slots};
+use crate::status::Totals;
+use arrayvec::ArrayVec;
+use giop_checkpoint::{
+    FirstRecord, Fixed, LoadFault, Place, Standing, StreamFault, first_record, fixed_part,
+};
+use giop_message::Message;
+use giop_sig::{Catalogue, Requests};
+
+/// What is remembered of a stream, by its checkpoint.
+pub fn read(
+    catalogue: &Catalogue,
+    requests: &Requests,
+    octets: &[u8],
+) -> Result<Framing, LoadFault>
+    ensures ready { IfOk result (λ f. AreReady catalogue.now (f.totals.octets + 1) f.slots) }
+    ensures refused { IfErr result (λ why.
+        IsRefused (counts_of catalogue.now requests.now) octets.now why) }
+    ensures ours { IfOk result (λ f. IsOurs (counts_of catalogue.now requests.now) octets.now) }
+    ensures again { (p : List ℕ) → Spells octets.now catalogue.now requests.now p →
+        IsOkAnd result (λ f. Shows catalogue.now requests.now (shown f)
+        (state_of (message_reading catalogue.now requests.now) p)) }
+{
+    let (fixed, records) = match fixed_part(octets, counts_of(catalogue, requests)) {
+        Ok(parts) => parts,
+        Err(why) => return Err(why),
+    };
+    match framing_of(catalogue, fixed, records) {
+        Some(framing) => Ok(framing),
+        None => Err(LoadFault::State),
+    }
+}
+
+/// What these fields and records say, where it may be remembered of a stream.
+fn framing_of(catalogue: &Catalogue, fixed: Fixed, records: &[u8]) -> Option<Framing>
+    requires range { HasRange fixed }
+    requires lengths { AreRecords fixed.records records.now }
+    ensures ready { IfSome result (λ f. AreReady catalogue.now (f.totals.octets + 1) f.slots) }
+    ensures again { (l : Listed) (octets p : List ℕ) (s : Spells octets catalogue.now l p) →
+        fixed ≡ fixed_of catalogue.now l s.memory →
+        records.now ≡ flat_map entry_octets s.entries →
+        IsSomeAnd result (λ f. Shows catalogue.now l (shown f)
+        (state_of (message_reading catalogue.now l) p)) }
+{
+    let mut slots = Slots::new();
+    if !add_all(&mut slots, catalogue, fixed.octets, fixed.records, records) {
+        return None;
+    }
+    slots.payload = payload_of(&fixed, &slots);
+    let totals = Totals {
+        messages: fixed.messages,
+        faults: fixed.faults,
+        octets: fixed.octets,
+    };
+    let stopped = stop_of(&fixed.place);
+    let (header, come) = header_of(fixed.place);
+    if !may_be(totals, stopped, header.len()) {
+        return None;
+    }
+    Some(Framing {
+        totals,
+        stopped,
+        header,
+        come,
+        slots,
+    })
+}
+
+/// Whether a stream may have these totals, where it stopped so and so much of a header is held.
+fn may_be(totals: Totals, stopped: Option<StreamFault>, held: usize) -> bool
+    requires { totals.octets ≤ 2 ^ 48 + 1 }
+    ensures running { result ≡ true → stopped ≡ None → totals.octets ≤ 2 ^ 48 }
+    ensures messages { result ≡ true → totals.messages ≤ totals.octets }
+    ensures faults { result ≡ true → totals.faults ≤ 3 * totals.octets }
+    ensures held { result ≡ true → held ≤ totals.octets }
+    ensures again { (stopped ≡ None → totals.octets ≤ 2 ^ 48) → totals.messages ≤ totals.octets →
+        totals.faults ≤ 3 * totals.octets → held ≤ totals.octets → result ≡ true }
+{
+    totals.messages <= totals.octets
+        && totals.faults <= 3 * totals.octets
+        && held as u64 <= totals.octets
+        && (stopped.is_some() || totals.octets <= 1 << 48)
+}
+
+/// The stream fault.
+fn stop_of(place: &Place) -> Option<StreamFault>
+    ensures { result ≡ stop_in place.now }
+{
+    match place {
+        Place::Stopped(fault) => Some(*fault),
+        _ => None,
+    }
+}
+
+/// The header octets that have come, and the payload octets.
+fn header_of(place: Place) -> (ArrayVec<u8, 12>, u32)
+    ensures header { result.0.items ≡ header_in place }
+    ensures come { result.1 ≡ come_in place }
+{
+    match place {
+        Place::Header(held) => (held_of(held.as_slice()), 0),
+        Place::Payload { header, left } => {
+            let come = size_of(&header).saturating_sub(left);
+            (held_of(&header), come)
+        }
+        Place::Stopped(_) => (ArrayVec::new(), 0),
+    }
+}
+
+/// These octets of a header, held.
+fn held_of(octets: &[u8]) -> ArrayVec<u8, 12>
+    requires { length octets.now ≤ 12 }
+    ensures { result.items ≡ octets.now }
+{
+    let mut held = ArrayVec::new();
+    for octet in octets {
+        held.push(*octet);
+    }
+    held
+}
+
+/// Whose the octets of the payload are.
+fn payload_of(fixed: &Fixed, slots: &Slots) -> Payload
+    ensures { result ≡ payload_of fixed.now.owner (comes_in fixed.now.place)
+        (length slots.now.slots.items) }
+{
+    match fixed.owner {
+        Some(record) if (record as usize) < slots.slots.len() => Payload::Open(record as usize),
+        Some(_) => Payload::Own,
+        None if comes_itself(&fixed.place) => Payload::Own,
+        None => Payload::Nobody,
+    }
+}
+
+/// Whether the octets to come are the current message's own: it is no Fragment whose request id is complete.
+fn comes_itself(place: &Place) -> bool
+    ensures { result ≡ comes_in place.now }
+{
+    match place {
+        Place::Payload { header, left } => {
+            !is_fragment(header) || size_of(header).saturating_sub(*left) < 4
+        }
+        _ => false,
+    }
+}
+
+/// Adds the messages of so many records; says whether each is in its range.
+fn add_all(
+    slots: &mut Slots,
+    catalogue: &Catalogue,
+    octets: u64,
+    count: u32,
+    records: &[u8],
+) -> bool
+    requires range { octets ≤ 2 ^ 48 + 1 }
+    requires lengths { AreRecords count records.now }
+    requires ready { AreReady catalogue.now (octets + 1) slots.old }
+    ensures ready { result ≡ true → AreReady catalogue.now (octets + 1) slots.new }
+    ensures none { count ≡ 0 → (result ≡ true) × (slots.new ≡ slots.old) }
+    ensures again { (l : Listed) (held : List Held) (own : Option Own) →
+        AreLeft catalogue.now l (octets + 1) count records.now held own →
+        length slots.old.slots.items + length held ≤ 16 → slots.old.own ≡ None →
+        (result ≡ true) × HasAdded catalogue.now l slots.old slots.new held
+        × IsOwn catalogue.now l slots.new.own own }
+{
+    if count == 0 {
+        return true;
+    }
+    let Some(first) = first_record(records) else {
+        return false;
+    };
+    if !add(slots, catalogue, octets, &first) {
+        return false;
+    }
+    add_all(slots, catalogue, octets, count - 1, first.rest)
+}
+
+/// Adds the message of a record; says whether it is in its range.
+fn add(slots: &mut Slots, catalogue: &Catalogue, octets: u64, first: &FirstRecord<'_>) -> bool
+    requires range { octets ≤ 2 ^ 48 + 1 }
+    requires ready { AreReady catalogue.now (octets + 1) slots.old }
+    ensures ready { result ≡ true → AreReady catalogue.now (octets + 1) slots.new }
+    ensures one_open { (l : Listed) (held : Held) →
+        IsOpenEntry catalogue.now l (octets + 1) first.now held →
+        length slots.old.slots.items < 16 →
+        (result ≡ true) × HasAdded catalogue.now l slots.old slots.new (held ∷ [])
+        × (slots.new.own ≡ slots.old.own) }
+    ensures one_current { (l : Listed) (own : Own) →
+        IsCurrentEntry catalogue.now l (octets + 1) first.now own →
+        (result ≡ true) × (slots.new.slots ≡ slots.old.slots)
+        × IsOwn catalogue.now l slots.new.own (Some own) }
+{
+    match first.record.standing {
+        Standing::Current => add_current(slots, catalogue, octets, first),
+        Standing::Open(id) => add_open(slots, catalogue, octets, first, id),
+        Standing::Over(id) => add_over(slots, first, id),
+    }
+}
+
+/// Adds the current message.
+fn add_current(
+    slots: &mut Slots,
+    catalogue: &Catalogue,
+    octets: u64,
+    first: &FirstRecord<'_>,
+) -> bool
+    requires range { octets ≤ 2 ^ 48 + 1 }
+    requires ready { AreReady catalogue.now (octets + 1) slots.old }
+    ensures ready { result ≡ true → AreReady catalogue.now (octets + 1) slots.new }
+    ensures same { slots.new.slots ≡ slots.old.slots }
+    ensures again { (l : Listed) (own : Own) →
+        IsCurrentEntry catalogue.now l (octets + 1) first.now own →
+        (result ≡ true) × IsOwn catalogue.now l slots.new.own (Some own) }
+{
+    slots.own = message_of(catalogue, octets, first);
+    slots.own.is_some()
+}
+
+/// Adds an open message that isn't over.
+fn add_open(
+    slots: &mut Slots,
+    catalogue: &Catalogue,
+    octets: u64,
+    first: &FirstRecord<'_>,
+    id: u32,
+) -> bool
+    requires range { octets ≤ 2 ^ 48 + 1 }
+    requires ready { AreReady catalogue.now (octets + 1) slots.old }
+    ensures ready { result ≡ true → AreReady catalogue.now (octets + 1) slots.new }
+    ensures own { slots.new.own ≡ slots.old.own }
+    ensures again { (l : Listed) (held : Held) →
+        IsOpenEntry catalogue.now l (octets + 1) first.now held →
+        first.now.record.standing ≡ standings.Open id → length slots.old.slots.items < 16 →
+        (result ≡ true) × HasAdded catalogue.now l slots.old slots.new (held ∷ []) }
+{
+    let message = message_of(catalogue, octets, first);
+    message.is_some() && push(slots, first, id, message)
+}
+
+/// Adds an open message that is over.
+fn add_over(slots: &mut Slots, first: &FirstRecord<'_>, id: u32) -> bool
+    ensures ready { (C : Table) (n : ℕ) → AreReady C n slots.old → AreReady C n slots.new }
+    ensures own { slots.new.own ≡ slots.old.own }
+    ensures again { (C : Table) (l : Listed) (n : ℕ) (held : Held) →
+        IsOpenEntry C l n first.now held →
+        first.now.record.standing ≡ standings.Over id → length slots.old.slots.items < 16 →
+        (result ≡ true) × HasAdded C l slots.old slots.new (held ∷ []) }
+{
+    is_zero(first) && push(slots, first, id, None)
+}
+
+/// Adds an open message, where there is room for it.
+fn push(slots: &mut Slots, first: &FirstRecord<'_>, id: u32, message: Option<Message>) -> bool
+    ensures ready { (C : Table) (n : ℕ) → AreReady C n slots.old → IsReady C n message →
+        AreReady C n slots.new }
+    ensures own { slots.new.own ≡ slots.old.own }
+    ensures added { length slots.old.slots.items < 16 → (result ≡ true)
+        × (slots.new.slots.items ≡ slots.old.slots.items ++ pushed first.now id message ∷ []) }
+{
+    if slots.slots.is_full() {
+        return false;
+    }
+    slots.slots.push(Slot {
+        number: first.record.number,
+        header: first.record.header,
+        id,
+        message,
+    });
+    true
+}
+
+/// The message of a record, where that is one, of no more octets than the stream has.
+fn message_of(catalogue: &Catalogue, octets: u64, first: &FirstRecord<'_>) -> Option<Message>
+    ensures ready { IsReady catalogue.now (octets + 1) result }
+    ensures again { (m : Kept_message) (l : Listed) (n : ℕ) (h xs : List ℕ) →
+        IsReady catalogue.now (octets + 1) (Some m) →
+        m.number ≡ first.now.record.number → m.header ≡ first.now.record.header →
+        Stored m first.now.message first.now.frames.now → Follows catalogue.now l n h m xs →
+        IsSomeAnd result (λ e. Follows catalogue.now l n h e xs) }
+{
+    let Some(message) = Message::restore(
+        catalogue,
+        first.record.number,
+        first.record.header,
+        &first.message,
+        first.frames,
+    ) else {
+        return None;
+    };
+    if message.reach() <= octets {
+        Some(message)
+    } else {
+        None
+    }
+}
+
+/// Whether a record keeps nothing of its message.
+fn is_zero(first: &FirstRecord<'_>) -> bool
+    ensures { first.now.frames.now ≡ [] → first.now.message ≡ replicate 224 0 → result ≡ true }
+{
+    first.frames.is_empty() && first.message == [0; 224]
+}
