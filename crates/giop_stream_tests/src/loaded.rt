@@ -72,6 +72,10 @@ const TOO_FULL: &str =
 00000000000000000000000000000000000000ff0000000000000000000000000000000000000000\
 00000000000000000000000000000000";
 
+/// What is written behind the first.
+const LIMIT_TEXT: &[u8] = b"stream fault stream-limit at 281474976710657\n\
+total messages 0 faults 1 octets 281474976710657\n";
+
 /// A checkpoint of the front of a stream, and how long it is; its lines go to the sheet.
 fn saved(
     known: &(Catalogue, Requests),
@@ -182,11 +186,7 @@ fn a_stream_is_full_at_its_limit(rt: HostRuntime) -> Result<(), Fail> {
     let fed = engine.feed(b"G", &mut sheet);
     assert!(rt; fed == Ok(Status::Stopped(StreamFault::StreamLimit)));
     assert!(rt; engine.finish(&mut sheet).is_ok());
-    assert!(rt;
-        sheet.held()
-            == b"stream fault stream-limit at 281474976710657\n\
-total messages 0 faults 1 octets 281474976710657\n"
-    );
+    assert!(rt; sheet.held() == LIMIT_TEXT);
     let over = <[u8; 96] as FromHex>::from_hex(TOO_FULL).map_err(|_| Fail::from("the octets"))?;
     assert!(rt; Engine::load(&catalogue, &requests, &over).err() == Some(LoadFault::State));
     Ok(())
