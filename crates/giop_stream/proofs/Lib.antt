@@ -63,3 +63,4 @@ mod LoadRanges
 mod Saved
 mod Loaded
 mod LoadedFields
+mod ReadOn

@@ -159,7 +159,7 @@ module _ (octets p : List ℕ) (C : Table) (l : Listed) (s : Spells octets C l p
   unfolding state_of
   free none = free_stop (cut p).stop (sym s.shows.stopped ∙ none)
 
-  few_slots : length s.memory.slots.slots.items ≤ 16
+  pub few_slots : length s.memory.slots.slots.items ≤ 16
   unfolding state_of
   few_slots =
       let K = octets_of R p in

@@ -30,16 +30,19 @@ use Rattle.giop_stream.specs.Checkpoint.{place_of, owner_of, count_own, fixed_of
 use Rattle.giop_stream.specs.Reloading as fields
 use Rattle.giop_stream.specs.Reloading.{AreLeft, HasAdded}
 use Rattle.giop_stream.proofs.EngineAlive.{few_open}
+use Rattle.giop_stream.proofs.Keepers.{slots_many, are_as_many}
 use Rattle.giop_stream.proofs.LoadRanges.{AreTotals, may_be_again}
 use Rattle.giop_stream.proofs.SavedSizes.{entries_count}
-use Rattle.giop_stream.proofs.Loaded.{slots_many}
 
 -- ---- the records of a checkpoint are left, and there is room for them
 
-pub spells_left : (octets p : List ℕ) (C : Table) (l : Listed) (s : Spells octets C l p) (fixed : Fixed) (records : List ℕ) → fixed ≡ fixed_of C l s.memory → records ≡ flat_map entry_octets s.entries
-    → AreLeft C l (fixed.octets + 1) fixed.records records (state_of (message_reading C l) p).slots (state_of (message_reading C l) p).own
+pub spells_left : (octets p : List ℕ) (C : Table) (l : Listed) (s : Spells octets C l p) (fixed : Fixed) (records : List ℕ) →
+    fixed ≡ fixed_of C l s.memory → records ≡ flat_map entry_octets s.entries →
+    AreLeft C l (fixed.octets + 1) fixed.records records (state_of (message_reading C l) p).slots
+    (state_of (message_reading C l) p).own
 unfolding fixed_of
-spells_left octets p C l s fixed records is are = subst P (sym is) (record {
+spells_left octets p C l s fixed records is are =
+    subst P (sym is) (record {
       kept = s.memory.slots.slots.items;
       current = s.memory.slots.own;
       entries = s.entries;
@@ -53,41 +56,49 @@ spells_left octets p C l s fixed records is are = subst P (sym is) (record {
     })
   where
     P : Fixed → Type 0
-    P f = AreLeft C l (f.octets + 1) f.records records (state_of (message_reading C l) p).slots (state_of (message_reading C l) p).own
+    P f =
+        AreLeft C l (f.octets + 1) f.records records (state_of (message_reading C l) p).slots
+        (state_of (message_reading C l) p).own
 
-slots_long : (known : Kept) (live : List Open) → length (slots_of known live) ≡ length live
-unfolding slots_of
-slots_long known [] = refl
-slots_long known (o ∷ live) = omega (arith, slots_long known live)
-
-pub room_left : (R : Reading) (p : List ℕ) → length (state_of R p).slots ≤ 16
+pub room_for : (R : Reading) (p : List ℕ) (bare : Slots) → bare.slots.items ≡ [] →
+    length bare.slots.items + length (state_of R p).slots ≤ 16
 unfolding state_of
-room_left R p = omega (arith, slots_long (octets_of R p) (open_after p), few_open p)
+room_for R p bare none = omega (arith, ap length none, slots_many (octets_of R p) (open_after p), few_open p)
 
 -- ---- the place
 
-behind_none : (found : Option (ℕ × StreamFault)) (held : List ℕ) (fault : StreamFault) → fault_of found ≡ Some fault → unless found [] held ≡ []
+behind_none : (found : Option (ℕ × StreamFault)) (held : List ℕ) (fault : StreamFault) → fault_of found ≡ Some fault →
+    unless found [] held ≡ []
 behind_none None held fault e = absurd cc
 behind_none (Some found) held fault e = refl
 
--- behind a stream fault no header is held
-pub held_behind : (R : Reading) (p : List ℕ) (fault : StreamFault) → (state_of R p).stop ≡ Some fault → (state_of R p).held ≡ []
+held_behind : (R : Reading) (p : List ℕ) (fault : StreamFault) → (state_of R p).stop ≡ Some fault → (state_of R p).held ≡ []
 unfolding state_of
 held_behind R p fault e = behind_none (cut p).stop _ fault e
 
-stop_by : (b : Bool) (header : List ℕ) (come : ℕ) → fields.stop_in (if b then Header (record { items = header }) else Payload header (size header - come)) ≡ None
+-- the place of a header that isn't whole, or of a payload
+abbrev running_place : Bool → List ℕ → ℕ → Place
+running_place b header come = if b then Header (record { items = header }) else Payload header (size header - come)
+
+stop_by : (b : Bool) (header : List ℕ) (come : ℕ) → fields.stop_in (running_place b header come) ≡ None
 stop_by true header come = refl
 stop_by false header come = refl
 
-pub stop_again : (stopped : Option StreamFault) (header : List ℕ) (come : ℕ) → fields.stop_in (place_of stopped header come) ≡ stopped
+stop_again : (stopped : Option StreamFault) (header : List ℕ) (come : ℕ) →
+    fields.stop_in (place_of stopped header come) ≡ stopped
 stop_again (Some fault) header come = refl
 stop_again None header come = stop_by (nat_lt (length header) 12) header come
 
-header_by : (b : Bool) (header : List ℕ) (come : ℕ) → fields.header_in (if b then Header (record { items = header }) else Payload header (size header - come)) ≡ header
+header_by : (b : Bool) (header : List ℕ) (come : ℕ) → fields.header_in (running_place b header come) ≡ header
 header_by true header come = refl
 header_by false header come = refl
 
-pub header_again : (stopped : Option StreamFault) (header : List ℕ) (come : ℕ) → ((fault : StreamFault) → stopped ≡ Some fault → header ≡ []) → fields.header_in (place_of stopped header come) ≡ header
+-- behind a stream fault no header is held
+abbrev IsBehind : Option StreamFault → List ℕ → Type 0
+IsBehind stopped header = (fault : StreamFault) → stopped ≡ Some fault → header ≡ []
+
+header_again : (stopped : Option StreamFault) (header : List ℕ) (come : ℕ) → IsBehind stopped header →
+    fields.header_in (place_of stopped header come) ≡ header
 header_again (Some fault) header come behind = sym (behind fault refl)
 header_again None header come behind = header_by (nat_lt (length header) 12) header come
 
@@ -98,23 +109,29 @@ come_of b header left = if b then 0 else size header - left
 twice : (n k : ℕ) → n - (n - (n - k)) ≡ n - k
 twice n k = omega arith
 
-come_by : (b : Bool) (header : List ℕ) (left come : ℕ) → come ≡ come_of b header left → fields.come_in (if b then Header (record { items = header }) else Payload header (size header - come)) ≡ come
+come_by : (b : Bool) (header : List ℕ) (left come : ℕ) → come ≡ come_of b header left →
+    fields.come_in (running_place b header come) ≡ come
 come_by true header left come e = sym e
 come_by false header left come e = rw e (twice (size header) left)
 
-pub come_again : (stopped : Option StreamFault) (header : List ℕ) (left come : ℕ) → ((fault : StreamFault) → stopped ≡ Some fault → header ≡ []) → come ≡ come_of (nat_lt (length header) 12) header left
-    → fields.come_in (place_of stopped header come) ≡ come
-come_again (Some fault) header left come behind e = sym (e ∙ ap (λ (xs : List ℕ). come_of (nat_lt (length xs) 12) xs left) (behind fault refl))
+come_again : (stopped : Option StreamFault) (header : List ℕ) (left come : ℕ) → IsBehind stopped header →
+    come ≡ come_of (nat_lt (length header) 12) header left → fields.come_in (place_of stopped header come) ≡ come
+come_again (Some fault) header left come behind e =
+    sym (e ∙ ap (λ (xs : List ℕ). come_of (nat_lt (length xs) 12) xs left) (behind fault refl))
 come_again None header left come behind e = come_by (nat_lt (length header) 12) header left come e
 
 -- whether the next octets are the current message's own
-itself_by : (b : Bool) (header : List ℕ) (left come : ℕ) → nat_lt (length header) 12 ≡ b → come ≡ come_of b header left
-    → fields.comes_in (if b then Header (record { items = header }) else Payload header (size header - come)) ≡ (nat_le 12 (length header) && not (is_fragment header && nat_le 4 come))
-itself_by true header left come short e = rw (lt-leb 12 (length header) (omega (arith, ltb-true (length header) 12 short))) refl
-itself_by false header left come long e = rw (le-leb 12 (length header) (omega (arith, ltb-false (length header) 12 long)), come_by false header left come e) refl
+abbrev own_comes : List ℕ → ℕ → Bool
+own_comes header come = nat_le 12 (length header) && not (is_fragment header && nat_le 4 come)
 
-pub itself_again : (header : List ℕ) (left come : ℕ) → come ≡ come_of (nat_lt (length header) 12) header left
-    → fields.comes_in (place_of None header come) ≡ (nat_le 12 (length header) && not (is_fragment header && nat_le 4 come))
+itself_by : (b : Bool) (header : List ℕ) (left come : ℕ) → nat_lt (length header) 12 ≡ b → come ≡ come_of b header left →
+    fields.comes_in (running_place b header come) ≡ own_comes header come
+itself_by true header left come short e = rw (lt-leb 12 (length header) (omega (arith, ltb-true (length header) 12 short))) refl
+itself_by false header left come long e =
+    rw (le-leb 12 (length header) (omega (arith, ltb-false (length header) 12 long)), come_by false header left come e) refl
+
+itself_again : (header : List ℕ) (left come : ℕ) → come ≡ come_of (nat_lt (length header) 12) header left →
+    fields.comes_in (place_of None header come) ≡ own_comes header come
 itself_again header left come e = itself_by (nat_lt (length header) 12) header left come refl e
 
 -- ---- whose the payload is
@@ -127,32 +144,33 @@ pub record IsItself (itself : Bool) (s : State) : Type 0 where
 abbrev IsPayload : Whose → State → Type 0
 IsPayload w s = IsOwner w s × (s.stop ≡ None → IsTurn w s)
 
-no_own : (C : Table) (l : Listed) (s : State) (own : Option Own) → s.own ≡ own → IsOwn C l None own → s.owner ≡ option_map (λ o. o.title.number) s.own → s.owner ≡ None
+no_own : (C : Table) (l : Listed) (s : State) (own : Option Own) → s.own ≡ own → IsOwn C l None own →
+    s.owner ≡ option_map (λ o. o.title.number) s.own → s.owner ≡ None
 no_own C l s None none is owner = owner ∙ ap (λ (o : Option Own). option_map (λ o. o.title.number) o) none
 no_own C l s (Some o) none is owner = absurd is
 
 -- nobody's, or those of a current message that is over
-own_turn : (itself : Bool) (s : State) → IsItself itself s → s.owner ≡ option_map (λ o. o.title.number) s.own → s.owner ≡ None → IsPayload (fields.by_turn itself) s
+own_turn : (itself : Bool) (s : State) → IsItself itself s → s.owner ≡ option_map (λ o. o.title.number) s.own →
+    s.owner ≡ None → IsPayload (fields.by_turn itself) s
 own_turn true s is owner none = (owner, λ running. sym (is.running running))
 own_turn false s is owner none = (none, λ running. sym (is.running running))
 
-not_itself : (itself : Bool) (s : State) (stop : Option StreamFault) → s.stop ≡ stop → IsItself itself s → (s.stop ≡ None → comes_itself s ≡ false) → itself ≡ false
+not_itself : (itself : Bool) (s : State) (stop : Option StreamFault) → s.stop ≡ stop → IsItself itself s →
+    (s.stop ≡ None → comes_itself s ≡ false) → itself ≡ false
 not_itself itself s None e is turn = is.running e ∙ turn e
 not_itself itself s (Some fault) e is turn = is.behind fault e
 
-payload_by : (itself : Bool) (w : Whose) (b : Bool) (s : State) (k : ℕ) → b ≡ true → IsPayload (payload.Open k) s → IsPayload (if b then payload.Open k else payload.Own) s
-payload_by itself w true s k e is = is
-payload_by itself w false s k e is = absurd cc
-
-pub payload_again : (C : Table) (l : Listed) (w : Whose) (own : Option Message) (many : ℕ) (s : State) (itself : Bool) → many ≡ length s.slots → IsOwn C l own s.own → IsOwner w s → (s.stop ≡ None → IsTurn w s)
-    → IsItself itself s → IsPayload (fields.payload_of (owner_of w many own) itself many) s
-payload_again C l payload.Own None many s itself long whose owner turn is = own_turn itself s is owner (no_own C l s s.own refl whose owner)
-payload_again C l payload.Own (Some m) many s itself long whose owner turn is = rw (le-ltb many many (omega arith)) (owner, turn)
-payload_again C l (payload.Open k) own many s itself long whose owner turn is =
-    let low : k < many = omega (arith, long, slice_get_within s.slots k owner.1.0 owner.1.1) in
-    rw (lt-ltb k many low, lt-ltb k many low) (owner, turn)
-payload_again C l payload.Nobody own many s itself long whose owner turn is =
-    subst (λ (b : Bool). IsPayload (fields.by_turn b) s) (sym (not_itself itself s s.stop refl is turn)) (owner, turn)
+payload_again : (C : Table) (l : Listed) (w : Whose) (own : Option Message) (many : ℕ) (s : State) (itself : Bool) →
+    many ≡ length s.slots → IsOwn C l own s.own → IsPayload w s → IsItself itself s →
+    IsPayload (fields.payload_of (owner_of w many own) itself many) s
+payload_again C l payload.Own None many s itself long whose of is =
+    own_turn itself s is of.0 (no_own C l s s.own refl whose of.0)
+payload_again C l payload.Own (Some m) many s itself long whose of is = rw (le-ltb many many (omega arith)) of
+payload_again C l (payload.Open k) own many s itself long whose of is =
+    let low : k < many = omega (arith, long, slice_get_within s.slots k of.0.1.0 of.0.1.1) in
+    rw (lt-ltb k many low, lt-ltb k many low) of
+payload_again C l payload.Nobody own many s itself long whose of is =
+    subst (λ (b : Bool). IsPayload (fields.by_turn b) s) (sym (not_itself itself s s.stop refl is of.1)) of
 
 -- ---- the fields
 
@@ -173,72 +191,94 @@ pub record MayBe (fixed : Fixed) (stop : Option StreamFault) (long : ℕ) : Type
   pub faults : fixed.faults ≤ 3 * fixed.octets
   pub held : long ≤ fixed.octets
 
-added_many : (C : Table) (l : Listed) (bare slots : Slots) (held : List Held) → bare.slots.items ≡ [] → HasAdded C l bare slots held → length slots.slots.items ≡ length held
-added_many C l bare slots held none added = ap length (added.put ∙ ap (λ (xs : List Slot). xs ++ added.kept) none) ∙ slots_many C l added.kept held added.are
+added_all : (C : Table) (l : Listed) (bare slots : Slots) (held : List Held) → bare.slots.items ≡ [] →
+    HasAdded C l bare slots held → AreSlots C l slots.slots.items held
+added_all C l bare slots held none added =
+    let kept : slots.slots.items ≡ added.kept = added.put ∙ ap (λ (xs : List Slot). xs ++ added.kept) none in
+    subst (λ (xs : List Slot). AreSlots C l xs held) (sym kept) added.are
 
 module _ (octets p : List ℕ) (C : Table) (l : Listed) (s : Spells octets C l p) where
   state : State
   state = state_of (message_reading C l) p
 
-  behind : (fault : StreamFault) → s.memory.stopped ≡ Some fault → s.memory.header ≡ []
+  behind : IsBehind s.memory.stopped s.memory.header
   unfolding state
   behind fault e = s.shows.header ∙ held_behind (message_reading C l) p fault (sym s.shows.stopped ∙ e)
 
   come_is : s.memory.come ≡ come_of (nat_lt (length s.memory.header) 12) s.memory.header state.left
   unfolding state come_in
-  come_is = s.shows.come ∙ ap (λ (xs : List ℕ). come_of (nat_lt (length xs) 12) xs (state_of (message_reading C l) p).left) (sym s.shows.header)
+  come_is =
+      s.shows.come
+      ∙ ap (λ (xs : List ℕ). come_of (nat_lt (length xs) 12) xs (state_of (message_reading C l) p).left) (sym s.shows.header)
 
-  itself_is : IsItself (fields.comes_in (place_of s.memory.stopped s.memory.header s.memory.come)) state
-  unfolding state comes_itself
+  -- whether the next octets are the current message's own, by the place that was written
+  itself_now : Option StreamFault → Bool
+  itself_now stopped = fields.comes_in (place_of stopped s.memory.header s.memory.come)
+
+  itself_is : IsItself (itself_now s.memory.stopped) state
+  unfolding state comes_itself itself_now
   itself_is = record {
-    running = λ e. ap (λ (o : Option StreamFault). fields.comes_in (place_of o s.memory.header s.memory.come)) (s.shows.stopped ∙ e)
+    running = λ e. ap itself_now (s.shows.stopped ∙ e)
         ∙ itself_again s.memory.header state.left s.memory.come come_is
-        ∙ ap (λ (xs : List ℕ). nat_le 12 (length xs) && not (is_fragment xs && nat_le 4 s.memory.come)) s.shows.header
-        ∙ ap (λ (n : ℕ). nat_le 12 (length state.held) && not (is_fragment state.held && nat_le 4 n)) s.shows.come;
-    behind = λ fault e. ap (λ (o : Option StreamFault). fields.comes_in (place_of o s.memory.header s.memory.come)) (s.shows.stopped ∙ e);
+        ∙ ap (λ (xs : List ℕ). own_comes xs s.memory.come) s.shows.header
+        ∙ ap (λ (n : ℕ). own_comes state.held n) s.shows.come;
+    behind = λ fault e. ap itself_now (s.shows.stopped ∙ e);
   }
 
-  payload_is : (many : ℕ) → many ≡ length state.slots
-      → IsPayload (fields.payload_of (owner_of s.memory.slots.payload (length s.memory.slots.slots.items) s.memory.slots.own) (fields.comes_in (place_of s.memory.stopped s.memory.header s.memory.come)) many) state
+  payload_is : (many : ℕ) → many ≡ length state.slots → IsPayload (fields.payload_of
+      (owner_of s.memory.slots.payload (length s.memory.slots.slots.items) s.memory.slots.own)
+      (itself_now s.memory.stopped) many) state
   unfolding state
   payload_is many long =
-      let kept : length s.memory.slots.slots.items ≡ length (state_of (message_reading C l) p).slots = slots_many C l s.memory.slots.slots.items (state_of (message_reading C l) p).slots s.shows.slots in
+      let kept = are_as_many C l s.memory.slots.slots.items (state_of (message_reading C l) p).slots s.shows.slots in
       let same : many ≡ length s.memory.slots.slots.items = long ∙ sym kept in
-      rw same (payload_again C l s.memory.slots.payload s.memory.slots.own (length s.memory.slots.slots.items) state _ kept s.shows.own s.shows.owner s.shows.turn itself_is)
+      rw same (payload_again C l s.memory.slots.payload s.memory.slots.own (length s.memory.slots.slots.items) state
+      (itself_now s.memory.stopped) kept s.shows.own (s.shows.owner, s.shows.turn) itself_is)
 
-  shows_fixed : (m : Memory) (bare slots : Slots) → IsReadAs m (fixed_of C l s.memory) slots → bare.slots.items ≡ [] → HasAdded C l bare slots state.slots → IsOwn C l slots.own state.own → Shows C l m state
-  unfolding state fixed_of
-  shows_fixed m bare slots is none added own =
-      let whose : IsPayload m.slots.payload state = subst (λ (w : Whose). IsPayload w state) (sym is.payload) (payload_is (length slots.slots.items) (added_many C l bare slots state.slots none added)) in
-      record {
-        totals = is.totals ∙ s.shows.totals;
-        stopped = is.stopped ∙ stop_again s.memory.stopped s.memory.header s.memory.come ∙ s.shows.stopped;
-        header = is.header ∙ header_again s.memory.stopped s.memory.header s.memory.come behind ∙ s.shows.header;
-        come = is.come ∙ come_again s.memory.stopped s.memory.header state.left s.memory.come behind come_is ∙ s.shows.come;
-        slots = subst (λ (xs : List Slot). AreSlots C l xs state.slots) (sym (ap (λ s. s.items) is.slots ∙ added.put ∙ ap (λ (xs : List Slot). xs ++ added.kept) none)) added.are;
-        own = subst (λ (o : Option Message). IsOwn C l o state.own) (sym is.own) own;
-        owner = whose.0;
-        turn = whose.1;
-      }
+  module _ (m : Memory) (bare slots : Slots) (none : bare.slots.items ≡ []) where
+    shows_fixed : IsReadAs m (fixed_of C l s.memory) slots → HasAdded C l bare slots state.slots →
+        IsOwn C l slots.own state.own → Shows C l m state
+    unfolding state fixed_of itself_now
+    shows_fixed is added own =
+        let all = added_all C l bare slots state.slots none added in
+        let whose : IsPayload m.slots.payload state = subst (λ (w : Whose). IsPayload w state) (sym is.payload)
+        (payload_is (length slots.slots.items) (are_as_many C l slots.slots.items state.slots all)) in
+        record {
+          totals = is.totals ∙ s.shows.totals;
+          stopped = is.stopped ∙ stop_again s.memory.stopped s.memory.header s.memory.come ∙ s.shows.stopped;
+          header = is.header ∙ header_again s.memory.stopped s.memory.header s.memory.come behind ∙ s.shows.header;
+          come = is.come
+              ∙ come_again s.memory.stopped s.memory.header state.left s.memory.come behind come_is
+              ∙ s.shows.come;
+          slots = subst (λ (xs : List Slot). AreSlots C l xs state.slots) (sym (ap (λ s. s.items) is.slots)) all;
+          own = subst (λ (o : Option Message). IsOwn C l o state.own) (sym is.own) own;
+          owner = whose.0;
+          turn = whose.1;
+        }
 
-  pub shows_again : (fixed : Fixed) (m : Memory) (bare slots : Slots) → fixed ≡ fixed_of C l s.memory → IsReadAs m fixed slots → bare.slots.items ≡ []
-      → HasAdded C l bare slots (state_of (message_reading C l) p).slots → IsOwn C l slots.own (state_of (message_reading C l) p).own → Shows C l m (state_of (message_reading C l) p)
-  unfolding state
-  shows_again fixed m bare slots e is none added own = shows_fixed m bare slots (subst (λ (f : Fixed). IsReadAs m f slots) e is) none added own
+    pub shows_again : (fixed : Fixed) → fixed ≡ fixed_of C l s.memory → IsReadAs m fixed slots →
+        HasAdded C l bare slots (state_of (message_reading C l) p).slots →
+        IsOwn C l slots.own (state_of (message_reading C l) p).own → Shows C l m (state_of (message_reading C l) p)
+    unfolding state
+    shows_again fixed e is added own = shows_fixed (subst (λ (f : Fixed). IsReadAs m f slots) e is) added own
 
-  totals_fixed : (stop : Option StreamFault) (held : ℕ) → stop ≡ fields.stop_in (fixed_of C l s.memory).place → held ≡ length (fields.header_in (fixed_of C l s.memory).place) → MayBe (fixed_of C l s.memory) stop held
-  unfolding fixed_of
-  totals_fixed stop held stopped long =
-      let may : AreTotals s.memory = may_be_again octets p C l s in
-      record {
-        running = λ e. may.running (sym (stop_again s.memory.stopped s.memory.header s.memory.come) ∙ sym stopped ∙ e);
-        messages = may.messages;
-        faults = may.faults;
-        held = omega (arith, may.held, long, ap length (header_again s.memory.stopped s.memory.header s.memory.come behind));
-      }
+  module _ (stop : Option StreamFault) (long : ℕ) where
+    totals_fixed : stop ≡ fields.stop_in (fixed_of C l s.memory).place →
+        long ≡ length (fields.header_in (fixed_of C l s.memory).place) → MayBe (fixed_of C l s.memory) stop long
+    unfolding fixed_of
+    totals_fixed stopped same =
+        let may : AreTotals s.memory = may_be_again octets p C l s in
+        let held = header_again s.memory.stopped s.memory.header s.memory.come behind in
+        record {
+          running = λ e. may.running (sym (stop_again s.memory.stopped s.memory.header s.memory.come) ∙ sym stopped ∙ e);
+          messages = may.messages;
+          faults = may.faults;
+          held = omega (arith, may.held, same, ap length held);
+        }
 
-  pub totals_again : (fixed : Fixed) (stop : Option StreamFault) (held : ℕ) → fixed ≡ fixed_of C l s.memory → stop ≡ fields.stop_in fixed.place → held ≡ length (fields.header_in fixed.place) → MayBe fixed stop held
-  totals_again fixed stop held e stopped long = subst P (sym e) (λ a b. totals_fixed stop held a b) stopped long
-    where
-      P : Fixed → Type 0
-      P f = stop ≡ fields.stop_in f.place → held ≡ length (fields.header_in f.place) → MayBe f stop held
+    pub totals_again : (fixed : Fixed) → fixed ≡ fixed_of C l s.memory → stop ≡ fields.stop_in fixed.place →
+        long ≡ length (fields.header_in fixed.place) → MayBe fixed stop long
+    totals_again fixed e = subst P (sym e) totals_fixed
+      where
+        P : Fixed → Type 0
+        P f = stop ≡ fields.stop_in f.place → long ≡ length (fields.header_in f.place) → MayBe f stop long

@@ -1,22 +1,22 @@
 //! The engine: one direction of a connection in, its lines out.
 
-ghost use Rattle.std.specs.Prelude.{◌≡◌, ◌++◌, ◌+◌, Err, ℕ, List, [], true, false, length, drop, IfOk, IfErr, OnOk, IsOk, IsOkAnd};
+ghost use Rattle.std.specs.Prelude.{◌≡◌, ◌≤◌, ◌++◌, ◌+◌, Err, ℕ, List, [], true, false, length, drop, IfOk, IfErr, OnOk, IsOk, IsOkAnd};
 ghost use Rattle.std.specs.List.{concat};
 ghost use Rattle.giop_sig.specs.Table.{Table};
+ghost use Rattle.giop_sig.specs.Trees.{depth_of};
 ghost use Rattle.giop_checkpoint.specs.Refusals.{IsOurs};
 ghost use Rattle.giop_message.specs.Signatures.{Kept as Listed};
 ghost use Rattle.giop_message.specs.MessageReading.{message_reading};
 ghost use Rattle.giop_stream.specs.Framing.{cut, fault_of};
 ghost use Rattle.giop_stream.specs.Stream.{text, closing, final};
 ghost use Rattle.giop_stream.specs.Holding.{AreOf, Holds, StopWrites, Leaves, added, reading_of, status_of};
-ghost use Rattle.giop_stream.specs.Pieces.{fed};
-ghost use Rattle.giop_stream.specs.Checkpoint.{counts_of, IsRefused, Saves, Spells};
+ghost use Rattle.giop_stream.specs.Pieces.{fed, remaining, whole_text};
+ghost use Rattle.giop_stream.specs.Checkpoint.{counts_of, checkpoint_limit, IsRefused, Saves, Spells};
 
 use crate::fault::{LoadFault, Stop};
 use crate::framing::Framing;
-use crate::loading;
-use crate::saving;
 use crate::status::{Status, Totals};
+use crate::{loading, saving};
 use arrayvec::ArrayVec;
 use giop_print::Out;
 use giop_sig::{Catalogue, Requests};
@@ -199,4 +199,15 @@ pub fn any_pieces()
     // so that any two ways to cut the same octets write the same.
     ensures same { (C : Table) (l : Listed) (p : List ℕ) (pieces others : List (List ℕ)) → concat pieces ≡ concat others →
         fed (message_reading C l) p pieces ≡ fed (message_reading C l) p others }
+{}
+
+/// A stream is read on from a checkpoint of its front as if the reading had never ended, and each checkpoint is small.
+pub fn remaining()
+    // The text of the front, and what is written of the octets behind it and at their end, are all that is written of both.
+    ensures text { (C : Table) (l : Listed) (octets p q : List ℕ) → Spells octets C l p →
+        text (message_reading C l) p ++ remaining (message_reading C l) p q
+        ≡ whole_text (message_reading C l) (p ++ q) }
+    // However long the front is, its checkpoint has at most so many octets.
+    ensures within { (C : Table) (l : Listed) (octets p : List ℕ) → Spells octets C l p →
+        length octets ≤ checkpoint_limit (depth_of C.types) }
 {}

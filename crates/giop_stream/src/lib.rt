@@ -17,7 +17,7 @@ mod saving;
 mod slots;
 mod status;
 
-pub use engine::{Engine, any_pieces, text_begins};
+pub use engine::{Engine, any_pieces, remaining, text_begins};
 pub use fault::{ImposedFault, LoadFault, Stop, StreamFault};
 pub use laws::{behind_a_stop, each_joined, each_slot, each_step, one_of_each, open_messages};
 pub use status::{Status, Totals};

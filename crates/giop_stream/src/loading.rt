@@ -33,11 +33,7 @@ use giop_message::Message;
 use giop_sig::{Catalogue, Requests};
 
 /// What is remembered of a stream, by its checkpoint.
-pub fn read(
-    catalogue: &Catalogue,
-    requests: &Requests,
-    octets: &[u8],
-) -> Result<Framing, LoadFault>
+pub fn read(catalogue: &Catalogue, requests: &Requests, octets: &[u8]) -> Result<Framing, LoadFault>
     ensures ready { IfOk result (λ f. AreReady catalogue.now (f.totals.octets + 1) f.slots) }
     ensures refused { IfErr result (λ why.
         IsRefused (counts_of catalogue.now requests.now) octets.now why) }

@@ -13,10 +13,13 @@ use std::test::Fail;
 /// The operations of the stream, and those of another.
 const DECLARED: &[u8] =
     b"signatures 1;\noperation void big(in ulonglong n); operation void nop();\n";
-const OTHER: &[u8] = b"signatures 1;\nexception Late \"IDL:Late:1.0\" { ushort by; }; operation long ask(in long a, out octet b); operation void nop();\n";
+
+const OTHER: &[u8] =
+    b"signatures 1;\nexception Late \"IDL:Late:1.0\" { ushort by; }; operation long ask(in long a, out octet b); operation void nop();\n";
 
 /// Two Requests in fragments: 5 for `big`, whose number comes in three, and between them 6 for `nop`.
-const STREAM: &str = "47494f50010202000000002800000005030000000000000000000001410000000000000462696700\
+const STREAM: &str =
+    "47494f50010202000000002800000005030000000000000000000001410000000000000462696700\
 00000000000000000102030447494f50010202000000002400000006030000000000000000000001\
 41000000000000046e6f7000000000000000000047494f5001020207000000060000000505064749\
 4f5001020007000000040000000647494f500102000700000006000000050708";
@@ -59,12 +62,19 @@ m1 end\n\
 total messages 5 faults 0 octets 152\n";
 
 /// A checkpoint without records, by the built-in types: 2^48 octets were read. And one of two octets more, which are too many.
-const FULL: &str = "47494f5044554d500000000100000000000000000000000000000000000000000001000000000000\
+const FULL: &str =
+    "47494f5044554d500000000100000000000000000000000000000000000000000001000000000000\
 00000000000000000000000000000000000000ff0000000000000000000000000000000000000000\
 00000000000000000000000000000000";
-const TOO_FULL: &str = "47494f5044554d500000000100000000000000000000000000000000000000000001000000000002\
+
+const TOO_FULL: &str =
+    "47494f5044554d500000000100000000000000000000000000000000000000000001000000000002\
 00000000000000000000000000000000000000ff0000000000000000000000000000000000000000\
 00000000000000000000000000000000";
+
+/// What is written behind the first.
+const LIMIT_TEXT: &[u8] = b"stream fault stream-limit at 281474976710657\n\
+total messages 0 faults 1 octets 281474976710657\n";
 
 /// A checkpoint of the front of a stream, and how long it is; its lines go to the sheet.
 fn saved(
@@ -176,8 +186,7 @@ fn a_stream_is_full_at_its_limit(rt: HostRuntime) -> Result<(), Fail> {
     let fed = engine.feed(b"G", &mut sheet);
     assert!(rt; fed == Ok(Status::Stopped(StreamFault::StreamLimit)));
     assert!(rt; engine.finish(&mut sheet).is_ok());
-    assert!(rt; sheet.held() == b"stream fault stream-limit at 281474976710657\n\
-total messages 0 faults 1 octets 281474976710657\n");
+    assert!(rt; sheet.held() == LIMIT_TEXT);
     let over = <[u8; 96] as FromHex>::from_hex(TOO_FULL).map_err(|_| Fail::from("the octets"))?;
     assert!(rt; Engine::load(&catalogue, &requests, &over).err() == Some(LoadFault::State));
     Ok(())

@@ -3,7 +3,8 @@ use Rattle.giop_stream.proofs.Loaded.{open_not_current, current_not_open, curren
 use Rattle.giop_stream.proofs.loading.add.Goals as goal
 
 pub returns-in-Current-clause-one_open : goal.returns-in-Current-clause-one_open
-returns-in-Current-clause-one_open c l held is room = absurd (open_not_current c.args.catalogue.now l (c.args.octets + 1) c.args.first.now held is c.in-Current.is)
+returns-in-Current-clause-one_open c l held is room =
+    absurd (open_not_current c.args.catalogue.now l (c.args.octets + 1) c.args.first.now held is c.in-Current.is)
 
 pub returns-in-Current-clause-one_current : goal.returns-in-Current-clause-one_current
 returns-in-Current-clause-one_current c l own is =
@@ -16,7 +17,8 @@ returns-in-Open-clause-one_open c l held is room =
     (made.0, made.1, c.add_open.ensures.own)
 
 pub returns-in-Open-clause-one_current : goal.returns-in-Open-clause-one_current
-returns-in-Open-clause-one_current c l own is = absurd (current_not_open c.args.catalogue.now l (c.args.octets + 1) c.args.first.now own _ is c.in-Open.is)
+returns-in-Open-clause-one_current c l own is =
+    absurd (current_not_open c.args.catalogue.now l (c.args.octets + 1) c.args.first.now own _ is c.in-Open.is)
 
 pub returns-in-Over-clause-ready : goal.returns-in-Over-clause-ready
 returns-in-Over-clause-ready c e = c.add_over.ensures.ready c.args.catalogue.now (c.args.octets + 1) c.requires.ready
@@ -27,4 +29,5 @@ returns-in-Over-clause-one_open c l held is room =
     (made.0, made.1, c.add_over.ensures.own)
 
 pub returns-in-Over-clause-one_current : goal.returns-in-Over-clause-one_current
-returns-in-Over-clause-one_current c l own is = absurd (current_not_over c.args.catalogue.now l (c.args.octets + 1) c.args.first.now own _ is c.in-Over.is)
+returns-in-Over-clause-one_current c l own is =
+    absurd (current_not_over c.args.catalogue.now l (c.args.octets + 1) c.args.first.now own _ is c.in-Over.is)

@@ -4,5 +4,6 @@ use Rattle.giop_stream.proofs.loading.add_current.Goals as goal
 
 pub returns-clause-again : goal.returns-clause-again
 returns-clause-again c l own is =
-    let made = current_again c.args.catalogue.now l c.args.octets c.args.first.now own c.message_of-slots.result is c.message_of-slots.ensures.again in
+    let made = current_again c.args.catalogue.now l c.args.octets c.args.first.now own c.message_of-slots.result is
+    c.message_of-slots.ensures.again in
     (c.is_some.ensures ∙ made.0, made.1)
