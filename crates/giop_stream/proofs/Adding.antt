@@ -9,7 +9,7 @@ use Rattle.giop_stream.specs.Engine.{state_of}
 use Rattle.giop_stream.specs.Step.{run}
 use Rattle.giop_stream.specs.Holding.{added}
 use Rattle.giop_stream.proofs.EngineLaws.{run_lines}
-use Rattle.giop_stream.proofs.Parts.{text_append}
+use Rattle.giop_stream.proofs.Performing.{text_append}
 
 -- the text of the lines by which the stream's grow
 added_by : (R : Reading) (p q : List ℕ) (ls : List Line) → lines R (p ++ q) ≡ lines R p ++ ls → added R p q ≡ lines_text ls

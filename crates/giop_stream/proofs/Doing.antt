@@ -15,7 +15,7 @@ use Rattle.giop_message.proofs.MessageLaws.{is_causal}
 use Rattle.giop_checkpoint.specs.declared.fault.StreamFault.{StreamFault}
 use Rattle.giop_stream.specs.declared.status.Totals.{Totals}
 use Rattle.giop_stream.specs.declared.slots.Slots.{Slots}
-use Rattle.giop_stream.specs.declared.dispatch.Current.{Current}
+use Rattle.giop_stream.specs.declared.current.Current.{Current}
 use Rattle.giop_stream.specs.Headers.{wrong, offence}
 use Rattle.giop_stream.specs.Framing.{Message, Cut, cut, messages, fault_of}
 use Rattle.giop_stream.specs.Events.{Open, happens, open_after}

@@ -8,12 +8,12 @@ use Rattle.giop_message.specs.MessageReading.{message_reading}
 use Rattle.giop_message.specs.Headers.{size, has_more, is_fragment, is_opener}
 use Rattle.giop_stream.specs.declared.fault.ImposedFault.TheVariants.{Short}
 use Rattle.giop_stream.specs.declared.slots.Slots.{Slots}
-use Rattle.giop_stream.specs.declared.dispatch.Current.{Current}
+use Rattle.giop_stream.specs.declared.current.Current.{Current}
 use Rattle.giop_stream.specs.Framing.{Message}
 use Rattle.giop_stream.specs.Kinds.{is_short, is_followed}
 use Rattle.giop_stream.specs.Events.{Title, Open, Event, Happening, Closes, Imposed, title, opener_of, has_named, own, about, at_end}
 use Rattle.giop_stream.specs.Plays.{Scene, Play, plays, one_play, no_play}
-use Rattle.giop_stream.specs.Keeping.{scene_to, lines_to}
+use Rattle.giop_stream.specs.Keeping.{play_to}
 use Rattle.giop_stream.specs.Whose.{IsAt, opener_title, whose}
 use Rattle.giop_stream.proofs.Cases.{plays_none, plays_own, plays_about, plays_nobody}
 
@@ -61,12 +61,6 @@ long_by n o e = ltb-false n 4 (go (nat_lt n 4) o e)
     go true false e = absurd cc
     go false o e = refl
 
--- ---- What happens at a place to the message whose the octets are, and nothing else.
-
-pub record DoesTo (C : Table) (l : Listed) (at : ℕ) (c : Scene) (w : Option Title) (what : Happening) (p : Play) : Type 0 where
-  pub lines : p.lines ≡ lines_to C l at c w what
-  pub scene : p.scene ≡ scene_to C l at c w what
-
 module _ (C : Table) (l : Listed) (s : Slots) (c : Scene) (m : Message) (now : Current) (h : IsAt C l s c m now) where
   header_at : (says : List ℕ → Bool) (r : Bool) → r ≡ says now.header → says m.header ≡ r
   header_at says r e = ap says h.current.header ∙ sym e
@@ -104,13 +98,14 @@ module _ (C : Table) (l : Listed) (s : Slots) (c : Scene) (m : Message) (now : C
       let long : 4 ≤ size m.header = long_by (size m.header) (is_opener m.header) (rw f at short) in
       omega (arith, long, last)
 
-  about_does : (r : Option Open) → DoesTo C l now.place c (opener_title r) Closes (plays (message_reading C l) c (about m r Closes))
-  about_does None = rw (plays_nobody (message_reading C l) c m Closes) (record { lines = refl; scene = refl })
-  about_does (Some o) = rw (plays_about (message_reading C l) c m o Closes, h.current.place) (record { lines = refl; scene = refl })
+  about_does : (r : Option Open) → plays (message_reading C l) c (about m r Closes) ≡ play_to C l now.place c (opener_title r) Closes
+  about_does None = plays_nobody (message_reading C l) c m Closes
+  about_does (Some o) = plays_about (message_reading C l) c m o Closes ∙ rw h.current.place refl
 
-  pub ends_closed : false ≡ is_short now.header → false ≡ is_followed now.header → length m.payload ≡ size m.header → DoesTo C l now.place c (whose c.live m) Closes (plays (message_reading C l) c (at_end c.live m))
+  pub ends_closed : false ≡ is_short now.header → false ≡ is_followed now.header → length m.payload ≡ size m.header
+      → plays (message_reading C l) c (at_end c.live m) ≡ play_to C l now.place c (whose c.live m) Closes
   ends_closed e k last = go (is_fragment m.header) refl
     where
-      go : (f : Bool) → is_fragment m.header ≡ f → DoesTo C l now.place c (whose c.live m) Closes (plays (message_reading C l) c (at_end c.live m))
+      go : (f : Bool) → is_fragment m.header ≡ f → plays (message_reading C l) c (at_end c.live m) ≡ play_to C l now.place c (whose c.live m) Closes
       go true f = rw (ends_last e k, whose_passed c.live m f (long_enough e f last), f) (about_does (opener_of c.live m))
-      go false f = rw (ends_last e k, whose_plain c.live m f, f, plays_own (message_reading C l) c m Closes, h.current.place) (record { lines = refl; scene = refl })
+      go false f = rw (ends_last e k, whose_plain c.live m f, f) (plays_own (message_reading C l) c m Closes ∙ rw h.current.place refl)

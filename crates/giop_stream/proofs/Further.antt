@@ -11,7 +11,7 @@ use Rattle.giop_stream.specs.Stream.{text}
 use Rattle.giop_stream.specs.Holding.{added}
 use Rattle.giop_stream.specs.Engine.{State}
 use Rattle.giop_stream.specs.Step.{step, run, run_state, runs}
-use Rattle.giop_stream.proofs.Parts.{text_append}
+use Rattle.giop_stream.proofs.Performing.{text_append}
 use Rattle.giop_stream.proofs.EngineLaws.{run_text}
 use Rattle.giop_stream.proofs.Adding.{added_run}
 

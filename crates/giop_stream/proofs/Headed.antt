@@ -9,23 +9,21 @@ use Rattle.giop_message.specs.Reading.{Reading}
 use Rattle.giop_message.specs.Headers.{size}
 use Rattle.giop_stream.specs.declared.fault.ImposedFault.{ImposedFault}
 use Rattle.giop_stream.specs.declared.slots.Slots.{Slots}
-use Rattle.giop_stream.specs.declared.dispatch.Current.{Current}
+use Rattle.giop_stream.specs.declared.current.Current.{Current}
 use Rattle.giop_stream.specs.Framing.{Message}
-use Rattle.giop_stream.specs.Text.{start_line}
+use Rattle.giop_stream.specs.Text.{line_text, start_line}
 use Rattle.giop_stream.specs.Kinds.{refused}
 use Rattle.giop_stream.specs.Events.{Title, Open, Event, Imposed, title, at_header, happens, opened}
 use Rattle.giop_stream.specs.Lines.{Line}
-use Rattle.giop_stream.specs.Text.{lines_text}
 use Rattle.giop_stream.specs.Stream.{fault_count}
-use Rattle.giop_stream.specs.Plays.{Scene, Play, plays, one_play, starts, IsNotOpen}
+use Rattle.giop_stream.specs.Plays.{Scene, Play, plays, one_play, no_play, then_play, line_play, starts, IsNotOpen}
 use Rattle.giop_stream.specs.Keeping.{Keeps, AreReady}
 use Rattle.giop_stream.specs.Whose.{IsFirst, IsAt, whose, whose_after, end_events}
 use Rattle.giop_stream.proofs.Lists.{each_weaker}
-use Rattle.giop_stream.proofs.Grown.{count_append}
 use Rattle.giop_stream.proofs.Happenings.{quiet_header}
 use Rattle.giop_stream.proofs.Keepers.{later_ready, all_later}
 use Rattle.giop_stream.proofs.Cases.{plays_append, header_begins, header_refused}
-use Rattle.giop_stream.proofs.Named.{BeginsSo}
+use Rattle.giop_stream.proofs.Performing.{BeginsSo}
 use Rattle.giop_stream.proofs.Ending.{whose_early}
 use Rattle.giop_stream.proofs.Parts.{plays_live}
 
@@ -36,9 +34,6 @@ ready_later C n n' s less h = record { own_ready = later_ready C n n' s.own less
 pub starts_faults : (m : Message) (ls : List Line) → fault_count (starts m ∷ ls) ≡ fault_count ls
 unfolding fault_count
 starts_faults m ls = refl
-
-pub two_faults : (xs ys : List Line) (a b : ℕ) → fault_count xs ≡ a → fault_count ys ≡ b → fault_count (xs ++ ys) ≡ a + (b + 0)
-two_faults xs ys a b e f = rw (count_append xs ys, e, f) (omega arith)
 
 -- ---- The header's own events, then the end.
 
@@ -56,7 +51,7 @@ module _ (R : Reading) (c : Scene) (m : Message) where
   unfolding happens end_events
   parts none = rw (eq-eqb (length m.payload) 0 none, ne_eqb (length m.payload) 4 (λ e. omega (arith, none, e))) refl
 
-  pub in_two : length m.payload ≡ 0 → plays R c (happens c.live m) ≡ record { scene = ended.scene; lines = begun.lines ++ ended.lines }
+  pub in_two : length m.payload ≡ 0 → plays R c (happens c.live m) ≡ then_play begun ended
   in_two none =
       let ends : end_events c.live m ≡ end_events begun.scene.live m = ap (λ (live : List Open). end_events live m) (sym begun_live) in
       ap (plays R c) (parts none ∙ ap (λ (es : List Event). at_header m ++ es) ends) ∙ plays_append R c (at_header m) (end_events begun.scene.live m)
@@ -76,23 +71,22 @@ module _ (C : Table) (l : Listed) (s : Slots) (c : Scene) (who : Option Title) (
   pub none_come : length m.payload ≡ 0
   none_come = ap length h.none_come
 
-  pub begins : None ≡ refused now.header → plays (message_reading C l) c (at_header m) ≡ record { scene = c; lines = starts m ∷ [] }
+  pub begins : None ≡ refused now.header → plays (message_reading C l) c (at_header m) ≡ line_play (starts m) (no_play c)
   begins e = header_begins (message_reading C l) c m [] h.unknown (ap refused h.current.header ∙ sym e)
 
   pub refuses : (fault : ImposedFault) → Some fault ≡ refused now.header
-      → (let imposed = one_play (message_reading C l) c now.place (title m) (Imposed fault) in plays (message_reading C l) c (at_header m) ≡ record { scene = imposed.scene; lines = starts m ∷ imposed.lines })
+      → plays (message_reading C l) c (at_header m) ≡ line_play (starts m) (one_play (message_reading C l) c now.place (title m) (Imposed fault))
   refuses fault e = header_refused (message_reading C l) c m [] fault h.unknown (ap refused h.current.header ∙ sym e) ∙ rw h.current.place refl
 
-  pub starts_text : (ls : List Line) → lines_text (starts m ∷ ls) ≡ start_line now.number now.header ++ lines_text ls
-  unfolding lines_text
-  starts_text ls = rw (h.current.number, h.current.header) refl
+  pub starts_text : line_text (starts m) ≡ start_line now.number now.header
+  starts_text = rw (h.current.number, h.current.header) refl
 
-  pub header_text : BeginsSo (start_line now.number now.header) (lines_text (plays (message_reading C l) c (at_header m)).lines)
-  header_text = go (refused now.header) refl
+  pub starts_first : BeginsSo (starts m) (plays (message_reading C l) c (at_header m)).lines
+  starts_first = go (refused now.header) refl
     where
-      go : (r : Option ImposedFault) → r ≡ refused now.header → BeginsSo (start_line now.number now.header) (lines_text (plays (message_reading C l) c (at_header m)).lines)
-      go None e = record { more = _; is = ap (λ (p : Play). lines_text p.lines) (begins e) ∙ starts_text [] }
-      go (Some fault) e = record { more = _; is = ap (λ (p : Play). lines_text p.lines) (refuses fault e) ∙ starts_text _ }
+      go : (r : Option ImposedFault) → r ≡ refused now.header → BeginsSo (starts m) (plays (message_reading C l) c (at_header m)).lines
+      go None e = record { more = _; is = ap (λ (p : Play). p.lines) (begins e) }
+      go (Some fault) e = record { more = _; is = ap (λ (p : Play). p.lines) (refuses fault e) }
 
   pub begun_at : (s' : Slots) → Keeps C l s' (begun (message_reading C l) c m).scene (Some (title m)) → IsAt C l s' (begun (message_reading C l) c m).scene m now
   begun_at s' k =

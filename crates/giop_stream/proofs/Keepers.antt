@@ -1,5 +1,5 @@
 -- What the code keeps of the messages, event by event.
-use Rattle.std.proofs.Common.{◌≡◌, ℕ, zero, suc, ◌<◌, ◌≤◌, Bool, true, not, List, [], ◌∷◌, ◌++◌, length, refl, sym, ap, subst, ◌∙◌, Option, Some, None, Result, Ok, Err, arith, append-nil}
+use Rattle.std.proofs.Common.{◌≡◌, ℕ, zero, suc, ◌<◌, ◌≤◌, Bool, true, false, not, List, [], ◌∷◌, ◌++◌, length, refl, sym, ap, subst, ◌∙◌, Option, Some, None, Result, Ok, Err, arith, append-nil}
 use Rattle.std.specs.Prelude.{◌==◌, slice_get, slice_set, slice_index_or, OnOk}
 use Rattle.std.specs.List.{filter, remove, AllByRecursion as Each}
 use Rattle.std.proofs.lemmas.Bool.{ne_eqb}
@@ -13,13 +13,16 @@ use Rattle.giop_sig.specs.Table.{Table}
 use Rattle.giop_message.specs.Signatures.{Kept as Listed}
 use Rattle.giop_message.specs.MessageReading.{message_reading}
 use Rattle.giop_message.specs.Holding.{Follows}
+use Rattle.giop_print.specs.Output.{OutLog}
 use Rattle.giop_stream.specs.Events.{Title, Open, Happening, Takes, Opens, Imposed, Cancelled, Closes, octet, changed, Rising}
-use Rattle.giop_stream.specs.Lines.{Line, tells, standing}
+use Rattle.giop_stream.specs.Lines.{tells, standing}
 use Rattle.giop_stream.specs.State.{Slot, Kept, slots_of}
 use Rattle.giop_stream.specs.Machine.{utters_kept}
-use Rattle.giop_stream.specs.Plays.{Scene, scene_at, lines_of, octets_then}
-use Rattle.giop_stream.specs.Keeping.{IsKept, IsReady, IsSlot, AreSlots, Keeps, event, scene_to, lines_to}
+use Rattle.giop_stream.specs.Plays.{Scene, Play, Part, part_of, scene_at, lines_of, octets_then, one_play, IsNotOpen}
+use Rattle.giop_stream.specs.Keeping.{IsKept, IsReady, IsSlot, AreSlots, Keeps, event, play_to}
+use Rattle.giop_stream.specs.Playing.{Performs, Plays, PlaysPart, Says, one_if}
 use Rattle.giop_stream.proofs.Lists.{each_weaker, each_filter, filter_keeps}
+use Rattle.giop_stream.proofs.Performing.{performs_on, does_nothing}
 use Rattle.giop_stream.proofs.InPlace.{at_index, own_then, others_then, slot_at, no_slot, slot_gone, slot_comes}
 
 -- ---- The slots of the code beside those that are known.
@@ -51,10 +54,6 @@ pub still_imposed : (fault : ImposedFault) → IsStill (Imposed fault)
 unfolding changed
 still_imposed fault live whom = refl
 
-pub on_ok : {A E : Type 0} (P Q : Type 0) (r : Result A E) → (P → Q) → OnOk r P → OnOk r Q
-on_ok P Q (Ok x) f h = f h
-on_ok P Q (Err e) f h = tt
-
 -- of an open message, in its slot
 record Place (s : Slots) (c : Scene) (w : Title) (k : ℕ) : Type 0 where
   own : s.own ≡ None
@@ -62,13 +61,12 @@ record Place (s : Slots) (c : Scene) (w : Title) (k : ℕ) : Type 0 where
   here : slice_get c.live k ≡ Some slot
   is : slot.opener ≡ w
 
--- A scene that is another one but for what is known of one message.
-pub record Alters (c c' : Scene) (w : Title) (o : Option (List ℕ)) : Type 0 where
-  pub live : c'.live ≡ c.live
-  pub own : c'.known w.number ≡ o
-  pub others : (i : ℕ) → (i ≡ w.number → ⊥) → c'.known i ≡ c.known i
-
--- ---- What is said, of whichever message it is.
+-- A play from this scene that does to one message what this part does, and nothing else.
+pub record Alters (c : Scene) (w : Title) (play : Play) (part : Part) : Type 0 where
+  pub lines : play.lines ≡ part.lines
+  pub live : play.scene.live ≡ c.live
+  pub own : play.scene.known w.number ≡ part.octets
+  pub others : (i : ℕ) → (i ≡ w.number → ⊥) → play.scene.known i ≡ c.known i
 
 -- ---- A message begins, becomes open, and closes.
 
@@ -97,10 +95,6 @@ gone_cancelled j live whom = refl
 none_there : (live : List Open) (n : ℕ) → Each (λ o. o.opener.number ≡ n → ⊥) live → filter (λ o. not (o.opener.number == n)) live ≡ live
 none_there live n h = filter_keeps (λ o. not (o.opener.number == n)) live (each_weaker {A = Open} (λ o. o.opener.number ≡ n → ⊥) (λ o. not (o.opener.number == n) ≡ true) (λ o j. rw (ne_eqb o.opener.number n j) refl) live h)
 
-pub all_ok : {A E : Type 0} (P : Type 0) (r : Result A E) → P → OnOk r P
-all_ok P (Ok x) p = p
-all_ok P (Err e) p = tt
-
 -- ---- A cancel, of an open message by one whose payload comes.
 
 module _ (C : Table) (l : Listed) where
@@ -124,38 +118,24 @@ module _ (C : Table) (l : Listed) where
   no_more_slots (y ∷ ks) (t ∷ ss) zero s h e = omega arith
   no_more_slots (y ∷ ks) (t ∷ ss) (suc k) s h e = let less = no_more_slots ks ss k s h.1 e in omega arith
 
-  pub still_live : (at : ℕ) (c : Scene) (w : Title) (what : Happening) → IsStill what → (scene_at (message_reading C l) c (event at w what)).live ≡ c.live
-  unfolding scene_at
-  still_live at c w what h = h c.live w
-
-  pub still_alters : (at : ℕ) (c : Scene) (w : Title) (what : Happening) → IsStill what → Alters c (scene_at (message_reading C l) c (event at w what)) w (octets_then (message_reading C l) (event at w what) (c.known w.number))
+  pub still_alters : (at : ℕ) (c : Scene) (w : Title) (what : Happening) → IsStill what
+      → Alters c w (one_play (message_reading C l) c at w what) (part_of (message_reading C l) (event at w what) (c.known w.number))
+  unfolding scene_at part_of
   still_alters at c w what still =
+      let R = message_reading C l in
       let e = event at w what in
-      record { live = still_live at c w what still; own = own_then (message_reading C l) c e; others = λ i h. others_then (message_reading C l) c e i h }
-
-  own_now : (s : Slots) (own' : Option Message) (c c' : Scene) (w : Title) (o : Option (List ℕ)) → Alters c c' w o → AreSlots C l s.slots.items (slots_of c.known c.live) → Each (λ o. o.opener.number ≡ w.number → ⊥) c.live
-      → IsKept C l own' w o → Keeps C l (record { slots = s.slots; own = own'; payload = payload.Own }) c' (Some w)
-  own_now s own' c c' w o alters slots apart kept = record {
-    slots = rw (alters.live, no_slot c'.known c.known c.live w.number apart alters.others) slots;
-    payload = (rw alters.live apart, rw alters.own kept);
-  }
+      record { lines = refl; live = still c.live w; own = own_then R c e; others = λ i h. others_then R c e i h }
 
   -- of the message whose payload comes, which isn't open
-  pub own_alters : {E : Type 0} (s : Slots) (own' : Option Message) (c c' : Scene) (w : Title) (o : Option (List ℕ)) (r : Result Bool E) → s.payload ≡ payload.Own → Keeps C l s c (Some w) → Alters c c' w o
-      → (IsKept C l s.own w (c.known w.number) → OnOk r (IsKept C l own' w o))
-      → OnOk r (Keeps C l (record { slots = s.slots; own = own'; payload = s.payload }) c' (Some w))
-  own_alters s own' c c' w o r e k alters f =
-      let now = parts in
-      rw e (on_ok _ _ r (own_now s own' c c' w o alters k.slots now.0) (f now.1))
-    where
-      parts : Each (λ o. o.opener.number ≡ w.number → ⊥) c.live × IsKept C l s.own w (c.known w.number)
-      parts = rw e at k.payload
+  own_parts : (s : Slots) (c : Scene) (w : Title) → s.payload ≡ payload.Own → Keeps C l s c (Some w) → IsNotOpen w.number c.live × IsKept C l s.own w (c.known w.number)
+  own_parts s c w e k = rw e at k.payload
 
-  pub own_keeps : {E : Type 0} (s : Slots) (own' : Option Message) (c : Scene) (whose : Option Title) (at : ℕ) (what : Happening) (r : Result Bool E) → s.payload ≡ payload.Own → IsStill what → Keeps C l s c whose
-      → ((w : Title) → IsKept C l s.own w (c.known w.number) → OnOk r (IsKept C l own' w (octets_then (message_reading C l) (event at w what) (c.known w.number))))
-      → OnOk r (Keeps C l (record { slots = s.slots; own = own'; payload = s.payload }) (scene_to C l at c whose what) whose)
-  own_keeps s own' c None at what r e still k f = absurd (rw e at k.payload)
-  own_keeps s own' c (Some w) at what r e still k f = own_alters s own' c _ w _ r e k (still_alters at c w what still) (f w)
+  own_now : (s : Slots) (own' : Option Message) (c : Scene) (w : Title) (play : Play) (part : Part) → Alters c w play part → AreSlots C l s.slots.items (slots_of c.known c.live) → IsNotOpen w.number c.live
+      → IsKept C l own' w part.octets → Keeps C l (record { slots = s.slots; own = own'; payload = payload.Own }) play.scene (Some w)
+  own_now s own' c w play part alters slots apart kept = record {
+    slots = rw (alters.live, no_slot play.scene.known c.known c.live w.number apart alters.others) slots;
+    payload = (rw alters.live apart, rw alters.own kept);
+  }
 
   place_of : (s : Slots) (c : Scene) (w : Title) (k : ℕ) → s.payload ≡ payload.Open k → Keeps C l s c (Some w) → Place s c w k
   place_of s c w k e h = let p = parts in record { own = p.0; slot = p.1.0; here = p.1.1; is = p.1.2 }
@@ -169,62 +149,60 @@ module _ (C : Table) (l : Listed) where
       let one = slot_of s.slots.items (slots_of c.known c.live) k x (record { open_as = p.slot; octets = c.known p.slot.opener.number }) h.slots e (slots_get c k p.slot p.here) in
       subst (λ (n : ℕ). IsSlot C l x (record { open_as = p.slot; octets = c.known n })) number one
 
-  slot_now : (s : Slots) (x : Kept_slot) (message : Option Message) (c c' : Scene) (w : Title) (o : Option (List ℕ)) (k : ℕ) → Alters c c' w o → Rising c.live → Keeps C l s c (Some w) → s.payload ≡ payload.Open k → slice_get s.slots.items k ≡ Some x
-      → IsKept C l message w o
-      → Keeps C l (record { slots = record { items = slice_set s.slots.items k (record x { message = message }) }; own = s.own; payload = payload.Open k }) c' (Some w)
-  slot_now s x message c c' w o k alters rising h e get kept =
+  slot_now : (s : Slots) (x : Kept_slot) (message : Option Message) (c : Scene) (w : Title) (play : Play) (part : Part) (k : ℕ) → Alters c w play part → Rising c.live → Keeps C l s c (Some w)
+      → s.payload ≡ payload.Open k → slice_get s.slots.items k ≡ Some x → IsKept C l message w part.octets
+      → Keeps C l (record { slots = record { items = slice_set s.slots.items k (record x { message = message }) }; own = s.own; payload = payload.Open k }) play.scene (Some w)
+  slot_now s x message c w play part k alters rising h e get kept =
       let p = place_of s c w k e h in
       let number : p.slot.opener.number ≡ w.number = ap (λ (t : Title). t.number) p.is in
       let was = slot_here s c w k x h p get in
-      let new : IsSlot C l (record x { message = message }) (record { open_as = p.slot; octets = o }) = record { number = was.number; header = was.header; id = was.id; message = rw p.is kept } in
-      let slots' = slot_at c'.known c.known c.live k p.slot rising p.here (λ i other. alters.others i (λ same. other (same ∙ sym number))) in
-      let later : c'.known p.slot.opener.number ≡ o = ap c'.known number ∙ alters.own in
+      let slot : Slot = record { open_as = p.slot; octets = part.octets } in
+      let new : IsSlot C l (record x { message = message }) slot = record { number = was.number; header = was.header; id = was.id; message = rw p.is kept } in
+      let slots' = slot_at play.scene.known c.known c.live k p.slot rising p.here (λ i other. alters.others i (λ same. other (same ∙ sym number))) in
+      let later : play.scene.known p.slot.opener.number ≡ part.octets = ap play.scene.known number ∙ alters.own in
       record {
-        slots = rw (alters.live, slots', later) (set_slot s.slots.items (slots_of c.known c.live) k (record x { message = message }) (record { open_as = p.slot; octets = o }) h.slots new);
+        slots = rw (alters.live, slots', later) (set_slot s.slots.items (slots_of c.known c.live) k (record x { message = message }) slot h.slots new);
         payload = (p.own, (p.slot, rw alters.live p.here, p.is));
       }
 
-  -- of an open message
-  pub slot_alters : {E : Type 0} (s : Slots) (x : Kept_slot) (message : Option Message) (c c' : Scene) (w : Title) (o : Option (List ℕ)) (k : ℕ) (r : Result Bool E) → s.payload ≡ payload.Open k → slice_get s.slots.items k ≡ Some x → Rising c.live → Keeps C l s c (Some w) → Alters c c' w o
-      → (IsKept C l x.message w (c.known w.number) → OnOk r (IsKept C l message w o))
-      → OnOk r (Keeps C l (record { slots = record { items = slice_set s.slots.items k (record x { message = message }) }; own = s.own; payload = s.payload }) c' (Some w))
-  slot_alters s x message c c' w o k r e get rising h alters f =
-      let p = place_of s c w k e h in
-      let was = slot_here s c w k x h p get in
-      let kept : IsKept C l x.message w (c.known w.number) = rw p.is at was.message in
-      rw e (on_ok _ _ r (slot_now s x message c c' w o k alters rising h e get) (f kept))
+  -- ---- A call that plays a part of a message, which is the one whose the octets are.
 
-  pub slot_keeps : {E : Type 0} (s : Slots) (x : Kept_slot) (message : Option Message) (c : Scene) (whose : Option Title) (k : ℕ) (at : ℕ) (what : Happening) (r : Result Bool E) → s.payload ≡ payload.Open k → slice_get s.slots.items k ≡ Some x → IsStill what → Rising c.live → Keeps C l s c whose
-      → ((w : Title) → IsKept C l x.message w (c.known w.number) → OnOk r (IsKept C l message w (octets_then (message_reading C l) (event at w what) (c.known w.number))))
-      → OnOk r (Keeps C l (record { slots = record { items = slice_set s.slots.items k (record x { message = message }) }; own = s.own; payload = s.payload }) (scene_to C l at c whose what) whose)
-  slot_keeps s x message c None k at what r e get still rising h f = absurd (rw e at h.payload)
-  slot_keeps s x message c (Some w) k at what r e get still rising h f = slot_alters s x message c _ w _ k r e get rising h (still_alters at c w what still) (f w)
+  -- that message has the octets
+  pub own_has : (Q : Option Title → Type 0) (s : Slots) (c : Scene) (whose : Option Title) → s.payload ≡ payload.Own → Keeps C l s c whose → ((w : Title) → Keeps C l s c (Some w) → Q (Some w)) → Q whose
+  own_has Q s c None e h f = absurd (rw e at h.payload)
+  own_has Q s c (Some w) e h f = f w h
 
-  -- what holds of the message whose the octets are
-  pub of_own : (Q : Option Title → Type 0) (s : Slots) (c : Scene) (whose : Option Title) → s.payload ≡ payload.Own → Keeps C l s c whose → ((w : Title) → IsKept C l s.own w (c.known w.number) → Q (Some w)) → Q whose
-  of_own Q s c None e k f = absurd (rw e at k.payload)
-  of_own Q s c (Some w) e k f = let now = parts in f w now.1
-    where
-      parts : Each (λ o. o.opener.number ≡ w.number → ⊥) c.live × IsKept C l s.own w (c.known w.number)
-      parts = rw e at k.payload
+  pub slot_has : (Q : Option Title → Type 0) (s : Slots) (c : Scene) (whose : Option Title) (k : ℕ) → s.payload ≡ payload.Open k → Keeps C l s c whose → ((w : Title) → Keeps C l s c (Some w) → Q (Some w)) → Q whose
+  slot_has Q s c None k e h f = absurd (rw e at h.payload)
+  slot_has Q s c (Some w) k e h f = f w h
 
-  pub of_slot : (Q : Option Title → Type 0) (s : Slots) (x : Kept_slot) (c : Scene) (whose : Option Title) (k : ℕ) → s.payload ≡ payload.Open k → slice_get s.slots.items k ≡ Some x → Keeps C l s c whose
-      → ((w : Title) → w.number ≡ x.number → IsKept C l x.message w (c.known w.number) → Q (Some w)) → Q whose
-  of_slot Q s x c None k e get h f = absurd (rw e at h.payload)
-  of_slot Q s x c (Some w) k e get h f =
+  pub nobody_has : (Q : Option Title → Type 0) (s : Slots) (c : Scene) (whose : Option Title) → s.payload ≡ payload.Nobody → Keeps C l s c whose → (Keeps C l s c None → Q None) → Q whose
+  nobody_has Q s c None e h f = f h
+  nobody_has Q s c (Some w) e h f = absurd (rw e at h.payload)
+
+  -- what is kept in the slot of an open message
+  in_slot : (s : Slots) (x : Kept_slot) (c : Scene) (w : Title) (k : ℕ) → s.payload ≡ payload.Open k → slice_get s.slots.items k ≡ Some x → Keeps C l s c (Some w) → (w.number ≡ x.number) × IsKept C l x.message w (c.known w.number)
+  in_slot s x c w k e get h =
       let p = place_of s c w k e h in
       let was = slot_here s c w k x h p get in
       let number : p.slot.opener.number ≡ w.number = ap (λ (t : Title). t.number) p.is in
-      let kept : IsKept C l x.message w (c.known w.number) = rw p.is at was.message in
-      f w (sym number ∙ sym was.number) kept
+      (sym number ∙ sym was.number, rw p.is at was.message)
 
-  pub slot_says : (P : List Line → Type 0) (s : Slots) (x : Kept_slot) (c : Scene) (whose : Option Title) (k : ℕ) (at : ℕ) (what : Happening) → s.payload ≡ payload.Open k → slice_get s.slots.items k ≡ Some x → Keeps C l s c whose
-      → ((w : Title) → w.number ≡ x.number → IsKept C l x.message w (c.known w.number) → P (lines_of (message_reading C l) (event at w what) (c.known w.number))) → P (lines_to C l at c whose what)
-  slot_says P s x c whose k at what e get h f = of_slot (λ whose. P (lines_to C l at c whose what)) s x c whose k e get h f
+  module _ {A E : Type 0} {n : A → ℕ} (r : Result A E) (a b : OutLog) where
+    pub own_plays : (s : Slots) (own' : Option Message) (c : Scene) (w : Title) (play : Play) (part : Part) → s.payload ≡ payload.Own → Keeps C l s c (Some w) → Alters c w play part
+        → (IsKept C l s.own w (c.known w.number) → PlaysPart C l n r a b own' w part)
+        → Plays C l n r a b (record { slots = s.slots; own = own'; payload = s.payload }) play (Some w)
+    own_plays s own' c w play part e h alters f =
+        let now = own_parts s c w e h in
+        performs_on r a b alters.lines (λ k. rw e (own_now s own' c w play part alters h.slots now.0 k)) (f now.1)
 
-  pub nobody_says : (P : List Line → Type 0) (s : Slots) (c : Scene) (whose : Option Title) (at : ℕ) (what : Happening) → s.payload ≡ payload.Nobody → Keeps C l s c whose → P [] → P (lines_to C l at c whose what)
-  nobody_says P s c None at what e h p = p
-  nobody_says P s c (Some w) at what e h p = absurd (rw e at h.payload)
+    -- of an open message
+    pub slot_plays : (s : Slots) (x : Kept_slot) (message : Option Message) (c : Scene) (w : Title) (play : Play) (part : Part) (k : ℕ) → s.payload ≡ payload.Open k → slice_get s.slots.items k ≡ Some x → Rising c.live → Keeps C l s c (Some w) → Alters c w play part
+        → (w.number ≡ x.number → IsKept C l x.message w (c.known w.number) → PlaysPart C l n r a b message w part)
+        → Plays C l n r a b (record { slots = record { items = slice_set s.slots.items k (record x { message = message }) }; own = s.own; payload = s.payload }) play (Some w)
+    slot_plays s x message c w play part k e get rising h alters f =
+        let was = in_slot s x c w k e get h in
+        performs_on r a b alters.lines (λ kept. rw e (slot_now s x message c w play part k alters rising h e get kept)) (f was.0 was.1)
 
   -- there is a slot where an open message is
   pub no_slot_says : {A : Type 0} (s : Slots) (c : Scene) (whose : Option Title) (k : ℕ) → s.payload ≡ payload.Open k → (k < length s.slots.items → ⊥) → Keeps C l s c whose → A
@@ -276,12 +254,9 @@ module _ (C : Table) (l : Listed) where
         payload = (refl, (o, rw (opened_live at c w i, many) (get_last c.live o), refl));
       }
 
-  pub open_keeps : (s : Slots) (c : Scene) (w : Title) (at number : ℕ) (header : List ℕ) (i : ℕ) → s.payload ≡ payload.Own → Keeps C l s c (Some w) → w.number ≡ number → w.header ≡ header
+  open_keeps : (s : Slots) (c : Scene) (w : Title) (at number : ℕ) (header : List ℕ) (i : ℕ) → s.payload ≡ payload.Own → Keeps C l s c (Some w) → w.number ≡ number → w.header ≡ header
       → Keeps C l (record { slots = record { items = s.slots.items ++ record { number = number; header = header; id = i; message = s.own } ∷ [] }; own = None; payload = payload.Open (length s.slots.items) }) (scene_at (message_reading C l) c (event at w (Opens i))) (Some w)
-  open_keeps s c w at number header i e h n f = let p = parts in open_now s c w at number header i n f p.0 p.1 h.slots
-    where
-      parts : Each (λ o. o.opener.number ≡ w.number → ⊥) c.live × IsKept C l s.own w (c.known w.number)
-      parts = rw e at h.payload
+  open_keeps s c w at number header i e h n f = let p = own_parts s c w e h in open_now s c w at number header i n f p.0 p.1 h.slots
 
   gone_live : (at : ℕ) (c : Scene) (w : Title) (what : Happening) → IsGone what → (scene_at (message_reading C l) c (event at w what)).live ≡ filter (λ o. not (o.opener.number == w.number)) c.live
   unfolding scene_at
@@ -309,20 +284,28 @@ module _ (C : Table) (l : Listed) where
       let e = event at o.opener what in
       rw (gone_live at c o.opener what gone, slot_gone (scene_at (message_reading C l) c e).known c.known c.live k o rising here (λ i j. others_then (message_reading C l) c e i j)) (remove_slot ks (slots_of c.known c.live) k h)
 
-  pub own_closes : (s : Slots) (own' : Option Message) (c : Scene) (whose : Option Title) (at : ℕ) → s.payload ≡ payload.Own → own' ≡ None → Keeps C l s c whose
-      → Keeps C l (record { slots = s.slots; own = own'; payload = payload.Nobody }) (scene_to C l at c whose Closes) None
-  own_closes s own' c None at e n h = absurd (rw e at h.payload)
-  own_closes s own' c (Some w) at e n h = let p = parts in record { slots = own_gone c w at Closes s.slots.items gone_closes p.0 h.slots; payload = n }
-    where
-      parts : Each (λ o. o.opener.number ≡ w.number → ⊥) c.live × IsKept C l s.own w (c.known w.number)
-      parts = rw e at h.payload
+  -- a call that closes a message
+  module _ {A E : Type 0} {n : A → ℕ} (r : Result A E) (a b : OutLog) (at : ℕ) where
+    pub own_closes : (s : Slots) (own' : Option Message) (c : Scene) (whose : Option Title) → s.payload ≡ payload.Own → own' ≡ None → Keeps C l s c whose
+        → ((w : Title) → IsKept C l s.own w (c.known w.number) → Says n r a b (lines_of (message_reading C l) (event at w Closes) (c.known w.number)))
+        → Plays C l n r a b (record { slots = s.slots; own = own'; payload = payload.Nobody }) (play_to C l at c whose Closes) None
+    own_closes s own' c None e none h f = absurd (rw e at h.payload)
+    own_closes s own' c (Some w) e none h f =
+        let now = own_parts s c w e h in
+        performs_on r a b refl (λ k. record { slots = own_gone c w at Closes s.slots.items gone_closes now.0 h.slots; payload = none }) (f w now.1)
 
-  pub slot_closes : (s : Slots) (slots' : ArrayVec Kept_slot) (c : Scene) (whose : Option Title) (k : ℕ) (at : ℕ) → s.payload ≡ payload.Open k → slots'.items ≡ remove s.slots.items k → Rising c.live → Keeps C l s c whose
-      → Keeps C l (record { slots = slots'; own = s.own; payload = payload.Nobody }) (scene_to C l at c whose Closes) None
-  slot_closes s slots' c None k at e n rising h = absurd (rw e at h.payload)
-  slot_closes s slots' c (Some w) k at e n rising h =
-      let p = place_of s c w k e h in
-      record { slots = rw (n, ← p.is) (slot_goes c k p.slot at Closes s.slots.items gone_closes rising p.here h.slots); payload = p.own }
+    pub slot_closes : (s : Slots) (x : Kept_slot) (slots' : ArrayVec Kept_slot) (c : Scene) (whose : Option Title) (k : ℕ) → s.payload ≡ payload.Open k → slice_get s.slots.items k ≡ Some x → slots'.items ≡ remove s.slots.items k → Rising c.live → Keeps C l s c whose
+        → ((w : Title) → IsKept C l x.message w (c.known w.number) → Says n r a b (lines_of (message_reading C l) (event at w Closes) (c.known w.number)))
+        → Plays C l n r a b (record { slots = slots'; own = s.own; payload = payload.Nobody }) (play_to C l at c whose Closes) None
+    slot_closes s x slots' c None k e get items rising h f = absurd (rw e at h.payload)
+    slot_closes s x slots' c (Some w) k e get items rising h f =
+        let p = place_of s c w k e h in
+        performs_on r a b refl (λ j. record { slots = rw (items, ← p.is) (slot_goes c k p.slot at Closes s.slots.items gone_closes rising p.here h.slots); payload = p.own }) (f w (in_slot s x c w k e get h).1)
+
+  pub nobody_closes : {E : Type 0} (log : OutLog) (at : ℕ) (s : Slots) (c : Scene) (whose : Option Title) → s.payload ≡ payload.Nobody → Keeps C l s c whose
+      → Plays {E = E} C l one_if (Ok false) log log (record { slots = s.slots; own = s.own; payload = payload.Nobody }) (play_to C l at c whose Closes) None
+  nobody_closes log at s c None e h = does_nothing false log refl (record { slots = h.slots; payload = rw e at h.payload })
+  nobody_closes log at s c (Some w) e h = absurd (rw e at h.payload)
 
   -- as the code does it
   pub open_with : (s : Slots) (slots' : ArrayVec Kept_slot) (c : Scene) (w : Title) (at number : ℕ) (header : List ℕ) (i : ℕ) (message own' : Option Message) (k : ℕ)
@@ -342,16 +325,13 @@ module _ (C : Table) (l : Listed) where
   pub cancel_keeps : (s : Slots) (slots' : ArrayVec Kept_slot) (c : Scene) (w : Title) (k : ℕ) (o : Open) (at j : ℕ) → Keeps C l s c (Some w) → s.payload ≡ payload.Own → slice_get c.live k ≡ Some o → Rising c.live → slots'.items ≡ remove s.slots.items k
       → Keeps C l (record { slots = slots'; own = s.own; payload = s.payload }) (scene_at (message_reading C l) c (event at o.opener (Cancelled j))) (Some w)
   cancel_keeps s slots' c w k o at j h e here rising items =
-      let p = parts in
+      let p = own_parts s c w e h in
       let ev = event at o.opener (Cancelled j) in
       let apart : o.opener.number ≡ w.number → ⊥ = at_index (λ a. a.opener.number ≡ w.number → ⊥) c.live k o here p.0 in
       rw e (record {
         slots = rw items (slot_goes c k o at (Cancelled j) s.slots.items (gone_cancelled j) rising here h.slots);
         payload = (rw (gone_live at c o.opener (Cancelled j) (gone_cancelled j)) (each_filter (λ a. a.opener.number ≡ w.number → ⊥) (λ a. not (a.opener.number == o.opener.number)) c.live p.0), rw (others_then (message_reading C l) c ev w.number (λ same. apart (sym same))) p.1);
       })
-    where
-      parts : Each (λ o. o.opener.number ≡ w.number → ⊥) c.live × IsKept C l s.own w (c.known w.number)
-      parts = rw e at h.payload
 
 -- ---- What can take an octet.
 

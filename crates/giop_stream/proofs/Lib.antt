@@ -26,7 +26,7 @@ mod Places
 mod Cases
 mod Beginning
 mod ReadingPlays
-mod Exits
+mod Performing
 mod Keepers
 mod Naming
 mod Named

@@ -9,23 +9,22 @@ use Rattle.giop_message.specs.MessageReading.{message_reading}
 use Rattle.giop_message.specs.Headers.{order, is_fragment, is_opener, is_cancel, has_name}
 use Rattle.giop_stream.specs.declared.fault.ImposedFault.TheVariants.{NoOpen, IdOpen, TooManyOpen, FragmentOrder}
 use Rattle.giop_stream.specs.declared.slots.Slots.{Slots}
-use Rattle.giop_stream.specs.declared.dispatch.Current.{Current}
+use Rattle.giop_stream.specs.declared.current.Current.{Current}
 use Rattle.giop_stream.specs.Framing.{Message}
 use Rattle.giop_stream.specs.Events.{Open, Opens, Imposed, Cancelled, Title, title, opener_of, at_id, most_open, same_order}
 use Rattle.giop_stream.specs.State.{slots_of}
-use Rattle.giop_stream.specs.Plays.{Scene, Play, plays, one_play, no_play, lines_of, goes_on}
-use Rattle.giop_stream.specs.Lines.{Line, line, tells, standing}
+use Rattle.giop_stream.specs.Plays.{Scene, Play, plays, one_play, no_play, line_play, lines_of, goes_on}
+use Rattle.giop_stream.specs.Lines.{Line, tells, standing}
 use Rattle.giop_stream.specs.Machine.{utters_kept}
-use Rattle.giop_stream.specs.Text.{lines_text}
+use Rattle.giop_stream.specs.Text.{line_text}
 use Rattle.giop_stream.specs.Stream.{fault_count}
 use Rattle.giop_cdr.specs.declared.order.Order.{Order}
 use Rattle.giop_stream.specs.Kinds.{may_be_cancelled}
 use Rattle.giop_stream.specs.declared.slots.Slot.{Slot as Kept_slot}
 use Rattle.giop_print.specs.Lines.{continues_line}
-use Rattle.giop_print.specs.Output.{OutLog, Wrote}
-use Rattle.giop_print.proofs.Writing.{wrote-nil}
 use Rattle.giop_stream.specs.Keeping.{IsSlot, event}
 use Rattle.giop_stream.specs.Whose.{IsNamed, opener_title, whose_named}
+use Rattle.giop_stream.proofs.Performing.{BeginsSo}
 use Rattle.giop_stream.proofs.Keepers.{are_as_many, slots_many, open_slot}
 use Rattle.giop_stream.proofs.Naming.{none_open, one_open}
 use Rattle.giop_stream.proofs.Cases.{opener_twice, opener_no_room, opener_opens, fragment_unknown, fragment_in_order, fragment_out_of_order, cancel_misses, cancel_spares, cancel_closes, other_id}
@@ -35,23 +34,6 @@ pub record IsFound (c : Scene) (m : Message) (k : ℕ) : Type 0 where
   pub o : Open
   pub here : slice_get c.live k ≡ Some o
   pub is : opener_of c.live m ≡ Some o
-
--- a text that begins so
-pub record BeginsSo (front text : List ℕ) : Type 0 where
-  pub more : List ℕ
-  pub is : text ≡ front ++ more
-
-pub wrote_alone : (a b : OutLog) (x : List ℕ) → Wrote a b x → Wrote a b (x ++ lines_text [])
-unfolding lines_text
-wrote_alone a b x w = rw (append-nil x) w
-
-pub nothing_text : (log : OutLog) → Wrote log log (lines_text [])
-unfolding lines_text
-nothing_text log = wrote-nil log
-
-pub no_faults : fault_count [] ≡ 0
-unfolding fault_count
-no_faults = refl
 
 -- what indexing reads, with this default
 pub read_slot : (items xs : List Kept_slot) (k : ℕ) (d : Kept_slot) → xs ≡ items → k < length items → slice_get items k ≡ Some (slice_index_or xs k d)
@@ -93,7 +75,7 @@ room_is n e less = elim (cases_eq n 16) [ inl same ↦ absurd (false≢true (sym
 -- ---- A message that becomes open says nothing.
 
 module _ (C : Table) (l : Listed) where
-  opens_lines : (c : Scene) (m : Message) (at i : ℕ) → (one_play (message_reading C l) c at (title m) (Opens i)).lines ≡ []
+  pub opens_lines : (c : Scene) (m : Message) (at i : ℕ) → (one_play (message_reading C l) c at (title m) (Opens i)).lines ≡ []
   unfolding lines_of utters_kept tells standing
   opens_lines c m at i = go (c.known m.number)
     where
@@ -101,19 +83,9 @@ module _ (C : Table) (l : Listed) where
       go None = refl
       go (Some xs) = refl
 
-  pub opens_text : (log : OutLog) (c : Scene) (m : Message) (at i : ℕ) → Wrote log log (lines_text (one_play (message_reading C l) c at (title m) (Opens i)).lines)
-  unfolding lines_text
-  opens_text log c m at i = rw (opens_lines c m at i) (wrote-nil log)
-
-  pub opens_faults : (c : Scene) (m : Message) (at i : ℕ) → fault_count (one_play (message_reading C l) c at (title m) (Opens i)).lines ≡ 0
-  unfolding fault_count
-  opens_faults c m at i = rw (opens_lines c m at i) refl
-
-  -- and a cancel faults nothing
-  cancelled_faults : (o : Option (List ℕ)) (w : Title) (at j : ℕ) → fault_count (lines_of (message_reading C l) (event at w (Cancelled j)) o) ≡ 0
-  unfolding fault_count lines_of utters_kept tells line standing
-  cancelled_faults None w at j = refl
-  cancelled_faults (Some xs) w at j = refl
+pub goes_faults : (m : Message) (o : Open) (ls : List Line) → fault_count (goes_on m o ∷ ls) ≡ fault_count ls
+unfolding fault_count
+goes_faults m o ls = refl
 
 -- ---- Whose the octets are then.
 
@@ -174,31 +146,26 @@ module _ (C : Table) (l : Listed) (s : Slots) (c : Scene) (m : Message) (now : C
   unknown f e = fragment_unknown (message_reading C l) c c.live m f e ∙ rw h.current.place refl
 
   pub in_order : (o : Open) → is_fragment m.header ≡ true → opener_of c.live m ≡ Some o → same_order (order m.header) (order o.opener.header) ≡ true
-      → plays (message_reading C l) c (at_id c.live m) ≡ record { scene = c; lines = goes_on m o ∷ [] }
+      → plays (message_reading C l) c (at_id c.live m) ≡ line_play (goes_on m o) (no_play c)
   in_order o f e same = let xs = h.alive (fragment_named m.header f) in fragment_in_order (message_reading C l) c c.live m o xs.0 f e xs.1 same
 
   pub out_of_order : (o : Open) → is_fragment m.header ≡ true → opener_of c.live m ≡ Some o → same_order (order m.header) (order o.opener.header) ≡ false
-      → (let fault = one_play (message_reading C l) c now.place o.opener (Imposed FragmentOrder) in plays (message_reading C l) c (at_id c.live m) ≡ record { scene = fault.scene; lines = goes_on m o ∷ fault.lines })
+      → plays (message_reading C l) c (at_id c.live m) ≡ line_play (goes_on m o) (one_play (message_reading C l) c now.place o.opener (Imposed FragmentOrder))
   out_of_order o f e other =
       let xs = h.alive (fragment_named m.header f) in
       fragment_out_of_order (message_reading C l) c c.live m o xs.0 f e xs.1 other ∙ rw h.current.place refl
 
   -- the line of a Fragment, as the code writes it
-  pub goes_text : (o : Open) (number : ℕ) (ls : List Line) → o.opener.number ≡ number → lines_text (goes_on m o ∷ ls) ≡ continues_line now.number number ++ lines_text ls
-  unfolding lines_text
-  goes_text o number ls e = rw (h.current.number, e) refl
+  pub goes_text : (o : Open) (number : ℕ) → o.opener.number ≡ number → line_text (goes_on m o) ≡ continues_line now.number number
+  goes_text o number e = rw (h.current.number, e) refl
 
-  pub goes_faults : (o : Open) (ls : List Line) → fault_count (goes_on m o ∷ ls) ≡ fault_count ls
-  unfolding fault_count
-  goes_faults o ls = refl
-
-  -- all that is written, which begins so
-  pub fragment_text : (o : Open) (number : ℕ) → is_fragment m.header ≡ true → opener_of c.live m ≡ Some o → o.opener.number ≡ number → BeginsSo (continues_line now.number number) (lines_text (plays (message_reading C l) c (at_id c.live m)).lines)
-  fragment_text o number f e n = go (same_order (order m.header) (order o.opener.header)) refl
+  -- which begins all that is written
+  pub goes_first : (o : Open) → is_fragment m.header ≡ true → opener_of c.live m ≡ Some o → BeginsSo (goes_on m o) (plays (message_reading C l) c (at_id c.live m)).lines
+  goes_first o f e = go (same_order (order m.header) (order o.opener.header)) refl
     where
-      go : (b : Bool) → same_order (order m.header) (order o.opener.header) ≡ b → BeginsSo (continues_line now.number number) (lines_text (plays (message_reading C l) c (at_id c.live m)).lines)
-      go true same = record { more = _; is = ap (λ (p : Play). lines_text p.lines) (in_order o f e same) ∙ goes_text o number [] n }
-      go false other = record { more = _; is = ap (λ (p : Play). lines_text p.lines) (out_of_order o f e other) ∙ goes_text o number _ n }
+      go : (b : Bool) → same_order (order m.header) (order o.opener.header) ≡ b → BeginsSo (goes_on m o) (plays (message_reading C l) c (at_id c.live m)).lines
+      go true same = record { more = _; is = ap (λ (p : Play). p.lines) (in_order o f e same) }
+      go false other = record { more = _; is = ap (λ (p : Play). p.lines) (out_of_order o f e other) }
 
   -- the slot of its opener
   pub opener_slot : (k : ℕ) (o : Open) (x : Kept_slot) → slice_get c.live k ≡ Some o → slice_get s.slots.items k ≡ Some x → IsSlot C l x (record { open_as = o; octets = c.known o.opener.number })
@@ -222,20 +189,6 @@ module _ (C : Table) (l : Listed) (s : Slots) (c : Scene) (m : Message) (now : C
   pub cancels_one : (o : Open) → is_fragment m.header ≡ false → is_opener m.header ≡ false → is_cancel m.header ≡ true → opener_of c.live m ≡ Some o → may_be_cancelled o.opener.header ≡ true
       → plays (message_reading C l) c (at_id c.live m) ≡ one_play (message_reading C l) c now.place o.opener (Cancelled now.number)
   cancels_one o f g b e j = cancel_closes (message_reading C l) c c.live m o f g b e j ∙ rw (h.current.place, h.current.number) refl
-
-  pub cancel_faults : is_fragment m.header ≡ false → is_opener m.header ≡ false → is_cancel m.header ≡ true → fault_count (plays (message_reading C l) c (at_id c.live m)).lines ≡ 0
-  cancel_faults f g b = go (opener_of c.live m) refl
-    where
-      none : fault_count (no_play c).lines ≡ 0
-      none = no_faults
-
-      by : (o : Open) (may : Bool) → opener_of c.live m ≡ Some o → may_be_cancelled o.opener.header ≡ may → fault_count (plays (message_reading C l) c (at_id c.live m)).lines ≡ 0
-      by o true e j = rw (cancels_one o f g b e j) (cancelled_faults C l (c.known o.opener.number) o.opener now.place now.number)
-      by o false e j = rw (spares o f g b e j) none
-
-      go : (r : Option Open) → opener_of c.live m ≡ r → fault_count (plays (message_reading C l) c (at_id c.live m)).lines ≡ 0
-      go None e = rw (cancel_misses (message_reading C l) c c.live m f g b e) none
-      go (Some o) e = by o (may_be_cancelled o.opener.header) e refl
 
   -- ---- Any message.
 

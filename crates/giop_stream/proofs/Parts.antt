@@ -3,7 +3,6 @@ use Rattle.std.proofs.Common.{inl, inr, append-nil, suc, ◌≡◌, ℕ, ◌+◌
 use Rattle.std.specs.Prelude.{◌==◌, if◌then◌else◌}
 use Rattle.std.proofs.lemmas.Bool.{ne_eqb, eqb-true, le-leb, lt-ltb, cases_lt}
 use Rattle.std.proofs.lemmas.List.{length_push, get_or_push, take-append-le}
-use Rattle.std.proofs.lemmas.List.Concat.{flat_map-append}
 use Rattle.giop_sig.specs.Table.{Table}
 use Rattle.giop_message.specs.Signatures.{Kept as Listed, said_by}
 use Rattle.giop_message.specs.MessageReading.{message_reading}
@@ -11,23 +10,19 @@ use Rattle.giop_message.specs.Reading.{Reading, IsInTurn}
 use Rattle.giop_message.specs.Headers.{size, is_fragment, has_name}
 use Rattle.giop_message.proofs.MessageLaws.{is_ordered, is_closing, is_named}
 use Rattle.giop_stream.specs.declared.slots.Slots.{Slots}
-use Rattle.giop_stream.specs.declared.dispatch.Current.{Current}
+use Rattle.giop_stream.specs.declared.current.Current.{Current}
 use Rattle.giop_stream.specs.Framing.{Message}
 use Rattle.giop_stream.specs.Events.{Takes, Title, Open, Event, title, place, opener_of, has_named, goes_past, id, at_octet, at_id, at_end, happens, opened, Rising}
-use Rattle.giop_stream.specs.Lines.{Line}
-use Rattle.giop_stream.specs.Text.{line_text, lines_text}
-use Rattle.giop_stream.specs.Stream.{fault_count}
-use Rattle.giop_stream.proofs.Grown.{count_append}
-use Rattle.giop_stream.specs.Plays.{Scene, Play, plays, scene_at, with_octet}
-use Rattle.giop_stream.specs.Keeping.{Keeps, event, scene_to, lines_to}
-use Rattle.giop_stream.specs.Runs.{run_scene, run_lines}
+use Rattle.giop_stream.specs.Plays.{Scene, Play, plays, scene_at, then_play, with_octet}
+use Rattle.giop_stream.specs.Keeping.{Keeps, event, play_to}
+use Rattle.giop_stream.specs.Runs.{run_play}
 use Rattle.giop_stream.specs.Whose.{IsNext, IsTaken, IsAt, IsNewest, opener_title, whose, whose_octet, whose_after, id_events, end_events}
 use Rattle.giop_stream.proofs.Happenings.{quiet_octet, quiet_continues}
 use Rattle.giop_stream.proofs.HappeningsKeep.{rising_push, rising_filter, opened_by, kept_id}
 use Rattle.giop_stream.proofs.InPlace.{own_then}
 use Rattle.giop_stream.proofs.Beginning.{named_then}
 use Rattle.giop_stream.proofs.Cases.{plays_append, octet_own, octet_passed, octet_lost}
-use Rattle.giop_stream.proofs.Ending.{DoesTo, whose_early, whose_plain}
+use Rattle.giop_stream.proofs.Ending.{whose_early, whose_plain}
 use Rattle.giop_stream.proofs.Taken.{whose_own}
 
 -- ---- The open messages between the parts.
@@ -96,7 +91,7 @@ module _ (R : Reading) (c : Scene) (m : Message) where
   unfolding happens id_events end_events
   parts some = rw (ne_eqb (length m.payload) 0 some) refl
 
-  pub in_parts : (length m.payload ≡ 0 → ⊥) → plays R c (happens c.live m) ≡ record { scene = third.scene; lines = first.lines ++ (second.lines ++ third.lines) }
+  pub in_parts : (length m.payload ≡ 0 → ⊥) → plays R c (happens c.live m) ≡ then_play first (then_play second third)
   in_parts some =
       let ids : id_events c.live m ≡ id_events first.scene.live m = ap (λ (live : List Open). id_events live m) (sym first_live) in
       let ends : end_events c.live m ≡ end_events second.scene.live m = sym (ap (λ (live : List Open). end_events live m) second_live ∙ end_same c.live m) in
@@ -119,16 +114,6 @@ module _ (R : Reading) (c : Scene) (m : Message) where
       go true e = refl
       go false e = ap (λ (live : List Open). whose live m) (sym (plays_live R second.scene (end_events second.scene.live m) ∙ rw e refl))
 
-pub text_append : (xs ys : List Line) → lines_text (xs ++ ys) ≡ lines_text xs ++ lines_text ys
-unfolding lines_text
-text_append xs ys = flat_map-append line_text xs ys
-
-pub parts_text : (xs ys zs : List Line) → lines_text (xs ++ (ys ++ zs)) ≡ lines_text xs ++ (lines_text ys ++ lines_text zs)
-parts_text xs ys zs = rw (text_append xs (ys ++ zs), text_append ys zs) refl
-
-pub parts_faults : (xs ys zs : List Line) (a b c : ℕ) → fault_count xs ≡ a → fault_count ys ≡ b → fault_count zs ≡ c → fault_count (xs ++ (ys ++ zs)) ≡ a + (b + c)
-parts_faults xs ys zs a b c e f g = rw (count_append xs (ys ++ zs), count_append ys zs, e, f, g) refl
-
 -- ---- Whose an octet is that comes.
 
 same_opener : (live : List Open) (m : Message) (x : ℕ) → 4 ≤ length m.payload → opener_of live (with_octet m x) ≡ opener_of live m
@@ -149,17 +134,18 @@ module _ (C : Table) (l : Listed) where
   in_turn = record { named = is_named C l; ordered = is_ordered (said_by C l); closing = is_closing (said_by C l) }
 
   about_takes : (c : Scene) (m : Message) (x at : ℕ) (r : Option Open) → goes_past m ≡ true → opener_of c.live m ≡ r → get_or m.payload (length m.payload - 1) 0 ≡ x → place m ≡ at
-      → DoesTo C l at c (opener_title r) (Takes x) (plays (message_reading C l) c (at_octet c.live m))
-  about_takes c m x at None past e last here = rw (octet_lost (message_reading C l) c c.live m past e) (record { lines = refl; scene = refl })
-  about_takes c m x at (Some o) past e last here = rw (octet_passed (message_reading C l) c c.live m o past e, last, here) (record { lines = refl; scene = refl })
+      → plays (message_reading C l) c (at_octet c.live m) ≡ play_to C l at c (opener_title r) (Takes x)
+  about_takes c m x at None past e last here = octet_lost (message_reading C l) c c.live m past e
+  about_takes c m x at (Some o) past e last here = octet_passed (message_reading C l) c c.live m o past e ∙ rw (last, here) refl
 
-  pub octet_does : (c : Scene) (m : Message) (x at : ℕ) → get_or m.payload (length m.payload - 1) 0 ≡ x → place m ≡ at → DoesTo C l at c (whose_octet c.live m) (Takes x) (plays (message_reading C l) c (at_octet c.live m))
+  pub octet_does : (c : Scene) (m : Message) (x at : ℕ) → get_or m.payload (length m.payload - 1) 0 ≡ x → place m ≡ at
+      → plays (message_reading C l) c (at_octet c.live m) ≡ play_to C l at c (whose_octet c.live m) (Takes x)
   unfolding whose_octet
   octet_does c m x at last here = go (goes_past m) refl
     where
-      go : (b : Bool) → goes_past m ≡ b → DoesTo C l at c (if goes_past m then opener_title (opener_of c.live m) else Some (title m)) (Takes x) (plays (message_reading C l) c (at_octet c.live m))
+      go : (b : Bool) → goes_past m ≡ b → plays (message_reading C l) c (at_octet c.live m) ≡ play_to C l at c (if goes_past m then opener_title (opener_of c.live m) else Some (title m)) (Takes x)
       go true past = rw past (about_takes c m x at (opener_of c.live m) past refl last here)
-      go false own = rw (own, octet_own (message_reading C l) c c.live m own, last, here) (record { lines = refl; scene = refl })
+      go false own = rw own (octet_own (message_reading C l) c c.live m own ∙ rw (last, here) refl)
 
 module _ (C : Table) (l : Listed) (s : Slots) (c : Scene) (m : Message) (now : Current) (x : ℕ) (h : IsNext C l s c m now x) where
   last_is : get_or (m.payload ++ x ∷ []) (length (m.payload ++ x ∷ []) - 1) 0 ≡ x
@@ -172,35 +158,33 @@ module _ (C : Table) (l : Listed) (s : Slots) (c : Scene) (m : Message) (now : C
   unfolding place
   some_place = omega (arith, h.current.place)
 
-  takes_at : DoesTo C l now.place c (whose c.live m) (Takes x) (first (message_reading C l) c (with_octet m x))
+  takes_at : first (message_reading C l) c (with_octet m x) ≡ play_to C l now.place c (whose c.live m) (Takes x)
   takes_at = rw (← whose_next c.live m x) (octet_does C l c (with_octet m x) x now.place last_is h.current.place)
 
   -- which is a run of one octet
-  pub takes_lines : (first (message_reading C l) c (with_octet m x)).lines ≡ run_lines C l (now.place - 1) c (whose c.live m) (x ∷ [])
-  unfolding run_lines
-  takes_lines = takes_at.lines ∙ rw some_place (sym (append-nil (lines_to C l now.place c (whose c.live m) (Takes x))))
-
-  takes_scene : (first (message_reading C l) c (with_octet m x)).scene ≡ run_scene C l (now.place - 1) c (whose c.live m) (x ∷ [])
-  unfolding run_scene
-  takes_scene = takes_at.scene ∙ rw some_place refl
+  pub takes_play : first (message_reading C l) c (with_octet m x) ≡ run_play C l (now.place - 1) c (whose c.live m) (x ∷ [])
+  unfolding run_play
+  takes_play =
+      let play = play_to C l now.place c (whose c.live m) (Takes x) in
+      takes_at ∙ rw some_place (λ j. record { scene = play.scene; lines = sym (append-nil play.lines) j })
 
   known_is : length m.payload < 4 → has_name m.header ≡ true → (first (message_reading C l) c (with_octet m x)).scene.known m.number ≡ Some (m.payload ++ x ∷ [])
   known_is few name =
-      let does = octet_does C l c (with_octet m x) x now.place last_is h.current.place in
       let w : whose_octet c.live (with_octet m x) ≡ Some (title m) = whose_own c.live (with_octet m x) (omega (arith, length_push m.payload x)) in
-      let scene : (first (message_reading C l) c (with_octet m x)).scene ≡ scene_at (message_reading C l) c (event now.place (title m) (Takes x)) = does.scene ∙ ap (λ (v : Option Title). scene_to C l now.place c v (Takes x)) w in
+      let scene : (first (message_reading C l) c (with_octet m x)).scene ≡ scene_at (message_reading C l) c (event now.place (title m) (Takes x)) =
+      ap (λ (p : Play). p.scene) (octet_does C l c (with_octet m x) x now.place last_is h.current.place) ∙ ap (λ (v : Option Title). (play_to C l now.place c v (Takes x)).scene) w in
       ap (λ (d : Scene). d.known m.number) scene
       ∙ (own_then (message_reading C l) c (event now.place (title m) (Takes x))
       ∙ rw (h.alive name few) (named_then (message_reading C l) (in_turn C l) now.place (title m) m.payload x name few))
 
-  pub taken_here : (s' : Slots) → Keeps C l s' (run_scene C l (now.place - 1) c (whose c.live m) (x ∷ [])) (whose c.live m) → IsTaken C l s' (first (message_reading C l) c (with_octet m x)).scene (with_octet m x) now
+  pub taken_here : (s' : Slots) → Keeps C l s' (run_play C l (now.place - 1) c (whose c.live m) (x ∷ [])).scene (whose c.live m) → IsTaken C l s' (first (message_reading C l) c (with_octet m x)).scene (with_octet m x) now
   taken_here s' k =
       let R = message_reading C l in
       let m' = with_octet m x in
       let live : (first R c m').scene.live ≡ c.live = first_live R c m' in
       let w : whose_octet (first R c m').scene.live m' ≡ whose c.live m = ap (λ (open' : List Open). whose_octet open' m') live ∙ whose_next c.live m x in
       record {
-        keeps = rw (w, takes_scene) k;
+        keeps = rw (w, takes_play) k;
         rising = rw live h.rising;
         current = h.current;
         come = omega (arith, length_push m.payload x, h.come);

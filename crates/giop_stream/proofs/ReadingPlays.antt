@@ -1,9 +1,10 @@
 -- What the reading of a message by a table makes of its events, and what a message's calls do of it.
-use Rattle.std.proofs.Common.{inl, inr, ◌≡◌, ℕ, suc, Bool, true, false, List, [], ◌∷◌, ◌++◌, length, map, refl, sym, ap, subst, ◌∙◌, append-nil, Option, Some, None, Result, Ok, Err}
+use Rattle.std.proofs.Common.{inl, inr, ◌≡◌, ℕ, suc, Bool, true, false, List, [], ◌∷◌, ◌++◌, length, map, refl, sym, ap, subst, ◌∙◌, Option, Some, None, Result, Ok, Err}
 use Rattle.std.specs.Prelude.{◌||◌, if◌then◌else◌, is_some, IfOk}
 use Rattle.std.specs.List.{list_any}
 use Rattle.std.proofs.lemmas.Bool.{eq-eqb}
 use Rattle.giop_print.specs.Lines.{fault_line, cancelled_line}
+use Rattle.giop_print.specs.Output.{OutLog, Wrote, WroteFront, Writes}
 use Rattle.giop_sig.specs.Table.{Table}
 use Rattle.giop_message.specs.declared.message.Message.{Message}
 use Rattle.giop_message.specs.Reading.{Saying, Value, Call, Rest, Fault, End, Remark, Reading, InTurn, AtClose, due, is_fault, is_last}
@@ -16,11 +17,12 @@ use Rattle.giop_message.proofs.MessageLaws.{is_ordered, octet_text, close_short,
 use Rattle.giop_stream.specs.declared.fault.ImposedFault.{ImposedFault}
 use Rattle.giop_stream.specs.Events.{Title, Event, Takes, Imposed, Cancelled, Closes, octet, joined}
 use Rattle.giop_stream.specs.Lines.{Line, Said, Ended_by, Faulted, line, tells, is_last_of, standing}
-use Rattle.giop_stream.specs.Text.{imposed_word, lines_text}
+use Rattle.giop_stream.specs.Text.{imposed_word, line_text, lines_text}
 use Rattle.giop_stream.specs.Stream.{fault_count}
 use Rattle.giop_stream.specs.Machine.{utters_kept}
-use Rattle.giop_stream.specs.Plays.{lines_of, octets_then}
+use Rattle.giop_stream.specs.Plays.{lines_of, octets_then, part_of, no_part}
 use Rattle.giop_stream.specs.Keeping.{IsKept, event}
+use Rattle.giop_stream.specs.Playing.{Performs, Says, one_if}
 
 -- ---- Lines that a reading says.
 
@@ -191,54 +193,62 @@ module _ (C : Table) (l : Listed) where
 
   -- ---- A close.
 
-  pub shut_text : (P : List ℕ → Type 0) (m : Message) (w : Title) (o : Option (List ℕ)) (at : ℕ) → IsKept C l (Some m) w o
-      → ((number : ℕ) (header s : List ℕ) → Follows C l number header m s → P (closing_text number at (close (stage_of (message (said_by C l) header s)))))
-      → P (lines_text (lines_of R_of (event at w Closes) o))
-  shut_text P m w (Some xs) at k f =
+  shut_text : (P : List ℕ → Type 0) (w : Title) (at : ℕ) (xs : List ℕ) → P (closing_text w.number at (close (stage_of (message (said_by C l) w.header xs))))
+      → P (lines_text (lines_of R_of (event at w Closes) (Some xs)))
+  shut_text P w at xs p =
       let text : lines_text (lines_of R_of (event at w Closes) (Some xs)) ≡ closing_text w.number at (close (stage_of (message (said_by C l) w.header xs))) =
       ap lines_text (closing_lines at w xs) ∙ (closed_is at w.number (R_of.closes w.header xs) ∙ sym (close_is (said_by C l) w.number at w.header xs)) in
-      subst P (sym text) (f w.number w.header xs k)
-  shut_text P m w None at k f = absurd k
+      subst P (sym text) p
 
-  shut_by : (at : ℕ) (w : Title) (xs : List ℕ) → fault_count (lines_of R_of (event at w Closes) (Some xs)) ≡ (if is_short (close (stage_of (message (said_by C l) w.header xs))) then 1 else 0)
+  shut_by : (at : ℕ) (w : Title) (xs : List ℕ) → fault_count (lines_of R_of (event at w Closes) (Some xs)) ≡ one_if (is_short (close (stage_of (message (said_by C l) w.header xs))))
   shut_by at w xs = rw (closing_lines at w xs, close_short (said_by C l) w.header xs) (close_faults at w.number (R_of.closes w.header xs) (at_close w.header xs))
 
-  pub shut_result : {E : Type 0} (m : Message) (w : Title) (o : Option (List ℕ)) (at : ℕ) (r : Result Bool E) → IsKept C l (Some m) w o
+  pub shut_says : {E : Type 0} (m : Message) (w : Title) (o : Option (List ℕ)) (at : ℕ) (r : Result Bool E) (a b : OutLog) → IsKept C l (Some m) w o
+      → ((number : ℕ) (header s : List ℕ) → Follows C l number header m s → Writes r a b (closing_text number at (close (stage_of (message (said_by C l) header s)))))
       → IfOk r (λ short. (kept : Listed) (number : ℕ) (header s : List ℕ) → Follows C kept number header m s → short ≡ is_short (close (stage_of (message (said_by C kept) header s))))
-      → IfOk r (λ short. fault_count (lines_of R_of (event at w Closes) o) ≡ (if short then 1 else 0))
-  shut_result m w (Some xs) at (Ok short) k f = shut_by at w xs ∙ ap (λ (b : Bool). if b then 1 else 0) (sym (f l w.number w.header xs k))
-  shut_result m w (Some xs) at (Err e) k f = tt
-  shut_result m w None at r k f = absurd k
+      → Says one_if r a b (lines_of R_of (event at w Closes) o)
+  shut_says m w None at r a b k text short = absurd k
+  shut_says m w (Some xs) at (Err e) a b k text short = record { text = shut_text (WroteFront a b) w at xs (text w.number w.header xs k); faults = tt; kept = tt }
+  shut_says m w (Some xs) at (Ok answer) a b k text short = record {
+    text = shut_text (Wrote a b) w at xs (text w.number w.header xs k);
+    faults = shut_by at w xs ∙ ap one_if (sym (short l w.number w.header xs k));
+    kept = tt;
+  }
 
   -- ---- An imposed fault, a cancel, and what happens to a message that is over.
 
-  pub none_text : (w : Title) (o : Option (List ℕ)) (e : Event) → IsKept C l None w o → lines_text (lines_of R_of e o) ≡ []
-  unfolding lines_text
-  none_text w None e k = rw (over_lines R_of e) refl
-  none_text w (Some xs) e k = absurd k
+  pub no_lines : (w : Title) (o : Option (List ℕ)) (e : Event) → IsKept C l None w o → lines_of R_of e o ≡ []
+  no_lines w None e k = over_lines R_of e
+  no_lines w (Some xs) e k = absurd k
 
-  pub none_faults : (w : Title) (o : Option (List ℕ)) (e : Event) → IsKept C l None w o → fault_count (lines_of R_of e o) ≡ 0
-  unfolding fault_count
-  none_faults w None e k = rw (over_lines R_of e) refl
-  none_faults w (Some xs) e k = absurd k
+  pub over_part : (w : Title) (o : Option (List ℕ)) (e : Event) → IsKept C l None w o → part_of R_of e o ≡ no_part None
+  unfolding part_of
+  over_part w None e k = λ j. record { octets = over_then R_of e j; lines = over_lines R_of e j }
+  over_part w (Some xs) e k = absurd k
 
-  pub imposed_kept : (w : Title) (o : Option (List ℕ)) (at : ℕ) (fault : ImposedFault) → IsKept C l None w (octets_then R_of (event at w (Imposed fault)) o)
-  imposed_kept w o at fault = rw (imposed_then R_of w o at fault) tt
+  pub imposed_part : (message : Option Message) (w : Title) (o : Option (List ℕ)) (at : ℕ) (fault : ImposedFault) → is_some message ≡ true → IsKept C l message w o
+      → part_of R_of (event at w (Imposed fault)) o ≡ record { octets = None; lines = record { place = at; number = w.number; content = Faulted fault } ∷ [] }
+  unfolding part_of
+  imposed_part (Some m) w (Some xs) at fault h k = λ j. record { octets = imposed_then R_of w (Some xs) at fault j; lines = imposed_lines R_of at w fault xs j }
+  imposed_part (Some m) w None at fault h k = absurd k
+  imposed_part None w o at fault h k = absurd cc
 
-  pub some_imposed_text : (message : Option Message) (w : Title) (o : Option (List ℕ)) (at : ℕ) (fault : ImposedFault) → is_some message ≡ true → IsKept C l message w o → lines_text (lines_of R_of (event at w (Imposed fault)) o) ≡ fault_line w.number (imposed_word fault) at
-  unfolding lines_text
-  some_imposed_text (Some m) w (Some xs) at fault h k = rw (imposed_lines R_of at w fault xs) (append-nil (fault_line w.number (imposed_word fault) at))
-  some_imposed_text (Some m) w None at fault h k = absurd k
-  some_imposed_text None w o at fault h k = absurd cc
+  pub cancel_says : (message : Option Message) (w : Title) (o : Option (List ℕ)) (at j : ℕ) → is_some message ≡ true → IsKept C l message w o
+      → lines_of R_of (event at w (Cancelled j)) o ≡ record { place = at; number = w.number; content = Ended_by j } ∷ []
+  cancel_says (Some m) w (Some xs) at j h k = cancelled_lines R_of at w j xs
+  cancel_says (Some m) w None at j h k = absurd k
+  cancel_says None w o at j h k = absurd cc
 
-  pub some_imposed_faults : (message : Option Message) (w : Title) (o : Option (List ℕ)) (at : ℕ) (fault : ImposedFault) → is_some message ≡ true → IsKept C l message w o → fault_count (lines_of R_of (event at w (Imposed fault)) o) ≡ 1
-  unfolding fault_count
-  some_imposed_faults (Some m) w (Some xs) at fault h k = rw (imposed_lines R_of at w fault xs) refl
-  some_imposed_faults (Some m) w None at fault h k = absurd k
-  some_imposed_faults None w o at fault h k = absurd cc
+pub faulted_text : (at number : ℕ) (fault : ImposedFault) (w : Title) → w.number ≡ number → line_text (record { place = at; number = w.number; content = Faulted fault }) ≡ fault_line number (imposed_word fault) at
+faulted_text at number fault w e = ap (λ (n : ℕ). fault_line n (imposed_word fault) at) e
 
-  pub cancelled_text : (message : Option Message) (w : Title) (o : Option (List ℕ)) (at j : ℕ) → is_some message ≡ true → IsKept C l message w o → lines_text (lines_of R_of (event at w (Cancelled j)) o) ≡ cancelled_line w.number j
-  unfolding lines_text
-  cancelled_text (Some m) w (Some xs) at j h k = rw (cancelled_lines R_of at w j xs) (append-nil (cancelled_line w.number j))
-  cancelled_text (Some m) w None at j h k = absurd k
-  cancelled_text None w o at j h k = absurd cc
+pub faulted_one : (at number : ℕ) (fault : ImposedFault) → fault_count (record { place = at; number = number; content = Faulted fault } ∷ []) ≡ 1
+unfolding fault_count
+faulted_one at number fault = refl
+
+pub cancelled_text : (at number j : ℕ) (w : Title) → w.number ≡ number → line_text (record { place = at; number = w.number; content = Ended_by j }) ≡ cancelled_line number j
+cancelled_text at number j w e = ap (λ (n : ℕ). cancelled_line n j) e
+
+pub cancelled_none : (at number j : ℕ) → fault_count (record { place = at; number = number; content = Ended_by j } ∷ []) ≡ 0
+unfolding fault_count
+cancelled_none at number j = refl

@@ -18,9 +18,9 @@ use Rattle.giop_stream.specs.Events.{Takes, Title, Open, Rising, happens, at_oct
 use Rattle.giop_stream.specs.Lines.{Line, lines}
 use Rattle.giop_stream.specs.Text.{lines_text}
 use Rattle.giop_stream.specs.Stream.{start_count, fault_count, tally}
-use Rattle.giop_stream.specs.Plays.{Scene, plays, scene_at, stage, with_octet}
-use Rattle.giop_stream.specs.Keeping.{Keeps, scene_to, lines_to}
-use Rattle.giop_stream.specs.Runs.{run_scene, run_lines}
+use Rattle.giop_stream.specs.Plays.{Scene, Play, plays, scene_at, stage, with_octet}
+use Rattle.giop_stream.specs.Keeping.{Keeps, play_to}
+use Rattle.giop_stream.specs.Runs.{run_play}
 use Rattle.giop_stream.specs.Whose.{Knows, whose, whose_in}
 use Rattle.giop_stream.specs.Remembering.{Memory}
 use Rattle.giop_stream.specs.Engine.{State, state_of}
@@ -32,7 +32,6 @@ use Rattle.giop_stream.proofs.Grown.{count_append}
 use Rattle.giop_stream.proofs.Soundness.{CurrentFits}
 use Rattle.giop_stream.proofs.StepCases.{place_more}
 use Rattle.giop_stream.proofs.StepCases.{if_some}
-use Rattle.giop_stream.proofs.Ending.{DoesTo}
 use Rattle.giop_stream.proofs.Taken.{whose_elsewhere}
 use Rattle.giop_stream.proofs.Parts.{in_turn, octet_does, whose_next}
 use Rattle.giop_stream.proofs.OneOctet.{Adds, paid_is}
@@ -81,7 +80,7 @@ whose_on : (live : List Open) (m : Message) (x : ℕ) → 4 ≤ length m.payload
 whose_on live m x named = whose_elsewhere live (with_octet m x) (ne_eqb (length (m.payload ++ x ∷ [])) 4 (λ e. omega (arith, named, length_push m.payload x, e))) ∙ whose_next live m x
 
 module _ (C : Table) (l : Listed) where
-  takes_live : (at : ℕ) (c : Scene) (w : Option Title) (x : ℕ) → (scene_to C l at c w (Takes x)).live ≡ c.live
+  takes_live : (at : ℕ) (c : Scene) (w : Option Title) (x : ℕ) → (play_to C l at c w (Takes x)).scene.live ≡ c.live
   unfolding scene_at changed
   takes_live at c None x = refl
   takes_live at c (Some w) x = refl
@@ -90,26 +89,27 @@ module _ (C : Table) (l : Listed) where
     at_hand : CurrentFits (length p) (cut p) m
     at_hand = if_some (CurrentFits (length p) (cut p)) (cut p).current m h.current ((sound (message_reading C l) (is_causal (said_by C l)) (in_turn C l) p).fits h.free).current
 
-    octet_takes : DoesTo C l (suc (length p)) (stage (message_reading C l) p) (whose (open_after p) m) (Takes x) (plays (message_reading C l) (stage (message_reading C l) p) (happens (open_after p) (with_octet m x)))
+    -- what the octet does to the message whose it is
+    abbrev taken : Play
+    taken = play_to C l (suc (length p)) (stage (message_reading C l) p) (whose (open_after p) m) (Takes x)
+
+    octet_takes : plays (message_reading C l) (stage (message_reading C l) p) (happens (open_after p) (with_octet m x)) ≡ taken
     unfolding stage
     octet_takes =
         let last : get_or (m.payload ++ x ∷ []) (length (m.payload ++ x ∷ []) - 1) 0 ≡ x = get_or_push m.payload x 0 (length (m.payload ++ x ∷ []) - 1) (omega (arith, length_push m.payload x)) in
         let alone = comes_alone (open_after p) (with_octet m x) (omega (arith, h.named, length_push m.payload x)) (omega (arith, h.before_last, length_push m.payload x)) in
         rw (alone, ← whose_next (open_after p) m x) (octet_does C l (stage (message_reading C l) p) (with_octet m x) x (suc (length p)) last (place_more m x (length p) at_hand.place_is))
 
-    octet_adds : (let play = plays (message_reading C l) (stage (message_reading C l) p) (happens (open_after p) (with_octet m x)) in Adds (message_reading C l) p (p ++ x ∷ []) (settle (cut p).whole (with_octet m x)) play.lines play.scene)
-    octet_adds = paid_is (message_reading C l) (is_causal (said_by C l)) (in_turn C l) p x (sound (message_reading C l) (is_causal (said_by C l)) (in_turn C l) p) m h.free h.current (le-ltb limit (suc (length p)) (omega (arith, h.room)))
-
-    octet_lines : lines (message_reading C l) (p ++ x ∷ []) ≡ lines (message_reading C l) p ++ lines_to C l (suc (length p)) (stage (message_reading C l) p) (whose (open_after p) m) (Takes x)
-    octet_lines = octet_adds.lines ∙ ap (λ (ls : List Line). lines (message_reading C l) p ++ ls) octet_takes.lines
-
-    octet_stage : stage (message_reading C l) (p ++ x ∷ []) ≡ scene_to C l (suc (length p)) (stage (message_reading C l) p) (whose (open_after p) m) (Takes x)
-    octet_stage = octet_adds.stage ∙ octet_takes.scene
+    octet_adds : Adds (message_reading C l) p (p ++ x ∷ []) (settle (cut p).whole (with_octet m x)) taken.lines taken.scene
+    octet_adds =
+        let so = sound (message_reading C l) (is_causal (said_by C l)) (in_turn C l) p in
+        let room = le-ltb limit (suc (length p)) (omega (arith, h.room)) in
+        rw octet_takes at (paid_is (message_reading C l) (is_causal (said_by C l)) (in_turn C l) p x so m h.free h.current room)
 
     octet_whose : whose (open_after (p ++ x ∷ [])) (with_octet m x) ≡ whose (open_after p) m
     unfolding stage
     octet_whose =
-        let live : open_after (p ++ x ∷ []) ≡ open_after p = ap (λ (c : Scene). c.live) octet_stage ∙ takes_live (suc (length p)) (stage (message_reading C l) p) (whose (open_after p) m) x in
+        let live : open_after (p ++ x ∷ []) ≡ open_after p = ap (λ (c : Scene). c.live) octet_adds.stage ∙ takes_live (suc (length p)) (stage (message_reading C l) p) (whose (open_after p) m) x in
         ap (λ (open' : List Open). whose open' (with_octet m x)) live ∙ whose_on (open_after p) m x h.named
 
 -- ---- All of them.
@@ -117,13 +117,13 @@ module _ (C : Table) (l : Listed) where
 -- what they make of the stream p, in which this message is the current one
 pub record IsRun (C : Table) (l : Listed) (p : List ℕ) (m : Message) (q : List ℕ) : Type 0 where
   pub within : Within (p ++ q) (with_payload m (m.payload ++ q)) 0
-  pub lines : lines (message_reading C l) (p ++ q) ≡ lines (message_reading C l) p ++ run_lines C l (length p) (stage (message_reading C l) p) (whose (open_after p) m) q
-  pub stage : stage (message_reading C l) (p ++ q) ≡ run_scene C l (length p) (stage (message_reading C l) p) (whose (open_after p) m) q
+  pub lines : lines (message_reading C l) (p ++ q) ≡ lines (message_reading C l) p ++ (run_play C l (length p) (stage (message_reading C l) p) (whose (open_after p) m) q).lines
+  pub stage : stage (message_reading C l) (p ++ q) ≡ (run_play C l (length p) (stage (message_reading C l) p) (whose (open_after p) m) q).scene
   pub whose : whose (open_after (p ++ q)) (with_payload m (m.payload ++ q)) ≡ whose (open_after p) m
 
 module _ (C : Table) (l : Listed) where
   pub run_is : (q p : List ℕ) (m : Message) → Within p m (length q) → IsRun C l p m q
-  unfolding run_lines run_scene
+  unfolding run_play
   run_is [] p m h =
       let R = message_reading C l in
       let same = append-nil p in
@@ -141,13 +141,12 @@ module _ (C : Table) (l : Listed) where
       let all : p' ++ q ≡ p ++ x ∷ q = append_assoc p (x ∷ []) q in
       let payload : (m.payload ++ x ∷ []) ++ q ≡ m.payload ++ x ∷ q = append_assoc m.payload (x ∷ []) q in
       let at : length p' ≡ suc (length p) = omega (arith, length_push p x) in
-      let one = octet_lines C l p m x (length q) h in
-      let scene = octet_stage C l p m x (length q) h in
+      let one = octet_adds C l p m x (length q) h in
       let who = octet_whose C l p m x (length q) h in
       record {
         within = subst (λ (z : List ℕ). Within (p ++ x ∷ q) (with_payload m z) 0) payload (subst (λ (r : List ℕ). Within r (with_payload m ((m.payload ++ x ∷ []) ++ q)) 0) all more.within);
-        lines = ap (lines R) (sym all) ∙ (more.lines ∙ ((λ j. one j ++ run_lines C l (at j) (scene j) (who j) q) ∙ append_assoc (lines R p) _ _));
-        stage = ap (stage R) (sym all) ∙ (more.stage ∙ (λ j. run_scene C l (at j) (scene j) (who j) q));
+        lines = ap (lines R) (sym all) ∙ (more.lines ∙ ((λ j. one.lines j ++ (run_play C l (at j) (one.stage j) (who j) q).lines) ∙ append_assoc (lines R p) _ _));
+        stage = ap (stage R) (sym all) ∙ (more.stage ∙ (λ j. (run_play C l (at j) (one.stage j) (who j) q).scene));
         whose = (λ j. whose (open_after (sym all j)) (with_payload m (sym payload j))) ∙ (more.whose ∙ who);
       }
 
@@ -196,14 +195,11 @@ module _ (C : Table) (l : Listed) (s : State) (reached : IsReached C l s) (m : M
   run : IsRun C l p c q
   run = run_is C l q p c begins
 
-  -- their lines, and the scene then
-  abbrev pub run_text : List Line
-  run_text = run_lines C l m.totals.octets (stage R p) (whose (open_after p) c) q
+  -- their play
+  abbrev pub ran : Play
+  ran = run_play C l m.totals.octets (stage R p) (whose (open_after p) c) q
 
-  abbrev pub run_stage : Scene
-  run_stage = run_scene C l m.totals.octets (stage R p) (whose (open_after p) c) q
-
-  grows_by_run : lines R (p ++ q) ≡ lines R p ++ run_text
+  grows_by_run : lines R (p ++ q) ≡ lines R p ++ ran.lines
   grows_by_run = rw all run.lines
 
   -- what the slots keep before them
@@ -214,22 +210,22 @@ module _ (C : Table) (l : Listed) (s : State) (reached : IsReached C l s) (m : M
   unfolding stage
   run_rises = (sound R (is_causal (said_by C l)) (in_turn C l) p).rising
 
-  pub run_does : {A E : Type 0} (result : Result A E) (before after : OutLog) (f : Memory) → Writes result before after (lines_text run_text) → OnOk result (Shows C l f (state_of R (p ++ q))) → Does C l result before after f (runs R s q)
-  run_does result before after f text shows = does_run C l s reached m h q run_text result before after f grows_by_run text shows
+  pub run_does : {A E : Type 0} (result : Result A E) (before after : OutLog) (f : Memory) → Writes result before after (lines_text ran.lines) → OnOk result (Shows C l f (state_of R (p ++ q))) → Does C l result before after f (runs R s q)
+  run_does result before after f text shows = does_run C l s reached m h q ran.lines result before after f grows_by_run text shows
 
-  knows_so : (slots : Slots) → Keeps C l slots run_stage (whose (open_after p) c) → Knows C l slots (p ++ q)
+  knows_so : (slots : Slots) → Keeps C l slots ran.scene (whose (open_after p) c) → Knows C l slots (p ++ q)
   knows_so slots k =
-      let scene : run_stage ≡ stage R (p ++ q) = rw all (sym run.stage) in
+      let scene : ran.scene ≡ stage R (p ++ q) = rw all (sym run.stage) in
       let who : whose (open_after p) c ≡ whose_in (open_after (p ++ q)) (cut (p ++ q)).current = sym (ap (whose_in (open_after (p ++ q))) run.within.current ∙ run.whose) in
       subst (Keeps C l slots (stage R (p ++ q))) who (subst (λ (s : Scene). Keeps C l slots s (whose (open_after p) c)) scene k)
 
-  pub run_shows : (b : Memory) → b.totals.messages ≡ m.totals.messages → b.totals.faults ≡ m.totals.faults + fault_count run_text → b.totals.octets ≡ m.totals.octets + length q → b.stopped ≡ m.stopped → b.header ≡ m.header → b.come ≡ m.come + length q → Keeps C l b.slots run_stage (whose (open_after p) c)
+  pub run_shows : (b : Memory) → b.totals.messages ≡ m.totals.messages → b.totals.faults ≡ m.totals.faults + fault_count ran.lines → b.totals.octets ≡ m.totals.octets + length q → b.stopped ≡ m.stopped → b.header ≡ m.header → b.come ≡ m.come + length q → Keeps C l b.slots ran.scene (whose (open_after p) c)
       → Shows C l b (state_of R (p ++ q))
   unfolding tally
   run_shows b messages faults octets stopped header come keeps =
       let then = run.within.current in
       let started : b.totals.messages ≡ start_count (lines R (p ++ q)) = messages ∙ (sym (number_is C l s reached m h free c current) ∙ sym (started_last R (is_causal (said_by C l)) (in_turn C l) (p ++ q) (with_payload c (c.payload ++ q)) run.within.free then)) in
-      let grown : fault_count (lines R (p ++ q)) ≡ fault_count (lines R p) + fault_count run_text = ap fault_count grows_by_run ∙ count_append (lines R p) run_text in
+      let grown : fault_count (lines R (p ++ q)) ≡ fault_count (lines R p) + fault_count ran.lines = ap fault_count grows_by_run ∙ count_append (lines R p) ran.lines in
       let faulted : b.totals.faults ≡ fault_count (lines R (p ++ q)) = omega (arith, faults, grown, faults_at C l s reached m h) in
       let read : b.totals.octets ≡ read_of (p ++ q) (cut (p ++ q)).stop = omega (arith, octets, all, length-append p q) ∙ sym (read_all (p ++ q) run.within.free) in
       shows_by C l (p ++ q) b (cut (p ++ q)) refl run.within.free (λ j. record { messages = started j; faults = faulted j; octets = read j }) (stopped ∙ free)

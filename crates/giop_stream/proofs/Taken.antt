@@ -11,7 +11,7 @@ use Rattle.giop_message.specs.Headers.{size, is_fragment}
 use Rattle.giop_stream.specs.declared.slots.Slots.{Slots}
 use Rattle.giop_stream.specs.declared.slots.Payload.{Payload}
 use Rattle.giop_stream.specs.declared.slots.Payload.TheVariants as payload
-use Rattle.giop_stream.specs.declared.dispatch.Current.{Current}
+use Rattle.giop_stream.specs.declared.current.Current.{Current}
 use Rattle.giop_stream.specs.Framing.{Message}
 use Rattle.giop_stream.specs.Events.{Title, Open, id, title, opener_of, has_named, goes_past, at_id, at_end}
 use Rattle.giop_stream.specs.Plays.{Scene, plays, no_play}

@@ -10,12 +10,10 @@ use Rattle.giop_stream.specs.declared.slots.Slot.{Slot as Kept_slot}
 use Rattle.giop_stream.specs.declared.slots.Slots.{Slots}
 use Rattle.giop_stream.specs.declared.slots.Payload.{Payload}
 use Rattle.giop_stream.specs.declared.slots.Payload.TheVariants.{Own, Open, Nobody}
-use Rattle.giop_stream.specs.Framing.{Message}
-use Rattle.giop_stream.specs.Events.{Title, Event, Happening, id, place}
+use Rattle.giop_stream.specs.Events.{Title, Event, Happening}
 use Rattle.giop_stream.specs.Events as events
 use Rattle.giop_stream.specs.State.{Slot, slots_of}
-use Rattle.giop_stream.specs.Lines.{Line}
-use Rattle.giop_stream.specs.Plays.{Scene, scene_at, lines_of}
+use Rattle.giop_stream.specs.Plays.{Scene, Play, one_play, no_play}
 
 -- A message is kept of which these octets have come, or none where it is over.
 abbrev pub IsKept : Table → Listed → Option Kept_message → Title → Option (List ℕ) → Type 0
@@ -69,19 +67,7 @@ pub record IsBare (s : Slots) : Type 0 where
 abbrev pub event : ℕ → Title → Happening → Event
 event at whom what = record { place = at; whom = whom; what = what }
 
--- what it makes of the scene, and its lines
-abbrev pub scene_to : Table → Listed → ℕ → Scene → Option Title → Happening → Scene
-scene_to C l at c None what = c
-scene_to C l at c (Some w) what = scene_at (message_reading C l) c (event at w what)
-
-abbrev pub lines_to : Table → Listed → ℕ → Scene → Option Title → Happening → List Line
-lines_to C l at c None what = []
-lines_to C l at c (Some w) what = lines_of (message_reading C l) (event at w what) (c.known w.number)
-
--- A message whose request id is complete: its own octets come, and these are its number, header, request id and place.
-pub record IsNow (s : Slots) (m : Message) (number : ℕ) (header : List ℕ) (i at : ℕ) : Type 0 where
-  pub own_comes : s.payload ≡ Own
-  pub number_is : m.number ≡ number
-  pub header_is : m.header ≡ header
-  pub id_is : id m ≡ i
-  pub place_is : place m ≡ at
+-- and what that makes of the scene, with its lines; nothing where they are nobody's
+abbrev pub play_to : Table → Listed → ℕ → Scene → Option Title → Happening → Play
+play_to C l at c None what = no_play c
+play_to C l at c (Some w) what = one_play (message_reading C l) c at w what

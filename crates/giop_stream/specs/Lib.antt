@@ -10,6 +10,7 @@ pub mod State
 pub mod Machine
 pub mod Plays
 pub mod Keeping
+pub mod Playing
 pub mod Runs
 pub mod Whose
 pub mod Remembering

@@ -48,6 +48,22 @@ lines_of R e o = standing (λ i. false) (utters_kept R e o)
 unfoldable pub octets_then : Reading → Event → Option (List ℕ) → Option (List ℕ)
 octets_then R e o = if list_any (is_last_of e.whom.number) (lines_of R e o) then None else option_map (λ xs. xs ++ octet e.what) o
 
+-- both
+pub record Part : Type 0 where
+  pub octets : Option (List ℕ)
+  pub lines : List Line
+
+unfoldable pub part_of : Reading → Event → Option (List ℕ) → Part
+part_of R e o = record { octets = octets_then R e o; lines = lines_of R e o }
+
+-- what no event makes of it
+abbrev pub no_part : Option (List ℕ) → Part
+no_part o = record { octets = o; lines = [] }
+
+-- one part, and then what more events make of the octets that it leaves
+abbrev pub then_part : Part → Part → Part
+then_part one more = record { octets = more.octets; lines = one.lines ++ more.lines }
+
 -- what there is to know of the messages of a stream
 unfoldable pub stage : Reading → List ℕ → Scene
 stage R p = record { live = open_after p; known = octets_of R p }
@@ -82,7 +98,7 @@ IsNotOpen n live = Each (λ o. o.opener.number ≡ n → ⊥) live
 abbrev pub slots_at : Scene → List Slot
 slots_at c = slots_of c.known c.live
 
--- ---- Plays of one event, and of none.
+-- ---- Plays of one event, of none, and of more after some.
 
 abbrev pub one_play : Reading → Scene → ℕ → Title → Happening → Play
 one_play R c at whom what =
@@ -91,6 +107,13 @@ one_play R c at whom what =
 
 abbrev pub no_play : Scene → Play
 no_play c = record { scene = c; lines = [] }
+
+abbrev pub then_play : Play → Play → Play
+then_play one more = record { scene = more.scene; lines = one.lines ++ more.lines }
+
+-- a line in front of a play
+abbrev pub line_play : Line → Play → Play
+line_play line play = record { scene = play.scene; lines = line ∷ play.lines }
 
 -- the line of a Fragment that continues an open message
 abbrev pub goes_on : Message → Open → Line

@@ -1,30 +1,22 @@
 -- What a run of octets does that are of one message's contents alone: what its octets do, one after the other (steps).
-use Rattle.std.specs.Prelude.{ℕ, suc, List, [], ◌∷◌, ◌++◌, Option}
+use Rattle.std.specs.Prelude.{ℕ, suc, List, [], ◌∷◌, Option}
 use Rattle.giop_sig.specs.Table.{Table}
 use Rattle.giop_message.specs.Signatures.{Kept as Listed}
 use Rattle.giop_message.specs.MessageReading.{message_reading}
 use Rattle.giop_stream.specs.Events.{Title, Takes}
-use Rattle.giop_stream.specs.Lines.{Line}
-use Rattle.giop_stream.specs.Plays.{Scene, lines_of, octets_then}
-use Rattle.giop_stream.specs.Keeping.{event, scene_to, lines_to}
+use Rattle.giop_stream.specs.Plays.{Scene, Play, no_play, then_play, Part, no_part, then_part, part_of}
+use Rattle.giop_stream.specs.Keeping.{event, play_to}
 
--- What octets make of the scene that are of this message's contents alone, behind so many octets of the stream, and
--- their lines.
-unfoldable pub run_scene : Table → Listed → ℕ → Scene → Option Title → List ℕ → Scene
-run_scene C l before c whose [] = c
-run_scene C l before c whose (x ∷ xs) = run_scene C l (suc before) (scene_to C l (suc before) c whose (Takes x)) whose xs
+-- The octets come behind so many of the stream, and are the contents of the message whose they are.
+unfoldable pub run_play : Table → Listed → ℕ → Scene → Option Title → List ℕ → Play
+run_play C l before c whose [] = no_play c
+run_play C l before c whose (x ∷ xs) =
+    let one = play_to C l (suc before) c whose (Takes x) in
+    then_play one (run_play C l (suc before) one.scene whose xs)
 
-unfoldable pub run_lines : Table → Listed → ℕ → Scene → Option Title → List ℕ → List Line
-run_lines C l before c whose [] = []
-run_lines C l before c whose (x ∷ xs) = lines_to C l (suc before) c whose (Takes x) ++ run_lines C l (suc before) (scene_to C l (suc before) c whose (Takes x)) whose xs
-
--- the same of one message: its octets then, unless it is over, and its lines
-unfoldable pub run_octets : Table → Listed → ℕ → Title → Option (List ℕ) → List ℕ → Option (List ℕ)
-run_octets C l before w o [] = o
-run_octets C l before w o (x ∷ xs) = run_octets C l (suc before) w (octets_then (message_reading C l) (event (suc before) w (Takes x)) o) xs
-
-unfoldable pub run_of : Table → Listed → ℕ → Title → Option (List ℕ) → List ℕ → List Line
-run_of C l before w o [] = []
-run_of C l before w o (x ∷ xs) =
-    let e = event (suc before) w (Takes x) in
-    lines_of (message_reading C l) e o ++ run_of C l (suc before) w (octets_then (message_reading C l) e o) xs
+-- the same of that message alone, of which these octets had come, unless it was over
+unfoldable pub run_part : Table → Listed → ℕ → Title → Option (List ℕ) → List ℕ → Part
+run_part C l before w o [] = no_part o
+run_part C l before w o (x ∷ xs) =
+    let one = part_of (message_reading C l) (event (suc before) w (Takes x)) o in
+    then_part one (run_part C l (suc before) w one.octets xs)

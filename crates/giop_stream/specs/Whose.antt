@@ -9,7 +9,7 @@ use Rattle.giop_message.specs.MessageReading.{message_reading}
 use Rattle.giop_message.specs.Headers.{minor, kind, size, is_fragment, has_name}
 use Rattle.giop_stream.specs.declared.slots.Slots.{Slots}
 use Rattle.giop_stream.specs.declared.slots.Payload.TheVariants.{Own}
-use Rattle.giop_stream.specs.declared.dispatch.Current.{Current}
+use Rattle.giop_stream.specs.declared.current.Current.{Current}
 use Rattle.giop_stream.specs.Framing.{Message, cut}
 use Rattle.giop_stream.specs.Events.{Title, Event, Open, Rising, id, title, place, opener_of, has_named, goes_past, at_id, at_end, open_after}
 use Rattle.giop_stream.specs.Plays.{Scene, stage, with_octet}

@@ -1,7 +1,6 @@
 //! What an octet of a message does to the messages that are open, and to the message itself.
 
 ghost use Rattle.std.specs.Prelude.{Option, ◌≡◌, ◌+◌, ◌<◌, ◌≤◌, ◌^◌, ℕ, length, true, false, Some, None, OnOk, IfOk, if◌then◌else◌, slice_get};
-ghost use Rattle.giop_print.specs.Output.{Writes};
 ghost use Rattle.giop_sig.specs.Table.{Table};
 ghost use Rattle.giop_message.specs.Signatures.{Kept as Listed};
 ghost use Rattle.giop_message.specs.MessageReading.{message_reading};
@@ -9,12 +8,12 @@ ghost use Rattle.giop_message.specs.Holding.{AreOf};
 ghost use Rattle.giop_message.specs.Headers.{size, is_fragment, is_opener, is_cancel};
 ghost use Rattle.giop_stream.specs.Framing.{Message};
 ghost use Rattle.giop_stream.specs.Events.{Title, Open, at_header, at_id, at_end, happens, title, opener_of};
-ghost use Rattle.giop_stream.specs.Text.{lines_text};
-ghost use Rattle.giop_stream.specs.Stream.{fault_count};
 ghost use Rattle.giop_stream.specs.Plays.{Scene, plays, with_octet};
-ghost use Rattle.giop_stream.specs.Keeping.{Keeps, AreReady};
+ghost use Rattle.giop_stream.specs.Keeping.{AreReady};
+ghost use Rattle.giop_stream.specs.Playing.{Plays, one_if, never, all};
 ghost use Rattle.giop_stream.specs.Whose.{IsNamed, IsFirst, IsNext, IsTaken, IsAt, opener_title, whose_named, whose, whose_after, id_events, end_events};
 
+use crate::current::Current;
 use crate::fault::ImposedFault;
 use crate::header::size_of;
 use crate::kinds::{
@@ -26,25 +25,12 @@ use giop_message::order_of;
 use giop_print::{Out, OutFault, continues_line};
 use giop_sig::{Catalogue, Requests};
 
-/// The message whose payload comes, at one of its octets.
-#[derive(Clone, Copy, Debug)]
-pub struct Current {
-    pub number: u64,
-    pub header: [u8; 12],
-    /// The stream octets up to and with this one.
-    pub place: u64,
-    /// The octets of the payload up to and with this one.
-    pub come: u32,
-}
-
 /// At the request id of a message that opens.
 fn opens<O: Out>(slots: &mut Slots, now: Current, id: u32, out: &mut O) -> Result<bool, OutFault>
-    ensures text { (C : Table) (l : Listed) (c : Scene) (m : Message) → IsNamed C l slots.old c m now id → is_fragment m.header ≡ false → is_opener m.header ≡ true →
-        Writes result (O.log out.old) (O.log out.new) (lines_text (plays (message_reading C l) c (at_id c.live m)).lines) }
-    ensures kept { (C : Table) (l : Listed) (c : Scene) (m : Message) → IsNamed C l slots.old c m now id → is_fragment m.header ≡ false → is_opener m.header ≡ true →
-        OnOk result (Keeps C l slots.new (plays (message_reading C l) c (at_id c.live m)).scene (Some (title m))) }
-    ensures faults { (C : Table) (l : Listed) (c : Scene) (m : Message) → IsNamed C l slots.old c m now id → is_fragment m.header ≡ false → is_opener m.header ≡ true →
-        IfOk result (λ fault. fault_count (plays (message_reading C l) c (at_id c.live m)).lines ≡ (if fault then 1 else 0)) }
+    ensures does { (C : Table) (l : Listed) (c : Scene) (m : Message) →
+        IsNamed C l slots.old c m now id → is_fragment m.header ≡ false → is_opener m.header ≡ true →
+        Plays C l one_if result (O.log out.old) (O.log out.new) slots.new
+        (plays (message_reading C l) c (at_id c.live m)) (Some (title m)) }
     ensures ready { (C : Table) (n : ℕ) → AreReady C n slots.old → AreReady C n slots.new }
 {
     if slots.find(id).is_some() {
@@ -59,10 +45,11 @@ fn opens<O: Out>(slots: &mut Slots, now: Current, id: u32, out: &mut O) -> Resul
 
 /// At a CancelRequest's request id.
 fn cancels<O: Out>(slots: &mut Slots, now: Current, id: u32, out: &mut O) -> Result<(), OutFault>
-    ensures text { (C : Table) (l : Listed) (c : Scene) (m : Message) → IsNamed C l slots.old c m now id → is_fragment m.header ≡ false → is_opener m.header ≡ false → is_cancel m.header ≡ true →
-        Writes result (O.log out.old) (O.log out.new) (lines_text (plays (message_reading C l) c (at_id c.live m)).lines) }
-    ensures kept { (C : Table) (l : Listed) (c : Scene) (m : Message) → IsNamed C l slots.old c m now id → is_fragment m.header ≡ false → is_opener m.header ≡ false → is_cancel m.header ≡ true →
-        OnOk result (Keeps C l slots.new (plays (message_reading C l) c (at_id c.live m)).scene (Some (title m))) }
+    ensures does { (C : Table) (l : Listed) (c : Scene) (m : Message) →
+        IsNamed C l slots.old c m now id →
+        is_fragment m.header ≡ false → is_opener m.header ≡ false → is_cancel m.header ≡ true →
+        Plays C l never result (O.log out.old) (O.log out.new) slots.new
+        (plays (message_reading C l) c (at_id c.live m)) (Some (title m)) }
     ensures ready { (C : Table) (n : ℕ) → AreReady C n slots.old → AreReady C n slots.new }
 {
     let Some(k) = slots.find(id) else {
@@ -76,12 +63,11 @@ fn cancels<O: Out>(slots: &mut Slots, now: Current, id: u32, out: &mut O) -> Res
 
 /// A Fragment of no open message is faulted, and nobody has what follows.
 fn fails<O: Out>(slots: &mut Slots, now: Current, out: &mut O) -> Result<bool, OutFault>
-    ensures text { (C : Table) (l : Listed) (c : Scene) (m : Message) (id : ℕ) → IsNamed C l slots.old c m now id → is_fragment m.header ≡ true → opener_of c.live m ≡ None →
-        Writes result (O.log out.old) (O.log out.new) (lines_text (plays (message_reading C l) c (at_id c.live m)).lines) }
-    ensures kept { (C : Table) (l : Listed) (c : Scene) (m : Message) (id : ℕ) → IsNamed C l slots.old c m now id → is_fragment m.header ≡ true → opener_of c.live m ≡ None →
-        OnOk result (Keeps C l slots.new (plays (message_reading C l) c (at_id c.live m)).scene None) }
-    ensures faults { (C : Table) (l : Listed) (c : Scene) (m : Message) (id : ℕ) → IsNamed C l slots.old c m now id → is_fragment m.header ≡ true → opener_of c.live m ≡ None →
-        IfOk result (λ fault. fault_count (plays (message_reading C l) c (at_id c.live m)).lines ≡ (if fault then 1 else 0)) }
+    ensures does { (C : Table) (l : Listed) (c : Scene) (m : Message) (id : ℕ) →
+        IsNamed C l slots.old c m now id →
+        is_fragment m.header ≡ true → opener_of c.live m ≡ None →
+        Plays C l one_if result (O.log out.old) (O.log out.new) slots.new
+        (plays (message_reading C l) c (at_id c.live m)) None }
     ensures ready { (C : Table) (n : ℕ) → AreReady C n slots.old → AreReady C n slots.new }
 {
     let faulted = slots.impose(now.number, ImposedFault::NoOpen, now.place, out);
@@ -93,12 +79,11 @@ fn fails<O: Out>(slots: &mut Slots, now: Current, out: &mut O) -> Result<bool, O
 #[tactic(auto, using(giop_print::proofs::Writing::writes_then, giop_print::proofs::Writing::writes_err))]
 fn passes<O: Out>(slots: &mut Slots, k: usize, now: Current, out: &mut O) -> Result<bool, OutFault>
     requires { k < length slots.old.slots.items }
-    ensures text { (C : Table) (l : Listed) (c : Scene) (m : Message) (id : ℕ) (o : Open) → IsNamed C l slots.old c m now id → is_fragment m.header ≡ true → opener_of c.live m ≡ Some o → slice_get c.live k ≡ Some o →
-        Writes result (O.log out.old) (O.log out.new) (lines_text (plays (message_reading C l) c (at_id c.live m)).lines) }
-    ensures kept { (C : Table) (l : Listed) (c : Scene) (m : Message) (id : ℕ) (o : Open) → IsNamed C l slots.old c m now id → is_fragment m.header ≡ true → opener_of c.live m ≡ Some o → slice_get c.live k ≡ Some o →
-        OnOk result (Keeps C l slots.new (plays (message_reading C l) c (at_id c.live m)).scene (Some o.opener)) }
-    ensures faults { (C : Table) (l : Listed) (c : Scene) (m : Message) (id : ℕ) (o : Open) → IsNamed C l slots.old c m now id → is_fragment m.header ≡ true → opener_of c.live m ≡ Some o → slice_get c.live k ≡ Some o →
-        IfOk result (λ fault. fault_count (plays (message_reading C l) c (at_id c.live m)).lines ≡ (if fault then 1 else 0)) }
+    ensures does { (C : Table) (l : Listed) (c : Scene) (m : Message) (id : ℕ) (o : Open) →
+        IsNamed C l slots.old c m now id →
+        is_fragment m.header ≡ true → opener_of c.live m ≡ Some o → slice_get c.live k ≡ Some o →
+        Plays C l one_if result (O.log out.old) (O.log out.new) slots.new
+        (plays (message_reading C l) c (at_id c.live m)) (Some o.opener) }
     ensures ready { (C : Table) (n : ℕ) → AreReady C n slots.old → AreReady C n slots.new }
 {
     let number = slots.slots[k].number;
@@ -118,12 +103,10 @@ fn continues<O: Out>(
     id: u32,
     out: &mut O,
 ) -> Result<bool, OutFault>
-    ensures text { (C : Table) (l : Listed) (c : Scene) (m : Message) → IsNamed C l slots.old c m now id → is_fragment m.header ≡ true →
-        Writes result (O.log out.old) (O.log out.new) (lines_text (plays (message_reading C l) c (at_id c.live m)).lines) }
-    ensures kept { (C : Table) (l : Listed) (c : Scene) (m : Message) → IsNamed C l slots.old c m now id → is_fragment m.header ≡ true →
-        OnOk result (Keeps C l slots.new (plays (message_reading C l) c (at_id c.live m)).scene (opener_title (opener_of c.live m))) }
-    ensures faults { (C : Table) (l : Listed) (c : Scene) (m : Message) → IsNamed C l slots.old c m now id → is_fragment m.header ≡ true →
-        IfOk result (λ fault. fault_count (plays (message_reading C l) c (at_id c.live m)).lines ≡ (if fault then 1 else 0)) }
+    ensures does { (C : Table) (l : Listed) (c : Scene) (m : Message) →
+        IsNamed C l slots.old c m now id → is_fragment m.header ≡ true →
+        Plays C l one_if result (O.log out.old) (O.log out.new) slots.new
+        (plays (message_reading C l) c (at_id c.live m)) (opener_title (opener_of c.live m)) }
     ensures ready { (C : Table) (n : ℕ) → AreReady C n slots.old → AreReady C n slots.new }
 {
     match slots.find(id) {
@@ -139,12 +122,10 @@ pub fn named<O: Out>(
     id: u32,
     out: &mut O,
 ) -> Result<bool, OutFault>
-    ensures text { (C : Table) (l : Listed) (c : Scene) (m : Message) → IsNamed C l slots.old c m now id →
-        Writes result (O.log out.old) (O.log out.new) (lines_text (plays (message_reading C l) c (at_id c.live m)).lines) }
-    ensures kept { (C : Table) (l : Listed) (c : Scene) (m : Message) → IsNamed C l slots.old c m now id →
-        OnOk result (Keeps C l slots.new (plays (message_reading C l) c (at_id c.live m)).scene (whose_named c.live m)) }
-    ensures faults { (C : Table) (l : Listed) (c : Scene) (m : Message) → IsNamed C l slots.old c m now id →
-        IfOk result (λ fault. fault_count (plays (message_reading C l) c (at_id c.live m)).lines ≡ (if fault then 1 else 0)) }
+    ensures does { (C : Table) (l : Listed) (c : Scene) (m : Message) →
+        IsNamed C l slots.old c m now id →
+        Plays C l one_if result (O.log out.old) (O.log out.new) slots.new
+        (plays (message_reading C l) c (at_id c.live m)) (whose_named c.live m) }
     ensures ready { (C : Table) (n : ℕ) → AreReady C n slots.old → AreReady C n slots.new }
 {
     if is_fragment(&now.header) {
@@ -168,12 +149,10 @@ pub fn ends<O: Out>(
     out: &mut O,
 ) -> Result<bool, OutFault>
     requires ready { AreReady catalogue.now (now.place + 1) slots.old }
-    ensures text { (l : Listed) (c : Scene) (m : Message) → IsAt catalogue.now l slots.old c m now → length m.payload ≡ size m.header →
-        Writes result (O.log out.old) (O.log out.new) (lines_text (plays (message_reading catalogue.now l) c (at_end c.live m)).lines) }
-    ensures kept { (l : Listed) (c : Scene) (m : Message) → IsAt catalogue.now l slots.old c m now → length m.payload ≡ size m.header →
-        OnOk result (Keeps catalogue.now l slots.new (plays (message_reading catalogue.now l) c (at_end c.live m)).scene None) }
-    ensures faults { (l : Listed) (c : Scene) (m : Message) → IsAt catalogue.now l slots.old c m now → length m.payload ≡ size m.header →
-        IfOk result (λ fault. fault_count (plays (message_reading catalogue.now l) c (at_end c.live m)).lines ≡ (if fault then 1 else 0)) }
+    ensures does { (l : Listed) (c : Scene) (m : Message) →
+        IsAt catalogue.now l slots.old c m now → length m.payload ≡ size m.header →
+        Plays catalogue.now l one_if result (O.log out.old) (O.log out.new) slots.new
+        (plays (message_reading catalogue.now l) c (at_end c.live m)) None }
     ensures ready { AreReady catalogue.now (now.place + 1) slots.new }
 {
     if is_short(&now.header) {
@@ -190,12 +169,10 @@ pub fn ends<O: Out>(
 
 /// What an octet does where it is the last of a request id.
 fn names<O: Out>(slots: &mut Slots, now: Current, out: &mut O) -> Result<bool, OutFault>
-    ensures text { (C : Table) (l : Listed) (c : Scene) (m : Message) → IsTaken C l slots.old c m now →
-        Writes result (O.log out.old) (O.log out.new) (lines_text (plays (message_reading C l) c (id_events c.live m)).lines) }
-    ensures kept { (C : Table) (l : Listed) (c : Scene) (m : Message) → IsTaken C l slots.old c m now →
-        OnOk result (Keeps C l slots.new (plays (message_reading C l) c (id_events c.live m)).scene (whose c.live m)) }
-    ensures faults { (C : Table) (l : Listed) (c : Scene) (m : Message) → IsTaken C l slots.old c m now →
-        IfOk result (λ fault. fault_count (plays (message_reading C l) c (id_events c.live m)).lines ≡ (if fault then 1 else 0)) }
+    ensures does { (C : Table) (l : Listed) (c : Scene) (m : Message) →
+        IsTaken C l slots.old c m now →
+        Plays C l one_if result (O.log out.old) (O.log out.new) slots.new
+        (plays (message_reading C l) c (id_events c.live m)) (whose c.live m) }
     ensures ready { (C : Table) (n : ℕ) → AreReady C n slots.old → AreReady C n slots.new }
 {
     if now.come == 4 {
@@ -213,12 +190,10 @@ fn finishes<O: Out>(
     out: &mut O,
 ) -> Result<bool, OutFault>
     requires ready { AreReady catalogue.now (now.place + 1) slots.old }
-    ensures text { (l : Listed) (c : Scene) (m : Message) → IsAt catalogue.now l slots.old c m now → length m.payload ≡ now.come →
-        Writes result (O.log out.old) (O.log out.new) (lines_text (plays (message_reading catalogue.now l) c (end_events c.live m)).lines) }
-    ensures kept { (l : Listed) (c : Scene) (m : Message) → IsAt catalogue.now l slots.old c m now → length m.payload ≡ now.come →
-        OnOk result (Keeps catalogue.now l slots.new (plays (message_reading catalogue.now l) c (end_events c.live m)).scene (whose_after c.live m)) }
-    ensures faults { (l : Listed) (c : Scene) (m : Message) → IsAt catalogue.now l slots.old c m now → length m.payload ≡ now.come →
-        IfOk result (λ fault. fault_count (plays (message_reading catalogue.now l) c (end_events c.live m)).lines ≡ (if fault then 1 else 0)) }
+    ensures does { (l : Listed) (c : Scene) (m : Message) →
+        IsAt catalogue.now l slots.old c m now → length m.payload ≡ now.come →
+        Plays catalogue.now l one_if result (O.log out.old) (O.log out.new) slots.new
+        (plays (message_reading catalogue.now l) c (end_events c.live m)) (whose_after c.live m) }
     ensures ready { AreReady catalogue.now (now.place + 1) slots.new }
 {
     if now.come == size_of(&now.header) {
@@ -227,7 +202,7 @@ fn finishes<O: Out>(
     Ok(false)
 }
 
-/// How many of these are so.
+/// How many messages an octet faults, by what its three parts say.
 fn count(a: bool, b: bool, c: bool) -> u8
     ensures value { result ≡ (if a then 1 else 0) + ((if b then 1 else 0) + (if c then 1 else 0)) }
     ensures few { result ≤ 3 }
@@ -246,15 +221,13 @@ pub fn octet<O: Out>(
 ) -> Result<u8, OutFault>
     requires ready { AreReady catalogue.now now.place slots.old }
     requires of { AreOf catalogue.now requests.now }
-    requires place { 1 ≤ now.place }
     requires limit { now.place ≤ 2 ^ 48 }
-    ensures text { (c : Scene) (m : Message) → IsNext catalogue.now requests.now slots.old c m now octet →
-        Writes result (O.log out.old) (O.log out.new) (lines_text (plays (message_reading catalogue.now requests.now) c (happens c.live (with_octet m octet))).lines) }
-    ensures kept { (c : Scene) (m : Message) → IsNext catalogue.now requests.now slots.old c m now octet →
-        (let play = plays (message_reading catalogue.now requests.now) c (happens c.live (with_octet m octet)) in
-        OnOk result (Keeps catalogue.now requests.now slots.new play.scene (whose_after play.scene.live (with_octet m octet)))) }
-    ensures faults { (c : Scene) (m : Message) → IsNext catalogue.now requests.now slots.old c m now octet →
-        IfOk result (λ faults. fault_count (plays (message_reading catalogue.now requests.now) c (happens c.live (with_octet m octet))).lines ≡ faults) }
+    ensures does { (c : Scene) (m : Message) →
+        IsNext catalogue.now requests.now slots.old c m now octet →
+        (let R = message_reading catalogue.now requests.now in
+        let play = plays R c (happens c.live (with_octet m octet)) in
+        Plays catalogue.now requests.now all result (O.log out.old) (O.log out.new) slots.new
+        play (whose_after play.scene.live (with_octet m octet))) }
     ensures few { IfOk result (λ faults. faults ≤ 3) }
     ensures ready { OnOk result (AreReady catalogue.now (now.place + 1) slots.new) }
 {
@@ -274,13 +247,10 @@ fn starts<O: Out>(
     out: &mut O,
 ) -> Result<bool, OutFault>
     requires ready { AreReady catalogue.now now.place slots.old }
-    requires place { 12 ≤ now.place }
-    ensures text { (l : Listed) (c : Scene) (who : Option Title) (m : Message) → IsFirst catalogue.now l slots.old c who m now →
-        Writes result (O.log out.old) (O.log out.new) (lines_text (plays (message_reading catalogue.now l) c (at_header m)).lines) }
-    ensures kept { (l : Listed) (c : Scene) (who : Option Title) (m : Message) → IsFirst catalogue.now l slots.old c who m now →
-        OnOk result (Keeps catalogue.now l slots.new (plays (message_reading catalogue.now l) c (at_header m)).scene (Some (title m))) }
-    ensures faults { (l : Listed) (c : Scene) (who : Option Title) (m : Message) → IsFirst catalogue.now l slots.old c who m now →
-        IfOk result (λ fault. fault_count (plays (message_reading catalogue.now l) c (at_header m)).lines ≡ (if fault then 1 else 0)) }
+    ensures does { (l : Listed) (c : Scene) (who : Option Title) (m : Message) →
+        IsFirst catalogue.now l slots.old c who m now →
+        Plays catalogue.now l one_if result (O.log out.old) (O.log out.new) slots.new
+        (plays (message_reading catalogue.now l) c (at_header m)) (Some (title m)) }
     ensures ready { OnOk result (AreReady catalogue.now (now.place + 1) slots.new) }
 {
     start_line(out, now.number, &now.header)?;
@@ -299,14 +269,11 @@ pub fn header<O: Out>(
     out: &mut O,
 ) -> Result<u8, OutFault>
     requires ready { AreReady catalogue.now now.place slots.old }
-    requires place { 12 ≤ now.place }
-    ensures text { (l : Listed) (c : Scene) (who : Option Title) (m : Message) → IsFirst catalogue.now l slots.old c who m now →
-        Writes result (O.log out.old) (O.log out.new) (lines_text (plays (message_reading catalogue.now l) c (happens c.live m)).lines) }
-    ensures kept { (l : Listed) (c : Scene) (who : Option Title) (m : Message) → IsFirst catalogue.now l slots.old c who m now →
+    ensures does { (l : Listed) (c : Scene) (who : Option Title) (m : Message) →
+        IsFirst catalogue.now l slots.old c who m now →
         (let play = plays (message_reading catalogue.now l) c (happens c.live m) in
-        OnOk result (Keeps catalogue.now l slots.new play.scene (whose_after play.scene.live m))) }
-    ensures faults { (l : Listed) (c : Scene) (who : Option Title) (m : Message) → IsFirst catalogue.now l slots.old c who m now →
-        IfOk result (λ faults. fault_count (plays (message_reading catalogue.now l) c (happens c.live m)).lines ≡ faults) }
+        Plays catalogue.now l all result (O.log out.old) (O.log out.new) slots.new
+        play (whose_after play.scene.live m)) }
     ensures few { IfOk result (λ faults. faults ≤ 3) }
     ensures ready { OnOk result (AreReady catalogue.now (now.place + 1) slots.new) }
 {

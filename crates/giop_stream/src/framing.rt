@@ -3,8 +3,8 @@
 ghost use Rattle.std.specs.Prelude.{◌≡◌, ◌+◌, ◌*◌, ◌++◌, ◌∷◌, ◌^◌, ◌≤◌, ◌<◌, ℕ, List, [], length, None, OnOk, if◌then◌else◌};
 ghost use Rattle.arrayvec.specs.ArrayVec.{array_vec_len};
 
+use crate::current::Current;
 use crate::dispatch;
-use crate::dispatch::Current;
 use crate::fault::StreamFault;
 use crate::header::{size_of, wrong_in};
 use crate::lines::stream_fault_line;

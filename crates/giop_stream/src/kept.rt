@@ -1,17 +1,15 @@
 //! What is done to one message that has begun and not ended, of which nothing is kept once it is over.
 
 ghost use Rattle.std.specs.Prelude.{◌≡◌, ◌+◌, ◌≤◌, ◌^◌, ℕ, List, length, Option, None, OnOk, IfOk, if◌then◌else◌};
-ghost use Rattle.giop_print.specs.Output.{Writes};
 ghost use Rattle.giop_sig.specs.Table.{Table};
 ghost use Rattle.giop_message.specs.Signatures.{Kept as Listed};
 ghost use Rattle.giop_message.specs.MessageReading.{message_reading};
 ghost use Rattle.giop_message.specs.Holding.{AreOf};
 ghost use Rattle.giop_stream.specs.Events.{Title, Imposed, Closes};
-ghost use Rattle.giop_stream.specs.Text.{lines_text};
-ghost use Rattle.giop_stream.specs.Stream.{fault_count};
-ghost use Rattle.giop_stream.specs.Plays.{lines_of, octets_then};
+ghost use Rattle.giop_stream.specs.Plays.{part_of, lines_of};
 ghost use Rattle.giop_stream.specs.Keeping.{IsKept, IsReady, event};
-ghost use Rattle.giop_stream.specs.Runs.{run_of, run_octets};
+ghost use Rattle.giop_stream.specs.Playing.{PlaysPart, Says, one_if};
+ghost use Rattle.giop_stream.specs.Runs.{run_part};
 
 use crate::fault::ImposedFault;
 use crate::lines::imposed_line;
@@ -38,12 +36,10 @@ pub fn give<O: Out>(
     requires ready { IsReady catalogue.now (before + 1) message.old }
     requires of { AreOf catalogue.now requests.now }
     requires limit { before + length octets.now ≤ 2 ^ 48 }
-    ensures text { (w : Title) (o : Option (List ℕ)) → IsKept catalogue.now requests.now message.old w o →
-        Writes result (O.log out.old) (O.log out.new) (lines_text (run_of catalogue.now requests.now before w o octets.now)) }
-    ensures kept { (w : Title) (o : Option (List ℕ)) → IsKept catalogue.now requests.now message.old w o →
-        OnOk result (IsKept catalogue.now requests.now message.new w (run_octets catalogue.now requests.now before w o octets.now)) }
-    ensures faults { (w : Title) (o : Option (List ℕ)) → IsKept catalogue.now requests.now message.old w o →
-        IfOk result (λ fault. fault_count (run_of catalogue.now requests.now before w o octets.now) ≡ (if fault then 1 else 0)) }
+    ensures does { (w : Title) (o : Option (List ℕ)) →
+        IsKept catalogue.now requests.now message.old w o →
+        PlaysPart catalogue.now requests.now one_if result (O.log out.old) (O.log out.new)
+        message.new w (run_part catalogue.now requests.now before w o octets.now) }
     ensures ready { OnOk result (IsReady catalogue.now (before + length octets.now + 1) message.new) }
 {
     let Some(m) = message else {
@@ -64,12 +60,10 @@ pub fn impose<O: Out>(
     place: u64,
     out: &mut O,
 ) -> Result<bool, OutFault>
-    ensures text { (C : Table) (l : Listed) (w : Title) (o : Option (List ℕ)) → IsKept C l message.old w o → w.number ≡ number →
-        Writes result (O.log out.old) (O.log out.new) (lines_text (lines_of (message_reading C l) (event place w (Imposed fault)) o)) }
-    ensures kept { (C : Table) (l : Listed) (w : Title) (o : Option (List ℕ)) → IsKept C l message.old w o →
-        OnOk result (IsKept C l message.new w (octets_then (message_reading C l) (event place w (Imposed fault)) o)) }
-    ensures faults { (C : Table) (l : Listed) (w : Title) (o : Option (List ℕ)) → IsKept C l message.old w o →
-        IfOk result (λ does. fault_count (lines_of (message_reading C l) (event place w (Imposed fault)) o) ≡ (if does then 1 else 0)) }
+    ensures does { (C : Table) (l : Listed) (w : Title) (o : Option (List ℕ)) →
+        IsKept C l message.old w o → w.number ≡ number →
+        PlaysPart C l one_if result (O.log out.old) (O.log out.new) message.new w
+        (part_of (message_reading C l) (event place w (Imposed fault)) o) }
     ensures ready { (C : Table) (n : ℕ) → IsReady C n message.new }
 {
     if message.take().is_none() {
@@ -87,10 +81,9 @@ pub fn shut<O: Out>(
     out: &mut O,
 ) -> Result<bool, OutFault>
     requires ready { IsReady catalogue.now (place + 1) message }
-    ensures text { (l : Listed) (w : Title) (o : Option (List ℕ)) → IsKept catalogue.now l message w o →
-        Writes result (O.log out.old) (O.log out.new) (lines_text (lines_of (message_reading catalogue.now l) (event place w Closes) o)) }
-    ensures faults { (l : Listed) (w : Title) (o : Option (List ℕ)) → IsKept catalogue.now l message w o →
-        IfOk result (λ short. fault_count (lines_of (message_reading catalogue.now l) (event place w Closes) o) ≡ (if short then 1 else 0)) }
+    ensures { (l : Listed) (w : Title) (o : Option (List ℕ)) → IsKept catalogue.now l message w o →
+        Says one_if result (O.log out.old) (O.log out.new)
+        (lines_of (message_reading catalogue.now l) (event place w Closes) o) }
 {
     match message {
         Some(m) => m.close(catalogue, place, out),

@@ -1,6 +1,7 @@
 //! Streams of GIOP messages, joined from their fragments: octets in, lines out.
 #![tactic(auto)]
 
+mod current;
 mod dispatch;
 mod engine;
 mod fault;

@@ -6,9 +6,7 @@ ghost use Rattle.giop_sig.specs.Table.{Table};
 ghost use Rattle.giop_message.specs.Signatures.{Kept as Listed};
 ghost use Rattle.giop_message.specs.Holding.{AreOf};
 ghost use Rattle.giop_stream.specs.Events.{Title, Imposed, Closes};
-ghost use Rattle.giop_stream.specs.Text.{lines_text};
-ghost use Rattle.giop_stream.specs.Stream.{fault_count};
-ghost use Rattle.giop_stream.specs.Plays.{Scene};
+ghost use Rattle.giop_stream.specs.Plays.{Scene, IsNotOpen};
 
 use crate::fault::ImposedFault;
 use crate::kept::{give, impose, shut};
@@ -55,10 +53,11 @@ impl Slots {
     ghost use Rattle.giop_message.specs.Signatures.{said_by};
     ghost use Rattle.giop_message.specs.Messages.{message, told_of};
     ghost use Rattle.giop_message.specs.MessageReading.{id_said};
-    ghost use Rattle.giop_stream.specs.Keeping.{AreSlots, IsKept, Keeps, AreReady, IsBare, scene_to, lines_to};
+    ghost use Rattle.giop_stream.specs.Keeping.{AreSlots, IsKept, Keeps, AreReady, IsBare, play_to};
+    ghost use Rattle.giop_stream.specs.Playing.{Plays, one_if, never};
     ghost use Rattle.giop_stream.specs.Machine.{left_open};
     ghost use Rattle.giop_stream.specs.State.{Slot as Held};
-    ghost use Rattle.giop_stream.specs.Runs.{run_scene, run_lines};
+    ghost use Rattle.giop_stream.specs.Runs.{run_play};
 
     /// No message.
     pub fn new() -> Slots
@@ -74,8 +73,10 @@ impl Slots {
 
     /// The open messages that have neither ended nor been faulted, by number.
     pub fn unfinished<O: Out>(&self, out: &mut O) -> Result<(), OutFault>
-        ensures { (C : Table) (l : Listed) (slots : List Held) → AreSlots C l self.now.slots.items slots →
-            Writes result (O.log out.old) (O.log out.new) (flat_map unfinished_line (flat_map left_open slots)) }
+        ensures { (C : Table) (l : Listed) (slots : List Held) →
+            AreSlots C l self.now.slots.items slots →
+            Writes result (O.log out.old) (O.log out.new)
+            (flat_map unfinished_line (flat_map left_open slots)) }
     {
         for slot in self.slots.as_slice() {
             if slot.message.is_some() {
@@ -98,12 +99,10 @@ impl Slots {
         requires ready { AreReady catalogue.now (before + 1) self.old }
         requires of { AreOf catalogue.now requests.now }
         requires limit { before + length octets.now ≤ 2 ^ 48 }
-        ensures text { (c : Scene) (whose : Option Title) → Keeps catalogue.now requests.now self.old c whose →
-            Writes result (O.log out.old) (O.log out.new) (lines_text (run_lines catalogue.now requests.now before c whose octets.now)) }
-        ensures kept { (c : Scene) (whose : Option Title) → Keeps catalogue.now requests.now self.old c whose → Rising c.live →
-            OnOk result (Keeps catalogue.now requests.now self.new (run_scene catalogue.now requests.now before c whose octets.now) whose) }
-        ensures faults { (c : Scene) (whose : Option Title) → Keeps catalogue.now requests.now self.old c whose →
-            IfOk result (λ fault. fault_count (run_lines catalogue.now requests.now before c whose octets.now) ≡ (if fault then 1 else 0)) }
+        ensures does { (c : Scene) (whose : Option Title) →
+            Keeps catalogue.now requests.now self.old c whose → Rising c.live →
+            Plays catalogue.now requests.now one_if result (O.log out.old) (O.log out.new) self.new
+            (run_play catalogue.now requests.now before c whose octets.now) whose }
         ensures ready { OnOk result (AreReady catalogue.now (before + length octets.now + 1) self.new) }
     {
         match self.payload {
@@ -124,12 +123,10 @@ impl Slots {
         place: u64,
         out: &mut O,
     ) -> Result<bool, OutFault>
-        ensures text { (C : Table) (l : Listed) (c : Scene) (w : Title) → Keeps C l self.old c (Some w) → w.number ≡ number →
-            Writes result (O.log out.old) (O.log out.new) (lines_text (lines_to C l place c (Some w) (Imposed fault))) }
-        ensures kept { (C : Table) (l : Listed) (c : Scene) (w : Title) → Keeps C l self.old c (Some w) → Rising c.live →
-            OnOk result (Keeps C l self.new (scene_to C l place c (Some w) (Imposed fault)) (Some w)) }
-        ensures faults { (C : Table) (l : Listed) (c : Scene) (w : Title) → Keeps C l self.old c (Some w) →
-            IfOk result (λ does. fault_count (lines_to C l place c (Some w) (Imposed fault)) ≡ (if does then 1 else 0)) }
+        ensures does { (C : Table) (l : Listed) (c : Scene) (w : Title) →
+            Keeps C l self.old c (Some w) → w.number ≡ number → Rising c.live →
+            Plays C l one_if result (O.log out.old) (O.log out.new) self.new
+            (play_to C l place c (Some w) (Imposed fault)) (Some w) }
         ensures ready { (C : Table) (n : ℕ) → AreReady C n self.old → AreReady C n self.new }
     {
         match self.payload {
@@ -150,12 +147,10 @@ impl Slots {
         out: &mut O,
     ) -> Result<bool, OutFault>
         requires ready { AreReady catalogue.now (place + 1) self.old }
-        ensures text { (l : Listed) (c : Scene) (whose : Option Title) → Keeps catalogue.now l self.old c whose →
-            Writes result (O.log out.old) (O.log out.new) (lines_text (lines_to catalogue.now l place c whose Closes)) }
-        ensures kept { (l : Listed) (c : Scene) (whose : Option Title) → Keeps catalogue.now l self.old c whose → Rising c.live →
-            OnOk result (Keeps catalogue.now l self.new (scene_to catalogue.now l place c whose Closes) None) }
-        ensures faults { (l : Listed) (c : Scene) (whose : Option Title) → Keeps catalogue.now l self.old c whose →
-            IfOk result (λ short. fault_count (lines_to catalogue.now l place c whose Closes) ≡ (if short then 1 else 0)) }
+        ensures does { (l : Listed) (c : Scene) (whose : Option Title) →
+            Keeps catalogue.now l self.old c whose → Rising c.live →
+            Plays catalogue.now l one_if result (O.log out.old) (O.log out.new) self.new
+            (play_to catalogue.now l place c whose Closes) None }
         ensures ready { AreReady catalogue.now (place + 1) self.new }
     {
         let payload = self.payload;
@@ -173,8 +168,10 @@ impl Slots {
     /// Makes the message whose payload comes an open one.
     pub fn open(&mut self, number: u64, header: [u8; 12], id: u32)
         requires { length self.old.slots.items < 16 }
-        ensures kept { (C : Table) (l : Listed) (c : Scene) (w : Title) (place : ℕ) → Keeps C l self.old c (Some w) → self.old.payload ≡ Payload.Own →
-            w.number ≡ number → w.header ≡ header → Keeps C l self.new (scene_to C l place c (Some w) (Opens id)) (Some w) }
+        ensures kept { (C : Table) (l : Listed) (c : Scene) (w : Title) (place : ℕ) →
+            Keeps C l self.old c (Some w) → self.old.payload ≡ Payload.Own →
+            w.number ≡ number → w.header ≡ header →
+            Keeps C l self.new (play_to C l place c (Some w) (Opens id)).scene (Some w) }
         ensures ready { (C : Table) (n : ℕ) → AreReady C n self.old → AreReady C n self.new }
     {
         let message = self.own.take();
@@ -189,7 +186,8 @@ impl Slots {
 
     /// The payload is of the open message at this place, from now on.
     pub fn pass_on(&mut self, k: usize)
-        ensures kept { (C : Table) (l : Listed) (c : Scene) (whose : Option Title) (o : Open) → Keeps C l self.old c whose → slice_get c.live k ≡ Some o →
+        ensures kept { (C : Table) (l : Listed) (c : Scene) (whose : Option Title) (o : Open) →
+            Keeps C l self.old c whose → slice_get c.live k ≡ Some o →
             Keeps C l self.new c (Some o.opener) }
         ensures ready { (C : Table) (n : ℕ) → AreReady C n self.old → AreReady C n self.new }
     {
@@ -199,7 +197,8 @@ impl Slots {
 
     /// The payload is no message's, from now on.
     pub fn lose(&mut self)
-        ensures kept { (C : Table) (l : Listed) (c : Scene) (whose : Option Title) → Keeps C l self.old c whose → Keeps C l self.new c None }
+        ensures kept { (C : Table) (l : Listed) (c : Scene) (whose : Option Title) →
+            Keeps C l self.old c whose → Keeps C l self.new c None }
         ensures ready { (C : Table) (n : ℕ) → AreReady C n self.old → AreReady C n self.new }
     {
         self.own = None;
@@ -208,8 +207,10 @@ impl Slots {
 
     /// A message begins.
     pub fn begin(&mut self, catalogue: &Catalogue, number: u64, header: [u8; 12])
-        ensures kept { (l : Listed) (c : Scene) (whose : Option Title) → Keeps catalogue.now l self.old c whose → (w : Title) → w.number ≡ number → w.header ≡ header →
-            c.known w.number ≡ Some [] → Each (λ o. o.opener.number ≡ w.number → ⊥) c.live → Keeps catalogue.now l self.new c (Some w) }
+        ensures kept { (l : Listed) (c : Scene) (whose : Option Title) (w : Title) →
+            Keeps catalogue.now l self.old c whose → w.number ≡ number → w.header ≡ header →
+            c.known w.number ≡ Some [] → IsNotOpen w.number c.live →
+            Keeps catalogue.now l self.new c (Some w) }
         ensures ready { (n : ℕ) → AreReady catalogue.now n self.old → 12 < n → AreReady catalogue.now n self.new }
     {
         self.own = Some(Message::start(catalogue, number, header));
@@ -218,7 +219,8 @@ impl Slots {
 
     /// The request id of the message whose payload comes, once its own octets have brought it.
     pub fn request_id(&self) -> u32
-        ensures { (C : Table) (l : Listed) (w : Title) (xs : List ℕ) (i : ℕ) → IsKept C l self.now.own w (Some xs) →
+        ensures { (C : Table) (l : Listed) (w : Title) (xs : List ℕ) (i : ℕ) →
+            IsKept C l self.now.own w (Some xs) →
             id_said (told_of (message (said_by C l) w.header xs)) ≡ Some i → result ≡ i }
     {
         match &self.own {
@@ -243,11 +245,11 @@ impl Slots {
         place: u64,
         out: &mut O,
     ) -> Result<(), OutFault>
-        ensures text { (C : Table) (l : Listed) (c : Scene) (whose : Option Title) (o : Open) → Keeps C l self.old c whose → slice_get c.live k ≡ Some o →
-            Writes result (O.log out.old) (O.log out.new) (lines_text (lines_to C l place c (Some o.opener) (Cancelled by))) }
-        ensures kept { (C : Table) (l : Listed) (c : Scene) (w : Title) (o : Open) → Keeps C l self.old c (Some w) → self.old.payload ≡ Payload.Own →
+        ensures does { (C : Table) (l : Listed) (c : Scene) (w : Title) (o : Open) →
+            Keeps C l self.old c (Some w) → self.old.payload ≡ Payload.Own →
             slice_get c.live k ≡ Some o → Rising c.live →
-            OnOk result (Keeps C l self.new (scene_to C l place c (Some o.opener) (Cancelled by)) (Some w)) }
+            Plays C l never result (O.log out.old) (O.log out.new) self.new
+            (play_to C l place c (Some o.opener) (Cancelled by)) (Some w) }
         ensures ready { (C : Table) (n : ℕ) → AreReady C n self.old → AreReady C n self.new }
     {
         match self.slots.pop_at(k) {

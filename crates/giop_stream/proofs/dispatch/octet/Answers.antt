@@ -1,54 +1,71 @@
-use Rattle.std.proofs.Common.{sym, ap, ◌∙◌, arith}
+use Rattle.std.proofs.Common.{sym, ap, arith}
 use Rattle.giop_message.specs.MessageReading.{message_reading}
-use Rattle.giop_stream.specs.Stream.{fault_count}
-use Rattle.giop_stream.specs.Plays.{with_octet}
-use Rattle.giop_stream.proofs.Parts.{in_parts, some_come, come_is, takes_lines, taken_here, named_at, third_whose, text_append, parts_text, parts_faults}
-use Rattle.giop_print.proofs.Writing.{wrote-append, writes_then, writes_err}
-use Rattle.giop_stream.proofs.Exits.{writes_front}
+use Rattle.giop_stream.specs.Plays.{Play, with_octet}
+use Rattle.giop_stream.proofs.Parts.{in_parts, some_come, come_is, takes_play, taken_here, named_at, third_whose}
+use Rattle.giop_stream.proofs.Performing.{performs_on, first_failed, call_failed, then_failed, done_then, counts_as}
 use Rattle.giop_stream.proofs.Headed.{ready_later}
 use Rattle.giop_stream.proofs.dispatch.octet.Goals as goal
 
 pub take-requires : goal.take-requires
-take-requires g c = record { ready = ready_later c.args.catalogue.now _ _ _ (omega (arith, c.requires.place)) c.requires.ready; of = c.requires.of; limit = omega (arith, c.requires.place, c.requires.limit) }
+take-requires g c =
+    record { ready = ready_later c.args.catalogue.now _ _ _ (omega (arith, c.args.now.behind_header)) c.requires.ready; of = c.requires.of; limit = omega (arith, c.args.now.behind_header, c.requires.limit) }
 
 pub finishes-requires : goal.finishes-requires
-finishes-requires g c = record { ready = c.names.ensures.ready _ _ (ready_later c.args.catalogue.now _ _ _ (omega (arith, c.requires.place)) c.in_ok-taken.ensures.ready) }
+finishes-requires g c =
+    record { ready = c.names.ensures.ready _ _ (ready_later c.args.catalogue.now _ _ _ (omega (arith, c.args.now.behind_header)) c.in_ok-taken.ensures.ready) }
 
-pub returns-in_err-taken-clause-text : goal.returns-in_err-taken-clause-text
-returns-in_err-taken-clause-text g c =
+pub returns-in_err-taken-clause-does : goal.returns-in_err-taken-clause-does
+returns-in_err-taken-clause-does g c =
     λ c' m h.
-    rw (in_parts (message_reading c.args.catalogue.now c.args.requests.now) c' (with_octet m c.args.octet) (some_come c.args.catalogue.now c.args.requests.now c.args.slots.now c' m c.args.now c.args.octet h), text_append, takes_lines c.args.catalogue.now c.args.requests.now c.args.slots.now c' m c.args.now c.args.octet h) (writes_err c.from_residual.result _ _ _ _ c.from_residual.ensures.0 (c.in_err-taken.ensures.text c' _ h.keeps))
+    let C = c.args.catalogue.now in
+    let l = c.args.requests.now in
+    let x = c.args.octet in
+    let parts = in_parts (message_reading C l) c' (with_octet m x) (some_come C l c.args.slots.now c' m c.args.now x h) in
+    let play = takes_play C l c.args.slots.now c' m c.args.now x h in
+    let took = performs_on _ _ _ (ap (λ (p : Play). p.lines) play) (λ k. k) (c.in_err-taken.ensures.does c' _ h.keeps h.rising) in
+    rw parts (first_failed _ _ c.from_residual.result _ _ c.from_residual.ensures.0 took)
 
-pub returns-in_err-named-clause-text : goal.returns-in_err-named-clause-text
-returns-in_err-named-clause-text g c =
+pub returns-in_err-named-clause-does : goal.returns-in_err-named-clause-does
+returns-in_err-named-clause-does g c =
     λ c' m h.
-    let taken = taken_here c.args.catalogue.now c.args.requests.now c.args.slots.now c' m c.args.now c.args.octet h c.take.new.self (c.in_ok-taken.ensures.kept c' _ h.keeps h.rising) in
-    rw (in_parts (message_reading c.args.catalogue.now c.args.requests.now) c' (with_octet m c.args.octet) (some_come c.args.catalogue.now c.args.requests.now c.args.slots.now c' m c.args.now c.args.octet h), parts_text, takes_lines c.args.catalogue.now c.args.requests.now c.args.slots.now c' m c.args.now c.args.octet h) (writes_then c.from_residual-in_err-named.result (g.O.Out.log c.args.out.now) (g.O.Out.log c.take.new.out) (g.O.Out.log c.names.new.out) _ _ (c.in_ok-taken.ensures.text c' _ h.keeps) (writes_err c.from_residual-in_err-named.result (g.O.Out.log c.take.new.out) (g.O.Out.log c.names.new.out) _ _ c.from_residual-in_err-named.ensures.0 (c.in_err-named.ensures.text c.args.catalogue.now c.args.requests.now _ _ taken)))
+    let C = c.args.catalogue.now in
+    let l = c.args.requests.now in
+    let x = c.args.octet in
+    let parts = in_parts (message_reading C l) c' (with_octet m x) (some_come C l c.args.slots.now c' m c.args.now x h) in
+    let play = takes_play C l c.args.slots.now c' m c.args.now x h in
+    let took = performs_on _ _ _ (ap (λ (p : Play). p.lines) play) (λ k. k) (c.in_ok-taken.ensures.does c' _ h.keeps h.rising) in
+    let taken = taken_here C l c.args.slots.now c' m c.args.now x h c.take.new.self took.kept in
+    rw parts (then_failed _ c.from_residual-in_err-named.result _ _ _ c.from_residual-in_err-named.ensures.0 took (first_failed _ _ c.from_residual-in_err-named.result _ _ c.from_residual-in_err-named.ensures.0 (c.in_err-named.ensures.does C l _ _ taken)))
 
-pub returns-in_err-ended-clause-text : goal.returns-in_err-ended-clause-text
-returns-in_err-ended-clause-text g c =
+pub returns-in_err-ended-clause-does : goal.returns-in_err-ended-clause-does
+returns-in_err-ended-clause-does g c =
     λ c' m h.
-    let taken = taken_here c.args.catalogue.now c.args.requests.now c.args.slots.now c' m c.args.now c.args.octet h c.take.new.self (c.in_ok-taken.ensures.kept c' _ h.keeps h.rising) in
-    let at = named_at c.args.catalogue.now c.args.requests.now c.args.slots.now c' m c.args.now c.args.octet h c.names.new.slots (c.in_ok-named.ensures.kept c.args.catalogue.now c.args.requests.now _ _ taken) in
-    rw (in_parts (message_reading c.args.catalogue.now c.args.requests.now) c' (with_octet m c.args.octet) (some_come c.args.catalogue.now c.args.requests.now c.args.slots.now c' m c.args.now c.args.octet h), parts_text, takes_lines c.args.catalogue.now c.args.requests.now c.args.slots.now c' m c.args.now c.args.octet h) (writes_then c.from_residual-in_err-ended.result (g.O.Out.log c.args.out.now) (g.O.Out.log c.take.new.out) (g.O.Out.log c.finishes.new.out) _ _ (c.in_ok-taken.ensures.text c' _ h.keeps) (writes_then c.from_residual-in_err-ended.result (g.O.Out.log c.take.new.out) (g.O.Out.log c.names.new.out) (g.O.Out.log c.finishes.new.out) _ _ (c.in_ok-named.ensures.text c.args.catalogue.now c.args.requests.now _ _ taken) (writes_front c.from_residual-in_err-ended.result (g.O.Out.log c.names.new.out) (g.O.Out.log c.finishes.new.out) _ c.from_residual-in_err-ended.ensures.0 (c.in_err-ended.ensures.text c.args.requests.now _ _ at (come_is c.args.catalogue.now c.args.requests.now c.args.slots.now c' m c.args.now c.args.octet h)))))
+    let C = c.args.catalogue.now in
+    let l = c.args.requests.now in
+    let x = c.args.octet in
+    let parts = in_parts (message_reading C l) c' (with_octet m x) (some_come C l c.args.slots.now c' m c.args.now x h) in
+    let play = takes_play C l c.args.slots.now c' m c.args.now x h in
+    let took = performs_on _ _ _ (ap (λ (p : Play). p.lines) play) (λ k. k) (c.in_ok-taken.ensures.does c' _ h.keeps h.rising) in
+    let taken = taken_here C l c.args.slots.now c' m c.args.now x h c.take.new.self took.kept in
+    let named = c.in_ok-named.ensures.does C l _ _ taken in
+    let at = named_at C l c.args.slots.now c' m c.args.now x h c.names.new.slots named.kept in
+    let come = come_is C l c.args.slots.now c' m c.args.now x h in
+    let ended = call_failed _ c.from_residual-in_err-ended.result _ _ c.from_residual-in_err-ended.ensures.0 (c.in_err-ended.ensures.does l _ _ at come) in
+    let rest = then_failed _ c.from_residual-in_err-ended.result _ _ _ c.from_residual-in_err-ended.ensures.0 named ended in
+    rw parts (then_failed _ c.from_residual-in_err-ended.result _ _ _ c.from_residual-in_err-ended.ensures.0 took rest)
 
-pub returns-clause-text : goal.returns-clause-text
-returns-clause-text g c =
+pub returns-clause-does : goal.returns-clause-does
+returns-clause-does g c =
     λ c' m h.
-    let taken = taken_here c.args.catalogue.now c.args.requests.now c.args.slots.now c' m c.args.now c.args.octet h c.take.new.self (c.in_ok-taken.ensures.kept c' _ h.keeps h.rising) in
-    let at = named_at c.args.catalogue.now c.args.requests.now c.args.slots.now c' m c.args.now c.args.octet h c.names.new.slots (c.in_ok-named.ensures.kept c.args.catalogue.now c.args.requests.now _ _ taken) in
-    rw (in_parts (message_reading c.args.catalogue.now c.args.requests.now) c' (with_octet m c.args.octet) (some_come c.args.catalogue.now c.args.requests.now c.args.slots.now c' m c.args.now c.args.octet h), parts_text, takes_lines c.args.catalogue.now c.args.requests.now c.args.slots.now c' m c.args.now c.args.octet h) (wrote-append (g.O.Out.log c.args.out.now) (g.O.Out.log c.take.new.out) (g.O.Out.log c.finishes.new.out) _ _ (c.in_ok-taken.ensures.text c' _ h.keeps) (wrote-append (g.O.Out.log c.take.new.out) (g.O.Out.log c.names.new.out) (g.O.Out.log c.finishes.new.out) _ _ (c.in_ok-named.ensures.text c.args.catalogue.now c.args.requests.now _ _ taken) (c.in_ok-ended.ensures.text c.args.requests.now _ _ at (come_is c.args.catalogue.now c.args.requests.now c.args.slots.now c' m c.args.now c.args.octet h))))
-
-pub returns-clause-kept : goal.returns-clause-kept
-returns-clause-kept g c =
-    λ c' m h.
-    let taken = taken_here c.args.catalogue.now c.args.requests.now c.args.slots.now c' m c.args.now c.args.octet h c.take.new.self (c.in_ok-taken.ensures.kept c' _ h.keeps h.rising) in
-    let at = named_at c.args.catalogue.now c.args.requests.now c.args.slots.now c' m c.args.now c.args.octet h c.names.new.slots (c.in_ok-named.ensures.kept c.args.catalogue.now c.args.requests.now _ _ taken) in
-    rw (in_parts (message_reading c.args.catalogue.now c.args.requests.now) c' (with_octet m c.args.octet) (some_come c.args.catalogue.now c.args.requests.now c.args.slots.now c' m c.args.now c.args.octet h), ← third_whose (message_reading c.args.catalogue.now c.args.requests.now) c' (with_octet m c.args.octet)) (c.in_ok-ended.ensures.kept c.args.requests.now _ _ at (come_is c.args.catalogue.now c.args.requests.now c.args.slots.now c' m c.args.now c.args.octet h))
-
-pub returns-clause-faults : goal.returns-clause-faults
-returns-clause-faults g c =
-    λ c' m h.
-    let taken = taken_here c.args.catalogue.now c.args.requests.now c.args.slots.now c' m c.args.now c.args.octet h c.take.new.self (c.in_ok-taken.ensures.kept c' _ h.keeps h.rising) in
-    let at = named_at c.args.catalogue.now c.args.requests.now c.args.slots.now c' m c.args.now c.args.octet h c.names.new.slots (c.in_ok-named.ensures.kept c.args.catalogue.now c.args.requests.now _ _ taken) in
-    rw (in_parts (message_reading c.args.catalogue.now c.args.requests.now) c' (with_octet m c.args.octet) (some_come c.args.catalogue.now c.args.requests.now c.args.slots.now c' m c.args.now c.args.octet h)) (parts_faults _ _ _ _ _ _ (ap fault_count (takes_lines c.args.catalogue.now c.args.requests.now c.args.slots.now c' m c.args.now c.args.octet h) ∙ c.in_ok-taken.ensures.faults c' _ h.keeps) (c.in_ok-named.ensures.faults c.args.catalogue.now c.args.requests.now _ _ taken) (c.in_ok-ended.ensures.faults c.args.requests.now _ _ at (come_is c.args.catalogue.now c.args.requests.now c.args.slots.now c' m c.args.now c.args.octet h)) ∙ sym c.count.ensures.value)
+    let C = c.args.catalogue.now in
+    let l = c.args.requests.now in
+    let x = c.args.octet in
+    let parts = in_parts (message_reading C l) c' (with_octet m x) (some_come C l c.args.slots.now c' m c.args.now x h) in
+    let play = takes_play C l c.args.slots.now c' m c.args.now x h in
+    let took = performs_on _ _ _ (ap (λ (p : Play). p.lines) play) (λ k. k) (c.in_ok-taken.ensures.does c' _ h.keeps h.rising) in
+    let taken = taken_here C l c.args.slots.now c' m c.args.now x h c.take.new.self took.kept in
+    let named = c.in_ok-named.ensures.does C l _ _ taken in
+    let at = named_at C l c.args.slots.now c' m c.args.now x h c.names.new.slots named.kept in
+    let come = come_is C l c.args.slots.now c' m c.args.now x h in
+    let all = done_then _ _ _ _ _ took (done_then _ _ _ _ _ named (c.in_ok-ended.ensures.does l _ _ at come)) in
+    rw (parts, ← third_whose (message_reading C l) c' (with_octet m x)) (counts_as _ _ _ _ (sym c.count.ensures.value) all)

@@ -1,47 +1,29 @@
 use Rattle.std.proofs.Common.{[], arith, sym, ◌∙◌}
-use Rattle.giop_print.proofs.Writing.{writes_then, writes_err}
-use Rattle.giop_stream.proofs.Keepers.{all_ok}
-use Rattle.giop_stream.proofs.Named.{wrote_alone, no_faults}
-use Rattle.giop_stream.proofs.Headed.{ready_later, starts_faults, apart, begins, refuses, starts_text, header_text}
+use Rattle.giop_stream.proofs.Performing.{all_ok, no_faults, wrote_line, line_then, line_failed}
+use Rattle.giop_stream.proofs.Headed.{ready_later, starts_faults, apart, begins, refuses, starts_text, starts_first}
 use Rattle.giop_stream.proofs.dispatch.starts.Goals as goal
 
-pub returns-in_err-start_line-clause-text : goal.returns-in_err-start_line-clause-text
-returns-in_err-start_line-clause-text g c =
-    λ l c' who m h.
-    let text = header_text c.args.catalogue.now l c.args.slots.now c' who m c.args.now h in rw text.is (writes_err c.from_residual.result (g.O.Out.log c.args.out.now) (g.O.Out.log c.start_line.new.out) _ _ c.from_residual.ensures.0 c.in_err-start_line.ensures)
+pub returns-in_err-start_line-clause-does : goal.returns-in_err-start_line-clause-does
+returns-in_err-start_line-clause-does g c =
+    λ l c' who m h. line_failed c.from_residual.result _ _ _ (starts_first c.args.catalogue.now l c.args.slots.now c' who m c.args.now h) (starts_text c.args.catalogue.now l c.args.slots.now c' who m c.args.now h) c.from_residual.ensures.0 c.in_err-start_line.ensures
 
-pub returns-in-Some-clause-text : goal.returns-in-Some-clause-text
-returns-in-Some-clause-text g c =
+pub returns-in-Some-clause-does : goal.returns-in-Some-clause-does
+returns-in-Some-clause-does g c =
     λ l c' who m h.
-    rw (refuses c.args.catalogue.now l c.args.slots.now c' who m c.args.now h c.in-Some.fault (sym c.in-Some.is ∙ c.refused.ensures), starts_text c.args.catalogue.now l c.args.slots.now c' who m c.args.now h _) (writes_then c.impose.result (g.O.Out.log c.args.out.now) (g.O.Out.log c.start_line.new.out) _ _ _ c.in_ok-start_line.ensures (c.impose.ensures.text c.args.catalogue.now l c' _ (c.begin.ensures.kept l c' who h.keeps _ h.current.number h.current.header h.unknown (apart c.args.catalogue.now l c.args.slots.now c' who m c.args.now h)) h.current.number))
-
-pub returns-in-Some-clause-kept : goal.returns-in-Some-clause-kept
-returns-in-Some-clause-kept g c =
-    λ l c' who m h.
-    rw (refuses c.args.catalogue.now l c.args.slots.now c' who m c.args.now h c.in-Some.fault (sym c.in-Some.is ∙ c.refused.ensures)) (c.impose.ensures.kept c.args.catalogue.now l c' _ (c.begin.ensures.kept l c' who h.keeps _ h.current.number h.current.header h.unknown (apart c.args.catalogue.now l c.args.slots.now c' who m c.args.now h)) h.rising)
-
-pub returns-in-Some-clause-faults : goal.returns-in-Some-clause-faults
-returns-in-Some-clause-faults g c =
-    λ l c' who m h.
-    rw (refuses c.args.catalogue.now l c.args.slots.now c' who m c.args.now h c.in-Some.fault (sym c.in-Some.is ∙ c.refused.ensures), starts_faults m _) (c.impose.ensures.faults c.args.catalogue.now l c' _ (c.begin.ensures.kept l c' who h.keeps _ h.current.number h.current.header h.unknown (apart c.args.catalogue.now l c.args.slots.now c' who m c.args.now h)))
+    let keeps = c.begin.ensures.kept l c' who _ h.keeps h.current.number h.current.header h.unknown (apart c.args.catalogue.now l c.args.slots.now c' who m c.args.now h) in
+    rw (refuses c.args.catalogue.now l c.args.slots.now c' who m c.args.now h c.in-Some.fault (sym c.in-Some.is ∙ c.refused.ensures))
+    (line_then c.impose.result _ _ _ _ (starts_text c.args.catalogue.now l c.args.slots.now c' who m c.args.now h) (starts_faults m _) c.in_ok-start_line.ensures (c.impose.ensures.does c.args.catalogue.now l c' _ keeps h.current.number h.rising))
 
 pub returns-in-Some-clause-ready : goal.returns-in-Some-clause-ready
-returns-in-Some-clause-ready g c = all_ok _ c.impose.result (c.impose.ensures.ready _ _ (c.begin.ensures.ready _ (ready_later _ _ _ _ (omega arith) c.requires.ready) (omega (arith, c.requires.place))))
+returns-in-Some-clause-ready g c =
+    all_ok c.impose.result (c.impose.ensures.ready _ _ (c.begin.ensures.ready _ (ready_later _ _ _ _ (omega arith) c.requires.ready) (omega (arith, c.args.now.behind_header))))
 
-pub returns-in-None-clause-text : goal.returns-in-None-clause-text
-returns-in-None-clause-text g c =
+pub returns-in-None-clause-does : goal.returns-in-None-clause-does
+returns-in-None-clause-does g c =
     λ l c' who m h.
-    rw (begins c.args.catalogue.now l c.args.slots.now c' who m c.args.now h (sym c.in-None.is ∙ c.refused.ensures), starts_text c.args.catalogue.now l c.args.slots.now c' who m c.args.now h []) (wrote_alone _ _ _ c.in_ok-start_line.ensures)
-
-pub returns-in-None-clause-kept : goal.returns-in-None-clause-kept
-returns-in-None-clause-kept g c =
-    λ l c' who m h.
-    rw (begins c.args.catalogue.now l c.args.slots.now c' who m c.args.now h (sym c.in-None.is ∙ c.refused.ensures)) (c.begin.ensures.kept l c' who h.keeps _ h.current.number h.current.header h.unknown (apart c.args.catalogue.now l c.args.slots.now c' who m c.args.now h))
-
-pub returns-in-None-clause-faults : goal.returns-in-None-clause-faults
-returns-in-None-clause-faults g c =
-    λ l c' who m h.
-    rw (begins c.args.catalogue.now l c.args.slots.now c' who m c.args.now h (sym c.in-None.is ∙ c.refused.ensures)) (starts_faults m [] ∙ no_faults)
+    let keeps = c.begin.ensures.kept l c' who _ h.keeps h.current.number h.current.header h.unknown (apart c.args.catalogue.now l c.args.slots.now c' who m c.args.now h) in
+    rw (begins c.args.catalogue.now l c.args.slots.now c' who m c.args.now h (sym c.in-None.is ∙ c.refused.ensures)) (wrote_line _ _ _ _ (starts_text c.args.catalogue.now l c.args.slots.now c' who m c.args.now h) (starts_faults m [] ∙ no_faults) c.in_ok-start_line.ensures keeps)
 
 pub returns-in-None-clause-ready : goal.returns-in-None-clause-ready
-returns-in-None-clause-ready g c = (c.begin.ensures.ready _ (ready_later _ _ _ _ (omega arith) c.requires.ready) (omega (arith, c.requires.place)))
+returns-in-None-clause-ready g c =
+    c.begin.ensures.ready _ (ready_later _ _ _ _ (omega arith) c.requires.ready) (omega (arith, c.args.now.behind_header))

@@ -1,6 +1,6 @@
 use Rattle.std.proofs.Common.{◌≡◌, ◌<◌, length, get_or, take_all, sym, ◌∙◌}
 use Rattle.giop_print.proofs.Writing.{wrote-nil, wrote-append, front-parts, flat_map-take}
-use Rattle.giop_stream.proofs.Exits.{writes_front}
+use Rattle.giop_print.proofs.Writing.{writes_failed}
 use Rattle.giop_stream.proofs.Closing.{slot_text, slot_says, slot_silent, slots_left}
 use Rattle.giop_stream.proofs.slots.Slots.unfinished.Goals as goal
 use Rattle.giop_stream.proofs.slots.Slots.unfinished.Goals.{then-is_some+in_ok-unfinished_line, else-is_some}
@@ -13,7 +13,7 @@ returns-in_err-unfinished_line g c = λ C l slots h.
     let below : i < length items = rw c.as_slice-slot-items.ensures.value at c.loop-slot-test.true in
     let is : slot ≡ get_or items i slot = rw c.as_slice-slot-items.ensures.value at c.slot-item.is in
     let text = slot_says items i slot is (sym c.is_some.ensures ∙ c.if-is_some.true) in
-    rw (slots_left C l items slots h) (writes_front _ _ _ _ c.from_residual.ensures.0 (front-parts slot_text _ _ _ items i slot below c.loop-slot.invariant (rw text c.in_err-unfinished_line.ensures)))
+    rw (slots_left C l items slots h) (writes_failed _ _ _ _ c.from_residual.ensures.0 (front-parts slot_text _ _ _ items i slot below c.loop-slot.invariant (rw text c.in_err-unfinished_line.ensures)))
 
 pub loop-slot-preserved : goal.loop-slot-preserved
 loop-slot-preserved g c =
