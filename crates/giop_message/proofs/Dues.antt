@@ -1,7 +1,7 @@
 -- What is told of octets, taken in two parts, and its text.
-use Rattle.std.proofs.Common.{◌≡◌, ℕ, ◌+◌, ◌-◌, ◌<◌, true, false, List, [], ◌∷◌, ◌++◌, length, take, drop, get_or, flat_map, refl, sym, ap, subst, ◌∙◌, append_assoc, append-nil, add-one, arith, length-append}
-use Rattle.std.proofs.Math.Seq.{drop-append_seam, take-suc}
-use Rattle.std.proofs.lemmas.List.{take-append-drop}
+use Rattle.std.proofs.Common.{◌≡◌, ℕ, ◌+◌, ◌-◌, ◌≤◌, true, false, List, [], ◌∷◌, ◌++◌, length, take, drop, flat_map, refl, sym, ap, subst, ◌∙◌, append_assoc, append-nil, arith, length-append, length-drop, take-add}
+use Rattle.std.proofs.Math.Seq.{drop-append_seam}
+use Rattle.std.proofs.lemmas.List.{length-take-le, take-append-drop}
 use Rattle.std.proofs.lemmas.List.Concat.{flat_map-append}
 use Rattle.giop_message.specs.Signatures.{Signatures}
 use Rattle.giop_message.specs.Messages
@@ -72,25 +72,13 @@ text_over S number place header s more e =
     let same : told_of (message S header (s ++ more)) ≡ told_of (message S header s) ++ [] = ap told_of (message_resumes S header s more) ∙ (over_same S header more (message S header s) e ∙ sym (append-nil (told_of (message S header s)))) in
     rw (same, drop-append_seam (told_of (message S header s)) []) refl
 
--- ---- the octets so far, and one more
+-- ---- the octets so far, and more of them
 
-pub take_more : (xs : List ℕ) (i : ℕ) → i < length xs → take (i + 1) xs ≡ take i xs ++ get_or xs i 0 ∷ []
-take_more xs i h = rw (add-one) (take-suc xs i 0 h)
-
-pub text_more : (S : Signatures) (number place : ℕ) (header s octets : List ℕ) (i : ℕ) → i < length octets → length (take i octets) ≡ i →
-    due_text S number place header s (take (i + 1) octets) ≡ due_text S number place header s (take i octets) ++ due_text S number (place + i) header (s ++ take i octets) (get_or octets i 0 ∷ [])
-text_more S number place header s octets i h e =
-    ap (due_text S number place header s) (take_more octets i h) ∙ (text_both S number place header s (take i octets) (get_or octets i 0 ∷ [])
-    ∙ ap (λ k. due_text S number place header s (take i octets) ++ due_text S number (place + k) header (s ++ take i octets) (get_or octets i 0 ∷ [])) e)
-
-pub text_split : (S : Signatures) (number place : ℕ) (header s octets : List ℕ) (i : ℕ) → i < length octets → length (take i octets) ≡ i →
-    (more : List ℕ) × (due_text S number place header s octets ≡ (due_text S number place header s (take i octets) ++ due_text S number (place + i) header (s ++ take i octets) (get_or octets i 0 ∷ [])) ++ more)
-text_split S number place header s octets i h e =
-    let rest = due_text S number (place + length (take (i + 1) octets)) header (s ++ take (i + 1) octets) (drop (i + 1) octets) in (
-      rest,
-      ap (due_text S number place header s) (sym (take-append-drop (i + 1) octets)) ∙ (text_both S number place header s (take (i + 1) octets) (drop (i + 1) octets)
-          ∙ ap (λ z. z ++ rest) (text_more S number place header s octets i h e)),
-    )
+pub text_so_far : (S : Signatures) (number place : ℕ) (header s octets : List ℕ) (i : ℕ) (more : List ℕ) → i ≤ length octets →
+    due_text S number place header s (take i octets ++ more) ≡ due_text S number place header s (take i octets) ++ due_text S number (place + i) header (s ++ take i octets) more
+text_so_far S number place header s octets i more h =
+    text_both S number place header s (take i octets) more
+    ∙ ap (λ k. due_text S number place header s (take i octets) ++ due_text S number (place + k) header (s ++ take i octets) more) (length-take-le i octets h)
 
 -- all of it, where the message is over
 pub text_ended : (S : Signatures) (number place : ℕ) (header s octets : List ℕ) (n : ℕ) → is_over (stage_of (message S header (s ++ take n octets))) ≡ true →
@@ -99,17 +87,17 @@ text_ended S number place header s octets n e =
     ap (due_text S number place header s) (sym (take-append-drop n octets)) ∙ (text_both S number place header s (take n octets) (drop n octets)
     ∙ (ap (λ z. due_text S number place header s (take n octets) ++ z) (text_over S number (place + length (take n octets)) header (s ++ take n octets) (drop n octets) e) ∙ append-nil _))
 
--- ---- the octet at a place
+-- ---- a fault behind octets that have none
 
-pub one_further : (s octets : List ℕ) (i : ℕ) → i < length octets → (s ++ take i octets) ++ get_or octets i 0 ∷ [] ≡ s ++ take (i + 1) octets
-one_further s octets i h = append_assoc s (take i octets) (get_or octets i 0 ∷ []) ∙ ap (λ xs. s ++ xs) (sym (take_more octets i h))
-
-pub over_at : (S : Signatures) (header s octets : List ℕ) (i : ℕ) → i < length octets → is_over (stage_of (message S header ((s ++ take i octets) ++ get_or octets i 0 ∷ []))) ≡ true →
-    is_over (stage_of (message S header (s ++ take (i + 1) octets))) ≡ true
-over_at S header s octets i h e = subst (λ xs. is_over (stage_of (message S header xs)) ≡ true) (one_further s octets i h) e
-
-pub faulted_at : (S : Signatures) (header s octets : List ℕ) (i : ℕ) → i < length octets → is_over (stage_of (message S header (s ++ take (i + 1) octets))) ≡ true →
-    is_over (stage_of (message S header (s ++ take i octets))) ≡ false → FaultedAt S header s octets (i + 1)
-faulted_at S header s octets i h over before =
-    let e : (i + 1) - 1 ≡ i = omega arith in
-    record { some = omega arith; within = omega arith; here = over; not_before = rw e before }
+pub faulted_behind : (S : Signatures) (header s octets : List ℕ) (i n : ℕ) → i ≤ length octets →
+    FaultedAt S header (s ++ take i octets) (drop i octets) n → FaultedAt S header s octets (i + n)
+faulted_behind S header s octets i n h f =
+    let further : (k : ℕ) → (s ++ take i octets) ++ take k (drop i octets) ≡ s ++ take (i + k) octets =
+    λ k. append_assoc s (take i octets) (take k (drop i octets)) ∙ ap (λ xs. s ++ xs) (sym (take-add i k octets)) in
+    let e : (i + n) - 1 ≡ i + (n - 1) = omega (arith, f.some) in
+    record {
+      some = omega (arith, f.some);
+      within = omega (arith, f.within, length-drop i octets, h);
+      here = subst (λ xs. is_over (stage_of (message S header xs)) ≡ true) (further n) f.here;
+      not_before = rw e (subst (λ xs. is_over (stage_of (message S header xs)) ≡ false) (further (n - 1)) f.not_before);
+    }

@@ -1,5 +1,5 @@
 -- A message that follows a list isn't over, and its request id is what was said.
-use Rattle.std.proofs.Common.{◌≡◌, ℕ, ◌+◌, Bool, true, false, List, [], ◌∷◌, ◌++◌, length, drop, Option, Some, None, refl, sym, ap, subst, ◌∙◌, append-nil, arith, inl, inr}
+use Rattle.std.proofs.Common.{◌≡◌, ℕ, ◌+◌, Bool, true, false, List, [], ◌∷◌, ◌++◌, length, drop, Option, Some, None, refl, sym, ap, subst, ◌∙◌, append-nil, arith, inl, inr, length-append}
 use Rattle.std.specs.Prelude.{cond}
 use Rattle.std.proofs.Math.Seq.{drop-append_seam}
 use Rattle.std.proofs.lemmas.Bool.{false≢true}
@@ -10,7 +10,6 @@ use Rattle.giop_sig.specs.Table.{Table}
 use Rattle.giop_decode.specs.declared.decoder.Decoder.{Decoder}
 use Rattle.giop_decode.specs.declared.leaf.Leaf.{Leaf as Innermost}
 use Rattle.giop_decode.specs.Spine.{plain, Seg, Value, Number, Count, Piece, Line, Read, Done, Short, Fault, lines_of}
-use Rattle.giop_decode.proofs.ReadingLaws.{length_one_more}
 use Rattle.giop_decode.specs.Reading.{read}
 use Rattle.giop_decode.specs.Heard.{Heard, nothing, first_of, hear, heard, heard_of, hushed, in_string, is_header_root}
 use Rattle.giop_decode.specs.Holding as decoders
@@ -23,7 +22,7 @@ use Rattle.giop_message.specs.Headers.{order}
 use Rattle.giop_message.specs.Signatures.{Signatures, Kept, said_by}
 use Rattle.giop_message.specs.Messages.{Said, Told, tell, calls, tells, Message, Comes, passes, message, told_of, stage_of, root_of, may_call, after, through}
 use Rattle.giop_message.specs.MessageReading.{id_in, first_id, id_said, is_over}
-use Rattle.giop_message.specs.Holding.{due, Decodes, Stands, is_header, in_header, Follows, Took}
+use Rattle.giop_message.specs.Holding.{due, Decodes, Stands, is_header, in_header, Follows}
 use Rattle.giop_message.specs.Moves.{IsAt}
 use Rattle.giop_message.proofs.Causal.{MayCall, calls_is, Silent, after_silent, told_begins}
 use Rattle.giop_message.proofs.Faults.{Tallies, after_tallies}
@@ -223,47 +222,34 @@ id_read C kept number header m s f section d is =
     go true e = id_heard C (said_by C kept) number header s section d (subst (Stands C kept number header s) is f.stands) (header_only section e)
     go false e = f.id ∙ rw (is, e) refl
 
--- ---- one octet more
+-- ---- octets more
 
-pub one_more_at : (s : List ℕ) (b at next : ℕ) → at ≡ 12 + length s → next ≡ at + 1 → next ≡ 12 + length (s ++ b ∷ [])
-one_more_at s b at next e f = omega (arith, e, f, length_one_more s b)
-
--- A message that has taken one octet more stands behind it.
-pub record Moved (m n : Struct_of) : Type 0 where
+-- A message that has taken so many octets more stands behind them.
+pub record Moved (m n : Struct_of) (count : ℕ) : Type 0 where
   pub number : n.number ≡ m.number
   pub header : n.header ≡ m.header
-  pub at : n.at ≡ m.at + 1
+  pub at : n.at ≡ m.at + count
 
-pub at_more : (number : ℕ) (header : List ℕ) (m n : Struct_of) (s : List ℕ) (b : ℕ) → IsAt number header m s → Moved m n → IsAt number header n (s ++ b ∷ [])
-at_more number header m n s b is move = record {
+pub at_more : (number : ℕ) (header : List ℕ) (m n : Struct_of) (s more : List ℕ) → IsAt number header m s → Moved m n (length more) → IsAt number header n (s ++ more)
+at_more number header m n s more is move = record {
   same_number = move.number ∙ is.same_number;
   same_header = move.header ∙ is.same_header;
-  at = one_more_at s b m.at n.at is.at move.at;
+  at = omega (arith, length-append s more, is.at, move.at);
 }
 
 pub is_at : (C : Table) (kept : Kept) (number : ℕ) (header : List ℕ) (m : Struct_of) (s : List ℕ) → Follows C kept number header m s → IsAt number header m s
 is_at C kept number header m s f = record { same_number = f.same_number; same_header = f.same_header; at = f.at }
 
-pub took_on : (C : Table) (kept : Kept) (number : ℕ) (header : List ℕ) (m n : Struct_of) (s : List ℕ) (b : ℕ) → Follows C kept number header m s → Moved m n →
-    n.id ≡ cond (in_header n.part) None (id_said (told_of (message (said_by C kept) header (s ++ b ∷ [])))) →
-    Stands C kept number header (s ++ b ∷ []) n.part → Took C kept number header n s b false
-took_on C kept number header m n s b f move id stands =
-    let is = at_more number header m n s b (is_at C kept number header m s f) move in
-    let g : Follows C kept number header n (s ++ b ∷ []) = record {
-      same_number = is.same_number;
-      same_header = is.same_header;
-      id = id;
-      at = is.at;
-      stands = stands;
-    } in
-    record { is_over = sym (follows_goes C kept number header n (s ++ b ∷ []) g); follows = λ _. g }
+pub follows_on : (C : Table) (kept : Kept) (number : ℕ) (header : List ℕ) (m n : Struct_of) (s more : List ℕ) → Follows C kept number header m s → Moved m n (length more) →
+    n.id ≡ cond (in_header n.part) None (id_said (told_of (message (said_by C kept) header (s ++ more)))) →
+    Stands C kept number header (s ++ more) n.part → Follows C kept number header n (s ++ more)
+follows_on C kept number header m n s more f move id stands =
+    let is = at_more number header m n s more (is_at C kept number header m s f) move in
+    record { same_number = is.same_number; same_header = is.same_header; id = id; at = is.at; stands = stands }
 
 -- where nothing of an id is said the message keeps what it has
-pub id_kept : (C : Table) (kept : Kept) (number : ℕ) (header : List ℕ) (m : Struct_of) (s : List ℕ) (b : ℕ) → Follows C kept number header m s →
-    id_said (due (said_by C kept) header s (b ∷ [])) ≡ None → (inside : Bool) → in_header m.part ≡ inside →
-    m.id ≡ cond inside None (id_said (told_of (message (said_by C kept) header (s ++ b ∷ []))))
-id_kept C kept number header m s b f none inside is =
-    f.id ∙ rw (is) (ap (cond inside None) (sym (id_stays (said_by C kept) header s (b ∷ []) none)))
-
-pub faulted : (C : Table) (kept : Kept) (number : ℕ) (header : List ℕ) (n : Struct_of) (s : List ℕ) (b : ℕ) → is_over (stage_of (message (said_by C kept) header (s ++ b ∷ []))) ≡ true → Took C kept number header n s b true
-faulted C kept number header n s b e = record { is_over = sym e; follows = λ f. absurd (false≢true (sym f)) }
+pub id_kept : (C : Table) (kept : Kept) (number : ℕ) (header : List ℕ) (m : Struct_of) (s more : List ℕ) → Follows C kept number header m s →
+    id_said (due (said_by C kept) header s more) ≡ None → (inside : Bool) → in_header m.part ≡ inside →
+    m.id ≡ cond inside None (id_said (told_of (message (said_by C kept) header (s ++ more))))
+id_kept C kept number header m s more f none inside is =
+    f.id ∙ rw (is) (ap (cond inside None) (sym (id_stays (said_by C kept) header s more none)))

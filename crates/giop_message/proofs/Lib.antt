@@ -14,6 +14,8 @@ mod Faulting
 mod Parts
 mod Followings
 mod Sections
+mod Readings
+mod Runs
 mod Rests
 mod Results
 mod Dues

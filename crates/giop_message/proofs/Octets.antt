@@ -3,7 +3,7 @@ use Rattle.std.proofs.Common.{◌≡◌, ℕ, ◌+◌, ◌-◌, Bool, List, [], 
 use Rattle.std.proofs.Math.Seq.{drop-append_seam}
 use Rattle.std.proofs.lemmas.List.Concat.{flat_map-append}
 use Rattle.giop_print.specs.declared.path.Root.{Root}
-use Rattle.giop_decode.specs.Spine.{Seg, Line, Read, Done, Short, Fault, lines_of}
+use Rattle.giop_decode.specs.Spine.{Line, Read, Done, Short, Fault, lines_of}
 use Rattle.giop_decode.specs.Steps.{Now, OneAt}
 use Rattle.giop_decode.specs.Heard.{Heard, hear, is_header_root}
 use Rattle.giop_decode.specs.Spelling.{line_text, lines_text}

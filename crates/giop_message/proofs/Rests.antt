@@ -1,5 +1,5 @@
--- One octet in the padding, and in the rest.
-use Rattle.std.proofs.Common.{◌≡◌, ℕ, ◌+◌, ◌<◌, ◌≤◌, Bool, true, false, List, [], ◌∷◌, ◌++◌, length, None, refl, sym, ap, subst, ◌∙◌, append-nil, arith}
+-- One octet in the padding, and those of one part in the rest.
+use Rattle.std.proofs.Common.{◌≡◌, ℕ, ◌+◌, ◌<◌, ◌≤◌, Bool, true, false, List, [], ◌∷◌, ◌++◌, length, None, refl, sym, ap, subst, ◌∙◌, append-nil, append_assoc, length-append, arith}
 use Rattle.std.specs.Prelude.{◌==◌, if◌then◌else◌}
 use Rattle.std.proofs.lemmas.Bool.{lt-ltb, le-ltb}
 use Rattle.giop_cdr.specs.Alignment.{padding}
@@ -12,15 +12,15 @@ use Rattle.giop_message.specs.declared.part.Rest.{Rest}
 use Rattle.giop_message.specs.declared.wanted.Wanted.{Wanted}
 use Rattle.giop_message.specs.Signatures.{Signatures, Kept, said_by}
 use Rattle.giop_message.specs.Messages.{Left, Told, tell, BodyType, Stage, In_padding, In_rest, Message, Comes, with_front, body, message, told_of, stage_of}
-use Rattle.giop_message.specs.Steps.{rest_step, message_step, advance}
+use Rattle.giop_message.specs.Steps.{rest_step, message_step, advance, goes_on}
 use Rattle.giop_message.specs.MessageReading.{saying_of, text_of, id_in, first_id, id_said}
-use Rattle.giop_message.specs.Holding.{speech_line, told_text, due, due_text, body_type, Stands, in_header, Follows, Took}
+use Rattle.giop_message.specs.Holding.{speech_line, told_text, due, due_text, body_type, Stands, in_header, Follows}
 use Rattle.giop_message.specs.Moves.{Arrives}
-use Rattle.giop_message.proofs.Going.{message_goes, rest_step_full, rest_step_more}
+use Rattle.giop_message.proofs.Going.{message_goes, message_resumes, rest_step_full, rest_step_more}
 use Rattle.giop_message.proofs.Causal.{body_silent}
 use Rattle.giop_message.proofs.Octets.{due_is, told_silent}
 use Rattle.giop_message.proofs.Spelling.{rest_said}
-use Rattle.giop_message.proofs.Followings.{Moved, at_more, is_at, id_kept, took_on}
+use Rattle.giop_message.proofs.Followings.{Moved, at_more, is_at, id_kept, follows_on}
 
 -- from where a message comes to
 pub comes_more : (S : Signatures) (header s : List ℕ) (b : ℕ) (told : List Told) (at : ℕ) (stage : Stage) → message S header s ≡ Comes told at stage →
@@ -81,21 +81,21 @@ module _ (C : Table) (kept : Kept) (number : ℕ) (header : List ℕ) (m : Struc
       comes_due S header s b stands_padded.0 Here (In_padding T) (body S header T (Here + 1) []) stands_padded.1 (padding_last S header Here b T h)
       ∙ told_silent (Here + 1) (body S header T (Here + 1) []) (body_silent S header T (Here + 1))
 
-  pub padding_took : (1 < padding Here 8) → (n : Struct_of) → Moved m n → n.id ≡ m.id → n.part ≡ m.part → Took C kept number header n s b false
-  padding_took h n move id part =
-      took_on C kept number header m n s b f move (id ∙ rw (part, is) (id_kept C kept number header m s b f (none_said _ (padding_told h)) false (rw is refl)))
+  pub padding_follows : (1 < padding Here 8) → (n : Struct_of) → Moved m n 1 → n.id ≡ m.id → n.part ≡ m.part → Follows C kept number header n (s ++ b ∷ [])
+  padding_follows h n move id part =
+      follows_on C kept number header m n s (b ∷ []) f move (id ∙ rw (part, is) (id_kept C kept number header m s (b ∷ []) f (none_said _ (padding_told h)) false (rw is refl)))
       (subst (Stands C kept number header (s ++ b ∷ [])) (sym (part ∙ is)) (
         stands_padded.0 ++ [],
         comes_more S header s b stands_padded.0 Here (In_padding T) stands_padded.1
             ∙ (ap (with_front stands_padded.0) (padding_on S header Here b T h) ∙ comes_next stands_padded.0 [] (Here + 1) (12 + length (s ++ b ∷ [])) (In_padding T) (next_at s b)),
       ))
 
-  pub last_took : padding Here 8 ≤ 1 → (k n : Struct_of) → Moved m k →
+  pub last_follows : padding Here 8 ≤ 1 → (k n : Struct_of) → Moved m k 1 →
       Arrives C kept number header k n (s ++ b ∷ []) (body S header T (12 + length (s ++ b ∷ [])) []) →
-      Moved m n → n.id ≡ m.id → in_header n.part ≡ false → Took C kept number header n s b false
-  last_took h k n move_k arrives move_n id past =
-      took_on C kept number header m n s b f move_n (id ∙ rw past (id_kept C kept number header m s b f (none_said _ (last_told h)) false (rw is refl)))
-      (arrives (at_more number header m k s b (is_at C kept number header m s f) move_k) stands_padded.0
+      Moved m n 1 → n.id ≡ m.id → in_header n.part ≡ false → Follows C kept number header n (s ++ b ∷ [])
+  last_follows h k n move_k arrives move_n id past =
+      follows_on C kept number header m n s (b ∷ []) f move_n (id ∙ rw past (id_kept C kept number header m s (b ∷ []) f (none_said _ (last_told h)) false (rw is refl)))
+      (arrives (at_more number header m k s (b ∷ []) (is_at C kept number header m s f) move_k) stands_padded.0
       (comes_more S header s b stands_padded.0 Here (In_padding T) stands_padded.1
       ∙ (ap (with_front stands_padded.0) (padding_last S header Here b T h) ∙ ap (λ n. with_front stands_padded.0 (body S header T n [])) (next_at s b))))
 
@@ -120,34 +120,56 @@ rest_no_id offset held at = go (length held == 32)
     go true = refl
     go false = refl
 
-module _ (C : Table) (kept : Kept) (number : ℕ) (header : List ℕ) (m : Struct_of) (s : List ℕ) (f : Follows C kept number header m s) (r : Rest) (is : m.part ≡ parts.Rest r) (b : ℕ) where
+-- octets of one part are one step
+part_goes : (S : Signatures) (header : List ℕ) (told : List Told) (at offset : ℕ) (held : List ℕ) (b : ℕ) (bs : List ℕ) → length held + length (b ∷ bs) ≤ 32 →
+    goes_on S header (Comes told at (In_rest offset held)) (b ∷ bs) ≡ with_front told (rest_step offset (held ++ b ∷ bs) (at + length (b ∷ bs)))
+unfolding advance message_step
+part_goes S header told at offset held b [] h = refl
+part_goes S header told at offset held b (b' ∷ bs) h =
+    let few : length (held ++ b ∷ []) < 32 = omega (arith, length_one_more held b, h) in
+    let n : (at + 1) + length (b' ∷ bs) ≡ at + length (b ∷ b' ∷ bs) = omega arith in
+    ap (λ m. goes_on S header (with_front told m) (b' ∷ bs)) (rest_step_more offset (held ++ b ∷ []) (at + 1) few)
+    ∙ (ap (λ m. goes_on S header m (b' ∷ bs)) (comes_next told [] (at + 1) (at + 1) (In_rest offset (held ++ b ∷ [])) refl ∙ ap (λ ts. Comes ts (at + 1) (In_rest offset (held ++ b ∷ []))) (append-nil told))
+    ∙ (part_goes S header told (at + 1) offset (held ++ b ∷ []) b' bs (omega (arith, length_one_more held b, h))
+    ∙ rw (n, append_assoc held (b ∷ []) (b' ∷ bs)) refl))
+
+module _ (C : Table) (kept : Kept) (number : ℕ) (header : List ℕ) (m : Struct_of) (s : List ℕ) (f : Follows C kept number header m s) (r : Rest) (is : m.part ≡ parts.Rest r)
+    (xs : List ℕ) (some : 0 < length xs) (room : length r.held.items + length xs ≤ 32) where
   abbrev At : ℕ
   At = 12 + length s
 
   abbrev Step : Message
-  Step = rest_step r.offset (r.held.items ++ b ∷ []) (At + 1)
+  Step = rest_step r.offset (r.held.items ++ xs) (At + length xs)
 
   stands_rest : (told : List Told) × (message (said_by C kept) header s ≡ Comes told At (In_rest r.offset r.held.items))
   stands_rest = subst (Stands C kept number header s) is f.stands
 
-  rest_due : due (said_by C kept) header s (b ∷ []) ≡ told_of Step
-  unfolding message_step
-  rest_due = comes_due (said_by C kept) header s b stands_rest.0 At (In_rest r.offset r.held.items) Step stands_rest.1 refl
+  rest_comes : message (said_by C kept) header (s ++ xs) ≡ with_front stands_rest.0 Step
+  rest_comes = message_resumes (said_by C kept) header s xs ∙ (ap (λ m. goes_on (said_by C kept) header m xs) stands_rest.1 ∙ go xs some room)
+    where
+      go : (xs : List ℕ) → 0 < length xs → length r.held.items + length xs ≤ 32 →
+          goes_on (said_by C kept) header (Comes stands_rest.0 At (In_rest r.offset r.held.items)) xs
+          ≡ with_front stands_rest.0 (rest_step r.offset (r.held.items ++ xs) (At + length xs))
+      go [] some room = absurd (omega arith)
+      go (b ∷ bs) some room = part_goes (said_by C kept) header stands_rest.0 At r.offset r.held.items b bs room
 
-  pub rest_text : (place : ℕ) → due_text (said_by C kept) number place header s (b ∷ []) ≡ told_text m.number place At (told_of Step)
+  rest_due : due (said_by C kept) header s xs ≡ told_of Step
+  unfolding told_of
+  rest_due = due_is (said_by C kept) header s xs stands_rest.0 (Comes stands_rest.0 At (In_rest r.offset r.held.items)) Step stands_rest.1 rest_comes refl
+
+  pub rest_text : (place : ℕ) → due_text (said_by C kept) number place header s xs ≡ told_text m.number place At (told_of Step)
   unfolding due_text
   rest_text place = ap (told_text number place At) rest_due ∙ ap (λ n. told_text n place At (told_of Step)) (sym f.same_number)
 
-  pub rest_took : (n : Struct_of) (r' : Rest) → Moved m n → n.id ≡ m.id → n.part ≡ parts.Rest r' → stage_of Step ≡ In_rest r'.offset r'.held.items → Took C kept number header n s b false
-  unfolding message_step
-  rest_took n r' move id part stage =
-      let none : id_said (due (said_by C kept) header s (b ∷ [])) ≡ None = ap id_said rest_due ∙ rest_no_id r.offset (r.held.items ++ b ∷ []) (At + 1) in
-      took_on C kept number header m n s b f move (id ∙ rw part (id_kept C kept number header m s b f none false (rw is refl)))
-      (subst (Stands C kept number header (s ++ b ∷ [])) (sym part) (
+  pub rest_follows : (n : Struct_of) (r' : Rest) → Moved m n (length xs) → n.id ≡ m.id → n.part ≡ parts.Rest r' → stage_of Step ≡ In_rest r'.offset r'.held.items → Follows C kept number header n (s ++ xs)
+  rest_follows n r' move id part stage =
+      let none : id_said (due (said_by C kept) header s xs) ≡ None = ap id_said rest_due ∙ rest_no_id r.offset (r.held.items ++ xs) (At + length xs) in
+      let e : At + length xs ≡ 12 + length (s ++ xs) = omega (arith, length-append s xs) in
+      follows_on C kept number header m n s xs f move (id ∙ rw part (id_kept C kept number header m s xs f none false (rw is refl)))
+      (subst (Stands C kept number header (s ++ xs)) (sym part) (
         stands_rest.0 ++ told_of Step,
-        comes_more (said_by C kept) header s b stands_rest.0 At (In_rest r.offset r.held.items) stands_rest.1
-            ∙ (ap (with_front stands_rest.0) (rest_step_at r.offset (r.held.items ++ b ∷ []) (At + 1) ∙ ap (Comes (told_of Step) (At + 1)) stage)
-            ∙ comes_next stands_rest.0 (told_of Step) (At + 1) (12 + length (s ++ b ∷ [])) (In_rest r'.offset r'.held.items) (next_at s b)),
+        rest_comes ∙ (ap (with_front stands_rest.0) (rest_step_at r.offset (r.held.items ++ xs) (At + length xs) ∙ ap (Comes (told_of Step) (At + length xs)) stage)
+            ∙ comes_next stands_rest.0 (told_of Step) (At + length xs) (12 + length (s ++ xs)) (In_rest r'.offset r'.held.items) e),
       ))
 
 -- the text of a step in the rest

@@ -1,14 +1,13 @@
--- One octet of a section of a message that follows a list: its text, with its call, and where the message stands behind it.
-use Rattle.std.proofs.Common.{◌≡◌, ℕ, ◌+◌, ◌-◌, Bool, true, false, List, [], ◌∷◌, ◌++◌, length, ◌⊎◌, inl, inr, Option, Some, None, refl, sym, ap, subst, ◌∙◌, append-nil}
-use Rattle.std.specs.Prelude.{cond, ◌&&◌, ◌||◌, codes, IfSome, if◌then◌else◌}
+-- One octet of a section that goes on: its text, with its call.
+use Rattle.std.proofs.Common.{◌≡◌, ℕ, ◌+◌, ◌-◌, Bool, true, false, List, [], ◌∷◌, ◌++◌, length, ◌⊎◌, inl, inr, Option, Some, None, refl, sym, ap, subst, ◌∙◌, append-nil, append_assoc}
+use Rattle.std.specs.Prelude.{◌&&◌, ◌||◌, codes, IfSome, if◌then◌else◌}
 use Rattle.std.specs.List.{AllByRecursion as Each}
 use Rattle.std.proofs.lemmas.Bool.{false≢true, eqb-true}
-use Rattle.giop_print.specs.Lines.{call_line}
+use Rattle.giop_print.specs.Lines.{call_line, fault_line}
 use Rattle.giop_print.specs.declared.path.Root.{Root}
 use Rattle.giop_print.specs.declared.path.Root.TheVariants as roots
-use Rattle.giop_sig.specs.Table.{Table}
+use Rattle.giop_sig.specs.Types.{Ty}
 use Rattle.giop_sig.specs.Headers.{header_type}
-use Rattle.giop_decode.specs.declared.decoder.Decoder.{Decoder}
 use Rattle.giop_decode.specs.declared.progress.Kind.{Kind}
 use Rattle.giop_decode.specs.declared.progress.Progress.{Progress}
 use Rattle.giop_decode.specs.declared.progress.Progress.TheVariants as progress
@@ -18,24 +17,24 @@ use Rattle.giop_decode.specs.Fits.{Sound}
 use Rattle.giop_decode.specs.Steps.{Now, OneAt}
 use Rattle.giop_decode.specs.Heard.{Heard, nothing, hear, heard, heard_of, hushed, in_string, ends_text, is_member, is_header_root, ends_operation, names_operation}
 use Rattle.giop_decode.specs.Holding as decoders
+use Rattle.giop_decode.specs.Runs.{Answers}
 use Rattle.giop_decode.specs.Spelling.{lines_text}
 use Rattle.giop_decode.proofs.ReadingLaws.{front_inside, lines_front, heard-append, read_keeps}
-use Rattle.giop_message.specs.declared.message.Message.{Message as Struct_of}
 use Rattle.giop_message.specs.declared.part.Section.{Section}
 use Rattle.giop_message.specs.declared.part.Section.TheVariants as sections
-use Rattle.giop_message.specs.declared.part.Part.TheVariants as parts
 use Rattle.giop_message.specs.Headers.{minor, kind, order}
-use Rattle.giop_message.specs.Signatures.{Signatures, Kept, said_by}
-use Rattle.giop_message.specs.Messages.{Called, tell, is_shown, call_of, calls, is_request, message, told_of, root_of, may_call, after}
-use Rattle.giop_message.specs.MessageReading.{saying_of, text_of, id_said}
-use Rattle.giop_message.specs.Holding.{speech_line, told_text, due, due_text, Decodes, Stands, is_header, in_header, Follows, Took}
-use Rattle.giop_message.specs.Moves.{fault_text, called_text, request_call, Arrives}
+use Rattle.giop_message.specs.Signatures.{Signatures}
+use Rattle.giop_message.specs.Messages.{Called, Told, tell, is_shown, call_of, calls, is_request, root_of, may_call}
+use Rattle.giop_message.specs.MessageReading.{saying_of, text_of}
+use Rattle.giop_message.specs.Text.{fault_word}
+use Rattle.giop_message.specs.Holding.{speech_line, told_text, due_text}
+use Rattle.giop_message.specs.Moves.{fault_text, called_text, request_call}
+use Rattle.giop_message.proofs.Faulting.{fault_is, no_fault}
 use Rattle.giop_message.proofs.Spelling.{call_said}
 use Rattle.giop_message.proofs.Operations.{step_closed, NoEnds}
 use Rattle.giop_message.proofs.LastParts.{request_ends, header_fit, EndsOtherwise, done_test, last_no_call}
 use Rattle.giop_message.proofs.Octets.{first_call, one_of}
-use Rattle.giop_message.proofs.Parts.{outer_in, leaf_in, Next, Added, heard_before, was_short, next_is, added_now, lines_due, due_here, text_here, on_here, done_here, fault_here}
-use Rattle.giop_message.proofs.Followings.{section_no_id, header_only, id_heard, id_kept, Moved, at_more, is_at, took_on, faulted}
+use Rattle.giop_message.proofs.Parts.{Inside, Next, Added, heard_before, next_is, added_now, lines_due, text_here}
 
 -- ---- calls
 
@@ -144,150 +143,131 @@ call_here number place offset header sections.Header before st n one closed name
 call_here number place offset header sections.Exception before st n one closed named = absurd (false≢true (sym (none_named (lines_of st)) ∙ named))
 call_here number place offset header sections.Body before st n one closed named = absurd (false≢true (sym (none_named (lines_of st)) ∙ named))
 
-done_is : (end : ℕ) (named : Bool) (p : Progress) (st : Read) (lines : List Line) → p ≡ progress.Done → decoders.IsAnswer end named p (Spine.with_front lines st) → done_test st ≡ true
-done_is end named p (Done ls at rest) lines e answer = refl
-done_is end named p (Short ls at outer leaf) lines e answer = absurd (subst (λ q. decoders.IsAnswer end named q (Short (lines ++ ls) at outer leaf)) e answer)
-done_is end named p (Fault ls at why U) lines e answer = absurd (subst (λ q. decoders.IsAnswer end named q (Fault (lines ++ ls) at why U)) e answer)
+done_is : (end : ℕ) (named : Bool) (st : Read) (lines : List Line) → decoders.IsAnswer end named progress.Done (Spine.with_front lines st) → done_test st ≡ true
+done_is end named (Done ls at rest) lines answer = refl
+done_is end named (Short ls at outer leaf) lines answer = absurd answer
+done_is end named (Fault ls at why U) lines answer = absurd answer
 
-none_faulted : (end : ℕ) (named : Bool) (kind : Kind) (p : Progress) (n : ℕ) (st : Read) (lines : List Line) → p ≡ progress.Fault kind → decoders.IsAnswer end named p (Spine.with_front lines st) → Now n st → lines_of st ≡ []
-none_faulted end named kind p n (Fault ls at why U) lines e answer now = now.0
-none_faulted end named kind p n (Done ls at rest) lines e answer now = absurd (subst (λ q. decoders.IsAnswer end named q (Done (lines ++ ls) at rest)) e answer)
-none_faulted end named kind p n (Short ls at outer leaf) lines e answer now = absurd (subst (λ q. decoders.IsAnswer end named q (Short (lines ++ ls) at outer leaf)) e answer)
+none_faulted : (end : ℕ) (named : Bool) (kind : Kind) (n : ℕ) (st : Read) (lines : List Line) → decoders.IsAnswer end named (progress.Fault kind) (Spine.with_front lines st) → Now n st → lines_of st ≡ []
+none_faulted end named kind n (Fault ls at why U) lines answer now = now.0
+none_faulted end named kind n (Done ls at rest) lines answer now = absurd answer
+none_faulted end named kind n (Short ls at outer leaf) lines answer now = absurd answer
+
+more_unnamed : (end : ℕ) (named : Bool) (r : Read) → decoders.IsAnswer end named progress.More r → named ≡ false
+more_unnamed end named (Short lines at outer leaf) answer = answer
+more_unnamed end named (Done lines at rest) answer = absurd answer
+more_unnamed end named (Fault lines at why T) answer = absurd answer
+
+named_is : (end : ℕ) (named : Bool) (r : Read) → decoders.IsAnswer end named progress.Named r → named ≡ true
+named_is end named (Short lines at outer leaf) answer = answer
+named_is end named (Done lines at rest) answer = absurd answer
+named_is end named (Fault lines at why T) answer = absurd answer
 
 -- the last octet of a section ends no operation
-ends_by : (C : Table) (S : Signatures) (number : ℕ) (header s : List ℕ) (section : Section) (d : Decoder) (e : Decodes C S number header s section d) (fits : decoders.Fits C d) (b : ℕ) →
-    done_test (Added C S number header s section d e fits b) ≡ true →
-    Each (λ l. ends_operation (may_call header section) l ≡ false) (lines_of (Added C S number header s section d e fits b))
-ends_by C S number header s sections.Header d e fits b done = go (is_request header) refl
+ends_by : (S : Signatures) (number : ℕ) (header s : List ℕ) (section : Section) (T : Ty) (before : List Told) (front octets : List ℕ)
+    (i : Inside S header s section T before front octets) (b : ℕ) →
+    done_test (Added S number header s section T before front octets i b) ≡ true →
+    Each (λ l. ends_operation (may_call header section) l ≡ false) (lines_of (Added S number header s section T before front octets i b))
+ends_by S number header s sections.Header T before front octets i b done = go (is_request header) refl
   where
-    found : header_type (minor header) (kind header) ≡ Some e.T
-    found = e.first.0
+    found : header_type (minor header) (kind header) ≡ Some T
+    found = i.first.0
 
-    go : (is : Bool) → is_request header ≡ is → Each (λ l. ends_operation is l ≡ false) (lines_of (Added C S number header s sections.Header d e fits b))
-    go false r = never (lines_of (Added C S number header s sections.Header d e fits b))
+    go : (is : Bool) → is_request header ≡ is → Each (λ l. ends_operation is l ≡ false) (lines_of (Added S number header s sections.Header T before front octets i b))
+    go false r = never (lines_of (Added S number header s sections.Header T before front octets i b))
     go true r =
         let zero_kind : kind header ≡ 0 = request_kind header r in
-        let ends : EndsOtherwise e.T = subst (λ o. IfSome o EndsOtherwise) (subst (λ k. header_type (minor header) k ≡ Some e.T) zero_kind found) (request_ends (minor header)) in
-        let sound = (subst (Sound e.T (12 + length e.front + length e.octets)) (was_short C S number header s sections.Header d e fits b)
-        (read_keeps 24 (plain (order header)) [] e.T (header_fit (minor header) (kind header) e.T found) (12 + length e.front) e.octets)).1 in
-        last_no_call (plain (order header)) true e.T _ _ _ b ends (header_fit (minor header) (kind header) e.T found) sound done
-ends_by C S number header s sections.Exception d e fits b done = never (lines_of (Added C S number header s sections.Exception d e fits b))
-ends_by C S number header s sections.Body d e fits b done = never (lines_of (Added C S number header s sections.Body d e fits b))
+        let ends : EndsOtherwise T = subst (λ o. IfSome o EndsOtherwise) (subst (λ k. header_type (minor header) k ≡ Some T) zero_kind found) (request_ends (minor header)) in
+        let sound = (subst (Sound T ((12 + length front) + length octets)) i.was_short
+        (read_keeps 24 (plain (order header)) [] T (header_fit (minor header) (kind header) T found) (12 + length front) octets)).1 in
+        last_no_call (plain (order header)) true T _ _ _ b ends (header_fit (minor header) (kind header) T found) sound done
+ends_by S number header s sections.Exception T before front octets i b done = never (lines_of (Added S number header s sections.Exception T before front octets i b))
+ends_by S number header s sections.Body T before front octets i b done = never (lines_of (Added S number header s sections.Body T before front octets i b))
 
 -- ---- an octet of a message
 
-module _ (C : Table) (kept : Kept) (number : ℕ) (header : List ℕ) (m : Struct_of) (s : List ℕ) (f : Follows C kept number header m s) (section : Section) (d : Decoder) (is : m.part ≡ parts.Typed section d) (fits : decoders.Fits C d) (b : ℕ) where
-  abbrev S : Signatures
-  S = said_by C kept
+-- a text of three parts, by its last two
+joined_text : (text lines fault call f c : List ℕ) → text ≡ (lines ++ fault) ++ call → fault ≡ f → call ≡ c → text ≡ lines ++ (f ++ c)
+joined_text text lines fault call f c e is_fault is_call = e ∙ (append_assoc lines fault call ∙ rw (is_fault, is_call) refl)
 
+module _ (S : Signatures) (number : ℕ) (header s : List ℕ) (section : Section) (T : Ty) (before : List Told) (front octets : List ℕ)
+    (i : Inside S header s section T before front octets) (b : ℕ) where
   abbrev R : Root
   R = root_of section
 
-  pub opened : Decodes C S number header s section d
-  opened = subst (Stands C kept number header s) is f.stands
-
   abbrev A : ℕ
-  A = 12 + length opened.front
+  A = 12 + length front
 
-  -- what it comes to
-  abbrev pub read_next : Read
-  read_next = Next C S number header s section d opened fits b
+  abbrev Behind : Read
+  Behind = Next S number header s section T before front octets i b
 
   abbrev St : Read
-  St = Added C S number header s section d opened fits b
+  St = Added S number header s section T before front octets i b
 
-  pub reads_it : decoders.Reads C opened.T (order header) A m.number R d opened.octets
-  reads_it = subst (λ n. decoders.Reads C opened.T (order header) A n R d opened.octets) (sym f.same_number) opened.reads
-
-  -- the text of its line or its fault, and of its call
-  abbrev pub Text : ℕ → ℕ → List ℕ
-  Text n place = lines_text n R (decoders.due (order header) opened.T A opened.octets b) ++ fault_text n (place + 1) read_next
+  -- its lines, its call, and its whole text
+  abbrev Lines : List ℕ
+  Lines = lines_text number R (decoders.due (order header) T A octets b)
 
   abbrev Call : ℕ → List ℕ
-  Call place = told_text number place (12 + length s) (first_call R (may_call header section) (heard_before C S number header s section d opened fits b) (lines_of St))
+  Call place = told_text number place (12 + length s) (first_call R (may_call header section) (heard_before S number header s section T before front octets i b) (lines_of St))
 
-  abbrev pub Due : ℕ → List ℕ
+  abbrev Due : ℕ → List ℕ
   Due place = due_text S number place header s (b ∷ [])
 
-  -- any octet, up to the call
-  pub front_text : (place : ℕ) → (call : List ℕ) × (Due place ≡ Text m.number place ++ call)
-  front_text place = (Call place, subst (λ n. Due place ≡ Text n place ++ Call place) (sym f.same_number) (text_here C S number header s section d opened fits b place))
+  abbrev End : ℕ
+  End = A + length (octets ++ b ∷ [])
 
-  -- where nothing is called
-  bare_text : (place : ℕ) → Each (λ l. ends_operation (may_call header section) l ≡ false) (lines_of St) → Due place ≡ Text m.number place
+  abbrev Names : Bool
+  Names = names_operation (is_header_root R) (decoders.due (order header) T A octets b)
+
+  abbrev Is : Progress → Type 0
+  Is p = Answers (order header) T A R octets b p
+
+  here : (place : ℕ) → Due place ≡ (Lines ++ fault_text number (place + 1) Behind) ++ Call place
+  here place = text_here S number header s section T before front octets i b place
+
+  uncalled : (place : ℕ) → Each (λ l. ends_operation (may_call header section) l ≡ false) (lines_of St) → Call place ≡ []
   unfolding told_text
-  bare_text place each =
-      subst (λ n. Due place ≡ Text n place) (sym f.same_number)
-      (text_here C S number header s section d opened fits b place
-      ∙ (ap (λ told. Text number place ++ told_text number place (12 + length s) told) (no_first R (may_call header section) (heard_before C S number header s section d opened fits b) (lines_of St) each)
-      ∙ append-nil _))
+  uncalled place each =
+      ap (told_text number place (12 + length s)) (no_first R (may_call header section) (heard_before S number header s section T before front octets i b) (lines_of St) each)
 
-  pub more_text : (place : ℕ) → names_operation (is_header_root R) (decoders.due (order header) opened.T A opened.octets b) ≡ false → Due place ≡ Text m.number place
-  more_text place none =
-      bare_text place (unnamed_by header section (lines_of St) (subst (λ ls. names_operation (is_header_root R) ls ≡ false) (lines_due C S number header s section d opened fits b) none))
+  -- any octet
+  pub any_text : (place : ℕ) → Due place ≡ Lines ++ (fault_text number (place + 1) Behind ++ Call place)
+  any_text place = here place ∙ append_assoc Lines (fault_text number (place + 1) Behind) (Call place)
 
-  pub done_text : (place end : ℕ) (named : Bool) (p : Progress) → p ≡ progress.Done → decoders.IsAnswer end named p read_next → Due place ≡ Text m.number place
-  done_text place end named p done answer =
-      bare_text place (ends_by C S number header s section d opened fits b (done_is end named p St opened.reads.lines done
-      (subst (decoders.IsAnswer end named p) (next_is C S number header s section d opened fits b) answer)))
+  -- one behind which the section goes on
+  pub more_text : Is progress.More → (place : ℕ) → Due place ≡ Lines
+  more_text answer place =
+      let none = subst (λ ls. names_operation (is_header_root R) ls ≡ false) (lines_due S number header s section T before front octets i b) (more_unnamed End Names Behind answer) in
+      joined_text (Due place) Lines (fault_text number (place + 1) Behind) (Call place) [] [] (here place) (no_fault number (place + 1) End Names progress.More Behind answer (λ fault. fault))
+      (uncalled place (unnamed_by header section (lines_of St) none))
+      ∙ append-nil Lines
 
-  pub wrong_text : (place end : ℕ) (named : Bool) (kind : Kind) (p : Progress) → p ≡ progress.Fault kind → decoders.IsAnswer end named p read_next → Due place ≡ Text m.number place
-  wrong_text place end named kind p is_fault answer =
-      let none : lines_of St ≡ [] = none_faulted end named kind p _ St opened.reads.lines is_fault (subst (decoders.IsAnswer end named p) (next_is C S number header s section d opened fits b) answer) (added_now C S number header s section d opened fits b) in
-      bare_text place (subst (λ ls. Each (λ l. ends_operation (may_call header section) l ≡ false) ls) (sym none) tt)
+  -- the last of the section
+  pub done_text : Is progress.Done → (place : ℕ) → Due place ≡ Lines ++ []
+  done_text answer place =
+      joined_text (Due place) Lines (fault_text number (place + 1) Behind) (Call place) [] [] (here place) (no_fault number (place + 1) End Names progress.Done Behind answer (λ fault. fault))
+      (uncalled place (ends_by S number header s section T before front octets i b
+      (done_is End Names St i.lines (subst (decoders.IsAnswer End Names progress.Done) (next_is S number header s section T before front octets i b) answer))))
 
-  -- where an operation is named
-  pub named_in : names_operation (is_header_root R) (decoders.due (order header) opened.T A opened.octets b) ≡ true → section ≡ sections.Header
-  named_in named = named_header section _ named
+  -- one that breaks a rule
+  pub wrong_text : (why : Kind) → Is (progress.Fault why) → (place : ℕ) → Due place ≡ Lines ++ fault_line number (fault_word why) (place + 1)
+  wrong_text why answer place =
+      let none : lines_of St ≡ [] = none_faulted End Names why _ St i.lines (subst (decoders.IsAnswer End Names (progress.Fault why)) (next_is S number header s section T before front octets i b) answer) (added_now S number header s section T before front octets i b) in
+      joined_text (Due place) Lines (fault_text number (place + 1) Behind) (Call place) (fault_line number (fault_word why) (place + 1)) [] (here place) (fault_is number (place + 1) End Names why Behind answer)
+      (uncalled place (subst (λ ls. Each (λ l. ends_operation (may_call header section) l ≡ false) ls) (sym none) tt))
+      ∙ ap (λ z. Lines ++ z) (append-nil _)
 
-  pub named_text : (place : ℕ) → names_operation (is_header_root R) (decoders.due (order header) opened.T A opened.octets b) ≡ true →
-      Due place ≡ Text m.number place ++ request_call m.number m.header (heard_of true read_next)
-  named_text place named =
-      let now = added_now C S number header s section d opened fits b in
-      let here = subst (λ ls. names_operation (is_header_root R) ls ≡ true) (lines_due C S number header s section d opened fits b) named in
-      let closed = step_closed (plain (order header)) [] (outer_in C S number header s section d opened fits b) (leaf_in C S number header s section d opened fits b) _ b in
-      let called : Call place ≡ request_call number header (heard_of true read_next) =
-      call_here number place (12 + length s) header section opened.reads.lines St _ (one_of _ St now) closed here
-      ∙ ap (λ r. request_call number header (heard_of true r)) (sym (next_is C S number header s section d opened fits b)) in
-      subst (λ n. Due place ≡ Text n place ++ request_call n m.header (heard_of true read_next)) (sym f.same_number)
-      (subst (λ h. Due place ≡ Text number place ++ request_call number h (heard_of true read_next)) (sym f.same_header)
-      (text_here C S number header s section d opened fits b place ∙ ap (λ call. Text number place ++ call) called))
+  -- one that ends an operation
+  pub named_in : Is progress.Named → section ≡ sections.Header
+  named_in answer = named_header section _ (named_is End Names Behind answer)
 
-  pub minds_header : (d' : Decoder) → section ≡ sections.Header → decoders.Minds R d' read_next → decoders.Minds roots.Header d' read_next
-  minds_header d' in_it minds = subst (λ sec. decoders.Minds (root_of sec) d' read_next) in_it minds
-
-  -- ---- where the message stands
-
-  no_id : is_header section ≡ false → id_said (due S header s (b ∷ [])) ≡ None
-  no_id other = ap id_said (due_here C S number header s section d opened fits b) ∙ section_no_id section other (may_call header section) (heard_before C S number header s section d opened fits b) St
-
-  abbrev on_it : (d' : Decoder) → decoders.Reads C opened.T (order header) A m.number R d' (opened.octets ++ b ∷ []) → Decodes C S number header (s ++ b ∷ []) section d'
-  on_it d' reads = on_here C S number header s section d opened fits b d' (subst (λ k. decoders.Reads C opened.T (order header) A k R d' (opened.octets ++ b ∷ [])) f.same_number reads)
-
-  kept_id : (inside : Bool) → is_header section ≡ inside → m.id ≡ cond inside None (id_said (told_of (message S header (s ++ b ∷ []))))
-  kept_id true e = f.id ∙ rw (is, e) refl
-  kept_id false e = id_kept C kept number header m s b f (no_id e) false (rw is e)
-
-  -- it goes on
-  pub section_on : (n : Struct_of) (d' : Decoder) → Moved m n → n.id ≡ m.id → n.part ≡ parts.Typed section d' → decoders.Reads C opened.T (order header) A m.number R d' (opened.octets ++ b ∷ []) → Took C kept number header n s b false
-  section_on n d' move id part reads =
-      took_on C kept number header m n s b f move (id ∙ rw part (kept_id (is_header section) refl)) (subst (Stands C kept number header (s ++ b ∷ [])) (sym part) (on_it d' reads))
-
-  -- it has ended
-  ended_id : (d' : Decoder) → decoders.Reads C opened.T (order header) A m.number R d' (opened.octets ++ b ∷ []) → (id : Option ℕ) → (inside : Bool) → is_header section ≡ inside →
-      id ≡ cond inside (heard_of true read_next).request_id m.id → id ≡ id_said (told_of (message S header (s ++ b ∷ [])))
-  ended_id d' reads id false e id_is = id_is ∙ kept_id false e
-  ended_id d' reads id true e id_is = id_is ∙ id_heard C S number header (s ++ b ∷ []) section d' (on_it d' reads) (header_only section e)
-
-  pub section_done : (end : ℕ) (named : Bool) (p : Progress) → p ≡ progress.Done → decoders.IsAnswer end named p read_next →
-      (d' : Decoder) → decoders.Reads C opened.T (order header) A m.number R d' (opened.octets ++ b ∷ []) → (k n : Struct_of) → Moved m k → k.id ≡ m.id →
-      Arrives C kept number header k n (s ++ b ∷ []) (after S header section (heard_of (is_header_root R) read_next) (12 + length (s ++ b ∷ [])) []) →
-      Moved m n → n.id ≡ cond (is_header section) (heard_of true read_next).request_id k.id → in_header n.part ≡ false → Took C kept number header n s b false
-  section_done end named p done answer d' reads k n move_k id_k arrives move_n id_n past =
-      let g = done_here C S number header s section d opened fits b end named p done answer in
-      let id = ended_id d' reads n.id (is_header section) refl (id_n ∙ ap (cond (is_header section) (heard_of true read_next).request_id) id_k) in
-      took_on C kept number header m n s b f move_n (rw past id) (arrives (at_more number header m k s b (is_at C kept number header m s f) move_k) g.0 g.1)
-
-  -- it is faulted
-  pub section_fault : (end : ℕ) (named : Bool) (kind : Kind) (p : Progress) → p ≡ progress.Fault kind → decoders.IsAnswer end named p read_next → (n : Struct_of) → Took C kept number header n s b true
-  section_fault end named kind p is_fault answer n = faulted C kept number header n s b (fault_here C S number header s section d opened fits b end named kind p is_fault answer)
+  pub named_text : Is progress.Named → (place : ℕ) → Due place ≡ Lines ++ request_call number header (heard_of true Behind)
+  named_text answer place =
+      let now = added_now S number header s section T before front octets i b in
+      let named = subst (λ ls. names_operation (is_header_root R) ls ≡ true) (lines_due S number header s section T before front octets i b) (named_is End Names Behind answer) in
+      let closed = step_closed (plain (order header)) [] i.outer i.leaf _ b in
+      joined_text (Due place) Lines (fault_text number (place + 1) Behind) (Call place) [] (request_call number header (heard_of true Behind)) (here place)
+      (no_fault number (place + 1) End Names progress.Named Behind answer (λ fault. fault))
+      (call_here number place (12 + length s) header section i.lines St _ (one_of _ St now) closed named
+      ∙ ap (λ r. request_call number header (heard_of true r)) (sym (next_is S number header s section T before front octets i b)))

@@ -140,11 +140,6 @@ pub record Follows (C : Table) (kept : Kept) (number : ℕ) (header : List ℕ) 
 
 -- ---- its calls
 
--- With one octet more it is over, or follows the longer list.
-pub record Took (C : Table) (kept : Kept) (number : ℕ) (header : List ℕ) (m : Message) (s : List ℕ) (octet : ℕ) (over : Bool) : Type 0 where
-  pub is_over : over ≡ is_over (stage_of (message (said_by C kept) header (s ++ octet ∷ [])))
-  pub follows : over ≡ false → Follows C kept number header m (s ++ octet ∷ [])
-
 -- It follows the longer list, or the n-th of these octets, from 1, is faulted.
 pub record FaultedAt (S : Signatures) (header s more : List ℕ) (n : ℕ) : Type 0 where
   pub some : 0 < n

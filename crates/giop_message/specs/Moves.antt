@@ -1,8 +1,9 @@
 -- What the parts of a message's code do: the text of an octet, and where a message stands behind a part that has ended (steps). Private
 -- contracts alone cite it.
-use Rattle.std.specs.Prelude.{◌≡◌, ℕ, ◌+◌, Bool, false, List, [], ◌∷◌, length, Option, Some, ◌&&◌, ◌==◌, nat_lt, if◌then◌else◌}
+use Rattle.std.specs.Prelude.{◌≡◌, ℕ, ◌+◌, Bool, true, false, List, [], ◌∷◌, ◌++◌, length, take, Option, Some, Result, MatchResult, ◌&&◌, ◌==◌, nat_lt, if◌then◌else◌}
 use Rattle.giop_cdr.specs.Alignment.{padding}
 use Rattle.giop_print.specs.Lines.{call_line, fault_line, rest_line}
+use Rattle.giop_print.specs.Output.{OutLog, Wrote, WroteFront}
 use Rattle.giop_sig.specs.Types.{Ty}
 use Rattle.giop_sig.specs.Table.{Table}
 use Rattle.giop_decode.specs.Spine.{plain, Read, Done, Short, Fault}
@@ -19,7 +20,7 @@ use Rattle.giop_message.specs.Text.{fault_word}
 use Rattle.giop_message.specs.Signatures.{Signatures, Kept, said_by}
 use Rattle.giop_message.specs.Messages
 use Rattle.giop_message.specs.Messages.{Told, BodyType, Untyped, is_shown, is_request, has_body, body_of, members_of, type_if, with_front, through, root_of, message}
-use Rattle.giop_message.specs.Holding.{IsFirst, Stands}
+use Rattle.giop_message.specs.Holding.{due_text, IsFirst, Stands, Follows, FaultedAt}
 
 -- the line of a reading's fault, whose octet has this place
 abbrev pub fault_text : ℕ → ℕ → Read → List ℕ
@@ -91,3 +92,18 @@ abbrev pub last_rest_text : ℕ → Part → List ℕ
 last_rest_text number (parts.Typed section d) = []
 last_rest_text number (parts.Padding wanted) = []
 last_rest_text number (parts.Rest r) = held_text number r.offset r.held.items
+
+-- ---- one go over a run of octets
+
+-- of which it took so many: the message is over, at the last of them, or follows the longer list
+abbrev pub Went : Table → Kept → ℕ → List ℕ → Message → List ℕ → List ℕ → ℕ → Bool → Type 0
+Went C kept number header m s octets n false = Follows C kept number header m (s ++ take n octets)
+Went C kept number header m s octets n true = FaultedAt (said_by C kept) header s octets n
+
+-- the lines of the octets that it took; or a front of those of the run, and then a put failed
+abbrev pub WritesRun : {E : Type 0} → Result (ℕ × Bool) E → Signatures → ℕ → ℕ → List ℕ → List ℕ → List ℕ →
+    OutLog → OutLog → Type 0
+WritesRun result S number place header s octets before after =
+    MatchResult result
+    (λ went. Wrote before after (due_text S number place header s (take went.0 octets)))
+    (λ _. WroteFront before after (due_text S number place header s octets))

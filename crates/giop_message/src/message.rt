@@ -79,10 +79,16 @@ impl Message {
             reach self.new ≡ reach self.old + length octets.now) }
     {
         let mut taken: usize = 0;
-        for octet in octets {
+        while taken < octets.len() {
             let before = place + taken as u64;
-            let is_over = self.take_octet(catalogue, requests, *octet, before, out)?;
-            taken += 1;
+            let (count, is_over) = self.take_some(
+                catalogue,
+                requests,
+                &octets[taken..],
+                before,
+                out,
+            )?;
+            taken += count;
             if is_over {
                 return Ok(Some(taken));
             }

@@ -1,13 +1,13 @@
 //! The parts of a message, each with what it needs of the octets that have come of it.
 
-ghost use Rattle.std.specs.Prelude.{◌≡◌, ℕ, ◌+◌, ◌^◌, ◌<◌, ◌≤◌, List, [], ◌∷◌, ◌++◌, length, OnOk};
+ghost use Rattle.std.specs.Prelude.{◌≡◌, ℕ, ◌+◌, ◌-◌, ◌^◌, ◌<◌, ◌≤◌, List, [], ◌++◌, length, OnOk};
 ghost use Rattle.arrayvec.specs.ArrayVec.{array_vec_len};
 ghost use Rattle.giop_print.specs.Output.{Writes};
 
 use crate::wanted::Wanted;
 use arrayvec::ArrayVec;
 use giop_decode::Decoder;
-use giop_print::{Out, OutFault, Root, rest_line};
+use giop_print::{Out, OutFault, Root, rest_line, split_rest_line};
 
 /// A part that is read as a value.
 #[derive(Clone, Copy, Debug, PartialEq, Eq)]
@@ -70,28 +70,37 @@ impl Rest {
         }
     }
 
-    /// Takes an octet, and writes its last part where that is full.
+    /// How many octets its last part has room for.
+    pub(crate) fn room(&self) -> usize
+        ensures { result ≡ 32 - length self.now.held.items }
+    {
+        32 - self.held.len()
+    }
+
+    /// Takes octets of its last part, and writes that where it is full: what came before from where it is held, and these
+    /// from where they are.
     pub(crate) fn take<O: Out>(
         &mut self,
         number: u64,
-        octet: u8,
+        octets: &[u8],
         out: &mut O,
     ) -> Result<(), OutFault>
-        requires { self.old.offset ≤ 2 ^ 48 }
+        requires limit { self.old.offset ≤ 2 ^ 48 }
+        requires room { length self.old.held.items + length octets.now ≤ 32 }
         ensures writes { (place offset at : ℕ) →
             Writes result (O.log out.old) (O.log out.new) (told_text number place offset
-            (told_of (rest_step self.old.offset (self.old.held.items ++ octet ∷ []) at))) }
+            (told_of (rest_step self.old.offset (self.old.held.items ++ octets.now) at))) }
         ensures holds { OnOk result ((at : ℕ) →
-            stage_of (rest_step self.old.offset (self.old.held.items ++ octet ∷ []) at)
+            stage_of (rest_step self.old.offset (self.old.held.items ++ octets.now) at)
             ≡ In_rest self.new.offset self.new.held.items) }
         ensures more { OnOk result (self.new.offset + length self.new.held.items
-            ≡ self.old.offset + length self.old.held.items + 1) }
+            ≡ self.old.offset + length self.old.held.items + length octets.now) }
     {
-        self.held.push(octet);
-        if self.held.len() < 32 {
+        if octets.len() < self.room() {
+            self.held.try_extend_from_slice(octets).unwrap();
             return Ok(());
         }
-        let written = rest_line(out, number, self.offset, self.held.as_slice());
+        let written = split_rest_line(out, number, self.offset, self.held.as_slice(), octets);
         self.held.clear();
         self.offset += 32;
         written

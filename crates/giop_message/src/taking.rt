@@ -1,16 +1,11 @@
-//! What one octet does to a message, by the part that it belongs to.
+//! What octets do to a message, by the part that they belong to.
 
-ghost use Rattle.std.specs.Prelude.{◌≡◌, ℕ, ◌+◌, ◌^◌, ◌<◌, ◌≤◌, true, false, List, [], ◌∷◌, ◌++◌, length, IfOk, OnOk};
-ghost use Rattle.giop_cdr.specs.declared.order.Order.{Order as ByteOrder};
-ghost use Rattle.giop_print.specs.declared.path.Root.{Root as PathRoot};
+ghost use Rattle.std.specs.Prelude.{◌≡◌, ℕ, ◌+◌, ◌^◌, ◌<◌, ◌≤◌, true, false, List, [], ◌∷◌, ◌++◌, length, IfOk};
 ghost use Rattle.giop_print.specs.Output.{Writes};
-ghost use Rattle.giop_sig.specs.Types.{Ty};
-ghost use Rattle.giop_decode.specs.Spine.{plain, Read as Reading};
-ghost use Rattle.giop_decode.specs.Reading.{read};
+ghost use Rattle.giop_decode.specs.Spine.{Read as Reading};
 ghost use Rattle.giop_decode.specs.Heard.{heard_of};
-ghost use Rattle.giop_decode.specs.Spelling.{lines_text};
-ghost use Rattle.giop_decode.specs.Holding.{Reads, Takes, Minds, GoesOn, Fits as FitsIt, due as due_lines};
-ghost use Rattle.giop_message.specs.Moves.{fault_text, request_call};
+ghost use Rattle.giop_decode.specs.Holding.{Minds};
+ghost use Rattle.giop_message.specs.Moves.{request_call};
 
 use crate::header::kind_of;
 use crate::message::Message;
@@ -21,36 +16,6 @@ use giop_cdr::pad;
 use giop_decode::{Decoder, Progress};
 use giop_print::{Out, OutFault, Root, call_line, fault_line};
 use giop_sig::{Catalogue, Requests};
-
-/// Takes an octet of a section of the message of this number, behind so many octets of the stream, and writes its line,
-/// or that of its fault.
-#[inline(always)]
-fn read<O: Out>(
-    decoder: &mut Decoder,
-    catalogue: &Catalogue,
-    number: u64,
-    octet: u8,
-    place: u64,
-    out: &mut O,
-) -> Result<Progress, OutFault>
-    requires fits { FitsIt catalogue.now decoder.old }
-    requires place { place < 2 ^ 48 }
-    ensures writes { (T : Ty) (o : ByteOrder) (at : ℕ) (root : PathRoot) (s : List ℕ) →
-        Reads catalogue.now T o at number root decoder.old s →
-        Writes result (O.log out.old) (O.log out.new) (lines_text number root
-        (due_lines o T at s octet) ++ fault_text number (place + 1)
-        (read (plain o) [] T at (s ++ octet ∷ []))) }
-    ensures takes { IfOk result (λ p. (T : Ty) (o : ByteOrder) (at : ℕ) (root : PathRoot)
-        (s : List ℕ) → Reads catalogue.now T o at number root decoder.old s →
-        Takes catalogue.now T o at number root decoder.new s octet p) }
-    ensures fits { IfOk result (λ p. GoesOn p → FitsIt catalogue.now decoder.new) }
-{
-    let progress = decoder.take(catalogue, octet, out)?;
-    if let Progress::Fault(kind) = progress {
-        fault_line(out, number, fault_word(kind), place + 1)?;
-    }
-    Ok(progress)
-}
 
 /// Writes the call line of a Request, whose operation has just ended in its header.
 #[tactic(auto, unfolding(crate::specs::Moves::request_call, crate::specs::Moves::called_text))]
@@ -78,7 +43,8 @@ fn call<O: Out>(decoder: &Decoder, number: u64, header: &[u8], out: &mut O) -> R
 
 impl Message {
     ghost use Rattle.giop_message.specs.Signatures.{Kept, said_by};
-    ghost use Rattle.giop_message.specs.Holding.{AreOf, IsKnown, Fits, Follows, due, due_text, Took};
+    ghost use Rattle.giop_message.specs.Holding.{AreOf, IsKnown, Fits, Follows, due};
+    ghost use Rattle.giop_message.specs.Moves.{Went, WritesRun};
 
     /// Takes an octet of the padding in front of a body of this type.
     fn take_padding(&mut self, catalogue: &Catalogue, wanted: Wanted)
@@ -88,9 +54,9 @@ impl Message {
         ensures told { (kept : Kept) (number : ℕ) (header s : List ℕ) (octet : ℕ) →
             Follows catalogue.now kept number header self.old s →
             due (said_by catalogue.now kept) header s (octet ∷ []) ≡ [] }
-        ensures took { (kept : Kept) (number : ℕ) (header s : List ℕ) (octet : ℕ) →
+        ensures follows { (kept : Kept) (number : ℕ) (header s : List ℕ) (octet : ℕ) →
             Follows catalogue.now kept number header self.old s →
-            Took catalogue.now kept number header self.new s octet false }
+            Follows catalogue.now kept number header self.new (s ++ octet ∷ []) }
         ensures fits { Fits catalogue.now self.new }
         ensures at { self.new.at ≡ self.old.at + 1 }
     {
@@ -101,56 +67,65 @@ impl Message {
         }
     }
 
-    /// Takes an octet, behind so many octets of the stream. True says that it is faulted.
+    /// Takes some of the octets, of which there is one, behind so many octets of the stream: of a section all, or as many
+    /// as there are up to one that ends an operation or the section, or breaks a rule; of padding one; of the rest those
+    /// of one part. Answers how many it took, and whether the last of them is faulted.
     #[inline]
-    pub(crate) fn take_octet<O: Out>(
+    pub(crate) fn take_some<O: Out>(
         &mut self,
         catalogue: &Catalogue,
         requests: &Requests,
-        octet: u8,
+        octets: &[u8],
         place: u64,
         out: &mut O,
-    ) -> Result<bool, OutFault>
+    ) -> Result<(usize, bool), OutFault>
         requires fits { Fits catalogue.now self.old }
         requires of { AreOf catalogue.now requests.now }
-        requires limit { self.old.at ≤ 2 ^ 48 }
-        requires place { place < 2 ^ 48 }
+        requires some { 0 < length octets.now }
+        requires before { self.old.at ≤ place }
+        requires limit { place + length octets.now ≤ 2 ^ 48 }
         ensures writes { (number : ℕ) (header s : List ℕ) →
             Follows catalogue.now requests.now number header self.old s →
-            Writes result (O.log out.old) (O.log out.new) (due_text
-            (said_by catalogue.now requests.now) number place header s (octet ∷ [])) }
-        ensures took { IfOk result (λ over. (number : ℕ) (header s : List ℕ) →
+            WritesRun result (said_by catalogue.now requests.now) number place header s octets.now
+            (O.log out.old) (O.log out.new) }
+        ensures went { IfOk result (λ went. (number : ℕ) (header s : List ℕ) →
             Follows catalogue.now requests.now number header self.old s →
-            Took catalogue.now requests.now number header self.new s octet over) }
-        ensures fits { IfOk result (λ over. over ≡ false → Fits catalogue.now self.new) }
-        ensures at { OnOk result (self.new.at ≡ self.old.at + 1) }
+            Went catalogue.now requests.now number header self.new s octets.now went.0 went.1) }
+        ensures some { IfOk result (λ went. 0 < went.0) }
+        ensures within { IfOk result (λ went. went.0 ≤ length octets.now) }
+        ensures fits { IfOk result (λ went. went.1 ≡ false → Fits catalogue.now self.new) }
+        ensures at { IfOk result (λ went. self.new.at ≡ self.old.at + went.0) }
     {
         match &mut self.part {
             Part::Typed(_, decoder) => {
-                let progress = read(decoder, catalogue, self.number, octet, place, out)?;
-                self.at += 1;
+                let (taken, progress) = decoder.take_run(catalogue, octets, out)?;
+                self.at += taken as u64;
                 match progress {
-                    Progress::More => Ok(false),
+                    Progress::More => Ok((taken, false)),
                     Progress::Named => {
                         call(decoder, self.number, &self.header, out)?;
-                        Ok(false)
+                        Ok((taken, false))
                     }
                     Progress::Done => {
                         self.leave(catalogue, requests);
-                        Ok(false)
+                        Ok((taken, false))
                     }
-                    Progress::Fault(_) => Ok(true),
+                    Progress::Fault(kind) => {
+                        fault_line(out, self.number, fault_word(kind), place + taken as u64)?;
+                        Ok((taken, true))
+                    }
                 }
             }
             Part::Padding(wanted) => {
                 let wanted = *wanted;
                 self.take_padding(catalogue, wanted);
-                Ok(false)
+                Ok((1, false))
             }
             Part::Rest(rest) => {
-                self.at += 1;
-                rest.take(self.number, octet, out)?;
-                Ok(false)
+                let taken = rest.room().min(octets.len());
+                rest.take(self.number, &octets[..taken], out)?;
+                self.at += taken as u64;
+                Ok((taken, false))
             }
         }
     }

@@ -1,16 +1,19 @@
-use Rattle.std.proofs.Common.{◌≡◌, ℕ, ◌+◌, List, ◌++◌, take}
+use Rattle.std.proofs.Common.{◌≡◌, ℕ, ◌+◌, ◌-◌, ◌≤◌, List, ◌++◌, length, take}
 use Rattle.giop_print.specs.Output.{Wrote}
 use Rattle.giop_message.specs.Signatures.{said_by}
 use Rattle.giop_message.specs.Holding.{Fits, Follows, due_text}
 use Rattle.giop_message.proofs.message.Message.take.Given as goal
 
-abbrev pub invariant-loop-octet : goal.invariant-loop-octet
-invariant-loop-octet g l =
+abbrev pub invariant-loop-taken : goal.invariant-loop-taken
+invariant-loop-taken g l =
     record {
-      taken : l.taken ≡ l.octet-index;
+      within : l.taken ≤ length l.octets;
       fits : Fits l.catalogue l.self;
-      at : l.self.at ≡ l.initial.self.at + l.octet-index;
-      follows : (number : ℕ) (header s : List ℕ) → Follows l.catalogue l.requests number header l.initial.self s → Follows l.catalogue l.requests number header l.self (s ++ take l.octet-index l.octets);
+      at : l.self.at ≡ l.initial.self.at + l.taken;
+      follows : (number : ℕ) (header s : List ℕ) → Follows l.catalogue l.requests number header l.initial.self s → Follows l.catalogue l.requests number header l.self (s ++ take l.taken l.octets);
       text : (number : ℕ) (header s : List ℕ) → Follows l.catalogue l.requests number header l.initial.self s →
-          Wrote (g.O.Out.log l.initial.out) (g.O.Out.log l.out) (due_text (said_by l.catalogue l.requests) number l.place header s (take l.octet-index l.octets));
+          Wrote (g.O.Out.log l.initial.out) (g.O.Out.log l.out) (due_text (said_by l.catalogue l.requests) number l.place header s (take l.taken l.octets));
     }
+
+abbrev pub decreases-loop-taken : goal.decreases-loop-taken
+decreases-loop-taken g l = length l.octets - l.taken

@@ -1,6 +1,6 @@
 use Rattle.std.proofs.Common.{◌+◌, ◌<◌, ◌≤◌, [], ◌∷◌, ◌++◌, length, refl, arith}
 use Rattle.giop_cdr.specs.Alignment.{padding}
-use Rattle.giop_message.proofs.Rests.{padding_told, last_told, padding_took, last_took}
+use Rattle.giop_message.proofs.Rests.{padding_told, last_told, padding_follows, last_follows}
 use Rattle.giop_message.proofs.message.Message.take_padding.Goals as goal
 
 pub returns-then-is_last-clause-told : goal.returns-then-is_last-clause-told
@@ -8,11 +8,11 @@ returns-then-is_last-clause-told c kept number header s octet f =
     let few : padding (12 + length s) 8 ≤ 1 = rw (← f.at, ← c.pad-is_last.ensures.value) c.if-is_last.true in
     last_told c.args.catalogue.now kept number header c.args.self.now s f c.args.wanted c.requires.part octet few
 
-pub returns-then-is_last-clause-took : goal.returns-then-is_last-clause-took
-returns-then-is_last-clause-took c kept number header s octet f =
+pub returns-then-is_last-clause-follows : goal.returns-then-is_last-clause-follows
+returns-then-is_last-clause-follows c kept number header s octet f =
     let few : padding (12 + length s) 8 ≤ 1 = rw (← f.at, ← c.pad-is_last.ensures.value) c.if-is_last.true in
     let e = c.begin_body.ensures in
-    last_took c.args.catalogue.now kept number header c.args.self.now s f c.args.wanted c.requires.part octet few _ _ (record { number = refl; header = refl; at = refl })
+    last_follows c.args.catalogue.now kept number header c.args.self.now s f c.args.wanted c.requires.part octet few _ _ (record { number = refl; header = refl; at = refl })
     (e.arrives kept number header (s ++ octet ∷ [])) (record { number = e.number; header = e.header; at = e.at }) e.id e.past
 
 pub returns-else-is_last-clause-told : goal.returns-else-is_last-clause-told
@@ -20,7 +20,7 @@ returns-else-is_last-clause-told c kept number header s octet f =
     let more : 1 < padding (12 + length s) 8 = rw (← f.at, ← c.pad-is_last.ensures.value) (omega (arith, c.if-is_last.false)) in
     padding_told c.args.catalogue.now kept number header c.args.self.now s f c.args.wanted c.requires.part octet more
 
-pub returns-else-is_last-clause-took : goal.returns-else-is_last-clause-took
-returns-else-is_last-clause-took c kept number header s octet f =
+pub returns-else-is_last-clause-follows : goal.returns-else-is_last-clause-follows
+returns-else-is_last-clause-follows c kept number header s octet f =
     let more : 1 < padding (12 + length s) 8 = rw (← f.at, ← c.pad-is_last.ensures.value) (omega (arith, c.if-is_last.false)) in
-    padding_took c.args.catalogue.now kept number header c.args.self.now s f c.args.wanted c.requires.part octet more _ (record { number = refl; header = refl; at = refl }) refl refl
+    padding_follows c.args.catalogue.now kept number header c.args.self.now s f c.args.wanted c.requires.part octet more _ (record { number = refl; header = refl; at = refl }) refl refl
