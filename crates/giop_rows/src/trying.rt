@@ -6,6 +6,7 @@ use super::difference::{Difference, compare, compare_front};
 use super::early::Early;
 use super::faulty::Narrow;
 use super::row::Row;
+use super::saving::is_saved;
 use super::way::Way;
 use giop_print::{Sheet, Written};
 use giop_run::{ProgramFault, Report, RunFault, status};
@@ -31,7 +32,8 @@ pub fn is_dumped_each_way(
     Ok(
         is_dumped_cut(rt, catalogue, requests, row, stream)?
             && is_dumped_early(rt, catalogue, requests, row, stream)?
-            && is_dumped_over_failing(rt, catalogue, requests, row, stream)?,
+            && is_dumped_over_failing(rt, catalogue, requests, row, stream)?
+            && is_saved(rt, catalogue, requests, row, stream)?,
     )
 }
 
@@ -261,8 +263,8 @@ fn differs(rt: &HostRuntime, name: &str, way: Way, found: &Difference) -> io::Re
     Ok(false)
 }
 
-/// Tells of what a row says of ends and can't be read.
-fn malformed(rt: &HostRuntime, name: &str, text: &str) -> io::Result<bool> {
+/// Tells of what a row says of ends or checkpoints and can't be read.
+pub fn malformed(rt: &HostRuntime, name: &str, text: &str) -> io::Result<bool> {
     println!(rt; "MALFORMED {name}: {text}")?;
     Ok(false)
 }
