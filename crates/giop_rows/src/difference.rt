@@ -23,7 +23,7 @@ pub enum Difference<'w, 'g> {
         got: usize,
     },
     /// The hash of the fixed parts of the checkpoints.
-    Hash {
+    FixedParts {
         wanted: u32,
         got: u32,
     },
@@ -43,7 +43,7 @@ impl fmt::Display for Difference<'_, '_> {
             Difference::Length { at, wanted, got } => {
                 write!(f, "length behind {at}\n  wanted: {wanted}\n  got: {got}")
             }
-            Difference::Hash { wanted, got } => {
+            Difference::FixedParts { wanted, got } => {
                 write!(f, "fixed parts\n  wanted: {wanted:08x}\n  got: {got:08x}")
             }
         }

@@ -12,7 +12,7 @@ use giop_print::{Sheet, Written};
 use giop_run::{ProgramFault, Report, RunFault, status};
 use giop_sig::{Catalogue, Requests};
 use giop_stream::Engine;
-use std::io;
+use std::{fmt, io};
 
 /// Dumps a row in every way, up to the first in which it differs, which is told.
 pub fn is_dumped_each_way(
@@ -196,7 +196,7 @@ fn dumped_over(
     let mut sheet = Sheet::new(&mut room);
     let found = match dump(engine, stream, way, &mut sheet) {
         Ok(report) => {
-            if is_as_told(rt, row, way, sheet.held(), status_of(Ok(report)))? {
+            if is_as_told(rt, row, &way, sheet.held(), status_of(Ok(report)))? {
                 return Ok(Failed::Never);
             }
             return Ok(Failed::Wrongly);
@@ -206,7 +206,7 @@ fn dumped_over(
     match found {
         None => Ok(Failed::Rightly),
         Some(found) => {
-            differs(rt, row.name, way, &found)?;
+            differs(rt, row.name, &way, &found)?;
             Ok(Failed::Wrongly)
         }
     }
@@ -223,7 +223,7 @@ fn is_dumped(
     let mut room = [0; 16_384];
     let mut sheet = Sheet::new(&mut room);
     let ended = dump(engine, stream, way, &mut sheet);
-    is_as_told(rt, row, way, sheet.held(), status_of(ended))
+    is_as_told(rt, row, &way, sheet.held(), status_of(ended))
 }
 
 /// Dumps a stream in one way, over a writer to a sheet. There is one sort of out, since the engine is built for each.
@@ -245,10 +245,10 @@ fn status_of(ended: Result<Report, RunFault>) -> u8 {
 }
 
 /// Whether these are the lines and the status of the row.
-fn is_as_told(
+pub fn is_as_told(
     rt: &HostRuntime,
     row: &Row,
-    way: Way,
+    way: &impl fmt::Display,
     written: &[u8],
     status: u8,
 ) -> io::Result<bool> {
@@ -258,7 +258,13 @@ fn is_as_told(
     }
 }
 
-fn differs(rt: &HostRuntime, name: &str, way: Way, found: &Difference) -> io::Result<bool> {
+/// Tells of a row that differs.
+pub fn differs(
+    rt: &HostRuntime,
+    name: &str,
+    way: &impl fmt::Display,
+    found: &Difference,
+) -> io::Result<bool> {
     println!(rt; "DIFFERS {name}, {way}, {found}")?;
     Ok(false)
 }
