@@ -81,7 +81,7 @@ fn saved<'a>(
         if got != wanted || got > most {
             return Err(Difference::Length { at, wanted, got });
         }
-        hash = hashed(hash, &octets[..FIXED]);
+        hash = hashed(hash, fixed_part(&octets));
         let _fed = engine.feed(octet(stream, at), sheet);
     }
     if hash == told.hash {
@@ -96,6 +96,11 @@ fn saved<'a>(
 /// The greatest length of a checkpoint by types of this depth.
 fn most(depth: u8) -> usize {
     FIXED + 17 * (256 + 16 * usize::from(depth))
+}
+
+/// The fixed part of a checkpoint.
+fn fixed_part(octets: &[u8; 10_976]) -> &[u8] {
+    &octets[..FIXED]
 }
 
 /// The octet behind so many others, alone; none at the end of the stream.
