@@ -16,6 +16,17 @@ pub enum Difference<'w, 'g> {
         wanted: u8,
         got: u8,
     },
+    /// The length of the checkpoint behind so many octets.
+    Length {
+        at: usize,
+        wanted: usize,
+        got: usize,
+    },
+    /// The hash of the fixed parts of the checkpoints.
+    FixedParts {
+        wanted: u32,
+        got: u32,
+    },
 }
 
 impl fmt::Display for Difference<'_, '_> {
@@ -28,6 +39,12 @@ impl fmt::Display for Difference<'_, '_> {
             } => write!(f, "line {number}\n  wanted: {wanted}\n  got: {got}"),
             Difference::Status { wanted, got } => {
                 write!(f, "status\n  wanted: {wanted}\n  got: {got}")
+            }
+            Difference::Length { at, wanted, got } => {
+                write!(f, "length behind {at}\n  wanted: {wanted}\n  got: {got}")
+            }
+            Difference::FixedParts { wanted, got } => {
+                write!(f, "fixed parts\n  wanted: {wanted:08x}\n  got: {got:08x}")
             }
         }
     }

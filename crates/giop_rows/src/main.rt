@@ -3,24 +3,29 @@
 //! `stdin` has sets of rows, and between two sets a line `=`. The parts of a set stand between empty lines. Its first
 //! part is the files of its rows: a signature file, or none, a line `requests` and a request list, in which `I..J NAME`
 //! stands for a line for each id from I to J. Each other part is a row: its name, `status` with 0 or 1, perhaps a line
-//! `early`, the octets of its stream in hexadecimal text, in any number of lines, a line `lines`, and the lines of its
-//! dump. The rows that are named `generated` were made by chance, and have their lines from a reference that was written
-//! apart from the dumper; so has what stands behind `early`.
+//! `early`, perhaps a line `checkpoints`, the octets of its stream in hexadecimal text, in any number of lines, a line
+//! `lines`, and the lines of its dump. The rows that are named `generated` were made by chance, and have their lines from
+//! a reference that was written apart from the dumper; so has what stands behind `early` and `checkpoints`.
 //!
 //! `early` tells what is written where the stream ends behind 0, 1, 2, .. of its octets, in words `L:M.F`: the first L
 //! lines of the dump, and a closing with M messages and F faults. `t` behind that says that there is a truncated line,
 //! `u` and numbers with commas that these messages are unfinished, `@` and a number how many octets are counted where the
 //! stream has stopped before its end, and `*` and a number for how many octets, one behind the other, the word stands.
 //!
+//! `checkpoints` has the FNV-1a hash, of 32 bits, of the fixed parts of the checkpoints behind 0, 1, 2, .. octets, and then
+//! how many octets each of these has, with `*` and a number as above.
+//!
 //! Written is a line for each row, and at the end how many there were and how many differ. Of a row that differs there
 //! is the way in which it was dumped, and the first line that differs. The status is 0 where there are rows and none
 //! differs.
 #![tactic(auto)]
 
+mod checkpoints;
 mod difference;
 mod early;
 mod faulty;
 mod row;
+mod saving;
 mod tally;
 mod telling;
 mod trying;

@@ -2,13 +2,14 @@
 
 use std::alloc::Global;
 
-/// A row: its name, the status of the program, what is written where its stream ends early (or nothing), the octets in
-/// hexadecimal text, and the lines, the last one's end left out.
+/// A row: its name, the status of the program, what is written where its stream ends early (or nothing), its checkpoints
+/// (or nothing), the octets in hexadecimal text, and the lines, the last one's end left out.
 #[derive(Clone, Copy)]
 pub struct Row<'a> {
     pub name: &'a str,
     pub status: u8,
     pub early: &'a str,
+    pub checkpoints: &'a str,
     pub stream: &'a str,
     pub lines: &'a str,
 }
@@ -20,11 +21,13 @@ impl<'a> Row<'a> {
         let mut parts = head.splitn(3, '\n');
         let name = parts.next()?;
         let status = parts.next()?.strip_prefix("status ")?.parse().ok()?;
-        let (early, stream) = named(parts.next().unwrap_or(""), "early ");
+        let (early, rest) = named(parts.next().unwrap_or(""), "early ");
+        let (checkpoints, stream) = named(rest, "checkpoints ");
         Some(Row {
             name,
             status,
             early,
+            checkpoints,
             stream,
             lines,
         })

@@ -6,12 +6,13 @@ use super::difference::{Difference, compare, compare_front};
 use super::early::Early;
 use super::faulty::Narrow;
 use super::row::Row;
+use super::saving::is_saved;
 use super::way::Way;
 use giop_print::{Sheet, Written};
 use giop_run::{ProgramFault, Report, RunFault, status};
 use giop_sig::{Catalogue, Requests};
 use giop_stream::Engine;
-use std::io;
+use std::{fmt, io};
 
 /// Dumps a row in every way, up to the first in which it differs, which is told.
 pub fn is_dumped_each_way(
@@ -31,7 +32,8 @@ pub fn is_dumped_each_way(
     Ok(
         is_dumped_cut(rt, catalogue, requests, row, stream)?
             && is_dumped_early(rt, catalogue, requests, row, stream)?
-            && is_dumped_over_failing(rt, catalogue, requests, row, stream)?,
+            && is_dumped_over_failing(rt, catalogue, requests, row, stream)?
+            && is_saved(rt, catalogue, requests, row, stream)?,
     )
 }
 
@@ -194,7 +196,7 @@ fn dumped_over(
     let mut sheet = Sheet::new(&mut room);
     let found = match dump(engine, stream, way, &mut sheet) {
         Ok(report) => {
-            if is_as_told(rt, row, way, sheet.held(), status_of(Ok(report)))? {
+            if is_as_told(rt, row, &way, sheet.held(), status_of(Ok(report)))? {
                 return Ok(Failed::Never);
             }
             return Ok(Failed::Wrongly);
@@ -204,7 +206,7 @@ fn dumped_over(
     match found {
         None => Ok(Failed::Rightly),
         Some(found) => {
-            differs(rt, row.name, way, &found)?;
+            differs(rt, row.name, &way, &found)?;
             Ok(Failed::Wrongly)
         }
     }
@@ -221,7 +223,7 @@ fn is_dumped(
     let mut room = [0; 16_384];
     let mut sheet = Sheet::new(&mut room);
     let ended = dump(engine, stream, way, &mut sheet);
-    is_as_told(rt, row, way, sheet.held(), status_of(ended))
+    is_as_told(rt, row, &way, sheet.held(), status_of(ended))
 }
 
 /// Dumps a stream in one way, over a writer to a sheet. There is one sort of out, since the engine is built for each.
@@ -243,10 +245,10 @@ fn status_of(ended: Result<Report, RunFault>) -> u8 {
 }
 
 /// Whether these are the lines and the status of the row.
-fn is_as_told(
+pub fn is_as_told(
     rt: &HostRuntime,
     row: &Row,
-    way: Way,
+    way: &impl fmt::Display,
     written: &[u8],
     status: u8,
 ) -> io::Result<bool> {
@@ -256,13 +258,19 @@ fn is_as_told(
     }
 }
 
-fn differs(rt: &HostRuntime, name: &str, way: Way, found: &Difference) -> io::Result<bool> {
+/// Tells of a row that differs.
+pub fn differs(
+    rt: &HostRuntime,
+    name: &str,
+    way: &impl fmt::Display,
+    found: &Difference,
+) -> io::Result<bool> {
     println!(rt; "DIFFERS {name}, {way}, {found}")?;
     Ok(false)
 }
 
-/// Tells of what a row says of ends and can't be read.
-fn malformed(rt: &HostRuntime, name: &str, text: &str) -> io::Result<bool> {
+/// Tells of what a row says of ends or checkpoints and can't be read.
+pub fn malformed(rt: &HostRuntime, name: &str, text: &str) -> io::Result<bool> {
     println!(rt; "MALFORMED {name}: {text}")?;
     Ok(false)
 }

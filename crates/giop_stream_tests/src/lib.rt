@@ -2,6 +2,10 @@
 #![tactic(auto)]
 
 #[cfg(test)]
+mod kept;
+#[cfg(test)]
+mod known;
+#[cfg(test)]
 mod loaded;
 #[cfg(test)]
 mod own_out;

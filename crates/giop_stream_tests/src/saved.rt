@@ -1,13 +1,12 @@
 //! What an engine saves of a stream: how long it is, and its fixed part.
 
-ghost use Rattle.std.specs.Prelude.{IfOk};
 ghost use Rattle.giop_stream.specs.Holding.{AreOf};
 
+use super::known::declared;
 use giop_print::Sheet;
 use giop_sig::{Catalogue, Requests};
 use giop_stream::{Engine, Stop};
 use hex::FromHex;
-use std::alloc::Global;
 use std::test::Fail;
 
 /// The operations of the stream.
@@ -82,18 +81,9 @@ fn differs(
     }
 }
 
-/// These types, and no requests.
-fn declared(alloc: Global) -> Result<(Catalogue, Requests), Fail>
-    ensures { IfOk result (λ known. AreOf known.0 known.1) }
-{
-    let catalogue = Catalogue::parse(alloc, DECLARED)?;
-    let requests = Requests::parse(alloc, b"", &catalogue)?;
-    Ok((catalogue, requests))
-}
-
 #[test]
 fn a_checkpoint_has_its_length_and_fixed_part(rt: HostRuntime) -> Result<(), Fail> {
-    let known = declared(rt.alloc())?;
+    let known = declared(rt.alloc(), DECLARED)?;
     let stream = <[u8; 100] as FromHex>::from_hex(STREAM).map_err(|_| Fail::from("the stream"))?;
     for (fed, length, text) in ROWS {
         let fixed = <[u8; 96] as FromHex>::from_hex(text).map_err(|_| Fail::from("the row"))?;
@@ -106,7 +96,7 @@ fn a_checkpoint_has_its_length_and_fixed_part(rt: HostRuntime) -> Result<(), Fai
 
 #[test]
 fn a_failed_engine_saves_nothing(rt: HostRuntime) -> Result<(), Fail> {
-    let known = declared(rt.alloc())?;
+    let known = declared(rt.alloc(), DECLARED)?;
     let mut room = [0; 20];
     let mut sheet = Sheet::new(&mut room);
     let mut engine = Engine::new(&known.0, &known.1);

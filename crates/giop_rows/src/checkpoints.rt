@@ -1,0 +1,47 @@
+//! What a row tells of its checkpoints: one behind 0, 1, 2, .. octets of its stream.
+
+use super::early::times;
+use std::alloc::Global;
+
+/// The hash of no octets.
+pub const NO_OCTETS: u32 = 0x811c_9dc5;
+
+/// How long the checkpoints of a row are, and the hash of their fixed parts, one behind the other.
+#[derive(Drop)]
+pub struct Checkpoints {
+    pub lengths: Vec<usize>,
+    pub hash: u32,
+}
+
+impl Checkpoints {
+    /// What a text spells: the hash in hexadecimal digits, and the lengths, each perhaps with `*` and a number behind it. None
+    /// also for want of memory.
+    pub fn read(alloc: Global, text: &str) -> Option<Checkpoints> {
+        let (hash, words) = text.split_once(' ')?;
+        let mut lengths = Vec::new(alloc);
+        for word in words.split(' ') {
+            let (length, count) = times(word)?;
+            push(&mut lengths, length.parse().ok()?, count)?;
+        }
+        Some(Checkpoints {
+            lengths,
+            hash: u32::from_str_radix(hash, 16).ok()?,
+        })
+    }
+}
+
+fn push(lengths: &mut Vec<usize>, length: usize, count: usize) -> Option<()> {
+    for _ in 0..count {
+        lengths.push(length).ok()?;
+    }
+    Some(())
+}
+
+/// The hash of some octets behind others that have this hash (FNV-1a, of 32 bits).
+pub fn hashed(hash: u32, octets: &[u8]) -> u32 {
+    let mut hash = hash;
+    for octet in octets {
+        hash = (hash ^ u32::from(*octet)).wrapping_mul(0x0100_0193);
+    }
+    hash
+}

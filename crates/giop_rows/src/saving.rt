@@ -1,0 +1,119 @@
+//! A row, saved behind each of its octets.
+
+ghost use Rattle.giop_stream.specs.Holding.{AreOf};
+
+use super::checkpoints::{Checkpoints, NO_OCTETS, hashed};
+use super::difference::Difference;
+use super::row::Row;
+use super::trying::{differs, is_as_told, malformed};
+use giop_print::Sheet;
+use giop_sig::{Catalogue, Requests};
+use giop_stream::Engine;
+use std::io;
+
+/// The way in which it is dumped.
+const WAY: &str = "saved behind each octet";
+
+/// The octets of a checkpoint's fixed part.
+const FIXED: usize = 96;
+
+/// Saves a row behind each of its octets, where it tells of its checkpoints.
+pub fn is_saved(
+    rt: &HostRuntime,
+    catalogue: &Catalogue,
+    requests: &Requests,
+    row: &Row,
+    stream: &[u8],
+) -> io::Result<bool>
+    requires of { AreOf catalogue.now requests.now }
+{
+    if row.checkpoints.is_empty() {
+        return Ok(true);
+    }
+    match Checkpoints::read(rt.alloc(), row.checkpoints) {
+        Some(told) if told.lengths.len() == stream.len() + 1 => {
+            is_saved_as_told(rt, catalogue, requests, row, stream, &told)
+        }
+        _ => malformed(rt, row.name, row.checkpoints),
+    }
+}
+
+/// Saves a row behind each of its octets, up to the first checkpoint that differs, which is told.
+fn is_saved_as_told(
+    rt: &HostRuntime,
+    catalogue: &Catalogue,
+    requests: &Requests,
+    row: &Row,
+    stream: &[u8],
+    told: &Checkpoints,
+) -> io::Result<bool>
+    requires of { AreOf catalogue.now requests.now }
+{
+    let mut room = [0; 16_384];
+    let mut sheet = Sheet::new(&mut room);
+    match saved(catalogue, requests, stream, told, &mut sheet) {
+        Ok(engine) => {
+            let status = ended(engine, &mut sheet);
+            is_as_told(rt, row, &WAY, sheet.held(), status)
+        }
+        Err(found) => differs(rt, row.name, &WAY, &found),
+    }
+}
+
+/// The engine that is fed a stream octet by octet, and saved in front of each and at the end; or the first checkpoint that
+/// differs in its length, or is too long, or how their fixed parts differ.
+fn saved<'a>(
+    catalogue: &'a Catalogue,
+    requests: &'a Requests,
+    stream: &[u8],
+    told: &Checkpoints,
+    sheet: &mut Sheet,
+) -> Result<Engine<'a>, Difference<'static, 'static>>
+    requires of { AreOf catalogue.now requests.now }
+{
+    let most = most(catalogue.depth());
+    let mut octets = [0; 10_976];
+    let mut engine = Engine::new(catalogue, requests);
+    let mut hash = NO_OCTETS;
+    for (at, wanted) in told.lengths.iter().enumerate() {
+        let wanted = *wanted;
+        let got = engine.save(&mut octets).unwrap_or(0);
+        if got != wanted || got > most {
+            return Err(Difference::Length { at, wanted, got });
+        }
+        hash = hashed(hash, fixed_part(&octets));
+        let _fed = engine.feed(octet(stream, at), sheet);
+    }
+    if hash == told.hash {
+        return Ok(engine);
+    }
+    Err(Difference::FixedParts {
+        wanted: told.hash,
+        got: hash,
+    })
+}
+
+/// The greatest length of a checkpoint by types of this depth.
+fn most(depth: u8) -> usize {
+    FIXED + 17 * (256 + 16 * usize::from(depth))
+}
+
+/// The fixed part of a checkpoint.
+fn fixed_part(octets: &[u8; 10_976]) -> &[u8] {
+    &octets[..FIXED]
+}
+
+/// The octet behind so many others, alone; none at the end of the stream.
+fn octet(stream: &[u8], at: usize) -> &[u8] {
+    let (_, left) = stream.split_at(at.min(stream.len()));
+    left.split_at(left.len().min(1)).0
+}
+
+/// The status of the program where the stream of an engine ends.
+fn ended(engine: Engine, sheet: &mut Sheet) -> u8 {
+    match engine.finish(sheet) {
+        Ok(totals) if totals.faults == 0 => 0,
+        Ok(_) => 1,
+        Err(_) => 4,
+    }
+}

@@ -1,0 +1,160 @@
+//! Checkpoints that are kept as octets: what is saved of a stream is one of them, and each later version is to load them.
+
+ghost use Rattle.giop_stream.specs.Holding.{AreOf};
+
+use super::known::declared;
+use giop_print::Sheet;
+use giop_sig::{Catalogue, Requests};
+use giop_stream::Engine;
+use std::test::Fail;
+
+/// No types of one's own.
+const BUILT_IN: &[u8] = b"signatures 1;\n";
+
+/// A checkpoint, in hexadecimal text.
+struct Kept {
+    name: &'static str,
+    /// The signature file.
+    types: &'static [u8],
+    /// The octets that were read; none where no stream was so long.
+    front: &'static str,
+    checkpoint: &'static str,
+    /// The octets behind.
+    behind: &'static str,
+    /// Their lines.
+    lines: &'static [u8],
+}
+
+const KEPT: &[Kept] = &[
+    Kept {
+        name: "inside a header",
+        types: BUILT_IN,
+        front: "47494f5001",
+        checkpoint: "47494f5044554d5000000001000000000000000000000000000000000000000000000000000000050000000000000000\
+0000000000000000000005ff47494f500100000000000000000000000000000000000000000000000000000000000000",
+        behind: "00000500000000",
+        lines: b"m1 start 1.0 big CloseConnection size 0\n\
+m1 end\n\
+total messages 1 faults 0 octets 12\n",
+    },
+    Kept {
+        name: "inside a piece of an octet sequence",
+        types: b"signatures 1;\noperation void raw(in sequence<octet> o);\n",
+        front: "47494f500102000000000068000000070300000000000000000000014100000000000004726177000000000000000000\
+00000040000102030405060708090a0b0c0d0e0f101112131415161718191a1b1c1d1e1f202122232425",
+        checkpoint: "47494f5044554d50000000010000000000000001000000000000000000000001000000000000005a0000000000000001\
+00000000000000000100000047494f500102000000000068000000000000001a00000000000000000000000000000000\
+0200000000000000000147494f5001020000000000680000000000000000000002000000000000005a01000000070000\
+000200000000000000010201000000250000004000000020000000000000000000062021222324250000000000000000\
+000000000000000000000000000000000000000000000000000000000000000000000000000000000000000000000000\
+000000000000000000000000000000000000000000000000000000000000000000000000000000000000000000000000\
+000000000000000000000000000000000000000000000000000000000000000000000000000000000000000000000000\
+000000000000000000000000000000000000002600000000000000010000000000000025000000000000000000000000",
+        behind: "262728292a2b2c2d2e2f303132333435363738393a3b3c3d3e3f",
+        lines: b"m1 body.o octets @32 202122232425262728292a2b2c2d2e2f303132333435363738393a3b3c3d3e3f\n\
+m1 end\n\
+total messages 1 faults 0 octets 116\n",
+    },
+    Kept {
+        name: "inside a number of an open message that isn't current",
+        types: b"signatures 1;\noperation void big(in ulonglong n);\noperation void nop();\n",
+        front: "47494f500102020000000028000000050300000000000000000000014100000000000004626967000000000000000000\
+0102030447494f5001020200000000240000000603000000000000000000000141000000000000046e6f700000000000\
+00000000",
+        checkpoint: "47494f5044554d5000000001000000000000000200000000000000000000000200000000000000640000000000000002\
+0000000000000000000000ff000000000000000000000000000000000000000000000000000000000000000000000000\
+0201000000000000000147494f5001020200000000280000000500000000000002000000000000003401000000050000\
+000200000000000000010400000000080000000000000000040102030400000000000000000000000000000000000000\
+000000000000000000000000000000000000000000000000000000000000000000000000000000000000000000000000\
+000000000000000000000000000000000000000000000000000000000000000000000000000000000000000000000000\
+000000000000000000000000000000000000000000000000000000000000000000000000000000000000000000000000\
+000000000000000000000000000000000000002500000000000000010000000000000008000000000000000000000000\
+0001000000000000000247494f5001020200000000240000000600000000000004000000000000003001000000060000\
+000000000000000000000000000000000000000000000000000000000000000000000000000000000000000000000000\
+000000000000000000000000000000000000000000000000000000000000000000000000000000000000000000000000\
+000000000000000000000000000000000000000000000000000000000000000000000000000000000000000000000000\
+000000000000000000000000000000000000000000000000000000000000000000000000000000000000000000000000\
+00000000000000000000000000000000",
+        behind: "47494f50010202070000000600000005050647494f5001020007000000040000000647494f5001020007000000060000\
+00050708",
+        lines: b"m3 start 1.2 big Fragment size 6 more\n\
+m3 header.request_id ulong 5\n\
+m3 continues m1\n\
+m4 start 1.2 big Fragment size 4\n\
+m4 header.request_id ulong 6\n\
+m4 continues m2\n\
+m2 end\n\
+m5 start 1.2 big Fragment size 6\n\
+m5 header.request_id ulong 5\n\
+m5 continues m1\n\
+m1 body.n ulonglong 72623859790382856\n\
+m1 end\n\
+total messages 5 faults 0 octets 152\n",
+    },
+    Kept {
+        name: "an octet in front of the limit",
+        types: BUILT_IN,
+        front: "",
+        checkpoint: "47494f5044554d500000000100000000000000000000000000000000000000000000ffffffffffff0000000000000000\
+0000000000000000000000ff000000000000000000000000000000000000000000000000000000000000000000000000",
+        behind: "4747",
+        lines: b"stream fault stream-limit at 281474976710657\n\
+total messages 0 faults 1 octets 281474976710657\n",
+    },
+];
+
+/// The octets of hexadecimal text, in this room; none where it isn't such text, or doesn't fit.
+fn octets_of<'a>(text: &str, room: &'a mut [u8; 1024]) -> &'a [u8] {
+    let (octets, _) = room.split_at_mut((text.len() / 2).min(1024));
+    match hex::decode_to_slice(text.as_bytes(), octets) {
+        Ok(()) => octets,
+        Err(_) => &[],
+    }
+}
+
+/// Whether an engine writes these lines of the octets behind what it has read, and of their end.
+fn goes_on(engine: Engine, behind: &[u8], lines: &[u8]) -> bool {
+    let mut room = [0; 4096];
+    let mut sheet = Sheet::new(&mut room);
+    let mut engine = engine;
+    engine.feed(behind, &mut sheet).is_ok()
+        && engine.finish(&mut sheet).is_ok()
+        && sheet.held() == lines
+}
+
+/// What differs of the checkpoint that is saved of its stream, or behind it.
+fn saved_differs(catalogue: &Catalogue, requests: &Requests, kept: &Kept) -> &'static str
+    requires { AreOf catalogue.now requests.now }
+{
+    let (mut front, mut checkpoint, mut behind) = ([0; 1024], [0; 1024], [0; 1024]);
+    let front = octets_of(kept.front, &mut front);
+    let checkpoint = octets_of(kept.checkpoint, &mut checkpoint);
+    let behind = octets_of(kept.behind, &mut behind);
+    let mut room = [0; 4096];
+    let mut sheet = Sheet::new(&mut room);
+    let mut engine = Engine::new(catalogue, requests);
+    let mut octets = [0; 10_976];
+    if engine.feed(front, &mut sheet).is_err() {
+        return "the lines in front";
+    }
+    if engine.save(&mut octets) != Ok(checkpoint.len()) || !octets.starts_with(checkpoint) {
+        return "the checkpoint";
+    }
+    if goes_on(engine, behind, kept.lines) {
+        ""
+    } else {
+        "the lines behind"
+    }
+}
+
+#[test]
+fn a_kept_checkpoint_is_saved_of_its_stream(rt: HostRuntime) -> Result<(), Fail> {
+    for kept in KEPT {
+        if !kept.front.is_empty() {
+            let known = declared(rt.alloc(), kept.types)?;
+            let differs = saved_differs(&known.0, &known.1, kept);
+            assert!(rt; differs.is_empty(), "{}: {differs}", kept.name);
+        }
+    }
+    Ok(())
+}
