@@ -1,8 +1,7 @@
 -- An engine's fields, read of a checkpoint's fixed part, show what those show that were written.
-use Rattle.std.proofs.Common.{◌≡◌, ℕ, ◌+◌, ◌-◌, ◌*◌, ◌^◌, ◌<◌, ◌≤◌, Bool, true, false, not, List, [], ◌∷◌, ◌++◌, length, flat_map, arith, Option, Some, None, inl, inr, ◌⊎◌, refl, sym, ap, ◌∙◌, subst}
-use Rattle.std.specs.Prelude.{◌&&◌, nat_lt, nat_le, slice_get, option_map, map, if◌then◌else◌}
+use Rattle.std.proofs.Common.{◌≡◌, ℕ, ◌+◌, ◌-◌, ◌*◌, ◌^◌, ◌<◌, ◌≤◌, Bool, true, false, not, List, [], ◌++◌, length, flat_map, arith, Option, Some, None, refl, sym, ap, ◌∙◌, subst}
+use Rattle.std.specs.Prelude.{◌&&◌, nat_lt, nat_le, option_map, if◌then◌else◌}
 use Rattle.std.proofs.lemmas.Bool.{lt-ltb, le-ltb, lt-leb, le-leb, ltb-true, ltb-false}
-use Rattle.std.proofs.lemmas.List.{length-map}
 use Rattle.std.proofs.lemmas.Option.{slice_get_within}
 use Rattle.giop_sig.specs.Table.{Table}
 use Rattle.giop_message.specs.declared.message.Message.{Message}
@@ -13,20 +12,20 @@ use Rattle.giop_message.specs.Signatures.{Kept as Listed}
 use Rattle.giop_checkpoint.specs.declared.fault.StreamFault.{StreamFault}
 use Rattle.giop_checkpoint.specs.declared.fixed.Fixed.{Fixed}
 use Rattle.giop_checkpoint.specs.declared.fixed.Place.{Place}
-use Rattle.giop_checkpoint.specs.declared.fixed.Place.TheVariants.{Header, Payload, Stopped}
+use Rattle.giop_checkpoint.specs.declared.fixed.Place.TheVariants.{Header, Payload}
 use Rattle.giop_checkpoint.specs.Records.{entry_octets}
 use Rattle.giop_stream.specs.declared.slots.Slot.{Slot}
 use Rattle.giop_stream.specs.declared.slots.Slots.{Slots}
 use Rattle.giop_stream.specs.declared.slots.Payload.{Payload as Whose}
 use Rattle.giop_stream.specs.declared.slots.Payload.TheVariants as payload
 use Rattle.giop_stream.specs.Framing.{cut, fault_of}
-use Rattle.giop_stream.specs.Events.{Open, open_after}
-use Rattle.giop_stream.specs.State.{Slot as Held, Kept, octets_of, slots_of}
+use Rattle.giop_stream.specs.Events.{open_after}
+use Rattle.giop_stream.specs.State.{Slot as Held, octets_of}
 use Rattle.giop_stream.specs.Engine.{State, Own, unless, state_of}
 use Rattle.giop_stream.specs.Keeping.{AreSlots}
 use Rattle.giop_stream.specs.Showing.{IsOwn, IsOwner, IsTurn, Shows, come_in, comes_itself}
 use Rattle.giop_stream.specs.Remembering.{Memory}
-use Rattle.giop_stream.specs.Checkpoint.{place_of, owner_of, count_own, fixed_of, Spells}
+use Rattle.giop_stream.specs.Checkpoint.{place_of, owner_of, fixed_of, Spells}
 use Rattle.giop_stream.specs.Reloading as fields
 use Rattle.giop_stream.specs.Reloading.{AreLeft, HasAdded}
 use Rattle.giop_stream.proofs.EngineAlive.{few_open}

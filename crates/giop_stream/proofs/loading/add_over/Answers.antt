@@ -1,4 +1,3 @@
-use Rattle.std.proofs.Common.{◌+◌}
 use Rattle.giop_stream.proofs.Loaded.{over_again, added_one}
 use Rattle.giop_stream.proofs.loading.add_over.Goals as goal
 
