@@ -19,7 +19,12 @@ opener_accepted h o =
       | inr d ↦ refused_by h 4 (eqb-true (kind h) 4 d) refl refl old
       | inl abc ↦ elim (or_cases ((kind h == 0) || (kind h == 1)) (kind h == 3) abc) [
         | inr c ↦ refused_by h 3 (eqb-true (kind h) 3 c) refl refl old
-        | inl ab ↦ elim (or_cases (kind h == 0) (kind h == 1) ab) [ inl a ↦ refused_by h 0 (eqb-true (kind h) 0 a) refl refl old | inr b ↦ refused_by h 1 (eqb-true (kind h) 1 b) refl refl old ]
+        | inl ab ↦
+            elim (or_cases (kind h == 0) (kind h == 1) ab) [
+              | inl a ↦ refused_by h 0
+                  (eqb-true (kind h) 0 a) refl refl old
+              | inr b ↦ refused_by h 1 (eqb-true (kind h) 1 b) refl refl old
+            ]
       ]
     ]
 

@@ -14,7 +14,10 @@ use Rattle.giop_stream.proofs.Performing.{text_append}
 -- the text of the lines by which the stream's grow
 added_by : (R : Reading) (p q : List ℕ) (ls : List Line) → lines R (p ++ q) ≡ lines R p ++ ls → added R p q ≡ lines_text ls
 unfolding added text
-added_by R p q ls e = ap (λ (all : List Line). drop (length (lines_text (lines R p))) (lines_text all)) e ∙ (ap (drop (length (lines_text (lines R p)))) (text_append (lines R p) ls) ∙ drop-append_seam (lines_text (lines R p)) (lines_text ls))
+added_by R p q ls e =
+    ap (λ (all : List Line). drop (length (lines_text (lines R p))) (lines_text all)) e
+    ∙ (ap (drop (length (lines_text (lines R p)))) (text_append (lines R p) ls)
+    ∙ drop-append_seam (lines_text (lines R p)) (lines_text ls))
 
 -- those of a run
 pub added_run : (R : Reading) → IsCausal R → IsInTurn R → (p q : List ℕ) → added R p q ≡ lines_text (run R (state_of R p) q)

@@ -27,7 +27,8 @@ use Rattle.giop_stream.specs.Showing.{IsOwn, Shows}
 unfoldable pub slot_text : Kept_slot → List ℕ
 slot_text slot = if is_some slot.message then unfinished_line slot.number else []
 
-pub slot_says : (ks : List Kept_slot) (i : ℕ) (slot : Kept_slot) → slot ≡ get_or ks i slot → is_some slot.message ≡ true → slot_text (get_or ks i slot) ≡ unfinished_line slot.number
+pub slot_says : (ks : List Kept_slot) (i : ℕ) (slot : Kept_slot) → slot ≡ get_or ks i slot → is_some slot.message ≡ true
+    → slot_text (get_or ks i slot) ≡ unfinished_line slot.number
 unfolding slot_text
 slot_says ks i slot is e = rw (← is, e) refl
 
@@ -36,7 +37,8 @@ unfolding slot_text
 slot_silent ks i slot is e = rw (← is, e) refl
 
 module _ (C : Table) (l : Listed) where
-  line_kept : (n : ℕ) (own : Option Kept_message) (w : Title) (o : Option (List ℕ)) → n ≡ w.number → IsKept C l own w o → flat_map unfinished_line (left_by w.number o) ≡ (if is_some own then unfinished_line n else [])
+  line_kept : (n : ℕ) (own : Option Kept_message) (w : Title) (o : Option (List ℕ)) → n ≡ w.number → IsKept C l own w o
+      → flat_map unfinished_line (left_by w.number o) ≡ (if is_some own then unfinished_line n else [])
   line_kept n None w None e k = refl
   line_kept n None w (Some xs) e k = absurd k
   line_kept n (Some m) w None e k = absurd k
@@ -60,12 +62,17 @@ module _ (C : Table) (l : Listed) where
   nothing_left None (Some o) e k = absurd k
   nothing_left (Some m) o e k = absurd cc
 
-  pub fragment_left : (own : Option Kept_message) (o : Option Own) (m : Kept_message) → own ≡ Some m → is_fragment m.header ≡ true → IsOwn C l own o → flat_map unfinished_line (left_own o) ≡ []
+  pub fragment_left : (own : Option Kept_message) (o : Option Own) (m : Kept_message) → own ≡ Some m
+      → is_fragment m.header ≡ true → IsOwn C l own o → flat_map unfinished_line (left_own o) ≡ []
   fragment_left None o m e f k = absurd cc
   fragment_left (Some a) None m e f k = absurd k
-  fragment_left (Some a) (Some o) m e f k = let same : a ≡ m = cc in let fragment : is_fragment o.title.header ≡ true = ap is_fragment (sym k.same_header) ∙ (ap (λ (n : Kept_message). is_fragment n.header) same ∙ f) in rw fragment refl
+  fragment_left (Some a) (Some o) m e f k =
+      let same : a ≡ m = cc in
+      let fragment : is_fragment o.title.header ≡ true = ap is_fragment (sym k.same_header) ∙ (ap (λ (n : Kept_message). is_fragment n.header) same ∙ f) in
+      rw fragment refl
 
-  pub message_left : (own : Option Kept_message) (o : Option Own) (m : Kept_message) → own ≡ Some m → is_fragment m.header ≡ false → IsOwn C l own o → flat_map unfinished_line (left_own o) ≡ unfinished_line m.number
+  pub message_left : (own : Option Kept_message) (o : Option Own) (m : Kept_message) → own ≡ Some m
+      → is_fragment m.header ≡ false → IsOwn C l own o → flat_map unfinished_line (left_own o) ≡ unfinished_line m.number
   message_left None o m e f k = absurd cc
   message_left (Some a) None m e f k = absurd k
   message_left (Some a) (Some o) m e f k =
@@ -92,7 +99,8 @@ module _ (C : Table) (l : Listed) (m : Memory) (s : State) (h : Shows C l m s) w
   pub truncation_is : (if is_cut_short s then truncated_line s.totals.octets else []) ≡ (if steps.is_cut_short m then truncated_line m.totals.octets else [])
   truncation_is = rw (cut_short_is, h.totals) refl
 
-pub left_text : (s : State) → flat_map unfinished_line (left_over s) ≡ flat_map unfinished_line (flat_map left_open s.slots) ++ flat_map unfinished_line (left_own s.own)
+pub left_text : (s : State) → flat_map unfinished_line (left_over s) ≡ flat_map unfinished_line
+    (flat_map left_open s.slots) ++ flat_map unfinished_line (left_own s.own)
 unfolding left_over
 left_text s = flat_map-append unfinished_line (flat_map left_open s.slots) (left_own s.own)
 

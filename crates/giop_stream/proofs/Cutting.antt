@@ -37,20 +37,38 @@ nothing : Cut
 nothing = record { whole = []; current = None; held = []; stop = None }
 
 -- The cases of the definition.
-pub cut_wrong : (fuel number before : ℕ) (xs : List ℕ) (found : ℕ × StreamFault) → offence (take 12 xs) ≡ Some found → cut_from (suc fuel) number before xs ≡ record { whole = []; current = None; held = []; stop = Some (before + found.0, found.1) }
+pub cut_wrong : (fuel number before : ℕ) (xs : List ℕ) (found : ℕ × StreamFault) → offence (take 12 xs) ≡ Some found
+    → cut_from (suc fuel) number before xs ≡ record {
+      whole = [];
+      current = None;
+      held = [];
+      stop = Some
+          (before + found.0, found.1);
+    }
 unfolding cut_from
 cut_wrong fuel number before xs found e = rw (cut_from, e) refl
 
-pub cut_short : (fuel number before : ℕ) (xs : List ℕ) → offence (take 12 xs) ≡ None → length xs < 12 → cut_from (suc fuel) number before xs ≡ record { whole = []; current = None; held = xs; stop = None }
+pub cut_short : (fuel number before : ℕ) (xs : List ℕ) → offence (take 12 xs) ≡ None → length xs < 12
+    → cut_from (suc fuel) number before xs ≡ record { whole = []; current = None; held = xs; stop = None }
 unfolding cut_from
 cut_short fuel number before xs e h = rw (cut_from, e, lt-ltb (length xs) 12 h) refl
 
-pub cut_open : (fuel number before : ℕ) (xs : List ℕ) → offence (take 12 xs) ≡ None → 12 ≤ length xs → length (drop 12 xs) < size (take 12 xs) → cut_from (suc fuel) number before xs ≡ record { whole = []; current = Some (record { number = number; before = before; header = take 12 xs; payload = drop 12 xs }); held = []; stop = None }
+pub cut_open : (fuel number before : ℕ) (xs : List ℕ) → offence (take 12 xs) ≡ None → 12 ≤ length xs
+    → length (drop 12 xs) < size (take 12 xs) → cut_from (suc fuel) number before xs
+    ≡ record {
+      whole = [];
+      current = Some
+          (record { number = number; before = before; header = take 12 xs; payload = drop 12 xs });
+      held = [];
+      stop = None;
+    }
 unfolding cut_from
 cut_open fuel number before xs e h k = rw (cut_from, e, le-ltb (length xs) 12 h, lt-ltb (length (drop 12 xs)) (size (take 12 xs)) k) refl
 
 pub cut_more : (fuel number before : ℕ) (xs : List ℕ) → offence (take 12 xs) ≡ None → 12 ≤ length xs → size (take 12 xs) ≤ length (drop 12 xs)
-    → cut_from (suc fuel) number before xs ≡ with_first (record { number = number; before = before; header = take 12 xs; payload = take (size (take 12 xs)) (drop 12 xs) }) (cut_from fuel (suc number) (before + 12 + size (take 12 xs)) (drop (size (take 12 xs)) (drop 12 xs)))
+    → cut_from (suc fuel) number before xs ≡ with_first
+    (record { number = number; before = before; header = take 12 xs; payload = take (size (take 12 xs)) (drop 12 xs) })
+    (cut_from fuel (suc number) (before + 12 + size (take 12 xs)) (drop (size (take 12 xs)) (drop 12 xs)))
 unfolding cut_from
 cut_more fuel number before xs e h k = rw (cut_from, e, le-ltb (length xs) 12 h, le-ltb (length (drop 12 xs)) (size (take 12 xs)) k) refl
 
@@ -75,27 +93,39 @@ wrong_kept xs x found e = elim (cases_lt (length xs) 12) [
 comes : (xs : List ℕ) (x : ℕ) → length xs < 12 → offence (take 12 xs) ≡ None → offence (take 12 (xs ++ x ∷ [])) ≡ wrong_last (xs ++ x ∷ [])
 comes xs x h e = rw (front_whole xs x h) (offence_comes xs x (rw (take_all 12 xs (omega arith)) at e))
 
-settle_open : (whole : List Message) (m : Message) → length m.payload < size m.header → settle whole m ≡ record { whole = whole; current = Some m; held = []; stop = None }
+settle_open : (whole : List Message) (m : Message) → length m.payload < size m.header
+    → settle whole m ≡ record { whole = whole; current = Some m; held = []; stop = None }
 unfolding settle
 settle_open whole m h = rw (lt-ltb (length m.payload) (size m.header) h) refl
 
-settle_done : (whole : List Message) (m : Message) → size m.header ≤ length m.payload → settle whole m ≡ record { whole = whole ++ m ∷ []; current = None; held = []; stop = None }
+settle_done : (whole : List Message) (m : Message) → size m.header ≤ length m.payload
+    → settle whole m ≡ record { whole = whole ++ m ∷ []; current = None; held = []; stop = None }
 unfolding settle
 settle_done whole m h = rw (le-ltb (length m.payload) (size m.header) h) refl
 
 -- a message that is complete, and nothing after it
-done_is : (fuel number before : ℕ) (m : Message) (c : Cut) → c ≡ settle [] m → size m.header ≤ length m.payload → c ≡ with_first m (cut_from fuel number before [])
+done_is : (fuel number before : ℕ) (m : Message) (c : Cut) → c ≡ settle [] m → size m.header ≤ length m.payload
+    → c ≡ with_first m (cut_from fuel number before [])
 unfolding with_first nothing
 done_is fuel number before m c e h = e ∙ (settle_done [] m h ∙ rw (cut_none fuel number before) refl)
 
 -- one message, and nothing after it
-cut_is : (fuel number before : ℕ) (ys header payload : List ℕ) → take 12 ys ≡ header → drop 12 ys ≡ payload → offence header ≡ None → 12 ≤ length ys → length payload ≤ size header
+cut_is : (fuel number before : ℕ) (ys header payload : List ℕ) → take 12 ys ≡ header → drop 12 ys ≡ payload
+    → offence header ≡ None → 12 ≤ length ys → length payload ≤ size header
     → cut_from (suc fuel) number before ys ≡ settle [] (record { number = number; before = before; header = header; payload = payload })
 cut_is fuel number before ys header payload t d e h k = elim (cases_lt (length payload) (size header)) [
-  | inl lacks ↦ cut_open fuel number before ys (rw t e) h (rw (t, d) lacks) ∙ (rw (t, d) (sym (settle_open [] (record { number = number; before = before; header = header; payload = payload }) lacks)))
+  | inl lacks ↦
+      cut_open fuel number before ys (rw t e) h (rw (t, d) lacks)
+      ∙ (rw (t, d) (sym (settle_open [] (record {
+        number = number;
+        before = before;
+        header = header;
+        payload = payload;
+      }) lacks)))
   | inr full ↦
       cut_more fuel number before ys (rw t e) h (rw (t, d) full) ∙ (rw (t, d, take_all (size header) payload k, drop_all (size header) payload k)
-      (sym (done_is fuel (suc number) (before + 12 + size header) (record { number = number; before = before; header = header; payload = payload }) _ refl full)))
+      (sym (done_is fuel (suc number) (before + 12 + size header)
+      (record { number = number; before = before; header = header; payload = payload }) _ refl full)))
 ]
 
 -- The lemma at a stream that is longer by an octet, in each case.
@@ -104,10 +134,13 @@ Grows fuel number before xs x = cut_from fuel number before (xs ++ x ∷ []) ≡
 
 grows_wrong : (fuel number before : ℕ) (xs : List ℕ) (x : ℕ) (found : ℕ × StreamFault) → offence (take 12 xs) ≡ Some found → Grows (suc fuel) number before xs x
 unfolding Grows grow
-grows_wrong fuel number before xs x found e = rw (cut_wrong fuel number before xs found e) (cut_wrong fuel number before (xs ++ x ∷ []) found (wrong_kept xs x found e))
+grows_wrong fuel number before xs x found e =
+    rw (cut_wrong fuel number before xs found e) (cut_wrong fuel number before (xs ++ x ∷ []) found (wrong_kept xs x found e))
 
 -- in a header
-header_is : (fuel number before : ℕ) (xs : List ℕ) (x : ℕ) → length xs < 12 → offence (take 12 xs) ≡ None → (w : Option StreamFault) → wrong (xs ++ x ∷ []) ≡ w → cut_from (suc fuel) number before (xs ++ x ∷ []) ≡ header_grows number (suc (before + length xs)) [] (xs ++ x ∷ [])
+header_is : (fuel number before : ℕ) (xs : List ℕ) (x : ℕ) → length xs < 12 → offence (take 12 xs) ≡ None
+    → (w : Option StreamFault) → wrong (xs ++ x ∷ []) ≡ w
+    → cut_from (suc fuel) number before (xs ++ x ∷ []) ≡ header_grows number (suc (before + length xs)) [] (xs ++ x ∷ [])
 unfolding header_grows header_case wrong_last
 header_is fuel number before xs x h e (Some word) k =
     let found : offence (take 12 (xs ++ x ∷ [])) ≡ Some (length (xs ++ x ∷ []), word) = comes xs x h e ∙ rw (wrong_last, k) refl in
@@ -122,7 +155,8 @@ header_is fuel number before xs x h e None k =
       | inr long ↦
           let b : before ≡ suc (before + length xs) - 12 = omega arith in
           let z : number + 0 ≡ number = omega arith in
-          cut_is fuel number before (xs ++ x ∷ []) (xs ++ x ∷ []) [] (front_whole xs x h) (drop_all 12 (xs ++ x ∷ []) (omega arith)) (rw (front_whole xs x h) at none) long (omega arith)
+          cut_is fuel number before (xs ++ x ∷ []) (xs ++ x ∷ []) [] (front_whole xs x h)
+          (drop_all 12 (xs ++ x ∷ []) (omega arith)) (rw (front_whole xs x h) at none) long (omega arith)
           ∙ rw (header_grows, k, eq-eqb (length (xs ++ x ∷ [])) 12 (omega arith), ← b, z) refl
     ]
 
@@ -130,23 +164,37 @@ grows_header : (fuel number before : ℕ) (xs : List ℕ) (x : ℕ) → length x
 unfolding Grows grow
 grows_header fuel number before xs x h e = rw (cut_short fuel number before xs e h) (header_is fuel number before xs x h e (wrong (xs ++ x ∷ [])) refl)
 
-grows_open : (fuel number before : ℕ) (xs : List ℕ) (x : ℕ) → offence (take 12 xs) ≡ None → 12 ≤ length xs → length (drop 12 xs) < size (take 12 xs) → Grows (suc fuel) number before xs x
+grows_open : (fuel number before : ℕ) (xs : List ℕ) (x : ℕ) → offence (take 12 xs) ≡ None → 12 ≤ length xs
+    → length (drop 12 xs) < size (take 12 xs) → Grows (suc fuel) number before xs x
 unfolding Grows grow
 grows_open fuel number before xs x e h k =
     rw (cut_open fuel number before xs e h k)
-    (cut_is fuel number before (xs ++ x ∷ []) (take 12 xs) (drop 12 xs ++ x ∷ []) (front_same xs x h) (drop-append-le 12 xs (x ∷ []) h) e (omega (arith, length_push xs x)) (omega (arith, length_push (drop 12 xs) x)))
+    (cut_is fuel number before (xs ++ x ∷ []) (take 12 xs) (drop 12 xs ++ x ∷ []) (front_same xs x h)
+    (drop-append-le 12 xs (x ∷ []) h) e (omega (arith, length_push xs x)) (omega (arith, length_push (drop 12 xs) x)))
 
 -- a message before all others
 first_settles : (m : Message) (whole : List Message) (last : Message) → with_first m (settle whole last) ≡ settle (m ∷ whole) last
 unfolding with_first settle
 first_settles m whole last = go (nat_lt (length last.payload) (size last.header))
   where
-    go : (b : Bool) → with_first m (if b then record { whole = whole; current = Some last; held = []; stop = None } else record { whole = whole ++ last ∷ []; current = None; held = []; stop = None })
-        ≡ (if b then record { whole = m ∷ whole; current = Some last; held = []; stop = None } else record { whole = m ∷ whole ++ last ∷ []; current = None; held = []; stop = None })
+    go : (b : Bool) → with_first m
+        (if b then record {
+          whole = whole;
+          current = Some last;
+          held = [];
+          stop = None;
+        } else record { whole = whole ++ last ∷ []; current = None; held = []; stop = None })
+        ≡ (if b then record {
+          whole = m ∷ whole;
+          current = Some last;
+          held = [];
+          stop = None;
+        } else record { whole = m ∷ whole ++ last ∷ []; current = None; held = []; stop = None })
     go true = refl
     go false = refl
 
-first_case : (number n : ℕ) (m : Message) (whole : List Message) (front : List ℕ) (w : Option StreamFault) (twelve : Bool) → with_first m (header_case (suc number) n whole front w twelve) ≡ header_case number n (m ∷ whole) front w twelve
+first_case : (number n : ℕ) (m : Message) (whole : List Message) (front : List ℕ) (w : Option StreamFault) (twelve : Bool)
+    → with_first m (header_case (suc number) n whole front w twelve) ≡ header_case number n (m ∷ whole) front w twelve
 unfolding with_first header_case
 first_case number n m whole front (Some word) twelve = refl
 first_case number n m whole front None false = refl
@@ -155,7 +203,8 @@ first_case number n m whole front None true =
     first_settles m whole (record { number = suc number + length whole; before = n - 12; header = front; payload = [] }) ∙ rw k refl
 
 first_grows_at : (number n x : ℕ) (m : Message) (whole : List Message) (held : List ℕ) (current : Option Message) (stop : Option (ℕ × StreamFault))
-    → with_first m (grow (suc number) n x (record { whole = whole; current = current; held = held; stop = stop })) ≡ grow number n x (with_first m (record { whole = whole; current = current; held = held; stop = stop }))
+    → with_first m (grow (suc number) n x (record { whole = whole; current = current; held = held; stop = stop }))
+    ≡ grow number n x (with_first m (record { whole = whole; current = current; held = held; stop = stop }))
 unfolding with_first grow header_grows
 first_grows_at number n x m whole held current (Some found) = refl
 first_grows_at number n x m whole held (Some last) None = first_settles m whole (record last { payload = last.payload ++ x ∷ [] })
@@ -172,8 +221,11 @@ grows_more fuel number before xs x e h k ih =
     let header = take 12 xs in
     let left = drop (size header) (drop 12 xs) in
     let m : Message = record { number = number; before = before; header = header; payload = take (size header) (drop 12 xs) } in
-    let n : suc (before + 12 + size header + length left) ≡ suc (before + length xs) = omega (arith, length-drop (size header) (drop 12 xs), length-drop 12 xs) in
-    let rest : cut_from fuel (suc number) (before + 12 + size header) (left ++ x ∷ []) ≡ grow (suc number) (suc (before + length xs)) x (cut_from fuel (suc number) (before + 12 + size header) left) = ih ∙ rw n refl in
+    let n : suc (before + 12 + size header + length left) ≡ suc (before + length xs) =
+    omega (arith, length-drop (size header) (drop 12 xs), length-drop 12 xs) in
+    let rest : cut_from fuel (suc number) (before + 12 + size header) (left ++ x ∷ []) ≡ grow (suc number)
+    (suc (before + length xs)) x (cut_from fuel (suc number) (before + 12 + size header) left) =
+    ih ∙ rw n refl in
     let t = front_same xs x h in
     let d = drop-append-le 12 xs (x ∷ []) h in
     rw (cut_more fuel number before xs e h k)
@@ -181,24 +233,32 @@ grows_more fuel number before xs x e h k ih =
     ∙ rw (t, d, take-append-le (size header) (drop 12 xs) (x ∷ []) k, drop-append-le (size header) (drop 12 xs) (x ∷ []) k)
     (ap (with_first m) rest ∙ first_grows number (suc (before + length xs)) x m (cut_from fuel (suc number) (before + 12 + size header) left)))
 
-grows_by : (fuel number before : ℕ) (xs : List ℕ) (x : ℕ) → length xs < suc fuel → ((number before : ℕ) (ys : List ℕ) → length ys < fuel → Grows fuel number before ys x) → (o : Option (ℕ × StreamFault)) → offence (take 12 xs) ≡ o → Grows (suc fuel) number before xs x
+grows_by : (fuel number before : ℕ) (xs : List ℕ) (x : ℕ) → length xs < suc fuel
+    → ((number before : ℕ) (ys : List ℕ) → length ys < fuel → Grows fuel number before ys x) → (o : Option (ℕ × StreamFault))
+    → offence (take 12 xs) ≡ o → Grows (suc fuel) number before xs x
 grows_by fuel number before xs x h ih (Some found) e = grows_wrong fuel number before xs x found e
 grows_by fuel number before xs x h ih None e = elim (cases_lt (length xs) 12) [
   | inl short ↦ grows_header fuel number before xs x short e
   | inr long ↦ elim (cases_lt (length (drop 12 xs)) (size (take 12 xs))) [
     | inl lacks ↦ grows_open fuel number before xs x e long lacks
     | inr full ↦
-        grows_more fuel number before xs x e long full (ih (suc number) (before + 12 + size (take 12 xs)) (drop (size (take 12 xs)) (drop 12 xs)) (omega (arith, length-drop (size (take 12 xs)) (drop 12 xs), length-drop 12 xs)))
+        grows_more fuel number before xs x e long full
+        (ih (suc number) (before + 12 + size (take 12 xs)) (drop (size (take 12 xs)) (drop 12 xs))
+        (omega (arith, length-drop (size (take 12 xs)) (drop 12 xs), length-drop 12 xs)))
   ]
 ]
 
-pub cut_from_grows : (fuel number before : ℕ) (xs : List ℕ) (x : ℕ) → length xs < fuel → cut_from fuel number before (xs ++ x ∷ []) ≡ grow number (suc (before + length xs)) x (cut_from fuel number before xs)
+pub cut_from_grows : (fuel number before : ℕ) (xs : List ℕ) (x : ℕ) → length xs < fuel
+    → cut_from fuel number before (xs ++ x ∷ []) ≡ grow number (suc (before + length xs)) x (cut_from fuel number before xs)
 unfolding Grows
 cut_from_grows zero number before xs x h = absurd (omega arith)
 cut_from_grows (suc fuel) number before xs x h = grows_by fuel number before xs x h (λ n b ys k. cut_from_grows fuel n b ys x k) (offence (take 12 xs)) refl
 
 -- More fuel than there are octets changes nothing.
-more_by : (fuel number before : ℕ) (xs : List ℕ) → length xs < suc fuel → ((number before : ℕ) (ys : List ℕ) → length ys < fuel → cut_from (suc fuel) number before ys ≡ cut_from fuel number before ys) → (o : Option (ℕ × StreamFault)) → offence (take 12 xs) ≡ o → cut_from (suc (suc fuel)) number before xs ≡ cut_from (suc fuel) number before xs
+more_by : (fuel number before : ℕ) (xs : List ℕ) → length xs < suc fuel
+    → ((number before : ℕ) (ys : List ℕ) → length ys < fuel
+    → cut_from (suc fuel) number before ys ≡ cut_from fuel number before ys) → (o : Option (ℕ × StreamFault))
+    → offence (take 12 xs) ≡ o → cut_from (suc (suc fuel)) number before xs ≡ cut_from (suc fuel) number before xs
 more_by fuel number before xs h ih (Some found) e = cut_wrong (suc fuel) number before xs found e ∙ sym (cut_wrong fuel number before xs found e)
 more_by fuel number before xs h ih None e = elim (cases_lt (length xs) 12) [
   | inl short ↦ cut_short (suc fuel) number before xs e short ∙ sym (cut_short fuel number before xs e short)
@@ -207,7 +267,14 @@ more_by fuel number before xs h ih None e = elim (cases_lt (length xs) 12) [
     | inr full ↦
         let left = drop (size (take 12 xs)) (drop 12 xs) in
         let same = ih (suc number) (before + 12 + size (take 12 xs)) left (omega (arith, length-drop (size (take 12 xs)) (drop 12 xs), length-drop 12 xs)) in
-        cut_more (suc fuel) number before xs e long full ∙ (ap (with_first (record { number = number; before = before; header = take 12 xs; payload = take (size (take 12 xs)) (drop 12 xs) })) same ∙ sym (cut_more fuel number before xs e long full))
+        cut_more (suc fuel) number before xs e long full
+        ∙ (ap (with_first (record {
+          number = number;
+          before = before;
+          header = take 12 xs;
+          payload = take
+              (size (take 12 xs)) (drop 12 xs);
+        })) same ∙ sym (cut_more fuel number before xs e long full))
   ]
 ]
 
@@ -244,11 +311,13 @@ above_is p h = rw (lt-ltb limit (length p) h) refl
 unfoldable pub of_parts : List Message → Option Message → List ℕ → Option (ℕ × StreamFault) → Cut
 of_parts whole current held stop = record { whole = whole; current = current; held = held; stop = stop }
 
-pub parts_by : (c : Cut) (current : Option Message) (found : Option (ℕ × StreamFault)) → c.current ≡ current → c.stop ≡ found → c ≡ of_parts c.whole current c.held found
+pub parts_by : (c : Cut) (current : Option Message) (found : Option (ℕ × StreamFault)) → c.current ≡ current
+    → c.stop ≡ found → c ≡ of_parts c.whole current c.held found
 unfolding of_parts
 parts_by c current found e f = λ j. record { whole = c.whole; current = e j; held = c.held; stop = f j }
 
-limited_stop_at : (whole : List Message) (current : Option Message) (held : List ℕ) (stop : Option (ℕ × StreamFault)) (n x : ℕ) → next n x (limited true (of_parts whole current held stop)) ≡ limited true (of_parts whole current held stop)
+limited_stop_at : (whole : List Message) (current : Option Message) (held : List ℕ) (stop : Option (ℕ × StreamFault))
+    (n x : ℕ) → next n x (limited true (of_parts whole current held stop)) ≡ limited true (of_parts whole current held stop)
 unfolding limited next of_parts
 limited_stop_at whole current held (Some found) n x = refl
 limited_stop_at whole current held None n x = refl
@@ -257,7 +326,8 @@ limited_stop : (c : Cut) (n x : ℕ) → next n x (limited true c) ≡ limited t
 unfolding of_parts
 limited_stop c n x = limited_stop_at c.whole c.current c.held c.stop n x
 
-at_limit_at : (whole : List Message) (current : Option Message) (held : List ℕ) (stop : Option (ℕ × StreamFault)) (n x : ℕ) → n ≡ limit → limited true (of_parts whole current held stop) ≡ next n x (of_parts whole current held stop)
+at_limit_at : (whole : List Message) (current : Option Message) (held : List ℕ) (stop : Option (ℕ × StreamFault)) (n x : ℕ)
+    → n ≡ limit → limited true (of_parts whole current held stop) ≡ next n x (of_parts whole current held stop)
 unfolding limited next of_parts stopped_at
 at_limit_at whole current held (Some found) n x h = refl
 at_limit_at whole current held None n x h = let k : limit < suc n = omega arith in rw (lt-ltb limit (suc n) k, h) refl
@@ -266,7 +336,9 @@ at_limit : (c : Cut) (n x : ℕ) → n ≡ limit → limited true c ≡ next n x
 unfolding of_parts
 at_limit c n x h = at_limit_at c.whole c.current c.held c.stop n x h
 
-grows_free_at : (n x : ℕ) (whole : List Message) (current : Option Message) (held : List ℕ) (stop : Option (ℕ × StreamFault)) → n < limit → grow 1 (suc n) x (of_parts whole current held stop) ≡ next n x (of_parts whole current held stop)
+grows_free_at : (n x : ℕ) (whole : List Message) (current : Option Message) (held : List ℕ)
+    (stop : Option (ℕ × StreamFault)) → n < limit
+    → grow 1 (suc n) x (of_parts whole current held stop) ≡ next n x (of_parts whole current held stop)
 unfolding grow next of_parts
 grows_free_at n x whole current held (Some found) h = refl
 grows_free_at n x whole current held None h = let k : suc n ≤ limit = omega arith in rw (le-ltb limit (suc n) k) refl
@@ -291,7 +363,14 @@ cut_grows p x = elim (cases_lt (length p) limit) [
       let now : length (p ++ x ∷ []) ≡ suc (length p) = omega arith in
       let most : length p ≤ limit = omega arith in
       below_is (p ++ x ∷ []) (omega arith)
-      ∙ rw (now, cut_from_grows (suc (suc (length p))) 1 0 p x (omega arith), more_fuel (suc (length p)) 1 0 p (omega arith), below_is p most, zero_is (length p))
+      ∙ rw (
+        now,
+        cut_from_grows (suc (suc (length p))) 1 0 p x (omega arith),
+        more_fuel (suc (length p)) 1 0 p
+            (omega arith),
+        below_is p most,
+        zero_is (length p),
+      )
       (grows_free (length p) x (cut_from (suc (length p)) 1 0 p) below)
   | inr above ↦
       let len = length_push p x in
@@ -310,7 +389,13 @@ pub settle_stop : (whole : List Message) (m : Message) → (settle whole m).stop
 unfolding settle
 settle_stop whole m = go (nat_lt (length m.payload) (size m.header))
   where
-    go : (b : Bool) → (let c : Cut = if b then record { whole = whole; current = Some m; held = []; stop = None } else record { whole = whole ++ m ∷ []; current = None; held = []; stop = None } in c.stop) ≡ None
+    go : (b : Bool)
+        → (let c : Cut = if b then record {
+          whole = whole;
+          current = Some m;
+          held = [];
+          stop = None;
+        } else record { whole = whole ++ m ∷ []; current = None; held = []; stop = None } in c.stop) ≡ None
     go true = refl
     go false = refl
 
@@ -318,24 +403,41 @@ pub settled_messages : (whole : List Message) (m : Message) → messages (settle
 unfolding settle messages
 settled_messages whole m = go (nat_lt (length m.payload) (size m.header))
   where
-    go : (b : Bool) → (let c : Cut = if b then record { whole = whole; current = Some m; held = []; stop = None } else record { whole = whole ++ m ∷ []; current = None; held = []; stop = None } in c.whole ++ option_to_list c.current) ≡ whole ++ m ∷ []
+    go : (b : Bool)
+        → (let c : Cut = if b then record {
+          whole = whole;
+          current = Some m;
+          held = [];
+          stop = None;
+        } else record {
+          whole = whole ++ m ∷ [];
+          current = None;
+          held = [];
+          stop = None;
+        } in c.whole ++ option_to_list c.current)
+        ≡ whole ++ m ∷ []
     go true = refl
     go false = append-nil (whole ++ m ∷ [])
 
 -- ---- The next octet, by the parts of the cut.
 
-pub next_limit : (c : List Message) (current : Option Message) (held : List ℕ) (n x : ℕ) → nat_lt limit (suc n) ≡ true → next n x (of_parts c current held None) ≡ of_parts c current [] (Some (suc n, StreamLimit))
+pub next_limit : (c : List Message) (current : Option Message) (held : List ℕ) (n x : ℕ) → nat_lt limit (suc n) ≡ true
+    → next n x (of_parts c current held None) ≡ of_parts c current [] (Some (suc n, StreamLimit))
 unfolding next of_parts stopped_at
 next_limit c current held n x k = rw k refl
 
-pub next_payload : (c : List Message) (m : Message) (held : List ℕ) (n x : ℕ) → nat_lt limit (suc n) ≡ false → next n x (of_parts c (Some m) held None) ≡ settle c (with_payload m (m.payload ++ x ∷ []))
+pub next_payload : (c : List Message) (m : Message) (held : List ℕ) (n x : ℕ) → nat_lt limit (suc n) ≡ false
+    → next n x (of_parts c (Some m) held None) ≡ settle c (with_payload m (m.payload ++ x ∷ []))
 unfolding next of_parts grow
 next_payload c m held n x k = rw k refl
 
-pub next_front : (c : List Message) (held : List ℕ) (n x : ℕ) → nat_lt limit (suc n) ≡ false → next n x (of_parts c None held None) ≡ header_case 1 (suc n) c (held ++ x ∷ []) (wrong (held ++ x ∷ [])) (length (held ++ x ∷ []) == 12)
+pub next_front : (c : List Message) (held : List ℕ) (n x : ℕ) → nat_lt limit (suc n) ≡ false
+    → next n x (of_parts c None held None) ≡ header_case 1 (suc n) c (held ++ x ∷ []) (wrong (held ++ x ∷ []))
+    (length (held ++ x ∷ []) == 12)
 unfolding next of_parts grow header_grows
 next_front c held n x k = rw k refl
 
-pub next_stopped : (c : List Message) (current : Option Message) (held : List ℕ) (found : ℕ × StreamFault) (n x : ℕ) → next n x (of_parts c current held (Some found)) ≡ of_parts c current held (Some found)
+pub next_stopped : (c : List Message) (current : Option Message) (held : List ℕ) (found : ℕ × StreamFault) (n x : ℕ)
+    → next n x (of_parts c current held (Some found)) ≡ of_parts c current held (Some found)
 unfolding next of_parts
 next_stopped c current held found n x = refl

@@ -49,7 +49,9 @@ use Rattle.giop_stream.proofs.Idle.{within_limit}
 -- ---- A call does a step, by what it makes of a stream.
 
 does_by : {A E : Type 0} (C : Table) (l : Listed) (p q : List ℕ) (one : Step) (ls : List Line) (result : Result A E) (before after : OutLog) (f : Memory)
-    → (let R = message_reading C l in state_of R q ≡ one.state → lines R q ≡ lines R p ++ one.lines → lines R q ≡ lines R p ++ ls → Writes result before after (lines_text ls) → OnOk result (Shows C l f (state_of R q)) → Does C l result before after f one)
+    → (let R = message_reading C l in state_of R q ≡ one.state → lines R q ≡ lines R p ++ one.lines
+    → lines R q ≡ lines R p ++ ls → Writes result before after (lines_text ls) → OnOk result (Shows C l f (state_of R q))
+    → Does C l result before after f one)
 does_by C l p q one ls result before after f state more grows text shows =
     let R = message_reading C l in
     let same : one.lines ≡ ls = append_cancel_left (lines R p) one.lines ls (sym more ∙ grows) in
@@ -78,7 +80,8 @@ goes_off : (whole : List Message) (m : Message) → size m.header ≤ length m.p
 unfolding settle of_parts
 goes_off whole m more = rw (le-ltb (length m.payload) (size m.header) more) refl
 
-whose_settled : (live : List Open) (whole : List Message) (m : Message) → length m.payload ≤ size m.header → whose_in live (settle whole m).current ≡ whose_after live m
+whose_settled : (live : List Open) (whole : List Message) (m : Message) → length m.payload ≤ size m.header
+    → whose_in live (settle whole m).current ≡ whose_after live m
 unfolding settle whose_after
 whose_settled live whole m fits = elim (cases_lt (length m.payload) (size m.header)) [
   | inl less ↦ rw (lt-ltb (length m.payload) (size m.header) less, ne_eqb (length m.payload) (size m.header) (λ e. omega (arith, less, e))) refl
@@ -86,7 +89,8 @@ whose_settled live whole m fits = elim (cases_lt (length m.payload) (size m.head
 ]
 
 -- what can take the next octet can behind a message's last octet
-pub ready_settled : (C : Table) (m m' : Memory) (n place : ℕ) → m' ≡ settled m n → place ≡ m.totals.octets → AreReady C (place + 1) m.slots → AreReady C (m'.totals.octets + 1) m'.slots
+pub ready_settled : (C : Table) (m m' : Memory) (n place : ℕ) → m' ≡ settled m n → place ≡ m.totals.octets
+    → AreReady C (place + 1) m.slots → AreReady C (m'.totals.octets + 1) m'.slots
 unfolding settled
 ready_settled C m m' n place e is h = rw e (go (m.come == n))
   where
@@ -127,14 +131,22 @@ module _ (C : Table) (l : Listed) (s : State) (reached : IsReached C l s) (m : M
   at_p = subst (Shows C l m) reached.held h
 
   -- a call that adds this to the stream does the step,
-  pub does_step : {A E : Type 0} (x : ℕ) (ls : List Line) (result : Result A E) (before after : OutLog) (f : Memory) → lines R (p ++ x ∷ []) ≡ lines R p ++ ls → Writes result before after (lines_text ls) → OnOk result (Shows C l f (state_of R (p ++ x ∷ []))) → Does C l result before after f (step R s x)
+  pub does_step : {A E : Type 0} (x : ℕ) (ls : List Line) (result : Result A E) (before after : OutLog) (f : Memory)
+      → lines R (p ++ x ∷ []) ≡ lines R p ++ ls → Writes result before after (lines_text ls)
+      → OnOk result (Shows C l f (state_of R (p ++ x ∷ []))) → Does C l result before after f (step R s x)
   does_step x ls result before after f grows text shows =
-      subst (λ (t : State). Does C l result before after f (step R t x)) (sym reached.held) (does_by C l p (p ++ x ∷ []) (step R (state_of R p) x) ls result before after f (step_state R causal (in_turn C l) p x) (step_lines R causal (in_turn C l) p x) grows text shows)
+      subst (λ (t : State). Does C l result before after f (step R t x)) (sym reached.held)
+      (does_by C l p (p ++ x ∷ []) (step R (state_of R p) x) ls result before after f
+      (step_state R causal (in_turn C l) p x) (step_lines R causal (in_turn C l) p x) grows text shows)
 
   -- and a run
-  pub does_run : {A E : Type 0} (q : List ℕ) (ls : List Line) (result : Result A E) (before after : OutLog) (f : Memory) → lines R (p ++ q) ≡ lines R p ++ ls → Writes result before after (lines_text ls) → OnOk result (Shows C l f (state_of R (p ++ q))) → Does C l result before after f (runs R s q)
+  pub does_run : {A E : Type 0} (q : List ℕ) (ls : List Line) (result : Result A E) (before after : OutLog) (f : Memory)
+      → lines R (p ++ q) ≡ lines R p ++ ls → Writes result before after (lines_text ls)
+      → OnOk result (Shows C l f (state_of R (p ++ q))) → Does C l result before after f (runs R s q)
   does_run q ls result before after f grows text shows =
-      subst (λ (t : State). Does C l result before after f (runs R t q)) (sym reached.held) (does_by C l p (p ++ q) (runs R (state_of R p) q) ls result before after f (run_holds R causal (in_turn C l) p q) (run_lines R causal (in_turn C l) p q) grows text shows)
+      subst (λ (t : State). Does C l result before after f (runs R t q)) (sym reached.held)
+      (does_by C l p (p ++ q) (runs R (state_of R p) q) ls result before after f (run_holds R causal (in_turn C l) p q)
+      (run_lines R causal (in_turn C l) p q) grows text shows)
 
   -- ---- What the fields say of the stream, where the reading goes on.
 
@@ -195,29 +207,43 @@ module _ (C : Table) (l : Listed) (s : State) (reached : IsReached C l s) (m : M
   abbrev pub play_of : Message → Play
   play_of n = plays R (stage R p) (happens (stage R p).live n)
 
-  module _ (x : ℕ) (n : Message) (fits : length n.payload ≤ size n.header) (number : n.number ≡ suc (length (cut p).whole)) (adds : Adds R p (p ++ x ∷ []) (settle (cut p).whole n) (play_of n).lines (play_of n).scene) where
+  module _ (x : ℕ) (n : Message) (fits : length n.payload ≤ size n.header) (number : n.number ≡ suc (length (cut p).whole))
+      (adds : Adds R p (p ++ x ∷ []) (settle (cut p).whole n) (play_of n).lines (play_of n).scene) where
     knows_then : (slots : Slots) → Keeps C l slots (play_of n).scene (whose_after (play_of n).scene.live n) → Knows C l slots (p ++ x ∷ [])
     unfolding stage
     knows_then slots keeps =
         let p' = p ++ x ∷ [] in
-        let who : whose_after (stage R p').live n ≡ whose_in (open_after p') (cut p').current = sym (ap (λ (d : Cut). whose_in (open_after p') d.current) adds.cut_is ∙ whose_settled (open_after p') (cut p).whole n fits) in
+        let who : whose_after (stage R p').live n ≡ whose_in (open_after p') (cut p').current =
+        sym (ap (λ (d : Cut). whose_in (open_after p') d.current) adds.cut_is
+        ∙ whose_settled (open_after p') (cut p).whole n fits) in
         subst (Keeps C l slots (stage R p')) who (subst (λ (d : Scene). Keeps C l slots d (whose_after d.live n)) (sym adds.stage) keeps)
 
-    settled_shows : (b f : Memory) (k : ℕ) → f ≡ settled b k → b.totals.messages ≡ n.number → b.totals.faults ≡ m.totals.faults + fault_count (play_of n).lines → b.totals.octets ≡ suc (length p) → b.stopped ≡ None → b.header ≡ n.header → b.come ≡ length n.payload → k ≡ size n.header
+    settled_shows : (b f : Memory) (k : ℕ) → f ≡ settled b k → b.totals.messages ≡ n.number
+        → b.totals.faults ≡ m.totals.faults + fault_count (play_of n).lines → b.totals.octets ≡ suc (length p)
+        → b.stopped ≡ None → b.header ≡ n.header → b.come ≡ length n.payload → k ≡ size n.header
         → Keeps C l b.slots (play_of n).scene (whose_after (play_of n).scene.live n) → Shows C l f (state_of R (p ++ x ∷ []))
     unfolding of_parts stage
     settled_shows b f k e messages faults octets stopped header come sized keeps =
         let p' = p ++ x ∷ [] in
         let all : b.totals.faults ≡ fault_count (lines R p) + fault_count (play_of n).lines = omega (arith, faults, faults_at) in
-        let totals : b.totals ≡ tally R p' = (λ j. record { messages = messages j; faults = all j; octets = octets j }) ∙ sym (tally_settled R p x n number adds) in
+        let totals : b.totals ≡ tally R p' =
+        (λ j. record { messages = messages j; faults = all j; octets = octets j })
+        ∙ sym (tally_settled R p x n number adds) in
         rw e (elim (cases_lt (length n.payload) (size n.header)) [
-          | inl less ↦ rw (settled_on b k (λ same. omega (arith, same, come, sized, less))) (shows_by C l p' b (of_parts (cut p).whole (Some n) [] None) (adds.cut_is ∙ goes_on (cut p).whole n less) refl totals stopped header come (knows_then b.slots keeps))
-          | inr more ↦ rw (settled_off b k (omega (arith, come, sized, more, fits))) (shows_by C l p' (record b { header = []; come = 0 }) (of_parts ((cut p).whole ++ n ∷ []) None [] None) (adds.cut_is ∙ goes_off (cut p).whole n more) refl totals stopped refl refl (knows_then b.slots keeps))
+          | inl less ↦
+              rw (settled_on b k (λ same. omega (arith, same, come, sized, less)))
+              (shows_by C l p' b (of_parts (cut p).whole (Some n) [] None)
+              (adds.cut_is ∙ goes_on (cut p).whole n less) refl totals stopped header come (knows_then b.slots keeps))
+          | inr more ↦
+              rw (settled_off b k (omega (arith, come, sized, more, fits)))
+              (shows_by C l p' (record b { header = []; come = 0 }) (of_parts ((cut p).whole ++ n ∷ []) None [] None)
+              (adds.cut_is ∙ goes_off (cut p).whole n more) refl totals stopped refl refl (knows_then b.slots keeps))
         ])
 
   -- ---- A header's last octet.
 
-  module _ (x : ℕ) (b : Memory) (e : b ≡ held_on m x) (full : length b.header ≡ 12) (right : wrong b.header ≡ None) (free : b.stopped ≡ None) (room : b.totals.octets ≤ 2 ^ 48) where
+  module _ (x : ℕ) (b : Memory) (e : b ≡ held_on m x) (full : length b.header ≡ 12) (right : wrong b.header ≡ None)
+      (free : b.stopped ≡ None) (room : b.totals.octets ≤ 2 ^ 48) where
     ran : m.stopped ≡ None
     unfolding held_on
     ran = ap (λ (n : Memory). n.stopped) (sym e) ∙ free
@@ -259,7 +285,9 @@ module _ (C : Table) (l : Listed) (s : State) (reached : IsReached C l s) (m : M
     first_adds : Adds R p (p ++ x ∷ []) (settle (cut p).whole first) (play_of first).lines (play_of first).scene
     unfolding stage
     first_adds =
-        begins_is R causal (in_turn C l) p x so (runs_on ran) cur (within_limit (length p) (omega (arith, all_read ran, octets_was, room))) (ap wrong (sym header_now) ∙ right) (ap length (sym header_now) ∙ full)
+        begins_is R causal (in_turn C l) p x so (runs_on ran) cur
+        (within_limit (length p) (omega (arith, all_read ran, octets_was, room))) (ap wrong (sym header_now) ∙ right)
+        (ap length (sym header_now) ∙ full)
 
     count : length (messages (cut p)) ≡ length (cut p).whole
     unfolding messages
@@ -268,7 +296,9 @@ module _ (C : Table) (l : Listed) (s : State) (reached : IsReached C l s) (m : M
     none_come : b.come ≡ 0
     none_come = come_was ∙ (come_at ran ∙ ap come_of cur)
 
-    pub is_first : (now : Current) → now.number ≡ b.totals.messages + 1 → now.header ≡ b.header → now.place ≡ b.totals.octets → now.come ≡ b.come → IsFirst C l b.slots (stage R p) (whose_in (open_after p) (cut p).current) first now
+    pub is_first : (now : Current) → now.number ≡ b.totals.messages + 1 → now.header ≡ b.header
+        → now.place ≡ b.totals.octets → now.come ≡ b.come
+        → IsFirst C l b.slots (stage R p) (whose_in (open_after p) (cut p).current) first now
     unfolding stage
     is_first now number header at come =
         let within = fits_at ran in
@@ -278,21 +308,31 @@ module _ (C : Table) (l : Listed) (s : State) (reached : IsReached C l s) (m : M
           current = record {
             number = omega (arith, number, messages_was, messages_at, count);
             header = sym header_now ∙ sym header;
-            place = place_first (length p) first refl refl (omega (arith, within.held, ap length header_now, length_push (cut p).held x, full)) ∙ (ap suc (sym (all_read ran)) ∙ (sym octets_was ∙ sym at));
+            place = place_first (length p) first refl refl
+                (omega (arith, within.held, ap length header_now, length_push (cut p).held x, full))
+                ∙ (ap suc (sym (all_read ran)) ∙ (sym octets_was ∙ sym at));
           };
           none_come = refl;
           come = come ∙ none_come;
-          newest = each_weaker (λ o. o.opener.number ≤ length (messages (cut p))) (λ o. o.opener.number < suc (length (cut p).whole)) (λ o k. omega (arith, k, count)) (open_after p) so.numbers;
+          newest = each_weaker (λ o. o.opener.number ≤ length (messages (cut p)))
+              (λ o. o.opener.number < suc (length (cut p).whole)) (λ o k. omega (arith, k, count)) (open_after p) so.numbers;
           unknown = so.unknown (suc (length (cut p).whole)) (omega (arith, count));
         }
 
-    pub begun_does : {A E : Type 0} (result : Result A E) (before after : OutLog) (f : Memory) → Writes result before after (lines_text (play_of first).lines) → OnOk result (Shows C l f (state_of R (p ++ x ∷ []))) → Does C l result before after f (step R s x)
+    pub begun_does : {A E : Type 0} (result : Result A E) (before after : OutLog) (f : Memory)
+        → Writes result before after (lines_text (play_of first).lines) → OnOk result (Shows C l f (state_of R (p ++ x ∷ [])))
+        → Does C l result before after f (step R s x)
     begun_does result before after f text shows = does_step x (play_of first).lines result before after f first_adds.lines text shows
 
-    pub begun_shows : (b' f : Memory) (k : ℕ) → f ≡ settled b' k → b'.totals.messages ≡ b.totals.messages + 1 → b'.totals.faults ≡ b.totals.faults + fault_count (play_of first).lines → b'.totals.octets ≡ b.totals.octets → b'.stopped ≡ b.stopped → b'.header ≡ b.header → b'.come ≡ b.come → k ≡ size b.header
+    pub begun_shows : (b' f : Memory) (k : ℕ) → f ≡ settled b' k → b'.totals.messages ≡ b.totals.messages + 1
+        → b'.totals.faults ≡ b.totals.faults + fault_count (play_of first).lines → b'.totals.octets ≡ b.totals.octets
+        → b'.stopped ≡ b.stopped → b'.header ≡ b.header → b'.come ≡ b.come → k ≡ size b.header
         → Keeps C l b'.slots (play_of first).scene (whose_after (play_of first).scene.live first) → Shows C l f (state_of R (p ++ x ∷ []))
     begun_shows b' f k is messages faults octets stopped header come sized keeps =
-        settled_shows x first (omega arith) refl first_adds b' f k is (omega (arith, messages, messages_was, messages_at, count)) (omega (arith, faults, faults_was)) (omega (arith, octets, octets_was, all_read ran)) (stopped ∙ free) (header ∙ header_now) (come ∙ none_come) (sized ∙ ap size header_now) keeps
+        settled_shows x first (omega arith) refl first_adds b' f k is
+        (omega (arith, messages, messages_was, messages_at, count)) (omega (arith, faults, faults_was))
+        (omega (arith, octets, octets_was, all_read ran)) (stopped ∙ free) (header ∙ header_now) (come ∙ none_come)
+        (sized ∙ ap size header_now) keeps
 
   -- ---- An octet of a payload.
 
@@ -328,7 +368,8 @@ module _ (C : Table) (l : Listed) (s : State) (reached : IsReached C l s) (m : M
       pub come_fits : m.come + 1 < 2 ^ 32
       come_fits = omega (arith, come_is, at_hand.lacks, ap size header_is, size_few)
 
-      pub is_next : (now : Current) → now.number ≡ m.totals.messages → now.header ≡ m.header → now.place ≡ m.totals.octets + 1 → now.come ≡ m.come + 1 → IsNext C l m.slots (stage R p) c now x
+      pub is_next : (now : Current) → now.number ≡ m.totals.messages → now.header ≡ m.header
+          → now.place ≡ m.totals.octets + 1 → now.come ≡ m.come + 1 → IsNext C l m.slots (stage R p) c now x
       unfolding stage
       is_next now number header place come = record {
         keeps = subst (λ (o : Option Message). Keeps C l m.slots (stage R p) (whose_in (open_after p) o)) cur (knows_at free);
@@ -344,10 +385,19 @@ module _ (C : Table) (l : Listed) (s : State) (reached : IsReached C l s) (m : M
         says = λ name. says_id c.header at_hand.twelve right.1 name;
       }
 
-      pub paid_does : {A E : Type 0} (result : Result A E) (before after : OutLog) (f : Memory) → Writes result before after (lines_text (play_of (with_octet c x)).lines) → OnOk result (Shows C l f (state_of R (p ++ x ∷ []))) → Does C l result before after f (step R s x)
+      pub paid_does : {A E : Type 0} (result : Result A E) (before after : OutLog) (f : Memory)
+          → Writes result before after (lines_text (play_of (with_octet c x)).lines)
+          → OnOk result (Shows C l f (state_of R (p ++ x ∷ []))) → Does C l result before after f (step R s x)
       paid_does result before after f text shows = does_step x (play_of (with_octet c x)).lines result before after f paid.lines text shows
 
-      pub paid_shows : (b f : Memory) (k : ℕ) → f ≡ settled b k → b.totals.messages ≡ m.totals.messages → b.totals.faults ≡ m.totals.faults + fault_count (play_of (with_octet c x)).lines → b.totals.octets ≡ m.totals.octets + 1 → b.stopped ≡ m.stopped → b.header ≡ m.header → b.come ≡ m.come + 1 → k ≡ size m.header
-          → Keeps C l b.slots (play_of (with_octet c x)).scene (whose_after (play_of (with_octet c x)).scene.live (with_octet c x)) → Shows C l f (state_of R (p ++ x ∷ []))
+      pub paid_shows : (b f : Memory) (k : ℕ) → f ≡ settled b k → b.totals.messages ≡ m.totals.messages
+          → b.totals.faults ≡ m.totals.faults + fault_count (play_of (with_octet c x)).lines
+          → b.totals.octets ≡ m.totals.octets + 1 → b.stopped ≡ m.stopped → b.header ≡ m.header → b.come ≡ m.come + 1
+          → k ≡ size m.header
+          → Keeps C l b.slots (play_of (with_octet c x)).scene
+          (whose_after (play_of (with_octet c x)).scene.live (with_octet c x)) → Shows C l f (state_of R (p ++ x ∷ []))
       paid_shows b f k is messages faults octets stopped header come sized keeps =
-          settled_shows x (with_octet c x) (omega (arith, at_hand.lacks, length_push c.payload x)) at_hand.number_is paid b f k is (messages ∙ sym number_is) faults (omega (arith, octets, all_read free)) (stopped ∙ free) (header ∙ header_is) (omega (arith, come, come_is, length_push c.payload x)) (sized ∙ ap size header_is) keeps
+          settled_shows x (with_octet c x) (omega
+          (arith, at_hand.lacks, length_push c.payload x)) at_hand.number_is paid b f k is (messages ∙ sym number_is) faults
+          (omega (arith, octets, all_read free)) (stopped ∙ free) (header ∙ header_is)
+          (omega (arith, come, come_is, length_push c.payload x)) (sized ∙ ap size header_is) keeps

@@ -43,7 +43,8 @@ followed_by false true true xs ys e = refl
 followed_by false true false xs ys e = absurd cc
 followed_by false false more xs ys e = absurd cc
 
-last_by : (o f more : Bool) (xs ys : List Event) → (o || (f && more)) ≡ false → (if o then [] else if f then (if more then [] else xs) else ys) ≡ (if f then xs else ys)
+last_by : (o f more : Bool) (xs ys : List Event) → (o || (f && more)) ≡ false
+    → (if o then [] else if f then (if more then [] else xs) else ys) ≡ (if f then xs else ys)
 last_by true f more xs ys e = absurd cc
 last_by false true true xs ys e = absurd cc
 last_by false true false xs ys e = refl
@@ -65,7 +66,8 @@ module _ (C : Table) (l : Listed) (s : Slots) (c : Scene) (m : Message) (now : C
   header_at : (says : List ℕ → Bool) (r : Bool) → r ≡ says now.header → says m.header ≡ r
   header_at says r e = ap says h.current.header ∙ sym e
 
-  pub ends_short : true ≡ is_short now.header → plays (message_reading C l) c (at_end c.live m) ≡ one_play (message_reading C l) c now.place (title m) (Imposed Short)
+  pub ends_short : true ≡ is_short now.header
+      → plays (message_reading C l) c (at_end c.live m) ≡ one_play (message_reading C l) c now.place (title m) (Imposed Short)
   unfolding at_end is_short
   ends_short e = let b = header_at is_short true e in rw b (plays_own (message_reading C l) c m (Imposed Short) ∙ rw h.current.place refl)
 
@@ -82,9 +84,14 @@ module _ (C : Table) (l : Listed) (s : Slots) (c : Scene) (m : Message) (now : C
   ends_followed e k =
       let short = header_at is_short false e in
       let follows = header_at is_followed true k in
-      rw (short, followed_by (is_opener m.header) (is_fragment m.header) (has_more m.header) (about m (opener_of c.live m) Closes) (own m Closes) follows) (plays_none (message_reading C l) c)
+      rw (
+        short,
+        followed_by (is_opener m.header) (is_fragment m.header) (has_more m.header)
+            (about m (opener_of c.live m) Closes) (own m Closes) follows,
+      ) (plays_none (message_reading C l) c)
 
-  ends_last : false ≡ is_short now.header → false ≡ is_followed now.header → at_end c.live m ≡ (if is_fragment m.header then about m (opener_of c.live m) Closes else own m Closes)
+  ends_last : false ≡ is_short now.header → false ≡ is_followed now.header
+      → at_end c.live m ≡ (if is_fragment m.header then about m (opener_of c.live m) Closes else own m Closes)
   unfolding at_end is_short is_followed
   ends_last e k =
       let short = header_at is_short false e in

@@ -19,21 +19,27 @@ use Rattle.giop_stream.proofs.Heads.{numbers_of, tail_of, alive}
 use Rattle.giop_stream.proofs.Completing.{tail_now, alive_append, complete}
 
 -- The finish.
-one_left : (over : ℕ → Bool) (xs : Kept) (i : ℕ) (rest : List ℕ) → ((i : ℕ) → over i ≡ true → xs i ≡ None) → ((i : ℕ) → over i ≡ false → (ys : List ℕ) × (xs i ≡ Some ys)) → (b : Bool) → over i ≡ b
+one_left : (over : ℕ → Bool) (xs : Kept) (i : ℕ) (rest : List ℕ) → ((i : ℕ) → over i ≡ true → xs i ≡ None)
+    → ((i : ℕ) → over i ≡ false → (ys : List ℕ) × (xs i ≡ Some ys)) → (b : Bool) → over i ≡ b
     → left_by i (xs i) ++ rest ≡ cond (not (over i)) (i ∷ rest) rest
 one_left over xs i rest h k true e = rw (h i e, e) refl
 one_left over xs i rest h k false e = let known = k i e in rw (known.1, e) refl
 
-slots_left : (over : ℕ → Bool) (xs : Kept) (live : List Open) → ((i : ℕ) → over i ≡ true → xs i ≡ None) → ((i : ℕ) → over i ≡ false → (ys : List ℕ) × (xs i ≡ Some ys)) → flat_map left_open (slots_of xs live) ≡ alive over (numbers_of live)
+slots_left : (over : ℕ → Bool) (xs : Kept) (live : List Open) → ((i : ℕ) → over i ≡ true → xs i ≡ None)
+    → ((i : ℕ) → over i ≡ false → (ys : List ℕ) × (xs i ≡ Some ys))
+    → flat_map left_open (slots_of xs live) ≡ alive over (numbers_of live)
 unfolding slots_of left_open alive numbers_of
 slots_left over xs [] h k = refl
-slots_left over xs (o ∷ live) h k = rw (slots_left over xs live h k) (one_left over xs o.opener.number (alive over (numbers_of live)) h k (over o.opener.number) refl)
+slots_left over xs (o ∷ live) h k =
+    rw (slots_left over xs live h k) (one_left over xs o.opener.number (alive over (numbers_of live)) h k (over o.opener.number) refl)
 
 or_none : (b : Bool) → (b || false) ≡ b
 or_none true = refl
 or_none false = refl
 
-own_left : (over : ℕ → Bool) (xs : Kept) (live : List Open) (current : Option Message) → ((i : ℕ) → over i ≡ true → xs i ≡ None) → ((i : ℕ) → over i ≡ false → (ys : List ℕ) × (xs i ≡ Some ys)) → left_own (own_in xs live current) ≡ alive over (tail_now live current)
+own_left : (over : ℕ → Bool) (xs : Kept) (live : List Open) (current : Option Message)
+    → ((i : ℕ) → over i ≡ true → xs i ≡ None) → ((i : ℕ) → over i ≡ false → (ys : List ℕ) × (xs i ≡ Some ys))
+    → left_own (own_in xs live current) ≡ alive over (tail_now live current)
 unfolding own_for now_of has_named alive tail_now tail_of
 own_left over xs live None h k = refl
 own_left over xs live (Some m) h k = go (is_fragment m.header) refl
@@ -46,12 +52,15 @@ own_left over xs live (Some m) h k = go (is_fragment m.header) refl
     fragment f false None = refl
     fragment f false (Some xs) = rw f refl
 
-    other : is_fragment m.header ≡ false → (open_now b : Bool) → over m.number ≡ b → left open_now (xs m.number) ≡ alive over (if open_now then [] else m.number ∷ [])
+    other : is_fragment m.header ≡ false → (open_now b : Bool) → over m.number ≡ b
+        → left open_now (xs m.number) ≡ alive over (if open_now then [] else m.number ∷ [])
     other f true b e = refl
     other f false true e = rw (h m.number e, e) refl
     other f false false e = let known = k m.number e in rw (known.1, f, e) refl
 
-    go : (b : Bool) → is_fragment m.header ≡ b → left (is_open live m.number || (is_fragment m.header && nat_le 4 (length m.payload))) (xs m.number) ≡ alive over (if is_fragment m.header || is_open live m.number then [] else m.number ∷ [])
+    go : (b : Bool) → is_fragment m.header ≡ b
+        → left (is_open live m.number || (is_fragment m.header && nat_le 4 (length m.payload))) (xs m.number) ≡ alive over
+        (if is_fragment m.header || is_open live m.number then [] else m.number ∷ [])
     go true f = fragment f _ (xs m.number) ∙ rw f refl
     go false f = rw (f, or_none (is_open live m.number)) (other f (is_open live m.number) (over m.number) refl)
 

@@ -28,7 +28,8 @@ pub added_both : (R : Reading) → IsCausal R → IsInTurn R → (p q r : List �
 added_both R causal laws p q r =
     added_from R p (q ++ r) (added R p q ++ added R (p ++ q) r)
     (ap (text R) (sym (append_assoc p q r))
-    ∙ (text_adds R causal laws (p ++ q) r ∙ (ap (λ (z : List ℕ). z ++ added R (p ++ q) r) (text_adds R causal laws p q) ∙ append_assoc (text R p) (added R p q) (added R (p ++ q) r))))
+    ∙ (text_adds R causal laws (p ++ q) r ∙ (ap (λ (z : List ℕ). z ++ added R (p ++ q) r) (text_adds R causal laws p q)
+    ∙ append_assoc (text R p) (added R p q) (added R (p ++ q) r))))
 
 -- ---- A run, and then another.
 
@@ -40,7 +41,8 @@ run_state_on R s (x ∷ q) r = run_state_on R (step R s x).state q r
 run_on : (R : Reading) (s : State) (q r : List ℕ) → run R s (q ++ r) ≡ run R s q ++ run R (run_state R s q) r
 unfolding run run_state
 run_on R s [] r = refl
-run_on R s (x ∷ q) r = rw (run_on R (step R s x).state q r) (sym (append_assoc (step R s x).lines (run R (step R s x).state q) (run R (run_state R (step R s x).state q) r)))
+run_on R s (x ∷ q) r =
+    rw (run_on R (step R s x).state q r) (sym (append_assoc (step R s x).lines (run R (step R s x).state q) (run R (run_state R (step R s x).state q) r)))
 
 pub run_text_on : (R : Reading) (s : State) (q r : List ℕ) → lines_text (run R s (q ++ r)) ≡ lines_text (run R s q) ++ lines_text (run R (run_state R s q) r)
 run_text_on R s q r = ap lines_text (run_on R s q r) ∙ text_append (run R s q) (run R (run_state R s q) r)
@@ -62,10 +64,18 @@ further come rest q left piece e f = e ∙ (ap (λ (z : List ℕ). come ++ z) f 
 -- is of octets
 pub octets_come : (come left piece : List ℕ) → piece ≡ come ++ left → AreOctets piece → AreOctets come
 octets_come come left piece e h =
-    let front : take (length come) piece ≡ come = ap (take (length come)) e ∙ (take-append-le (length come) come left (omega arith) ∙ take_all (length come) come (omega arith)) in
+    let front : take (length come) piece ≡ come =
+    ap (take (length come)) e ∙ (take-append-le (length come) come left (omega arith)
+    ∙ take_all (length come) come (omega arith)) in
     subst AreOctets front (All-take (λ x. x < 256) (length come) piece h)
 
 -- and what it has written so far
-pub run_within : (R : Reading) (s : State) (come q left piece : List ℕ) → piece ≡ (come ++ q) ++ left → (more : List ℕ) × (lines_text (run R s piece) ≡ (lines_text (run R s come) ++ lines_text (run R (run_state R s come) q)) ++ more)
-run_within R s come q left piece e =
-    (lines_text (run R (run_state R s (come ++ q)) left), ap (λ (z : List ℕ). lines_text (run R s z)) e ∙ (run_text_on R s (come ++ q) left ∙ ap (λ (z : List ℕ). z ++ lines_text (run R (run_state R s (come ++ q)) left)) (run_text_on R s come q)))
+pub run_within : (R : Reading) (s : State) (come q left piece : List ℕ) → piece ≡ (come ++ q) ++ left
+    → (more : List ℕ) × (lines_text (run R s piece)
+    ≡ (lines_text (run R s come) ++ lines_text (run R (run_state R s come) q)) ++ more)
+run_within R s come q left piece e = (
+  lines_text (run R (run_state R s (come ++ q)) left),
+  ap (λ (z : List ℕ). lines_text (run R s z)) e
+      ∙ (run_text_on R s (come ++ q) left ∙ ap (λ (z : List ℕ). z ++ lines_text (run R (run_state R s (come ++ q)) left))
+      (run_text_on R s come q)),
+)

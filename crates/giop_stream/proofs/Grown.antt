@@ -20,27 +20,42 @@ use Rattle.giop_stream.proofs.Telling.{joined_append, heard, heard_each, told_he
 told_places : (R : Reading) → IsCausal R → (es : List Event) (n : ℕ) → Each (λ e. e.place ≤ n) es → Each (λ l. l.place ≤ n) (told R es [] es)
 told_places R causal es n h = rw (told_heard R causal es [] es refl) (heard_each R (λ k. k ≤ n) [] es h)
 
-pub said_grows : (R : Reading) → IsCausal R → (p p' : List ℕ) (es : List Event) → length p' ≡ suc (length p) → events p' ≡ events p ++ es → Each (λ e. e.place ≤ length p) (events p) → Each (λ e. e.place ≡ suc (length p)) es
+pub said_grows : (R : Reading) → IsCausal R → (p p' : List ℕ) (es : List Event) → length p' ≡ suc (length p)
+    → events p' ≡ events p ++ es → Each (λ e. e.place ≤ length p) (events p) → Each (λ e. e.place ≡ suc (length p)) es
     → said R p' ≡ said R p ++ now_written R (octets_of R p) es
 unfolding said now_written is_over octets_of keeping
 said_grows R causal p p' es len ev old new =
     let none : ℕ → Bool = λ i. false in
     let before = told R (events p) [] (events p) in
     let more = heard R (events p) es in
-    rw (ev, len, told_grows R causal (events p) es, in_order_grows (length p) before more (told_places R causal (events p) (length p) old) (heard_each R (λ k. k ≡ suc (length p)) (events p) es new), standing_append none (in_order (length p) before) (by_class more))
+    rw (
+      ev,
+      len,
+      told_grows R causal (events p) es,
+      in_order_grows (length p) before more
+          (told_places R causal (events p) (length p) old)
+          (heard_each R (λ k. k ≡ suc (length p)) (events p) es new),
+      standing_append none (in_order (length p) before)
+          (by_class more),
+    )
     (ap (λ (ls : List Line). said R p ++ ls) (standing_utters R (is_over R p) (events p) es))
 
-pub said_idle : (R : Reading) → IsCausal R → (p p' : List ℕ) → length p' ≡ suc (length p) → events p' ≡ events p → Each (λ e. e.place ≤ length p) (events p) → said R p' ≡ said R p
+pub said_idle : (R : Reading) → IsCausal R → (p p' : List ℕ) → length p' ≡ suc (length p) → events p' ≡ events p
+    → Each (λ e. e.place ≤ length p) (events p) → said R p' ≡ said R p
 unfolding said
-said_idle R causal p p' len ev old = rw (ev, len, in_order_idle (length p) (told R (events p) [] (events p)) (told_places R causal (events p) (length p) old)) refl
+said_idle R causal p p' len ev old =
+    rw (ev, len, in_order_idle (length p) (told R (events p) [] (events p)) (told_places R causal (events p) (length p) old)) refl
 
-octets_by : (over again : Bool) (xs ys : List ℕ) → (if over || again then None else Some (xs ++ ys)) ≡ (if again then None else option_map (λ zs. zs ++ ys) (if over then None else Some xs))
+octets_by : (over again : Bool) (xs ys : List ℕ)
+    → (if over || again then None else Some (xs ++ ys))
+    ≡ (if again then None else option_map (λ zs. zs ++ ys) (if over then None else Some xs))
 octets_by true true xs ys = refl
 octets_by true false xs ys = refl
 octets_by false true xs ys = refl
 octets_by false false xs ys = refl
 
-pub octets_grow : (R : Reading) (p p' : List ℕ) (es : List Event) (ls : List Line) → events p' ≡ events p ++ es → said R p' ≡ said R p ++ ls → (i : ℕ) → octets_of R p' i ≡ written (taking (octets_of R p) es) ls i
+pub octets_grow : (R : Reading) (p p' : List ℕ) (es : List Event) (ls : List Line) → events p' ≡ events p ++ es
+    → said R p' ≡ said R p ++ ls → (i : ℕ) → octets_of R p' i ≡ written (taking (octets_of R p) es) ls i
 unfolding octets_of is_over written taking
 octets_grow R p p' es ls ev sd i =
     rw (ev, sd, any_append (is_last_of i) (said R p) ls, joined_append i (events p) es)
@@ -60,7 +75,8 @@ open_idle p p' ev = rw ev refl
 
 pub count_append : (xs ys : List Line) → fault_count (xs ++ ys) ≡ fault_count xs + fault_count ys
 unfolding fault_count
-count_append xs ys = rw (filter-append (λ l. is_fault l.content) xs ys) (length-append (filter (λ l. is_fault l.content) xs) (filter (λ l. is_fault l.content) ys))
+count_append xs ys =
+    rw (filter-append (λ l. is_fault l.content) xs ys) (length-append (filter (λ l. is_fault l.content) xs) (filter (λ l. is_fault l.content) ys))
 
 pub lines_free : (R : Reading) (p : List ℕ) → (cut p).stop ≡ None → lines R p ≡ said R p
 unfolding lines stop_line

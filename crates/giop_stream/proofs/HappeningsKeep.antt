@@ -56,7 +56,8 @@ module _ (Q : List Open → Type 0) (now : List Open) (m : Message) (k : IsKept 
   unfolding changed
   plain_imposed fault live whom q = q
 
-  kept_if : (live : List Open) (b : Bool) (es more : List Event) → (b ≡ true → Q (opened live es)) → (b ≡ false → Q (opened live more)) → Q (opened live (if b then es else more))
+  kept_if : (live : List Open) (b : Bool) (es more : List Event) → (b ≡ true → Q (opened live es))
+      → (b ≡ false → Q (opened live more)) → Q (opened live (if b then es else more))
   kept_if live true es more h j = h refl
   kept_if live false es more h j = j refl
 
@@ -67,10 +68,12 @@ module _ (Q : List Open → Type 0) (now : List Open) (m : Message) (k : IsKept 
   kept_end : (before live : List Open) → Q live → Q (opened live (at_end before m))
   unfolding at_end
   kept_end before live q =
-      kept_if live (nat_lt (size m.header) 4 && (is_opener m.header || is_fragment m.header)) (own m (Imposed Short)) _ (λ e. plain_own live (Imposed Short) (plain_imposed Short) q)
+      kept_if live (nat_lt (size m.header) 4 && (is_opener m.header || is_fragment m.header)) (own m (Imposed Short)) _
+      (λ e. plain_own live (Imposed Short) (plain_imposed Short) q)
       (λ e. kept_if live (is_opener m.header) [] _ (λ e. kept_none live q)
       (λ e. kept_if live (is_fragment m.header) _ (own m Closes)
-      (λ e. kept_if live (has_more m.header) [] (about m (opener_of before m) Closes) (λ e. kept_none live q) (λ e. plain_about live (opener_of before m) Closes plain_closes q))
+      (λ e. kept_if live (has_more m.header) [] (about m (opener_of before m) Closes) (λ e. kept_none live q)
+      (λ e. plain_about live (opener_of before m) Closes plain_closes q))
       (λ e. plain_own live Closes plain_closes q)))
 
   now_open : CanOpen now m → Q now → Q (opened now (own m (Opens (id m))))
@@ -84,7 +87,8 @@ module _ (Q : List Open → Type 0) (now : List Open) (m : Message) (k : IsKept 
       go : (w : Option Open) → opener_of now m ≡ w → Q (opened now (opens_by now m w))
       go (Some other) e = plain_own now (Imposed IdOpen) (plain_imposed IdOpen) q
       go None e =
-          kept_if now (nat_le most_open (length now)) (own m (Imposed TooManyOpen)) (own m (Opens (id m))) (λ full. plain_own now (Imposed TooManyOpen) (plain_imposed TooManyOpen) q)
+          kept_if now (nat_le most_open (length now)) (own m (Imposed TooManyOpen)) (own m (Opens (id m)))
+          (λ full. plain_own now (Imposed TooManyOpen) (plain_imposed TooManyOpen) q)
           (λ room. now_open (record { named = four; opener = o; none = e; room = leb-false most_open (length now) room }) q)
 
   kept_cancels : Q now → Q (opened now (cancels now m))
@@ -93,7 +97,9 @@ module _ (Q : List Open → Type 0) (now : List Open) (m : Message) (k : IsKept 
     where
       go : (o : Option Open) → Q (opened now (cancels_by m o))
       go None = kept_none now q
-      go (Some o) = kept_if now (may_be_cancelled o.opener.header) (about m (Some o) (Cancelled m.number)) [] (λ e. plain_about now (Some o) (Cancelled m.number) (plain_cancelled m.number) q) (λ e. kept_none now q)
+      go (Some o) =
+          kept_if now (may_be_cancelled o.opener.header) (about m (Some o) (Cancelled m.number)) []
+          (λ e. plain_about now (Some o) (Cancelled m.number) (plain_cancelled m.number) q) (λ e. kept_none now q)
 
   pub kept_id : length m.payload ≡ 4 → Q now → Q (opened now (at_id now m))
   unfolding at_id
@@ -108,10 +114,15 @@ module _ (Q : List Open → Type 0) (now : List Open) (m : Message) (k : IsKept 
       let first = if length m.payload == 0 then at_header m else at_octet now m in
       let second = if length m.payload == 4 then at_id now m else [] in
       let third = if length m.payload == size m.header then at_end now m else [] in
-      let still : opened now first ≡ now = quiet_if now (length m.payload == 0) (at_header m) (at_octet now m) (λ e. quiet_header now m) (λ e. quiet_octet now m) in
-      let mid : Q (opened now second) = kept_if now (length m.payload == 4) (at_id now m) [] (λ e. kept_id (eqb-true (length m.payload) 4 e) q) (λ e. kept_none now q) in
+      let still : opened now first ≡ now =
+      quiet_if now (length m.payload == 0) (at_header m) (at_octet now m) (λ e. quiet_header now m)
+      (λ e. quiet_octet now m) in
+      let mid : Q (opened now second) =
+      kept_if now (length m.payload == 4) (at_id now m) [] (λ e. kept_id (eqb-true (length m.payload) 4 e) q)
+      (λ e. kept_none now q) in
       rw (opened_append now first (second ++ third), still, opened_append now second third)
-      (kept_if (opened now second) (length m.payload == size m.header) (at_end now m) [] (λ e. kept_end now (opened now second) mid) (λ e. kept_none (opened now second) mid))
+      (kept_if (opened now second) (length m.payload == size m.header) (at_end now m) []
+      (λ e. kept_end now (opened now second) mid) (λ e. kept_none (opened now second) mid))
 
 pub kept_happens : (Q : List Open → Type 0) (live : List Open) (m : Message) → IsKept Q live m → Q live → Q (opened live (happens live m))
 kept_happens Q live m k q = kept_parts Q live m k q
@@ -121,7 +132,9 @@ kept_happens Q live m k q = kept_parts Q live m k q
 abbrev pub Below : ℕ → List Open → Type 0
 Below n live = Each (λ o. o.opener.number < n) live
 
-rising_by : (test : Open → Bool) (o : Open) (live : List Open) (b : Bool) → Each (λ a. o.opener.number < a.opener.number) live → Rising (filter test live) → Rising (cond b (o ∷ filter test live) (filter test live))
+rising_by : (test : Open → Bool) (o : Open) (live : List Open) (b : Bool)
+    → Each (λ a. o.opener.number < a.opener.number) live → Rising (filter test live)
+    → Rising (cond b (o ∷ filter test live) (filter test live))
 rising_by test o live true h k = (each_filter (λ a. o.opener.number < a.opener.number) test live h, k)
 rising_by test o live false h k = k
 
@@ -134,7 +147,12 @@ rising_push [] o h k = (tt, tt)
 rising_push (a ∷ live) o h k = (each_append (λ b. a.opener.number < b.opener.number) live (o ∷ []) h.0 (k.0, tt), rising_push live o h.1 k.1)
 
 pub rising_happens : (live : List Open) (m : Message) → Rising live → (length m.payload ≡ 4 → Below m.number live) → Rising (opened live (happens live m))
-rising_happens live m r h = kept_happens Rising live m (record { fewer = rising_filter; more = λ can q. unfold opened_by in rising_push live (record { id = id m; opener = title m }) q (h can.named) }) r
+rising_happens live m r h =
+    kept_happens Rising live m (record {
+      fewer = rising_filter;
+      more = λ can q. unfold opened_by in rising_push live
+          (record { id = id m; opener = title m }) q (h can.named);
+    }) r
 
 -- ---- They are not too many.
 
@@ -166,7 +184,8 @@ abbrev pub Differ : List Open → Type 0
 Differ [] = Unit {0}
 Differ (o ∷ live) = Each (λ a. a.id ≡ o.id → ⊥) live × Differ live
 
-differ_by : (test : Open → Bool) (o : Open) (live : List Open) (b : Bool) → Each (λ a. a.id ≡ o.id → ⊥) live → Differ (filter test live) → Differ (cond b (o ∷ filter test live) (filter test live))
+differ_by : (test : Open → Bool) (o : Open) (live : List Open) (b : Bool) → Each (λ a. a.id ≡ o.id → ⊥) live
+    → Differ (filter test live) → Differ (cond b (o ∷ filter test live) (filter test live))
 differ_by test o live true h k = (each_filter (λ a. a.id ≡ o.id → ⊥) test live h, k)
 differ_by test o live false h k = k
 
@@ -178,7 +197,9 @@ differ_push : (live : List Open) (o : Open) → Differ live → Each (λ a. a.id
 differ_push [] o h k = (tt, tt)
 differ_push (a ∷ live) o h k = (each_append (λ b. b.id ≡ a.id → ⊥) live (o ∷ []) h.0 (λ same. k.0 (sym same), tt), differ_push live o h.1 k.1)
 
-none_by : (i : ℕ) (a : Open) (live : List Open) (b : Bool) → (a.id == i) ≡ b → (find (λ o. o.id == i) live ≡ None → Each (λ a. a.id ≡ i → ⊥) live) → (if b then Some a else find (λ o. o.id == i) live) ≡ None
+none_by : (i : ℕ) (a : Open) (live : List Open) (b : Bool) → (a.id == i) ≡ b
+    → (find (λ o. o.id == i) live ≡ None → Each (λ a. a.id ≡ i → ⊥) live)
+    → (if b then Some a else find (λ o. o.id == i) live) ≡ None
     → (a.id ≡ i → ⊥) × Each (λ a. a.id ≡ i → ⊥) live
 none_by i a live true e ih k = absurd cc
 none_by i a live false e ih k = (λ same. absurd (let t : (a.id == i) ≡ true = eq-eqb a.id i same in cc), ih k)
@@ -189,7 +210,12 @@ none_found i (a ∷ live) h = none_by i a live (a.id == i) refl (none_found i li
 
 pub differ_happens : (live : List Open) (m : Message) → Differ live → Differ (opened live (happens live m))
 unfolding opener_of opened_by
-differ_happens live m h = kept_happens Differ live m (record { fewer = differ_filter; more = λ can q. differ_push live (record { id = id m; opener = title m }) q (none_found (id m) live can.none) }) h
+differ_happens live m h =
+    kept_happens Differ live m (record {
+      fewer = differ_filter;
+      more = λ can q. differ_push live
+          (record { id = id m; opener = title m }) q (none_found (id m) live can.none);
+    }) h
 
 -- ---- Each is an opener.
 
@@ -206,4 +232,8 @@ openers_push live o h k = each_append (λ o. is_opener o.opener.header ≡ true)
 
 pub openers_happens : (live : List Open) (m : Message) → AreOpeners live → AreOpeners (opened live (happens live m))
 openers_happens live m h =
-    kept_happens AreOpeners live m (record { fewer = openers_filter; more = λ can q. unfold opened_by in openers_push live (record { id = id m; opener = title m }) q can.opener }) h
+    kept_happens AreOpeners live m (record {
+      fewer = openers_filter;
+      more = λ can q. unfold opened_by in openers_push live
+          (record { id = id m; opener = title m }) q can.opener;
+    }) h

@@ -60,13 +60,15 @@ module _ (R : Reading) (c : Scene) (m : Message) where
   unfolding whose_after end_events opened
   ended_whose = go (length m.payload == size m.header) refl
     where
-      go : (b : Bool) → (length m.payload == size m.header) ≡ b → (if b then None else whose begun.scene.live m) ≡ (if b then None else whose ended.scene.live m)
+      go : (b : Bool) → (length m.payload == size m.header) ≡ b
+          → (if b then None else whose begun.scene.live m) ≡ (if b then None else whose ended.scene.live m)
       go true e = refl
       go false e = ap (λ (live : List Open). whose live m) (sym (plays_live R begun.scene (end_events begun.scene.live m) ∙ rw e refl))
 
 module _ (C : Table) (l : Listed) (s : Slots) (c : Scene) (who : Option Title) (m : Message) (now : Current) (h : IsFirst C l s c who m now) where
   pub apart : IsNotOpen m.number c.live
-  apart = each_weaker {A = Open} (λ o. o.opener.number < m.number) (λ o. o.opener.number ≡ m.number → ⊥) (λ o less same. omega (arith, less, same)) c.live h.newest
+  apart =
+      each_weaker {A = Open} (λ o. o.opener.number < m.number) (λ o. o.opener.number ≡ m.number → ⊥) (λ o less same. omega (arith, less, same)) c.live h.newest
 
   pub none_come : length m.payload ≡ 0
   none_come = ap length h.none_come
@@ -88,7 +90,8 @@ module _ (C : Table) (l : Listed) (s : Slots) (c : Scene) (who : Option Title) (
       go None e = record { more = _; is = ap (λ (p : Play). p.lines) (begins e) }
       go (Some fault) e = record { more = _; is = ap (λ (p : Play). p.lines) (refuses fault e) }
 
-  pub begun_at : (s' : Slots) → Keeps C l s' (begun (message_reading C l) c m).scene (Some (title m)) → IsAt C l s' (begun (message_reading C l) c m).scene m now
+  pub begun_at : (s' : Slots) → Keeps C l s' (begun (message_reading C l) c m).scene (Some (title m))
+      → IsAt C l s' (begun (message_reading C l) c m).scene m now
   begun_at s' k =
       let live = begun_live (message_reading C l) c m in
       let none = none_come in

@@ -25,7 +25,8 @@ alive over xs = filter (λ i. not (over i)) xs
 unfoldable pub without : ℕ → List Open → List Open
 without n live = filter (λ o. not (o.opener.number == n)) live
 
-drop_by : (over : ℕ → Bool) (n : ℕ) (o : Open) (live : List Open) (b : Bool) → over n ≡ true → (o.opener.number == n) ≡ b → alive over (numbers_of (without n live)) ≡ alive over (numbers_of live)
+drop_by : (over : ℕ → Bool) (n : ℕ) (o : Open) (live : List Open) (b : Bool) → over n ≡ true → (o.opener.number == n) ≡ b
+    → alive over (numbers_of (without n live)) ≡ alive over (numbers_of live)
     → alive over (numbers_of (cond (not b) (o ∷ without n live) (without n live))) ≡ alive over (numbers_of (o ∷ live))
 unfolding alive numbers_of
 drop_by over n o live true h e ih = let same : over o.opener.number ≡ true = ap over (eqb-true o.opener.number n e) ∙ h in rw same ih
@@ -36,7 +37,9 @@ unfolding without
 drops_numbers over n [] h = refl
 drops_numbers over n (o ∷ live) h = drop_by over n o live (o.opener.number == n) h refl (drops_numbers over n live h)
 
-open_by : (n i : ℕ) (o : Open) (live : List Open) (b : Bool) → (i ≡ n → ⊥) → (o.opener.number == n) ≡ b → is_open (without n live) i ≡ is_open live i → is_open (cond (not b) (o ∷ without n live) (without n live)) i ≡ is_open (o ∷ live) i
+open_by : (n i : ℕ) (o : Open) (live : List Open) (b : Bool) → (i ≡ n → ⊥) → (o.opener.number == n) ≡ b
+    → is_open (without n live) i ≡ is_open live i
+    → is_open (cond (not b) (o ∷ without n live) (without n live)) i ≡ is_open (o ∷ live) i
 unfolding is_open
 open_by n i o live true h e ih =
     let num = eqb-true o.opener.number n e in
@@ -61,6 +64,9 @@ removed over n live m h =
   where
     tails : alive over (tail_of (without n live) m) ≡ alive over (tail_of live m)
     tails = elim (cases_eq m.number n) [
-      | inl same ↦ let gone : over m.number ≡ true = ap over same ∙ h in dead_tail over m (is_fragment m.header || is_open (without n live) m.number) gone ∙ sym (dead_tail over m (is_fragment m.header || is_open live m.number) gone)
+      | inl same ↦
+          let gone : over m.number ≡ true = ap over same ∙ h in
+          dead_tail over m (is_fragment m.header || is_open (without n live) m.number) gone
+          ∙ sym (dead_tail over m (is_fragment m.header || is_open live m.number) gone)
       | inr other ↦ rw (open_without n m.number live other) refl
     ]

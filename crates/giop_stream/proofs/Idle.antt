@@ -42,12 +42,14 @@ none_by None e = refl
 none_by (Some fault) e = absurd cc
 
 -- what can take the next octet can where the reading ends
-pub ready_stopped : (C : Table) (m m' : Memory) (fault : StreamFault) (place : ℕ) → m' ≡ steps.stop m fault place → AreReady C (place + 1) m.slots → AreReady C (m'.totals.octets + 1) m'.slots
+pub ready_stopped : (C : Table) (m m' : Memory) (fault : StreamFault) (place : ℕ) → m' ≡ steps.stop m fault place
+    → AreReady C (place + 1) m.slots → AreReady C (m'.totals.octets + 1) m'.slots
 unfolding steps.stop
 ready_stopped C m m' fault place e h = rw e h
 
 -- a header octet, held
-pub pushed_is : (m : Memory) (x : ℕ) (header : List ℕ) → header ≡ m.header ++ x ∷ [] → record m { totals = record m.totals { octets = m.totals.octets + 1 }; header = header } ≡ steps.held_on m x
+pub pushed_is : (m : Memory) (x : ℕ) (header : List ℕ) → header ≡ m.header ++ x ∷ []
+    → record m { totals = record m.totals { octets = m.totals.octets + 1 }; header = header } ≡ steps.held_on m x
 unfolding steps.held_on
 pushed_is m x header e =
     let one : m.totals.octets + 1 ≡ suc m.totals.octets = omega arith in
@@ -66,10 +68,20 @@ not_itself s short = rw (lt-leb 12 (length s.held) short) refl
 
 -- ---- Before the first octet.
 
-pub nothing_shown : (C : Table) (l : Listed) (m : Memory) → m.totals ≡ record { messages = 0; faults = 0; octets = 0 } → m.stopped ≡ None → m.header ≡ [] → m.come ≡ 0 → IsBare m.slots → Shows C l m fresh
+pub nothing_shown : (C : Table) (l : Listed) (m : Memory) → m.totals ≡ record { messages = 0; faults = 0; octets = 0 }
+    → m.stopped ≡ None → m.header ≡ [] → m.come ≡ 0 → IsBare m.slots → Shows C l m fresh
 unfolding fresh come_in comes_itself
 nothing_shown C l m totals stopped header come bare =
-    record { totals = totals; stopped = stopped; header = header; come = come; slots = rw bare.no_slots tt; own = rw bare.no_own tt; owner = rw bare.nobody refl; turn = λ free. rw bare.nobody refl }
+    record {
+      totals = totals;
+      stopped = stopped;
+      header = header;
+      come = come;
+      slots = rw bare.no_slots tt;
+      own = rw bare.no_own tt;
+      owner = rw bare.nobody refl;
+      turn = λ free. rw bare.nobody refl;
+    }
 
 module _ (C : Table) (l : Listed) (m : Memory) (s : State) (h : Shows C l m s) where
   abbrev R : Reading
@@ -91,22 +103,33 @@ module _ (C : Table) (l : Listed) (m : Memory) (s : State) (h : Shows C l m s) w
   pub limit_step : (x : ℕ) → m.stopped ≡ None → 2 ^ 48 ≤ m.totals.octets → step R s x ≡ ended s StreamLimit
   unfolding step octet_at
   limit_step x free full =
-      let is : octet_at s x ≡ Ends StreamLimit = rw (sym h.stopped ∙ free) (octet_limit s.held s.totals.messages s.totals.octets _ x (past_limit s.totals.octets (omega (arith, octets_are, full)))) in
+      let is : octet_at s x ≡ Ends StreamLimit =
+      rw (sym h.stopped ∙ free) (octet_limit s.held s.totals.messages s.totals.octets _ x
+      (past_limit s.totals.octets (omega (arith, octets_are, full)))) in
       ap (step_by R s) is
 
   -- ---- Where the reading ends.
 
   pub ended_text : (fault : StreamFault) → stop_text fault (m.totals.octets + 1) ≡ lines_text (ended s fault).lines
   unfolding ended lines_text stop_line
-  ended_text fault = let one : m.totals.octets + 1 ≡ suc s.totals.octets = omega (arith, octets_are) in ap (stop_text fault) one ∙ sym (append-nil (stop_text fault (suc s.totals.octets)))
+  ended_text fault =
+      let one : m.totals.octets + 1 ≡ suc s.totals.octets = omega (arith, octets_are) in
+      ap (stop_text fault) one ∙ sym (append-nil (stop_text fault (suc s.totals.octets)))
 
   -- whatever octets are held
-  pub ended_shows : (fault : StreamFault) (b : Memory) → b.totals.messages ≡ m.totals.messages → b.totals.faults ≡ m.totals.faults → b.slots ≡ m.slots → Shows C l (steps.stop b fault (m.totals.octets + 1)) (ended s fault).state
+  pub ended_shows : (fault : StreamFault) (b : Memory) → b.totals.messages ≡ m.totals.messages
+      → b.totals.faults ≡ m.totals.faults → b.slots ≡ m.slots
+      → Shows C l (steps.stop b fault (m.totals.octets + 1)) (ended s fault).state
   unfolding steps.stop ended come_in
   ended_shows fault b messages faults slots =
       let one : m.totals.octets + 1 ≡ suc s.totals.octets = omega (arith, octets_are) in
       rw slots (record {
-        totals = λ j. record { messages = (messages ∙ ap (λ (t : Totals). t.messages) h.totals) j; faults = suc ((faults ∙ ap (λ (t : Totals). t.faults) h.totals) j); octets = one j };
+        totals = λ j. record {
+          messages = (messages ∙ ap (λ (t : Totals). t.messages) h.totals) j;
+          faults = suc
+              ((faults ∙ ap (λ (t : Totals). t.faults) h.totals) j);
+          octets = one j;
+        };
         stopped = refl;
         header = refl;
         come = refl;
@@ -132,7 +155,8 @@ module _ (C : Table) (l : Listed) (m : Memory) (s : State) (h : Shows C l m s) w
     octet_is : octet_at s x ≡ front_is front s.totals.messages (suc s.totals.octets) (wrong front)
     unfolding octet_at
     octet_is =
-        rw (sym h.stopped ∙ free, h.header) (octet_front s.held s.totals.messages s.totals.octets (size s.held - s.left) x (within_limit s.totals.octets (omega (arith, octets_are, room))) short)
+        rw (sym h.stopped ∙ free, h.header) (octet_front s.held s.totals.messages s.totals.octets (size s.held - s.left) x
+        (within_limit s.totals.octets (omega (arith, octets_are, room))) short)
 
     pub wrong_step : (fault : StreamFault) → wrong front ≡ Some fault → step R s x ≡ ended s fault
     unfolding step
@@ -140,7 +164,9 @@ module _ (C : Table) (l : Listed) (m : Memory) (s : State) (h : Shows C l m s) w
 
     pub held_step : wrong front ≡ None → (length front ≡ 12 → ⊥) → step R s x ≡ held_on s front
     unfolding step
-    held_step e other = let is : octet_at s x ≡ Held front = octet_is ∙ rw e (front_short front s.totals.messages (suc s.totals.octets) (ne_eqb (length front) 12 other)) in ap (step_by R s) is
+    held_step e other =
+        let is : octet_at s x ≡ Held front = octet_is ∙ rw e (front_short front s.totals.messages (suc s.totals.octets) (ne_eqb (length front) 12 other)) in
+        ap (step_by R s) is
 
     not_full : (length front ≡ 12 → ⊥) → length front < 12
     not_full other = elim (cases_eq (length front) 12) [ inl e ↦ absurd (other e) | inr k ↦ omega (arith, few, length_push m.header x, k) ]

@@ -13,6 +13,7 @@ fed_together R causal laws p [] = sym (added_nil R p)
 fed_together R causal laws p (piece ∷ pieces) =
     ap (λ (z : List ℕ). added R p piece ++ z) (fed_together R causal laws (p ++ piece) pieces) ∙ sym (added_both R causal laws p piece (concat pieces))
 
-pub fed_alike : (R : Reading) → IsCausal R → IsInTurn R → (p : List ℕ) (pieces others : List (List ℕ)) → concat pieces ≡ concat others → fed R p pieces ≡ fed R p others
+pub fed_alike : (R : Reading) → IsCausal R → IsInTurn R → (p : List ℕ) (pieces others : List (List ℕ))
+    → concat pieces ≡ concat others → fed R p pieces ≡ fed R p others
 fed_alike R causal laws p pieces others same =
     fed_together R causal laws p pieces ∙ (ap (added R p) same ∙ sym (fed_together R causal laws p others))

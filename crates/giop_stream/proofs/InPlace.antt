@@ -42,7 +42,8 @@ pub others_then : (R : Reading) (c : Scene) (e : Event) (i : ℕ) → (i ≡ e.w
 unfolding scene_at written taking lines_at
 others_then R c e i h =
     let mine : Each (λ l. l.number ≡ e.whom.number) (standing (λ i. false) (utters_kept R e (c.known e.whom.number))) =
-    standing_each (λ l. l.number ≡ e.whom.number) (λ i. false) (utters_kept R e (c.known e.whom.number)) (tells_number R (λ n. n ≡ e.whom.number) e (c.known e.whom.number) refl) in
+    standing_each (λ l. l.number ≡ e.whom.number) (λ i. false) (utters_kept R e (c.known e.whom.number))
+    (tells_number R (λ n. n ≡ e.whom.number) e (c.known e.whom.number) refl) in
     rw (other_last i e.whom.number _ h mine, other_joined i e h) (same_octets (c.known i))
 
 -- ---- The slots.
@@ -57,30 +58,43 @@ apart : (o : Open) (live : List Open) → Each (λ a. o.opener.number < a.opener
 apart o live h = each_weaker (λ a. o.opener.number < a.opener.number) (λ a. a.opener.number ≡ o.opener.number → ⊥) (λ a less same. omega arith) live h
 
 -- Where what is kept changes for one open message alone, its slot alone changes.
-pub slot_at : (f g : Kept) (live : List Open) (k : ℕ) (o : Open) → Rising live → slice_get live k ≡ Some o → ((i : ℕ) → (i ≡ o.opener.number → ⊥) → f i ≡ g i) → slots_of f live ≡ slice_set (slots_of g live) k (record { open_as = o; octets = f o.opener.number })
+pub slot_at : (f g : Kept) (live : List Open) (k : ℕ) (o : Open) → Rising live → slice_get live k ≡ Some o
+    → ((i : ℕ) → (i ≡ o.opener.number → ⊥) → f i ≡ g i)
+    → slots_of f live ≡ slice_set (slots_of g live) k (record { open_as = o; octets = f o.opener.number })
 unfolding slots_of
 slot_at f g [] k o r e h = absurd cc
 slot_at f g (a ∷ live) zero o r e h =
     let same : a ≡ o = cc in
     let number : a.opener.number ≡ o.opener.number = ap (λ (c : Open). c.opener.number) same in
-    let others : slots_of f live ≡ slots_of g live = slots_agree f g live (each_weaker (λ b. b.opener.number ≡ a.opener.number → ⊥) (λ b. f b.opener.number ≡ g b.opener.number) (λ b j. h b.opener.number (λ n. j (n ∙ sym number))) live (apart a live r.0)) in
-    ap (λ (c : Open). record { open_as = c; octets = f c.opener.number } ∷ slots_of f live) same ∙ ap (λ (slots : List Slot). record { open_as = o; octets = f o.opener.number } ∷ slots) others
+    let others : slots_of f live ≡ slots_of g live =
+    slots_agree f g live (each_weaker (λ b. b.opener.number ≡ a.opener.number → ⊥)
+    (λ b. f b.opener.number ≡ g b.opener.number) (λ b j. h b.opener.number (λ n. j (n ∙ sym number))) live
+    (apart a live r.0)) in
+    ap (λ (c : Open). record { open_as = c; octets = f c.opener.number } ∷ slots_of f live) same
+    ∙ ap (λ (slots : List Slot). record { open_as = o; octets = f o.opener.number } ∷ slots) others
 slot_at f g (a ∷ live) (suc k) o r e h =
     let less : a.opener.number < o.opener.number = at_index (λ b. a.opener.number < b.opener.number) live k o e r.0 in
     let first : f a.opener.number ≡ g a.opener.number = h a.opener.number (λ same. omega arith) in
     rw first (ap (λ (slots : List Slot). record { open_as = a; octets = g a.opener.number } ∷ slots) (slot_at f g live k o r.1 e h))
 
 -- where it changes for none of them, none
-pub no_slot : (f g : Kept) (live : List Open) (n : ℕ) → Each (λ o. o.opener.number ≡ n → ⊥) live → ((i : ℕ) → (i ≡ n → ⊥) → f i ≡ g i) → slots_of f live ≡ slots_of g live
-no_slot f g live n h k = slots_agree f g live (each_weaker (λ o. o.opener.number ≡ n → ⊥) (λ o. f o.opener.number ≡ g o.opener.number) (λ o j. k o.opener.number j) live h)
+pub no_slot : (f g : Kept) (live : List Open) (n : ℕ) → Each (λ o. o.opener.number ≡ n → ⊥) live
+    → ((i : ℕ) → (i ≡ n → ⊥) → f i ≡ g i) → slots_of f live ≡ slots_of g live
+no_slot f g live n h k =
+    slots_agree f g live (each_weaker (λ o. o.opener.number ≡ n → ⊥) (λ o. f o.opener.number ≡ g o.opener.number) (λ o j. k o.opener.number j) live h)
 
 -- the open messages but one
-pub others_open : (live : List Open) (k : ℕ) (o : Open) → Rising live → slice_get live k ≡ Some o → filter (λ a. not (a.opener.number == o.opener.number)) live ≡ remove live k
+pub others_open : (live : List Open) (k : ℕ) (o : Open) → Rising live → slice_get live k ≡ Some o
+    → filter (λ a. not (a.opener.number == o.opener.number)) live ≡ remove live k
 others_open [] k o r e = absurd cc
 others_open (a ∷ live) zero o r e =
     let same : a ≡ o = cc in
     let number : a.opener.number ≡ o.opener.number = ap (λ (c : Open). c.opener.number) same in
-    let kept : filter (λ b. not (b.opener.number == o.opener.number)) live ≡ live = filter_keeps (λ b. not (b.opener.number == o.opener.number)) live (each_weaker {A = Open} (λ b. b.opener.number ≡ a.opener.number → ⊥) (λ b. not (b.opener.number == o.opener.number) ≡ true) (λ b j. rw (ne_eqb b.opener.number o.opener.number (λ n. j (n ∙ sym number))) refl) live (apart a live r.0)) in
+    let kept : filter (λ b. not (b.opener.number == o.opener.number)) live ≡ live =
+    filter_keeps (λ b. not (b.opener.number == o.opener.number)) live
+    (each_weaker {A = Open} (λ b. b.opener.number ≡ a.opener.number → ⊥)
+    (λ b. not (b.opener.number == o.opener.number) ≡ true)
+    (λ b j. rw (ne_eqb b.opener.number o.opener.number (λ n. j (n ∙ sym number))) refl) live (apart a live r.0)) in
     rw (eq-eqb a.opener.number o.opener.number number) kept
 others_open (a ∷ live) (suc k) o r e =
     let less : a.opener.number < o.opener.number = at_index (λ b. a.opener.number < b.opener.number) live k o e r.0 in
@@ -93,7 +107,8 @@ slots_remove f [] (suc k) = refl
 slots_remove f (o ∷ live) zero = refl
 slots_remove f (o ∷ live) (suc k) = ap (λ (slots : List Slot). record { open_as = o; octets = f o.opener.number } ∷ slots) (slots_remove f live k)
 
-not_removed : (live : List Open) (k : ℕ) (o : Open) → Rising live → slice_get live k ≡ Some o → Each (λ a. a.opener.number ≡ o.opener.number → ⊥) (remove live k)
+not_removed : (live : List Open) (k : ℕ) (o : Open) → Rising live → slice_get live k ≡ Some o
+    → Each (λ a. a.opener.number ≡ o.opener.number → ⊥) (remove live k)
 not_removed [] k o r e = absurd cc
 not_removed (a ∷ live) zero o r e =
     let same : a ≡ o = cc in
@@ -109,7 +124,8 @@ pub slot_gone : (f g : Kept) (live : List Open) (k : ℕ) (o : Open) → Rising 
 slot_gone f g live k o r e h = rw (others_open live k o r e) (no_slot f g (remove live k) o.opener.number (not_removed live k o r e) h ∙ slots_remove g live k)
 
 -- where one becomes open, a slot comes
-pub slot_comes : (f g : Kept) (live : List Open) (o : Open) → Each (λ a. f a.opener.number ≡ g a.opener.number) live → slots_of f (live ++ o ∷ []) ≡ slots_of g live ++ record { open_as = o; octets = f o.opener.number } ∷ []
+pub slot_comes : (f g : Kept) (live : List Open) (o : Open) → Each (λ a. f a.opener.number ≡ g a.opener.number) live
+    → slots_of f (live ++ o ∷ []) ≡ slots_of g live ++ record { open_as = o; octets = f o.opener.number } ∷ []
 unfolding slots_of
 slot_comes f g live o h =
     map-append (λ o. record { open_as = o; octets = f o.opener.number }) live (o ∷ [])

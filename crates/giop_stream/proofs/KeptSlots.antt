@@ -14,21 +14,27 @@ unfolding slots_of
 opens_back K [] = refl
 opens_back K (o ∷ live) = ap (λ (os : List Open). o ∷ os) (opens_back K live)
 
-kept_by : (K : Kept) (o : Open) (i : ℕ) (b c : Bool) (rest : Option (List ℕ)) → (o.opener.number == i) ≡ b → (b || c) ≡ true → (c ≡ true → rest ≡ K i) → (if b then K o.opener.number else rest) ≡ K i
+kept_by : (K : Kept) (o : Open) (i : ℕ) (b c : Bool) (rest : Option (List ℕ)) → (o.opener.number == i) ≡ b → (b || c) ≡ true
+    → (c ≡ true → rest ≡ K i) → (if b then K o.opener.number else rest) ≡ K i
 kept_by K o i true c rest e h k = ap K (eqb-true o.opener.number i e)
 kept_by K o i false c rest e h k = k h
 
 kept_found : (K : Kept) (live : List Open) (number : ℕ) (own : Option (List ℕ)) (i : ℕ) → is_open live i ≡ true → kept (slots_of K live) number own i ≡ K i
 unfolding kept slots_of is_open
 kept_found K [] number own i h = absurd cc
-kept_found K (o ∷ live) number own i h = kept_by K o i (o.opener.number == i) (list_any (λ o. o.opener.number == i) live) (kept (slots_of K live) number own i) refl h (kept_found K live number own i)
+kept_found K (o ∷ live) number own i h =
+    kept_by K o i (o.opener.number == i) (list_any (λ o. o.opener.number == i) live)
+    (kept (slots_of K live) number own i) refl h (kept_found K live number own i)
 
-kept_missed : (K : Kept) (live : List Open) (number : ℕ) (own : Option (List ℕ)) (i : ℕ) → is_open live i ≡ false → kept (slots_of K live) number own i ≡ (if number == i then own else None)
+kept_missed : (K : Kept) (live : List Open) (number : ℕ) (own : Option (List ℕ)) (i : ℕ) → is_open live i ≡ false
+    → kept (slots_of K live) number own i ≡ (if number == i then own else None)
 unfolding kept slots_of is_open
 kept_missed K [] number own i h = refl
 kept_missed K (o ∷ live) number own i h = go (o.opener.number == i) (list_any (λ o. o.opener.number == i) live) h (kept_missed K live number own i)
   where
-    go : (b c : Bool) → (b || c) ≡ false → (c ≡ false → kept (slots_of K live) number own i ≡ (if number == i then own else None)) → (if b then K o.opener.number else kept (slots_of K live) number own i) ≡ (if number == i then own else None)
+    go : (b c : Bool) → (b || c) ≡ false → (c ≡ false
+        → kept (slots_of K live) number own i ≡ (if number == i then own else None))
+        → (if b then K o.opener.number else kept (slots_of K live) number own i) ≡ (if number == i then own else None)
     go true c h k = absurd cc
     go false c h k = k h
 
@@ -54,11 +60,21 @@ open_first o live = rw (eq-eqb o.opener.number o.opener.number refl) refl
 
 all_open : (live : List Open) → Each (λ o. is_open live o.opener.number ≡ true) live
 all_open [] = tt
-all_open (o ∷ live) = (open_first o live, each_weaker (λ a. is_open live a.opener.number ≡ true) (λ a. is_open (o ∷ live) a.opener.number ≡ true) (λ a h. open_more o live a.opener.number h) live (all_open live))
+all_open (o ∷ live) = (
+  open_first o live,
+  each_weaker (λ a. is_open live a.opener.number ≡ true)
+      (λ a. is_open (o ∷ live) a.opener.number ≡ true) (λ a h. open_more o live a.opener.number h) live (all_open live),
+)
 
-pub kept_all : (K : Kept) (live : List Open) (number : ℕ) (own : Option (List ℕ)) → Each (λ o. kept (slots_of K live) number own o.opener.number ≡ K o.opener.number) live
-kept_all K live number own = each_weaker (λ o. is_open live o.opener.number ≡ true) (λ o. kept (slots_of K live) number own o.opener.number ≡ K o.opener.number) (λ o h. kept_found K live number own o.opener.number h) live (all_open live)
+pub kept_all : (K : Kept) (live : List Open) (number : ℕ) (own : Option (List ℕ))
+    → Each (λ o. kept (slots_of K live) number own o.opener.number ≡ K o.opener.number) live
+kept_all K live number own =
+    each_weaker (λ o. is_open live o.opener.number ≡ true)
+    (λ o. kept (slots_of K live) number own o.opener.number ≡ K o.opener.number)
+    (λ o h. kept_found K live number own o.opener.number h) live (all_open live)
 
 pub slots_agree : (f g : Kept) (live : List Open) → Each (λ o. f o.opener.number ≡ g o.opener.number) live → slots_of f live ≡ slots_of g live
 unfolding slots_of
-slots_agree f g live h = map_agree _ _ live (each_weaker (λ o. f o.opener.number ≡ g o.opener.number) _ (λ o j. ap (λ (x : Option (List ℕ)). record { open_as = o; octets = x }) j) live h)
+slots_agree f g live h =
+    map_agree _ _ live (each_weaker (λ o. f o.opener.number ≡ g o.opener.number) _
+    (λ o j. ap (λ (x : Option (List ℕ)). record { open_as = o; octets = x }) j) live h)

@@ -21,12 +21,16 @@ any_left t xs ys h = rw (any_append t xs ys) (or_left (list_any t xs) (list_any 
 pub any_right : {A : Type 0} (t : A → Bool) (xs ys : List A) → list_any t ys ≡ true → list_any t (xs ++ ys) ≡ true
 any_right t xs ys h = rw (any_append t xs ys) (or_right (list_any t xs) (list_any t ys) h)
 
-class_by : (t : Line → Bool) (g : ℕ → List Line) (n : ℕ) (d : Class) (cs : List Class) (b : Bool) → (n == rank d) ≡ b → (b || list_any (λ c. n == rank c) cs) ≡ true → list_any t (g n) ≡ true
-    → (list_any (λ c. n == rank c) cs ≡ true → list_any t (flat_map (λ c. g (rank c)) cs) ≡ true) → list_any t (g (rank d) ++ flat_map (λ c. g (rank c)) cs) ≡ true
-class_by t g n d cs true e h k ih = any_left t (g (rank d)) (flat_map (λ c. g (rank c)) cs) (subst (λ (m : ℕ). list_any t (g m) ≡ true) (eqb-true n (rank d) e) k)
+class_by : (t : Line → Bool) (g : ℕ → List Line) (n : ℕ) (d : Class) (cs : List Class) (b : Bool) → (n == rank d) ≡ b
+    → (b || list_any (λ c. n == rank c) cs) ≡ true → list_any t (g n) ≡ true
+    → (list_any (λ c. n == rank c) cs ≡ true → list_any t (flat_map (λ c. g (rank c)) cs) ≡ true)
+    → list_any t (g (rank d) ++ flat_map (λ c. g (rank c)) cs) ≡ true
+class_by t g n d cs true e h k ih =
+    any_left t (g (rank d)) (flat_map (λ c. g (rank c)) cs) (subst (λ (m : ℕ). list_any t (g m) ≡ true) (eqb-true n (rank d) e) k)
 class_by t g n d cs false e h k ih = any_right t (g (rank d)) (flat_map (λ c. g (rank c)) cs) (ih h)
 
-any_class : (t : Line → Bool) (g : ℕ → List Line) (n : ℕ) (cs : List Class) → list_any (λ c. n == rank c) cs ≡ true → list_any t (g n) ≡ true → list_any t (flat_map (λ c. g (rank c)) cs) ≡ true
+any_class : (t : Line → Bool) (g : ℕ → List Line) (n : ℕ) (cs : List Class) → list_any (λ c. n == rank c) cs ≡ true
+    → list_any t (g n) ≡ true → list_any t (flat_map (λ c. g (rank c)) cs) ≡ true
 any_class t g n [] h k = absurd cc
 any_class t g n (d ∷ cs) h k = class_by t g n d cs (n == rank d) refl h k (λ j. any_class t g n cs j k)
 
@@ -53,7 +57,8 @@ unfolding of_rank
 ranked_here t l ls h = record {
   at = rank (class_of l.content);
   known = known_class (class_of l.content);
-  found = rw (eq-eqb (rank (class_of l.content)) (rank (class_of l.content)) refl) (or_left (t l) (list_any t (filter (λ k. rank (class_of k.content) == rank (class_of l.content)) ls)) h);
+  found = rw (eq-eqb (rank (class_of l.content)) (rank (class_of l.content)) refl)
+      (or_left (t l) (list_any t (filter (λ k. rank (class_of k.content) == rank (class_of l.content)) ls)) h);
 }
 
 ranked_by : (t : Line → Bool) (l : Line) (ls : List Line) (b : Bool) → list_any t ls ≡ true → list_any t (cond b (l ∷ ls) ls) ≡ true
@@ -62,7 +67,13 @@ ranked_by t l ls false h = h
 
 ranked_more : (t : Line → Bool) (l : Line) (ls : List Line) → Ranked t ls → Ranked t (l ∷ ls)
 unfolding of_rank
-ranked_more t l ls r = record { at = r.at; known = r.known; found = ranked_by t l (filter (λ k. rank (class_of k.content) == r.at) ls) (rank (class_of l.content) == r.at) r.found }
+ranked_more t l ls r =
+    record {
+      at = r.at;
+      known = r.known;
+      found = ranked_by t l (filter (λ k. rank (class_of k.content) == r.at) ls)
+          (rank (class_of l.content) == r.at) r.found;
+    }
 
 ranked : (t : Line → Bool) (ls : List Line) → list_any t ls ≡ true → Ranked t ls
 ranked t [] h = absurd cc
@@ -73,11 +84,13 @@ unfolding by_class of_rank
 any_by_class t ls h = let r = ranked t ls h in any_class t (λ n. filter (λ l. rank (class_of l.content) == n) ls) r.at classes r.known r.found
 
 -- It stands, where its message is not over before.
-stand_by : (i : ℕ) (f : ℕ → Bool) (l : Line) (ls : List Line) (b c : Bool) → f i ≡ false → f l.number ≡ b → is_last_of i l ≡ c → (c || list_any (is_last_of i) ls) ≡ true
+stand_by : (i : ℕ) (f : ℕ → Bool) (l : Line) (ls : List Line) (b c : Bool) → f i ≡ false → f l.number ≡ b
+    → is_last_of i l ≡ c → (c || list_any (is_last_of i) ls) ≡ true
     → ((g : ℕ → Bool) → g i ≡ false → list_any (is_last_of i) ls ≡ true → list_any (is_last_of i) (standing g ls) ≡ true)
     → list_any (is_last_of i) (if b then standing f ls else l ∷ standing (λ j. f j || is_last_of j l) ls) ≡ true
 unfolding is_last_of
-stand_by i f l ls true true free e k h ih = absurd (let same : l.number ≡ i = eqb-true l.number i (and_parts (l.number == i) _ k).0 in let no : f l.number ≡ f i = ap f same in cc)
+stand_by i f l ls true true free e k h ih =
+    absurd (let same : l.number ≡ i = eqb-true l.number i (and_parts (l.number == i) _ k).0 in let no : f l.number ≡ f i = ap f same in cc)
 stand_by i f l ls true false free e k h ih = ih f free h
 stand_by i f l ls false true free e k h ih = rw k refl
 stand_by i f l ls false false free e k h ih = or_right (is_last_of i l) _ (ih (λ j. f j || is_last_of j l) (rw (free, k) refl) h)
@@ -99,7 +112,8 @@ is_final (Continues i) = false
 
 any_weaker : {A : Type 0} (p q : A → Bool) → ((x : A) → p x ≡ true → q x ≡ true) → (xs : List A) → list_any p xs ≡ true → list_any q xs ≡ true
 any_weaker p q f [] h = absurd cc
-any_weaker {A} p q f (x ∷ xs) h = elim (or_cases (p x) (list_any p xs) h) [ inl a ↦ or_left (q x) (list_any q xs) (f x a) | inr b ↦ or_right (q x) (list_any q xs) (any_weaker p q f xs b) ]
+any_weaker {A} p q f (x ∷ xs) h =
+    elim (or_cases (p x) (list_any p xs) h) [ inl a ↦ or_left (q x) (list_any q xs) (f x a) | inr b ↦ or_right (q x) (list_any q xs) (any_weaker p q f xs b) ]
 
 any_map : {A B : Type 0} (t : B → Bool) (f : A → B) (xs : List A) → list_any (λ x. t (f x)) xs ≡ list_any t (map f xs)
 any_map t f [] = refl
@@ -109,11 +123,13 @@ said_last : (e : Event) (s : Saying) (text : List ℕ) → is_last s ≡ true �
 unfolding is_last_of line
 said_last e s text h = rw (eq-eqb e.whom.number e.whom.number refl) h
 
-tells_final : (R : Reading) → IsEnding R → (e : Event) (so_far all : List ℕ) (what : Happening) → is_final what ≡ true → list_any (is_last_of e.whom.number) (tells R e so_far all what) ≡ true
+tells_final : (R : Reading) → IsEnding R → (e : Event) (so_far all : List ℕ) (what : Happening) → is_final what ≡ true
+    → list_any (is_last_of e.whom.number) (tells R e so_far all what) ≡ true
 unfolding tells is_final is_last_of line
 tells_final R ending e so_far all Closes h =
     rw (← any_map (is_last_of e.whom.number) (λ l. line e (Said l.0 l.1)) (R.closes e.whom.header so_far))
-    (any_weaker (λ l. is_last l.0) (λ l. is_last_of e.whom.number (line e (Said l.0 l.1))) (λ l. said_last e l.0 l.1) (R.closes e.whom.header so_far) (ending.ends e.whom.header so_far))
+    (any_weaker (λ l. is_last l.0) (λ l. is_last_of e.whom.number (line e (Said l.0 l.1))) (λ l. said_last e l.0 l.1)
+    (R.closes e.whom.header so_far) (ending.ends e.whom.header so_far))
 tells_final R ending e so_far all (Cancelled j) h = rw (eq-eqb e.whom.number e.whom.number refl) refl
 tells_final R ending e so_far all (Imposed fault) h = rw (eq-eqb e.whom.number e.whom.number refl) refl
 tells_final R ending e so_far all Begins h = absurd cc
@@ -121,7 +137,8 @@ tells_final R ending e so_far all (Takes x) h = absurd cc
 tells_final R ending e so_far all (Opens i) h = absurd cc
 tells_final R ending e so_far all (Continues i) h = absurd cc
 
-kept_final : (R : Reading) → IsEnding R → (e : Event) (o : Option (List ℕ)) (xs : List ℕ) → o ≡ Some xs → is_final e.what ≡ true → list_any (is_last_of e.whom.number) (utters_kept R e o) ≡ true
+kept_final : (R : Reading) → IsEnding R → (e : Event) (o : Option (List ℕ)) (xs : List ℕ) → o ≡ Some xs
+    → is_final e.what ≡ true → list_any (is_last_of e.whom.number) (utters_kept R e o) ≡ true
 unfolding utters_kept
 kept_final R ending e None xs k h = absurd cc
 kept_final R ending e (Some ys) xs k h = tells_final R ending e ys (ys ++ joined e.whom.number (e ∷ [])) e.what h
@@ -135,17 +152,25 @@ taking_some K e i xs h = rw h refl
 
 ends_first : (R : Reading) → IsEnding R → (K : Kept) (e : Event) (es : List Event) → Ends R K (e ∷ es) e
 unfolding Ends utters
-ends_first R ending K e es h xs k = any_left (is_last_of e.whom.number) (utters_kept R e (K e.whom.number)) (utters R (taking K (e ∷ [])) es) (kept_final R ending e (K e.whom.number) xs k h)
+ends_first R ending K e es h xs k =
+    any_left (is_last_of e.whom.number) (utters_kept R e (K e.whom.number)) (utters R (taking K (e ∷ [])) es) (kept_final R ending e (K e.whom.number) xs k h)
 
 ends_more : (R : Reading) (K : Kept) (e : Event) (es : List Event) (d : Event) → Ends R (taking K (e ∷ [])) es d → Ends R K (e ∷ es) d
 unfolding Ends utters
-ends_more R K e es d f h xs k = any_right (is_last_of d.whom.number) (utters_kept R e (K e.whom.number)) (utters R (taking K (e ∷ [])) es) (f h (xs ++ joined d.whom.number (e ∷ [])) (taking_some K e d.whom.number xs k))
+ends_more R K e es d f h xs k =
+    any_right (is_last_of d.whom.number) (utters_kept R e (K e.whom.number)) (utters R (taking K (e ∷ [])) es)
+    (f h (xs ++ joined d.whom.number (e ∷ [])) (taking_some K e d.whom.number xs k))
 
 all_end : (R : Reading) → IsEnding R → (K : Kept) (es : List Event) → Each (Ends R K es) es
 all_end R ending K [] = tt
-all_end R ending K (e ∷ es) = (ends_first R ending K e es, each_weaker (Ends R (taking K (e ∷ [])) es) (Ends R K (e ∷ es)) (λ d. ends_more R K e es d) es (all_end R ending (taking K (e ∷ [])) es))
+all_end R ending K (e ∷ es) = (
+  ends_first R ending K e es,
+  each_weaker (Ends R (taking K (e ∷ [])) es) (Ends R K (e ∷ es))
+      (λ d. ends_more R K e es d) es (all_end R ending (taking K (e ∷ [])) es),
+)
 
-pub is_over_grows : (R : Reading) (p p' : List ℕ) (ls : List Line) (i : ℕ) → said R p' ≡ said R p ++ ls → is_over R p' i ≡ (is_over R p i || list_any (is_last_of i) ls)
+pub is_over_grows : (R : Reading) (p p' : List ℕ) (ls : List Line) (i : ℕ) → said R p' ≡ said R p ++ ls
+    → is_over R p' i ≡ (is_over R p i || list_any (is_last_of i) ls)
 unfolding is_over
 is_over_grows R p p' ls i sd = rw sd (any_append (is_last_of i) (said R p) ls)
 
@@ -156,7 +181,8 @@ octets_known R p i h = rw h refl
 unfoldable pub Dead : (ℕ → Bool) → Event → Type 0
 Dead over e = is_final e.what ≡ true → over e.whom.number ≡ true
 
-dead_by : (R : Reading) (p p' : List ℕ) (es : List Event) → said R p' ≡ said R p ++ now_written R (octets_of R p) es → (e : Event) → Ends R (octets_of R p) es e → Dead (is_over R p') e
+dead_by : (R : Reading) (p p' : List ℕ) (es : List Event) → said R p' ≡ said R p ++ now_written R (octets_of R p) es
+    → (e : Event) → Ends R (octets_of R p) es e → Dead (is_over R p') e
 unfolding Ends Dead now_written
 dead_by R p p' es sd e ends h = go (is_over R p i) refl
   where
@@ -167,7 +193,10 @@ dead_by R p p' es sd e ends h = go (is_over R p i) refl
     go true k = is_over_grows R p p' _ i sd ∙ or_left (is_over R p i) _ k
     go false k =
         let uttered = ends h (joined i (events p)) (octets_known R p i k) in
-        is_over_grows R p p' _ i sd ∙ or_right (is_over R p i) _ (last_stands i (λ j. false) (by_class (utters R (octets_of R p) es)) refl (any_by_class (is_last_of i) (utters R (octets_of R p) es) uttered))
+        is_over_grows R p p' _ i sd ∙ or_right (is_over R p i) _
+        (last_stands i (λ j. false) (by_class (utters R (octets_of R p) es)) refl
+        (any_by_class (is_last_of i) (utters R (octets_of R p) es) uttered))
 
-pub dead : (R : Reading) → IsEnding R → (p p' : List ℕ) (es : List Event) → said R p' ≡ said R p ++ now_written R (octets_of R p) es → Each (Dead (is_over R p')) es
+pub dead : (R : Reading) → IsEnding R → (p p' : List ℕ) (es : List Event)
+    → said R p' ≡ said R p ++ now_written R (octets_of R p) es → Each (Dead (is_over R p')) es
 dead R ending p p' es sd = each_weaker (Ends R (octets_of R p) es) (Dead (is_over R p')) (dead_by R p p' es sd) es (all_end R ending (octets_of R p) es)

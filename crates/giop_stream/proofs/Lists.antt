@@ -17,13 +17,16 @@ by_growth P none more_of xs = grown P more_of [] xs none
 pub fronts_push : {A : Type 0} (xs : List A) (x : A) → fronts (xs ++ x ∷ []) ≡ fronts xs ++ (xs ++ x ∷ []) ∷ []
 unfolding fronts
 fronts_push [] x = refl
-fronts_push {A} (y ∷ ys) x = ap (λ (fs : List (List A)). [] ∷ map (λ front. y ∷ front) fs) (fronts_push ys x) ∙ ap (λ (fs : List (List A)). [] ∷ fs) (map_push (λ front. y ∷ front) (fronts ys) (ys ++ x ∷ []))
+fronts_push {A} (y ∷ ys) x =
+    ap (λ (fs : List (List A)). [] ∷ map (λ front. y ∷ front) fs) (fronts_push ys x)
+    ∙ ap (λ (fs : List (List A)). [] ∷ fs) (map_push (λ front. y ∷ front) (fronts ys) (ys ++ x ∷ []))
 
 -- the fault of a front's last octet
 unfoldable pub wrong_last : List ℕ → Option (ℕ × StreamFault)
 wrong_last front = wrong_or (wrong front) (length front) None
 
-some_goes : (w : Option StreamFault) (n : ℕ) (a b : Option (ℕ × StreamFault)) (found : ℕ × StreamFault) → (a ≡ Some found → b ≡ Some found) → wrong_or w n a ≡ Some found → wrong_or w n b ≡ Some found
+some_goes : (w : Option StreamFault) (n : ℕ) (a b : Option (ℕ × StreamFault)) (found : ℕ × StreamFault)
+    → (a ≡ Some found → b ≡ Some found) → wrong_or w n a ≡ Some found → wrong_or w n b ≡ Some found
 some_goes (Some fault) n a b found f e = e
 some_goes None n a b found f e = f e
 
@@ -58,7 +61,8 @@ pub filter_drops : {A : Type 0} (test : A → Bool) (xs : List A) → Each (λ x
 filter_drops test [] h = refl
 filter_drops test (x ∷ xs) h = rw h.0 (filter_drops test xs h.1)
 
-swap_by : {A : Type 0} (p q : A → Bool) (x : A) (xs : List A) → filter p (filter q xs) ≡ filter q (filter p xs) → (a b : Bool) → p x ≡ a → q x ≡ b → filter p (filter q (x ∷ xs)) ≡ filter q (filter p (x ∷ xs))
+swap_by : {A : Type 0} (p q : A → Bool) (x : A) (xs : List A) → filter p (filter q xs) ≡ filter q (filter p xs)
+    → (a b : Bool) → p x ≡ a → q x ≡ b → filter p (filter q (x ∷ xs)) ≡ filter q (filter p (x ∷ xs))
 swap_by {A} p q x xs ih true true e f = simp (e, f) (ap (λ (ys : List A). x ∷ ys) ih)
 swap_by p q x xs ih true false e f = simp (e, f) ih
 swap_by p q x xs ih false true e f = simp (e, f) ih

@@ -104,7 +104,8 @@ module _ (C : Table) (l : Listed) (s : Slots) (c : Scene) (m : Message) (now : C
   unfolding opener_of
   opener_is name = ap (λ (n : ℕ). find (λ (o : Open). o.id == n) c.live) (h.id_is name)
 
-  pub misses : has_name m.header ≡ true → (r : Option ℕ) → r ≡ position_from (λ slot. slot.id == i) 0 s.slots.items → is_some r ≡ false → opener_of c.live m ≡ None
+  pub misses : has_name m.header ≡ true → (r : Option ℕ) → r ≡ position_from (λ slot. slot.id == i) 0 s.slots.items
+      → is_some r ≡ false → opener_of c.live m ≡ None
   misses name None e n = opener_is name ∙ none_open C l s.slots.items c i h.keeps.slots (sym e)
   misses name (Some k) e n = absurd cc
 
@@ -113,7 +114,8 @@ module _ (C : Table) (l : Listed) (s : Slots) (c : Scene) (m : Message) (now : C
       let f = one_open C l s.slots.items c i k h.keeps.slots (sym e) in
       record { o = f.o; here = f.here; is = opener_is name ∙ f.is }
 
-  pub hits : has_name m.header ≡ true → (r : Option ℕ) → r ≡ position_from (λ slot. slot.id == i) 0 s.slots.items → is_some r ≡ true → (o : Open) × (opener_of c.live m ≡ Some o)
+  pub hits : has_name m.header ≡ true → (r : Option ℕ) → r ≡ position_from (λ slot. slot.id == i) 0 s.slots.items
+      → is_some r ≡ true → (o : Open) × (opener_of c.live m ≡ Some o)
   hits name None e n = absurd cc
   hits name (Some k) e n = let f = finds name k e in (f.o, f.is)
 
@@ -122,27 +124,32 @@ module _ (C : Table) (l : Listed) (s : Slots) (c : Scene) (m : Message) (now : C
 
   -- ---- A message that opens.
 
-  pub twice : (r : Option ℕ) → r ≡ position_from (λ slot. slot.id == i) 0 s.slots.items → is_some r ≡ true → is_fragment m.header ≡ false → is_opener m.header ≡ true
+  pub twice : (r : Option ℕ) → r ≡ position_from (λ slot. slot.id == i) 0 s.slots.items → is_some r ≡ true
+      → is_fragment m.header ≡ false → is_opener m.header ≡ true
       → plays (message_reading C l) c (at_id c.live m) ≡ one_play (message_reading C l) c now.place (title m) (Imposed IdOpen)
   twice r e n f g = let o = hits (opener_named m.header g) r e n in opener_twice (message_reading C l) c c.live m o.0 f g o.1 ∙ rw h.current.place refl
 
-  pub no_room : (r : Option ℕ) → r ≡ position_from (λ slot. slot.id == i) 0 s.slots.items → is_some r ≡ false → length s.slots.items ≡ 16 → is_fragment m.header ≡ false → is_opener m.header ≡ true
+  pub no_room : (r : Option ℕ) → r ≡ position_from (λ slot. slot.id == i) 0 s.slots.items → is_some r ≡ false
+      → length s.slots.items ≡ 16 → is_fragment m.header ≡ false → is_opener m.header ≡ true
       → plays (message_reading C l) c (at_id c.live m) ≡ one_play (message_reading C l) c now.place (title m) (Imposed TooManyOpen)
   no_room r e n full f g =
       let many = as_many in
       let room : most_open ≤ length c.live = omega (arith, many, full) in
       opener_no_room (message_reading C l) c c.live m f g (misses (opener_named m.header g) r e n) room ∙ rw h.current.place refl
 
-  pub opens_one : (r : Option ℕ) → r ≡ position_from (λ slot. slot.id == i) 0 s.slots.items → is_some r ≡ false → length s.slots.items < 16 → is_fragment m.header ≡ false → is_opener m.header ≡ true
+  pub opens_one : (r : Option ℕ) → r ≡ position_from (λ slot. slot.id == i) 0 s.slots.items → is_some r ≡ false
+      → length s.slots.items < 16 → is_fragment m.header ≡ false → is_opener m.header ≡ true
       → plays (message_reading C l) c (at_id c.live m) ≡ one_play (message_reading C l) c now.place (title m) (Opens i)
   opens_one r e n few f g =
       let many = as_many in
       let room : length c.live < most_open = omega (arith, many, few) in
-      opener_opens (message_reading C l) c c.live m f g (misses (opener_named m.header g) r e n) room ∙ rw (h.current.place, h.id_is (opener_named m.header g)) refl
+      opener_opens (message_reading C l) c c.live m f g (misses (opener_named m.header g) r e n) room
+      ∙ rw (h.current.place, h.id_is (opener_named m.header g)) refl
 
   -- ---- A Fragment.
 
-  pub unknown : is_fragment m.header ≡ true → opener_of c.live m ≡ None → plays (message_reading C l) c (at_id c.live m) ≡ one_play (message_reading C l) c now.place (title m) (Imposed NoOpen)
+  pub unknown : is_fragment m.header ≡ true → opener_of c.live m ≡ None
+      → plays (message_reading C l) c (at_id c.live m) ≡ one_play (message_reading C l) c now.place (title m) (Imposed NoOpen)
   unknown f e = fragment_unknown (message_reading C l) c c.live m f e ∙ rw h.current.place refl
 
   pub in_order : (o : Open) → is_fragment m.header ≡ true → opener_of c.live m ≡ Some o → same_order (order m.header) (order o.opener.header) ≡ true
@@ -160,7 +167,8 @@ module _ (C : Table) (l : Listed) (s : Slots) (c : Scene) (m : Message) (now : C
   goes_text o number e = rw (h.current.number, e) refl
 
   -- which begins all that is written
-  pub goes_first : (o : Open) → is_fragment m.header ≡ true → opener_of c.live m ≡ Some o → BeginsSo (goes_on m o) (plays (message_reading C l) c (at_id c.live m)).lines
+  pub goes_first : (o : Open) → is_fragment m.header ≡ true → opener_of c.live m ≡ Some o
+      → BeginsSo (goes_on m o) (plays (message_reading C l) c (at_id c.live m)).lines
   goes_first o f e = go (same_order (order m.header) (order o.opener.header)) refl
     where
       go : (b : Bool) → same_order (order m.header) (order o.opener.header) ≡ b → BeginsSo (goes_on m o) (plays (message_reading C l) c (at_id c.live m)).lines
@@ -168,25 +176,33 @@ module _ (C : Table) (l : Listed) (s : Slots) (c : Scene) (m : Message) (now : C
       go false other = record { more = _; is = ap (λ (p : Play). p.lines) (out_of_order o f e other) }
 
   -- the slot of its opener
-  pub opener_slot : (k : ℕ) (o : Open) (x : Kept_slot) → slice_get c.live k ≡ Some o → slice_get s.slots.items k ≡ Some x → IsSlot C l x (record { open_as = o; octets = c.known o.opener.number })
+  pub opener_slot : (k : ℕ) (o : Open) (x : Kept_slot) → slice_get c.live k ≡ Some o → slice_get s.slots.items k ≡ Some x
+      → IsSlot C l x (record { open_as = o; octets = c.known o.opener.number })
   opener_slot k o x here e = open_slot C l s x c (Some (title m)) k o h.keeps here e
 
-  pub orders : (o : Open) (a b : Order) (header : List ℕ) (r : Bool) → a ≡ order now.header → b ≡ order header → header ≡ o.opener.header → same_order a b ≡ r → same_order (order m.header) (order o.opener.header) ≡ r
+  pub orders : (o : Open) (a b : Order) (header : List ℕ) (r : Bool) → a ≡ order now.header → b ≡ order header
+      → header ≡ o.opener.header → same_order a b ≡ r → same_order (order m.header) (order o.opener.header) ≡ r
   orders o a b header r e f g same = rw (h.current.header, ← g, ← e, ← f) same
 
   -- ---- A CancelRequest.
 
-  pub misses_all : (r : Option ℕ) → r ≡ position_from (λ slot. slot.id == i) 0 s.slots.items → is_some r ≡ false → is_fragment m.header ≡ false → is_opener m.header ≡ false → is_cancel m.header ≡ true → plays (message_reading C l) c (at_id c.live m) ≡ no_play c
+  pub misses_all : (r : Option ℕ) → r ≡ position_from (λ slot. slot.id == i) 0 s.slots.items → is_some r ≡ false
+      → is_fragment m.header ≡ false → is_opener m.header ≡ false → is_cancel m.header ≡ true
+      → plays (message_reading C l) c (at_id c.live m) ≡ no_play c
   misses_all r e n f g b = cancel_misses (message_reading C l) c c.live m f g b (misses (cancel_named m.header b) r e n)
 
   -- the header of the open message that is found
-  pub header_may : (o : Open) (x : Kept_slot) (k : ℕ) (r : Bool) → slice_get c.live k ≡ Some o → slice_get s.slots.items k ≡ Some x → may_be_cancelled x.header ≡ r → may_be_cancelled o.opener.header ≡ r
+  pub header_may : (o : Open) (x : Kept_slot) (k : ℕ) (r : Bool) → slice_get c.live k ≡ Some o
+      → slice_get s.slots.items k ≡ Some x → may_be_cancelled x.header ≡ r → may_be_cancelled o.opener.header ≡ r
   header_may o x k r here e may = let slot = opener_slot k o x here e in rw (← slot.header) may
 
-  pub spares : (o : Open) → is_fragment m.header ≡ false → is_opener m.header ≡ false → is_cancel m.header ≡ true → opener_of c.live m ≡ Some o → may_be_cancelled o.opener.header ≡ false → plays (message_reading C l) c (at_id c.live m) ≡ no_play c
+  pub spares : (o : Open) → is_fragment m.header ≡ false → is_opener m.header ≡ false → is_cancel m.header ≡ true
+      → opener_of c.live m ≡ Some o → may_be_cancelled o.opener.header ≡ false
+      → plays (message_reading C l) c (at_id c.live m) ≡ no_play c
   spares o f g b e j = cancel_spares (message_reading C l) c c.live m o f g b e j
 
-  pub cancels_one : (o : Open) → is_fragment m.header ≡ false → is_opener m.header ≡ false → is_cancel m.header ≡ true → opener_of c.live m ≡ Some o → may_be_cancelled o.opener.header ≡ true
+  pub cancels_one : (o : Open) → is_fragment m.header ≡ false → is_opener m.header ≡ false → is_cancel m.header ≡ true
+      → opener_of c.live m ≡ Some o → may_be_cancelled o.opener.header ≡ true
       → plays (message_reading C l) c (at_id c.live m) ≡ one_play (message_reading C l) c now.place o.opener (Cancelled now.number)
   cancels_one o f g b e j = cancel_closes (message_reading C l) c c.live m o f g b e j ∙ rw (h.current.place, h.current.number) refl
 
@@ -195,5 +211,6 @@ module _ (C : Table) (l : Listed) (s : Slots) (c : Scene) (m : Message) (now : C
   pub header_is : (says : List ℕ → Bool) (r : Bool) → says now.header ≡ r → says m.header ≡ r
   header_is says r e = ap says h.current.header ∙ e
 
-  pub no_name : is_fragment now.header ≡ false → is_opener now.header ≡ false → is_cancel now.header ≡ false → plays (message_reading C l) c (at_id c.live m) ≡ no_play c
+  pub no_name : is_fragment now.header ≡ false → is_opener now.header ≡ false → is_cancel now.header ≡ false
+      → plays (message_reading C l) c (at_id c.live m) ≡ no_play c
   no_name f g b = other_id (message_reading C l) c c.live m (header_is is_fragment false f) (header_is is_opener false g) (header_is is_cancel false b)

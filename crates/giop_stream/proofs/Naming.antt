@@ -22,7 +22,9 @@ unfolding Found
 found_next a live i n None e h = rw e h
 found_next a live i n (Some k) e h = (h.0, suc h.1, omega (arith, h.2), h.3, rw e h.4)
 
-found_by : (a : Open) (live : List Open) (i n : ℕ) (b : Bool) → (a.id == i) ≡ b → Found live i (n + 1) (position_from (λ o. o.id == i) (n + 1) live) → Found (a ∷ live) i n (cond b (Some n) (position_from (λ o. o.id == i) (n + 1) live))
+found_by : (a : Open) (live : List Open) (i n : ℕ) (b : Bool) → (a.id == i) ≡ b
+    → Found live i (n + 1) (position_from (λ o. o.id == i) (n + 1) live)
+    → Found (a ∷ live) i n (cond b (Some n) (position_from (λ o. o.id == i) (n + 1) live))
 unfolding Found
 found_by a live i n true e h = (a, 0, omega arith, refl, rw e refl)
 found_by a live i n false e h = unfold Found in found_next a live i n (position_from (λ o. o.id == i) (n + 1) live) e h
@@ -38,18 +40,21 @@ pub record OpenAt (c : Scene) (i k : ℕ) : Type 0 where
   pub is : find (λ o. o.id == i) c.live ≡ Some o
 
 module _ (C : Table) (l : Listed) where
-  ids_found : (ks : List Kept_slot) (K : Kept) (live : List Open) (i n : ℕ) → AreSlots C l ks (slots_of K live) → position_from (λ slot. slot.id == i) n ks ≡ position_from (λ o. o.id == i) n live
+  ids_found : (ks : List Kept_slot) (K : Kept) (live : List Open) (i n : ℕ) → AreSlots C l ks (slots_of K live)
+      → position_from (λ slot. slot.id == i) n ks ≡ position_from (λ o. o.id == i) n live
   unfolding slots_of
   ids_found [] K [] i n h = refl
   ids_found [] K (o ∷ live) i n h = absurd h
   ids_found (k ∷ ks) K [] i n h = absurd h
   ids_found (k ∷ ks) K (o ∷ live) i n h = let same = h.0.id in rw same (ap (λ (r : Option ℕ). cond (o.id == i) (Some n) r) (ids_found ks K live i (n + 1) h.1))
 
-  pub none_open : (ks : List Kept_slot) (c : Scene) (i : ℕ) → AreSlots C l ks (slots_of c.known c.live) → position_from (λ slot. slot.id == i) 0 ks ≡ None → find (λ o. o.id == i) c.live ≡ None
+  pub none_open : (ks : List Kept_slot) (c : Scene) (i : ℕ) → AreSlots C l ks (slots_of c.known c.live)
+      → position_from (λ slot. slot.id == i) 0 ks ≡ None → find (λ o. o.id == i) c.live ≡ None
   unfolding Found
   none_open ks c i h e = subst (Found c.live i 0) (sym (ids_found ks c.known c.live i 0 h) ∙ e) (found c.live i 0)
 
-  pub one_open : (ks : List Kept_slot) (c : Scene) (i k : ℕ) → AreSlots C l ks (slots_of c.known c.live) → position_from (λ slot. slot.id == i) 0 ks ≡ Some k → OpenAt c i k
+  pub one_open : (ks : List Kept_slot) (c : Scene) (i k : ℕ) → AreSlots C l ks (slots_of c.known c.live)
+      → position_from (λ slot. slot.id == i) 0 ks ≡ Some k → OpenAt c i k
   unfolding Found
   one_open ks c i k h e =
       let f = subst (Found c.live i 0) (sym (ids_found ks c.known c.live i 0 h) ∙ e) (found c.live i 0) in

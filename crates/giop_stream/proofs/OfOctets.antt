@@ -15,7 +15,8 @@ use Rattle.giop_stream.proofs.Cutting.{cut_wrong, cut_short, cut_open, cut_more}
 abbrev pub HeaderOctets : Cut → Type 0
 HeaderOctets c = IfSome c.current (λ m. AreOctets m.header × (offence m.header ≡ None))
 
-from_by : (fuel number before : ℕ) (xs : List ℕ) → AreOctets xs → ((number before : ℕ) (ys : List ℕ) → AreOctets ys → HeaderOctets (cut_from fuel number before ys))
+from_by : (fuel number before : ℕ) (xs : List ℕ) → AreOctets xs
+    → ((number before : ℕ) (ys : List ℕ) → AreOctets ys → HeaderOctets (cut_from fuel number before ys))
     → (o : Option (ℕ × StreamFault)) → offence (take 12 xs) ≡ o → HeaderOctets (cut_from (suc fuel) number before xs)
 unfolding with_first
 from_by fuel number before xs h ih (Some found) e = rw (cut_wrong fuel number before xs found e) tt
@@ -26,7 +27,8 @@ from_by fuel number before xs h ih None e = elim (cases_lt (length xs) 12) [
     | inr full ↦
         let header = take 12 xs in
         rw (cut_more fuel number before xs e long full)
-        (ih (suc number) (before + 12 + size header) (drop (size header) (drop 12 xs)) (All-drop (λ x. x < 256) (size header) (drop 12 xs) (All-drop (λ x. x < 256) 12 xs h)))
+        (ih (suc number) (before + 12 + size header) (drop (size header) (drop 12 xs))
+        (All-drop (λ x. x < 256) (size header) (drop 12 xs) (All-drop (λ x. x < 256) 12 xs h)))
   ]
 ]
 

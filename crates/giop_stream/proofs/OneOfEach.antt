@@ -75,15 +75,29 @@ apart_more R causal laws p x h =
     let n = length p in
     let grown : length (p ++ x ∷ []) ≡ suc n = omega (arith, length_push p x) in
     record {
-      places = rw (a.grows, grown) (each_append (λ l. l.place ≤ suc n) old a.more (each_weaker (λ l. l.place ≤ n) (λ l. l.place ≤ suc n) (λ l k. omega arith) old h.places) (each_weaker (λ l. l.place ≡ suc n) (λ l. l.place ≤ suc n) (λ l k. omega arith) a.more a.here));
+      places = rw (a.grows, grown) (each_append (λ l. l.place ≤ suc n) old a.more
+          (each_weaker (λ l. l.place ≤ n) (λ l. l.place ≤ suc n) (λ l k. omega arith) old h.places)
+          (each_weaker (λ l. l.place ≡ suc n) (λ l. l.place ≤ suc n) (λ l k. omega arith) a.more a.here));
       one = λ k c. rw (a.grows, filter-append (is_at k c) old a.more) (elim (cases_eq k (suc n)) [
-        | inl now ↦ rw (filter_drops (is_at k c) old (each_weaker (λ l. l.place ≤ n) (λ l. is_at k c l ≡ false) (λ l early. elsewhere k c l (λ e. omega arith)) old h.places)) (one_at_most (is_at k c) (rank c) (is_ranked k c) a.more a.rises)
-        | inr other ↦ rw (filter_drops (is_at k c) a.more (each_weaker (λ l. l.place ≡ suc n) (λ l. is_at k c l ≡ false) (λ l late. elsewhere k c l (λ e. other (omega arith))) a.more a.here), append-nil (filter (is_at k c) old)) (h.one k c)
+        | inl now ↦
+            rw (filter_drops (is_at k c) old
+            (each_weaker (λ l. l.place ≤ n) (λ l. is_at k c l ≡ false)
+            (λ l early. elsewhere k c l (λ e. omega arith)) old h.places))
+            (one_at_most (is_at k c) (rank c) (is_ranked k c) a.more a.rises)
+        | inr other ↦
+            rw (
+              filter_drops (is_at k c) a.more
+                  (each_weaker (λ l. l.place ≡ suc n) (λ l. is_at k c l ≡ false)
+                  (λ l late. elsewhere k c l (λ e. other (omega arith))) a.more a.here),
+              append-nil (filter (is_at k c) old),
+            )
+            (h.one k c)
       ]);
     }
 
 apart_start : (R : Reading) → Apart R []
 apart_start R = record { places = rw (lines_nothing R) tt; one = λ k c. rw (lines_nothing R) (omega arith) }
 
-pub one_of_class : (R : Reading) → IsCausal R → IsInTurn R → (p : List ℕ) (k : ℕ) (c : Class) → length (filter (λ l. (l.place == k) && has_class c l) (lines R p)) ≤ 1
+pub one_of_class : (R : Reading) → IsCausal R → IsInTurn R → (p : List ℕ) (k : ℕ) (c : Class)
+    → length (filter (λ l. (l.place == k) && has_class c l) (lines R p)) ≤ 1
 one_of_class R causal laws p = (by_growth (Apart R) (apart_start R) (λ p x. apart_more R causal laws p x) p).one

@@ -41,7 +41,8 @@ unfolding standing
 rises_standing over [] h = tt
 rises_standing over (l ∷ ls) h =
     let later : ℕ → Bool = λ i. over i || is_last_of i l in
-    rises_if (over l.number) l (standing over ls) (standing later ls) (standing_each (λ k. rank_of l < rank_of k) later ls h.0) (rises_standing over ls h.1) (rises_standing later ls h.1)
+    rises_if (over l.number) l (standing over ls) (standing later ls)
+    (standing_each (λ k. rank_of l < rank_of k) later ls h.0) (rises_standing over ls h.1) (rises_standing later ls h.1)
 
 -- in order, and with no two of one class up to the last line of each message
 pub record Fine (ls : List Line) : Type 0 where
@@ -60,9 +61,11 @@ has_false : (c : Class) (l : Line) → (rank_of l ≡ rank c → ⊥) → has_cl
 has_false c l h = ne_eqb (rank_of l) (rank c) h
 
 lower_none : (c : Class) (l : Line) (ls : List Line) → rank c < rank_of l → Each (λ k. rank_of l ≤ rank_of k) ls → filter (has_class c) ls ≡ []
-lower_none c l ls h k = filter_drops (has_class c) ls (each_weaker (λ k. rank_of l ≤ rank_of k) (λ k. has_class c k ≡ false) (λ k j. has_false c k (λ e. omega arith)) ls k)
+lower_none c l ls h k =
+    filter_drops (has_class c) ls (each_weaker (λ k. rank_of l ≤ rank_of k) (λ k. has_class c k ≡ false) (λ k j. has_false c k (λ e. omega arith)) ls k)
 
-higher_none : (cs : List Class) (l : Line) (ls : List Line) → Each (λ d. rank_of l < rank d) cs → flat_map (λ c. filter (has_class c) (l ∷ ls)) cs ≡ flat_map (λ c. filter (has_class c) ls) cs
+higher_none : (cs : List Class) (l : Line) (ls : List Line) → Each (λ d. rank_of l < rank d) cs
+    → flat_map (λ c. filter (has_class c) (l ∷ ls)) cs ≡ flat_map (λ c. filter (has_class c) ls) cs
 higher_none [] l ls h = refl
 higher_none (c ∷ cs) l ls h = let less = h.0 in rw (has_false c l (λ e. omega arith), higher_none cs l ls h.1) refl
 
@@ -74,9 +77,12 @@ member_rank n c (d ∷ cs) h k = go (n == rank d) refl k (member_rank n c cs h.1
     go true e j ih = let same = eqb-true n (rank d) e in let less = h.0 in omega arith
     go false e j ih = ih j
 
-first_by : (c : Class) (cs : List Class) (l : Line) (ls : List Line) (b : Bool) → (rank_of l == rank c) ≡ b → Each (λ k. rank_of l ≤ rank_of k) ls → Each (λ d. rank c < rank d) cs → (b || list_any (λ d. rank_of l == rank d) cs) ≡ true
+first_by : (c : Class) (cs : List Class) (l : Line) (ls : List Line) (b : Bool) → (rank_of l == rank c) ≡ b
+    → Each (λ k. rank_of l ≤ rank_of k) ls → Each (λ d. rank c < rank d) cs
+    → (b || list_any (λ d. rank_of l == rank d) cs) ≡ true
     → (list_any (λ d. rank_of l == rank d) cs ≡ true → flat_map (λ c. filter (has_class c) (l ∷ ls)) cs ≡ l ∷ flat_map (λ c. filter (has_class c) ls) cs)
-    → cond b (l ∷ filter (has_class c) ls) (filter (has_class c) ls) ++ flat_map (λ c. filter (has_class c) (l ∷ ls)) cs ≡ l ∷ (filter (has_class c) ls ++ flat_map (λ c. filter (has_class c) ls) cs)
+    → cond b (l ∷ filter (has_class c) ls) (filter (has_class c) ls) ++ flat_map (λ c. filter (has_class c) (l ∷ ls)) cs
+    ≡ l ∷ (filter (has_class c) ls ++ flat_map (λ c. filter (has_class c) ls) cs)
 first_by c cs l ls true e h r m ih =
     let same = eqb-true (rank_of l) (rank c) e in
     rw (higher_none cs l ls (each_weaker (λ d. rank c < rank d) (λ d. rank_of l < rank d) (λ d k. omega arith) cs r)) refl
@@ -128,7 +134,8 @@ pub ordered_right : (xs ys : List Line) → Ordered (xs ++ ys) → Ordered ys
 ordered_right [] ys h = h
 ordered_right (x ∷ xs) ys h = ordered_right xs ys h.1
 
-filtered_by : (q : Line → Bool) (l : Line) (ls : List Line) (b : Bool) → Each (λ k. rank_of l ≤ rank_of k) ls → Ordered (filter q ls) → Ordered (cond b (l ∷ filter q ls) (filter q ls))
+filtered_by : (q : Line → Bool) (l : Line) (ls : List Line) (b : Bool) → Each (λ k. rank_of l ≤ rank_of k) ls
+    → Ordered (filter q ls) → Ordered (cond b (l ∷ filter q ls) (filter q ls))
 filtered_by q l ls true h k = (each_filter (λ k. rank_of l ≤ rank_of k) q ls h, k)
 filtered_by q l ls false h k = k
 
@@ -142,12 +149,17 @@ ordered_filter q (l ∷ ls) h = filtered_by q l ls (q l) h.0 (ordered_filter q l
 restricted : (ℕ → Bool) → Kept → Kept
 restricted over K i = if over i then None else K i
 
-kept_filter : (R : Reading) (over : ℕ → Bool) (e : Event) (o : Option (List ℕ)) (b : Bool) → over e.whom.number ≡ b → filter (λ l. not (over l.number)) (utters_kept R e o) ≡ utters_kept R e (if b then None else o)
+kept_filter : (R : Reading) (over : ℕ → Bool) (e : Event) (o : Option (List ℕ)) (b : Bool) → over e.whom.number ≡ b
+    → filter (λ l. not (over l.number)) (utters_kept R e o) ≡ utters_kept R e (if b then None else o)
 unfolding utters_kept
 kept_filter R over e o true h =
-    filter_drops (λ l. not (over l.number)) (utters_kept R e o) (each_weaker (λ l. over l.number ≡ true) (λ l. not (over l.number) ≡ false) (λ l k. rw k refl) (utters_kept R e o) (tells_number R (λ n. over n ≡ true) e o h))
+    filter_drops (λ l. not (over l.number)) (utters_kept R e o)
+    (each_weaker (λ l. over l.number ≡ true) (λ l. not (over l.number) ≡ false) (λ l k. rw k refl) (utters_kept R e o)
+    (tells_number R (λ n. over n ≡ true) e o h))
 kept_filter R over e o false h =
-    filter_keeps (λ l. not (over l.number)) (utters_kept R e o) (each_weaker (λ l. over l.number ≡ false) (λ l. not (over l.number) ≡ true) (λ l k. rw k refl) (utters_kept R e o) (tells_number R (λ n. over n ≡ false) e o h))
+    filter_keeps (λ l. not (over l.number)) (utters_kept R e o)
+    (each_weaker (λ l. over l.number ≡ false) (λ l. not (over l.number) ≡ true) (λ l k. rw k refl) (utters_kept R e o)
+    (tells_number R (λ n. over n ≡ false) e o h))
 
 restricted_taking : (over : ℕ → Bool) (K : Kept) (es : List Event) (i : ℕ) → restricted over (taking K es) i ≡ taking (restricted over K) es i
 unfolding restricted taking
@@ -160,13 +172,16 @@ restricted_taking over K es i = go (over i)
 same_utters : (R : Reading) (f g : Kept) (es : List Event) → ((i : ℕ) → f i ≡ g i) → utters R f es ≡ utters R g es
 same_utters R f g es h = ap (λ (k : Kept). utters R k es) (λ j i. h i j)
 
-utters_filter : (R : Reading) (over : ℕ → Bool) (K : Kept) (es : List Event) → filter (λ l. not (over l.number)) (utters R K es) ≡ utters R (restricted over K) es
+utters_filter : (R : Reading) (over : ℕ → Bool) (K : Kept) (es : List Event)
+    → filter (λ l. not (over l.number)) (utters R K es) ≡ utters R (restricted over K) es
 unfolding utters restricted
 utters_filter R over K [] = refl
 utters_filter R over K (e ∷ es) =
     filter-append (λ l. not (over l.number)) (utters_kept R e (K e.whom.number)) (utters R (taking K (e ∷ [])) es)
     ∙ rw (kept_filter R over e (K e.whom.number) (over e.whom.number) refl, utters_filter R over (taking K (e ∷ [])) es)
-    (ap (λ (ls : List Line). utters_kept R e (if over e.whom.number then None else K e.whom.number) ++ ls) (same_utters R (λ i. if over i then None else taking K (e ∷ []) i) (taking (λ i. if over i then None else K i) (e ∷ [])) es (λ i. restricted_taking over K (e ∷ []) i)))
+    (ap (λ (ls : List Line). utters_kept R e (if over e.whom.number then None else K e.whom.number) ++ ls)
+    (same_utters R (λ i. if over i then None else taking K (e ∷ []) i)
+    (taking (λ i. if over i then None else K i) (e ∷ [])) es (λ i. restricted_taking over K (e ∷ []) i)))
 
 -- ---- The plays.
 
@@ -180,7 +195,8 @@ nothing_kept None = refl
 nothing_kept (Some xs) = ap Some (append-nil xs)
 
 kept_by : (a b : Bool) (o : Option (List ℕ)) (xs ys : List ℕ)
-    → (if a || b then None else option_map (λ zs. zs ++ (xs ++ ys)) o) ≡ (if b then None else option_map (λ zs. zs ++ ys) (if a then None else option_map (λ zs. zs ++ xs) o))
+    → (if a || b then None else option_map (λ zs. zs ++ (xs ++ ys)) o)
+    ≡ (if b then None else option_map (λ zs. zs ++ ys) (if a then None else option_map (λ zs. zs ++ xs) o))
 kept_by true true o xs ys = refl
 kept_by true false o xs ys = refl
 kept_by false true o xs ys = refl
@@ -192,22 +208,30 @@ or_none true = refl
 or_none false = refl
 
 -- the lines of the first event, then those of the others by what is kept behind it
-split_lines : (R : Reading) (K : Kept) (e : Event) (es : List Event) → Ordered (utters R K (e ∷ es)) → now_written R K (e ∷ es) ≡ lines_at R K e ++ now_written R (written (taking K (e ∷ [])) (lines_at R K e)) es
+split_lines : (R : Reading) (K : Kept) (e : Event) (es : List Event) → Ordered (utters R K (e ∷ es))
+    → now_written R K (e ∷ es) ≡ lines_at R K e ++ now_written R (written (taking K (e ∷ [])) (lines_at R K e)) es
 unfolding now_written lines_at utters written restricted
 split_lines R K e es h =
     let A = utters_kept R e (K e.whom.number) in
     let B = utters R (taking K (e ∷ [])) es in
     let over : ℕ → Bool = λ i. list_any (is_last_of i) (standing (λ i. false) A) in
-    let later : utters R (λ i. if over i then None else taking K (e ∷ []) i) es ≡ filter (λ l. not (over l.number)) B = sym (utters_filter R over (taking K (e ∷ [])) es) in
-    let sorted : by_class (filter (λ l. not (over l.number)) B) ≡ filter (λ l. not (over l.number)) B = ordered_stays (filter (λ l. not (over l.number)) B) (ordered_filter (λ l. not (over l.number)) B (ordered_right A B h)) in
+    let later : utters R (λ i. if over i then None else taking K (e ∷ []) i) es ≡ filter (λ l. not (over l.number)) B =
+    sym (utters_filter R over (taking K (e ∷ [])) es) in
+    let sorted : by_class (filter (λ l. not (over l.number)) B) ≡ filter (λ l. not (over l.number)) B =
+    ordered_stays (filter (λ l. not (over l.number)) B)
+    (ordered_filter (λ l. not (over l.number)) B (ordered_right A B h)) in
     rw (ordered_stays (A ++ B) h, later, sorted)
-    (standing_append (λ i. false) A B ∙ ap (λ (ls : List Line). standing (λ i. false) A ++ ls) (standing_drops over over (λ i. false) B (λ i. or_none (over i))))
+    (standing_append (λ i. false) A B ∙ ap (λ (ls : List Line). standing (λ i. false) A ++ ls)
+    (standing_drops over over (λ i. false) B (λ i. or_none (over i))))
 
-later_ordered : (R : Reading) (K : Kept) (e : Event) (es : List Event) → Ordered (utters R K (e ∷ es)) → Ordered (utters R (written (taking K (e ∷ [])) (lines_at R K e)) es)
+later_ordered : (R : Reading) (K : Kept) (e : Event) (es : List Event) → Ordered (utters R K (e ∷ es))
+    → Ordered (utters R (written (taking K (e ∷ [])) (lines_at R K e)) es)
 unfolding utters written restricted
 later_ordered R K e es h =
     let over : ℕ → Bool = λ i. list_any (is_last_of i) (lines_at R K e) in
-    rw (← utters_filter R over (taking K (e ∷ [])) es) (ordered_filter (λ l. not (over l.number)) (utters R (taking K (e ∷ [])) es) (ordered_right (utters_kept R e (K e.whom.number)) (utters R (taking K (e ∷ [])) es) h))
+    rw (← utters_filter R over (taking K (e ∷ [])) es)
+    (ordered_filter (λ l. not (over l.number)) (utters R (taking K (e ∷ [])) es)
+    (ordered_right (utters_kept R e (K e.whom.number)) (utters R (taking K (e ∷ [])) es) h))
 
 nothing_now : (R : Reading) (K : Kept) → now_written R K [] ≡ []
 unfolding now_written utters standing
@@ -226,7 +250,16 @@ are_plays R c (e ∷ es) h =
     let split = split_lines R c.known e es h in
     record { lines = split ∙ rw ih.lines refl; live = ih.live; known = λ i. rw split (one i) ∙ ih.known i }
   where
-    one : (i : ℕ) → written (taking c.known (e ∷ es)) (lines_at R c.known e ++ now_written R (written (taking c.known (e ∷ [])) (lines_at R c.known e)) es) i ≡ written (taking (written (taking c.known (e ∷ [])) (lines_at R c.known e)) es) (now_written R (written (taking c.known (e ∷ [])) (lines_at R c.known e)) es) i
+    one : (i : ℕ) → written (taking c.known (e ∷ es))
+        (lines_at R c.known e ++ now_written R (written (taking c.known (e ∷ [])) (lines_at R c.known e)) es) i ≡ written
+        (taking (written (taking c.known (e ∷ [])) (lines_at R c.known e)) es)
+        (now_written R (written (taking c.known (e ∷ [])) (lines_at R c.known e)) es) i
     one i = unfold written taking in
-        rw (any_append (is_last_of i) (lines_at R c.known e) (now_written R (written (taking c.known (e ∷ [])) (lines_at R c.known e)) es), joined_append i (e ∷ []) es)
-        (kept_by (list_any (is_last_of i) (lines_at R c.known e)) (list_any (is_last_of i) (now_written R (written (taking c.known (e ∷ [])) (lines_at R c.known e)) es)) (c.known i) (joined i (e ∷ [])) (joined i es))
+        rw (
+          any_append (is_last_of i) (lines_at R c.known e)
+              (now_written R (written (taking c.known (e ∷ [])) (lines_at R c.known e)) es),
+          joined_append i (e ∷ []) es,
+        )
+        (kept_by (list_any (is_last_of i) (lines_at R c.known e))
+        (list_any (is_last_of i) (now_written R (written (taking c.known (e ∷ [])) (lines_at R c.known e)) es)) (c.known i)
+        (joined i (e ∷ [])) (joined i es))

@@ -50,12 +50,14 @@ own_named K live now e = rw e (go (is_open live now.whom.number))
     go true = refl
     go false = refl
 
-pub own_else : (K : Kept) (live : List Open) (now : Now) → is_open live now.whom.number ≡ false → is_named now ≡ false → own_for K live now ≡ option_map (λ xs. record { title = now.whom; octets = xs }) (K now.whom.number)
+pub own_else : (K : Kept) (live : List Open) (now : Now) → is_open live now.whom.number ≡ false → is_named now ≡ false
+    → own_for K live now ≡ option_map (λ xs. record { title = now.whom; octets = xs }) (K now.whom.number)
 unfolding own_for
 own_else K live now e f = rw (e, f) refl
 
 module _ (C : Table) (l : Listed) where
-  own_by : (own : Option Kept_message) (w : Title) (o : Option (List ℕ)) → IsKept C l own w o → IsOwn C l own (option_map (λ xs. record { title = w; octets = xs }) o)
+  own_by : (own : Option Kept_message) (w : Title) (o : Option (List ℕ)) → IsKept C l own w o
+      → IsOwn C l own (option_map (λ xs. record { title = w; octets = xs }) o)
   own_by None w None k = tt
   own_by None w (Some xs) k = absurd k
   own_by (Some m) w None k = absurd k
@@ -80,7 +82,8 @@ module _ (C : Table) (l : Listed) where
         rw (own_open c.known c.live (now_of m) there, h.0) tt
     of_itself payload.Nobody m f h = absurd h
 
-    by_name : (of : Payload) (m : Message) (named : Bool) → has_named m ≡ named → IsWhose C l of own c (whose c.live m) → IsOwn C l own (own_for c.known c.live (now_of m))
+    by_name : (of : Payload) (m : Message) (named : Bool) → has_named m ≡ named → IsWhose C l of own c (whose c.live m)
+        → IsOwn C l own (own_for c.known c.live (now_of m))
     unfolding whose opener_of
     by_name of m true e h =
         let none : own ≡ None = of_other of (λ o. o.id == id m) (find (λ o. o.id == id m) c.live) refl (rw e at h) in
@@ -99,15 +102,18 @@ module _ (C : Table) (l : Listed) where
 
 -- ---- Whose the next octets are, by number.
 
-pub owner_named : (K : Kept) (live : List Open) (now : Now) (other : Option Open) → is_named now ≡ true → owner_for K live now other ≡ option_map (λ o. o.opener.number) other
+pub owner_named : (K : Kept) (live : List Open) (now : Now) (other : Option Open) → is_named now ≡ true
+    → owner_for K live now other ≡ option_map (λ o. o.opener.number) other
 unfolding owner_for
 owner_named K live now other e = rw e refl
 
-pub owner_open : (K : Kept) (live : List Open) (now : Now) (other : Option Open) → is_named now ≡ false → is_open live now.whom.number ≡ true → owner_for K live now other ≡ Some now.whom.number
+pub owner_open : (K : Kept) (live : List Open) (now : Now) (other : Option Open) → is_named now ≡ false
+    → is_open live now.whom.number ≡ true → owner_for K live now other ≡ Some now.whom.number
 unfolding owner_for
 owner_open K live now other e f = rw (e, f) refl
 
-owner_kept : (K : Kept) (live : List Open) (now : Now) (other : Option Open) → is_named now ≡ false → is_open live now.whom.number ≡ false → owner_for K live now other ≡ option_map (λ o. o.title.number) (own_for K live now)
+owner_kept : (K : Kept) (live : List Open) (now : Now) (other : Option Open) → is_named now ≡ false
+    → is_open live now.whom.number ≡ false → owner_for K live now other ≡ option_map (λ o. o.title.number) (own_for K live now)
 unfolding owner_for own_for
 owner_kept K live now other e f = rw (e, f) (go (K now.whom.number))
   where
@@ -125,7 +131,8 @@ pub record Tells (s : State) (c : Scene) (current : Option Message) : Type 0 whe
   pub owner : s.owner ≡ owner_in c.known c.live current
 
 module _ (C : Table) (l : Listed) (s : State) (c : Scene) (own : Option Kept_message) where
-  slot_is : (current : Option Message) → Tells s c current → (k : ℕ) (o : Open) → slice_get c.live k ≡ Some o → slice_get s.slots k ≡ Some (record { open_as = o; octets = c.known o.opener.number })
+  slot_is : (current : Option Message) → Tells s c current → (k : ℕ) (o : Open) → slice_get c.live k ≡ Some o
+      → slice_get s.slots k ≡ Some (record { open_as = o; octets = c.known o.opener.number })
   slot_is current e k o here = rw e.slots (slots_get c k o here)
 
   owns_none : (of : Payload) → Tells s c None → IsWhose C l of own c None → IsOwner of s
@@ -133,11 +140,13 @@ module _ (C : Table) (l : Listed) (s : State) (c : Scene) (own : Option Kept_mes
   owns_none (payload.Open k) e h = absurd h
   owns_none payload.Nobody e h = e.owner
 
-  owns_other : (m : Message) → Tells s c (Some m) → has_named m ≡ true → (of : Payload) (r : Option Open) → opener_of c.live m ≡ r → IsWhose C l of own c (opener_title r) → IsOwner of s
+  owns_other : (m : Message) → Tells s c (Some m) → has_named m ≡ true → (of : Payload) (r : Option Open)
+      → opener_of c.live m ≡ r → IsWhose C l of own c (opener_title r) → IsOwner of s
   unfolding opener_of now_of has_named
   owns_other m e named payload.Own None f h = absurd h
   owns_other m e named (payload.Open k) None f h = absurd h
-  owns_other m e named payload.Nobody r f h = e.owner ∙ (owner_named c.known c.live (now_of m) (opener_of c.live m) named ∙ ap (option_map (λ (o : Open). o.opener.number)) (f ∙ nobody r h))
+  owns_other m e named payload.Nobody r f h =
+      e.owner ∙ (owner_named c.known c.live (now_of m) (opener_of c.live m) named ∙ ap (option_map (λ (o : Open). o.opener.number)) (f ∙ nobody r h))
     where
       nobody : (r : Option Open) → IsWhose C l payload.Nobody own c (opener_title r) → r ≡ None
       nobody None h = refl
@@ -145,12 +154,16 @@ module _ (C : Table) (l : Listed) (s : State) (c : Scene) (own : Option Kept_mes
   owns_other m e named payload.Own (Some o) f h = absurd (found_in (λ a. a.opener.number ≡ o.opener.number → ⊥) (λ a. a.id == id m) c.live o h.0 f refl)
   owns_other m e named (payload.Open k) (Some o) f h =
       let number : o.opener.number ≡ h.1.0.opener.number = sym (ap (λ (w : Title). w.number) h.1.2) in
-      let owner = e.owner ∙ (owner_named c.known c.live (now_of m) (opener_of c.live m) named ∙ (ap (option_map (λ (o : Open). o.opener.number)) f ∙ ap (λ (n : ℕ). Some n) number)) in
+      let owner =
+      e.owner ∙ (owner_named c.known c.live (now_of m) (opener_of c.live m) named
+      ∙ (ap (option_map (λ (o : Open). o.opener.number)) f ∙ ap (λ (n : ℕ). Some n) number)) in
       (e.own ∙ own_named c.known c.live (now_of m) named, (_, slot_is (Some m) e k h.1.0 h.1.1, owner))
 
   owns_itself : (m : Message) → Tells s c (Some m) → has_named m ≡ false → (of : Payload) → IsWhose C l of own c (Some (title m)) → IsOwner of s
   unfolding now_of has_named
-  owns_itself m e unnamed payload.Own h = e.owner ∙ (owner_kept c.known c.live (now_of m) (opener_of c.live m) unnamed (not_open c.live m.number h.0) ∙ ap (option_map (λ (o : Own). o.title.number)) (sym e.own))
+  owns_itself m e unnamed payload.Own h =
+      e.owner ∙ (owner_kept c.known c.live (now_of m) (opener_of c.live m) unnamed (not_open c.live m.number h.0)
+      ∙ ap (option_map (λ (o : Own). o.title.number)) (sym e.own))
   owns_itself m e unnamed (payload.Open k) h =
       let number : h.1.0.opener.number ≡ m.number = ap (λ (w : Title). w.number) h.1.2 in
       let there : is_open c.live m.number ≡ true = rw number at (open_at c.live k h.1.0 h.1.1) in

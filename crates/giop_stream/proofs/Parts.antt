@@ -66,7 +66,12 @@ unfolding id_events opened opened_by
 rising_id live m r newest = go (length m.payload == 4) refl
   where
     go : (b : Bool) → (length m.payload == 4) ≡ b → Rising (opened live (if b then at_id live m else []))
-    go true e = kept_id Rising live m (record { fewer = rising_filter; more = λ can q. rising_push live (opened_by m) q (newest can.named) }) (eqb-true (length m.payload) 4 e) r
+    go true e =
+        kept_id Rising live m (record {
+          fewer = rising_filter;
+          more = λ can q. rising_push live (opened_by m) q
+              (newest can.named);
+        }) (eqb-true (length m.payload) 4 e) r
     go false e = r
 
 -- ---- The parts.
@@ -95,7 +100,8 @@ module _ (R : Reading) (c : Scene) (m : Message) where
   in_parts some =
       let ids : id_events c.live m ≡ id_events first.scene.live m = ap (λ (live : List Open). id_events live m) (sym first_live) in
       let ends : end_events c.live m ≡ end_events second.scene.live m = sym (ap (λ (live : List Open). end_events live m) second_live ∙ end_same c.live m) in
-      ap (plays R c) (parts some ∙ (ap (λ (es : List Event). at_octet c.live m ++ (es ++ end_events c.live m)) ids ∙ ap (λ (es : List Event). at_octet c.live m ++ (id_events first.scene.live m ++ es)) ends))
+      ap (plays R c) (parts some ∙ (ap (λ (es : List Event). at_octet c.live m ++ (es ++ end_events c.live m)) ids
+      ∙ ap (λ (es : List Event). at_octet c.live m ++ (id_events first.scene.live m ++ es)) ends))
       ∙ (plays_append R c (at_octet c.live m) (id_events first.scene.live m ++ end_events second.scene.live m)
       ∙ rw (plays_append R first.scene (id_events first.scene.live m) (end_events second.scene.live m)) refl)
 
@@ -110,7 +116,8 @@ module _ (R : Reading) (c : Scene) (m : Message) where
   unfolding whose_after end_events opened
   third_whose = go (length m.payload == size m.header) refl
     where
-      go : (b : Bool) → (length m.payload == size m.header) ≡ b → (if b then None else whose second.scene.live m) ≡ (if b then None else whose third.scene.live m)
+      go : (b : Bool) → (length m.payload == size m.header) ≡ b
+          → (if b then None else whose second.scene.live m) ≡ (if b then None else whose third.scene.live m)
       go true e = refl
       go false e = ap (λ (live : List Open). whose live m) (sym (plays_live R second.scene (end_events second.scene.live m) ∙ rw e refl))
 
@@ -133,7 +140,8 @@ module _ (C : Table) (l : Listed) where
   pub in_turn : IsInTurn (message_reading C l)
   in_turn = record { named = is_named C l; ordered = is_ordered (said_by C l); closing = is_closing (said_by C l) }
 
-  about_takes : (c : Scene) (m : Message) (x at : ℕ) (r : Option Open) → goes_past m ≡ true → opener_of c.live m ≡ r → get_or m.payload (length m.payload - 1) 0 ≡ x → place m ≡ at
+  about_takes : (c : Scene) (m : Message) (x at : ℕ) (r : Option Open) → goes_past m ≡ true → opener_of c.live m ≡ r
+      → get_or m.payload (length m.payload - 1) 0 ≡ x → place m ≡ at
       → plays (message_reading C l) c (at_octet c.live m) ≡ play_to C l at c (opener_title r) (Takes x)
   about_takes c m x at None past e last here = octet_lost (message_reading C l) c c.live m past e
   about_takes c m x at (Some o) past e last here = octet_passed (message_reading C l) c c.live m o past e ∙ rw (last, here) refl
@@ -143,7 +151,8 @@ module _ (C : Table) (l : Listed) where
   unfolding whose_octet
   octet_does c m x at last here = go (goes_past m) refl
     where
-      go : (b : Bool) → goes_past m ≡ b → plays (message_reading C l) c (at_octet c.live m) ≡ play_to C l at c (if goes_past m then opener_title (opener_of c.live m) else Some (title m)) (Takes x)
+      go : (b : Bool) → goes_past m ≡ b → plays (message_reading C l) c (at_octet c.live m) ≡ play_to C l at c
+          (if goes_past m then opener_title (opener_of c.live m) else Some (title m)) (Takes x)
       go true past = rw past (about_takes c m x at (opener_of c.live m) past refl last here)
       go false own = rw own (octet_own (message_reading C l) c c.live m own ∙ rw (last, here) refl)
 
@@ -168,16 +177,19 @@ module _ (C : Table) (l : Listed) (s : Slots) (c : Scene) (m : Message) (now : C
       let play = play_to C l now.place c (whose c.live m) (Takes x) in
       takes_at ∙ rw some_place (λ j. record { scene = play.scene; lines = sym (append-nil play.lines) j })
 
-  known_is : length m.payload < 4 → has_name m.header ≡ true → (first (message_reading C l) c (with_octet m x)).scene.known m.number ≡ Some (m.payload ++ x ∷ [])
+  known_is : length m.payload < 4 → has_name m.header ≡ true
+      → (first (message_reading C l) c (with_octet m x)).scene.known m.number ≡ Some (m.payload ++ x ∷ [])
   known_is few name =
       let w : whose_octet c.live (with_octet m x) ≡ Some (title m) = whose_own c.live (with_octet m x) (omega (arith, length_push m.payload x)) in
       let scene : (first (message_reading C l) c (with_octet m x)).scene ≡ scene_at (message_reading C l) c (event now.place (title m) (Takes x)) =
-      ap (λ (p : Play). p.scene) (octet_does C l c (with_octet m x) x now.place last_is h.current.place) ∙ ap (λ (v : Option Title). (play_to C l now.place c v (Takes x)).scene) w in
+      ap (λ (p : Play). p.scene) (octet_does C l c (with_octet m x) x now.place last_is h.current.place)
+      ∙ ap (λ (v : Option Title). (play_to C l now.place c v (Takes x)).scene) w in
       ap (λ (d : Scene). d.known m.number) scene
       ∙ (own_then (message_reading C l) c (event now.place (title m) (Takes x))
       ∙ rw (h.alive name few) (named_then (message_reading C l) (in_turn C l) now.place (title m) m.payload x name few))
 
-  pub taken_here : (s' : Slots) → Keeps C l s' (run_play C l (now.place - 1) c (whose c.live m) (x ∷ [])).scene (whose c.live m) → IsTaken C l s' (first (message_reading C l) c (with_octet m x)).scene (with_octet m x) now
+  pub taken_here : (s' : Slots) → Keeps C l s' (run_play C l (now.place - 1) c (whose c.live m) (x ∷ [])).scene
+      (whose c.live m) → IsTaken C l s' (first (message_reading C l) c (with_octet m x)).scene (with_octet m x) now
   taken_here s' k =
       let R = message_reading C l in
       let m' = with_octet m x in
@@ -196,7 +208,8 @@ module _ (C : Table) (l : Listed) (s : Slots) (c : Scene) (m : Message) (now : C
   pub come_is : length (m.payload ++ x ∷ []) ≡ now.come
   come_is = omega (arith, length_push m.payload x, h.come)
 
-  pub named_at : (s' : Slots) → Keeps C l s' (second (message_reading C l) c (with_octet m x)).scene (whose (first (message_reading C l) c (with_octet m x)).scene.live (with_octet m x))
+  pub named_at : (s' : Slots) → Keeps C l s' (second (message_reading C l) c (with_octet m x)).scene
+      (whose (first (message_reading C l) c (with_octet m x)).scene.live (with_octet m x))
       → IsAt C l s' (second (message_reading C l) c (with_octet m x)).scene (with_octet m x) now
   named_at s' k =
       let R = message_reading C l in

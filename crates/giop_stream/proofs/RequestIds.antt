@@ -26,7 +26,8 @@ behind x fs h = go (wrong x) refl h
   where
     go : (o : Option StreamFault) → wrong x ≡ o → first_wrong (x ∷ fs) ≡ None → first_wrong fs ≡ None
     go None e h = rw e at h
-    go (Some fault) e h = absurd (let no : first_wrong (x ∷ fs) ≡ Some (length x, fault) = rw e refl in let never : Some (length x, fault) ≡ None = sym no ∙ h in cc)
+    go (Some fault) e h =
+        absurd (let no : first_wrong (x ∷ fs) ≡ Some (length x, fault) = rw e refl in let never : Some (length x, fault) ≡ None = sym no ∙ h in cc)
 
 right_here : (x : List ℕ) (fs : List (List ℕ)) → first_wrong (x ∷ fs) ≡ None → wrong x ≡ None
 unfolding first_wrong
@@ -34,7 +35,8 @@ right_here x fs h = go (wrong x) refl
   where
     go : (o : Option StreamFault) → wrong x ≡ o → wrong x ≡ None
     go None e = e
-    go (Some fault) e = absurd (let no : first_wrong (x ∷ fs) ≡ Some (length x, fault) = rw e refl in let never : Some (length x, fault) ≡ None = sym no ∙ h in cc)
+    go (Some fault) e =
+        absurd (let no : first_wrong (x ∷ fs) ≡ Some (length x, fault) = rw e refl in let never : Some (length x, fault) ≡ None = sym no ∙ h in cc)
 
 version : (a b c d e f : ℕ) → wrong (a ∷ b ∷ c ∷ d ∷ e ∷ f ∷ []) ≡ None → f < 3
 unfolding wrong
@@ -86,7 +88,14 @@ typed version (suc (suc (suc (suc (suc kind))))) v k = absurd (omega (arith, k))
 kind_few : (k : ℕ) → ((k == 0) || (k == 1) || (k == 3) || (k == 4)) ≡ true → k < 5
 kind_few k h = elim (cases_lt k 5) [
   | inl less ↦ less
-  | inr more ↦ absurd (let none : ((k == 0) || (k == 1) || (k == 3) || (k == 4)) ≡ false = rw (ne_eqb k 0 (λ e. omega (arith, more, e)), ne_eqb k 1 (λ e. omega (arith, more, e)), ne_eqb k 3 (λ e. omega (arith, more, e)), ne_eqb k 4 (λ e. omega (arith, more, e))) refl in false≢true (sym none ∙ h))
+  | inr more ↦
+      absurd (let none : ((k == 0) || (k == 1) || (k == 3) || (k == 4)) ≡ false = rw (
+        ne_eqb k 0 (λ e. omega (arith, more, e)),
+        ne_eqb k 1 (λ e. omega (arith, more, e)),
+        ne_eqb k 3
+            (λ e. omega (arith, more, e)),
+        ne_eqb k 4 (λ e. omega (arith, more, e)),
+      ) refl in false≢true (sym none ∙ h))
 ]
 
 module _ (header : List ℕ) (few : minor header < 3) where
@@ -123,7 +132,8 @@ says_id header twelve right name =
 
 -- ---- What its first four octets say.
 
-pub id_is_id : (C : Table) (l : Listed) (m : Message) → length m.payload ≡ 4 → SaysId m.header → id_said (told_of (message (said_by C l) m.header m.payload)) ≡ Some (id m)
+pub id_is_id : (C : Table) (l : Listed) (m : Message) → length m.payload ≡ 4 → SaysId m.header
+    → id_said (told_of (message (said_by C l) m.header m.payload)) ≡ Some (id m)
 unfolding id said_by
 id_is_id C l m four says = go m.payload four
   where

@@ -54,7 +54,8 @@ within_grows : (p : List ℕ) (m : Message) (x n : ℕ) → Within p m (suc n) �
 within_grows p m x n h =
     cut_grows p x
     ∙ (ap (next (length p) x) (parts_by (cut p) (Some m) None h.current h.free)
-    ∙ (next_payload (cut p).whole m (cut p).held (length p) x (le-ltb limit (suc (length p)) (omega (arith, h.room))) ∙ goes_on (cut p).whole (with_octet m x) (omega (arith, h.before_last, length_push m.payload x))))
+    ∙ (next_payload (cut p).whole m (cut p).held (length p) x (le-ltb limit (suc (length p)) (omega (arith, h.room)))
+    ∙ goes_on (cut p).whole (with_octet m x) (omega (arith, h.before_last, length_push m.payload x))))
 
 within_on : (p : List ℕ) (m : Message) (x n : ℕ) → Within p m (suc n) → Within (p ++ x ∷ []) (with_octet m x) n
 unfolding of_parts
@@ -72,12 +73,19 @@ within_on p m x n h =
 comes_alone : (live : List Open) (m : Message) → 4 < length m.payload → length m.payload < size m.header → happens live m ≡ at_octet live m
 unfolding happens
 comes_alone live m past less =
-    rw (ne_eqb (length m.payload) 0 (λ e. omega (arith, past, e)), ne_eqb (length m.payload) 4 (λ e. omega (arith, past, e)), ne_eqb (length m.payload) (size m.header) (λ e. omega (arith, less, e)))
+    rw (
+      ne_eqb (length m.payload) 0 (λ e. omega (arith, past, e)),
+      ne_eqb (length m.payload) 4
+          (λ e. omega (arith, past, e)),
+      ne_eqb (length m.payload) (size m.header) (λ e. omega (arith, less, e)),
+    )
     (append-nil (at_octet live m))
 
 -- whose the next one is too
 whose_on : (live : List Open) (m : Message) (x : ℕ) → 4 ≤ length m.payload → whose live (with_octet m x) ≡ whose live m
-whose_on live m x named = whose_elsewhere live (with_octet m x) (ne_eqb (length (m.payload ++ x ∷ [])) 4 (λ e. omega (arith, named, length_push m.payload x, e))) ∙ whose_next live m x
+whose_on live m x named =
+    whose_elsewhere live (with_octet m x) (ne_eqb (length (m.payload ++ x ∷ [])) 4
+    (λ e. omega (arith, named, length_push m.payload x, e))) ∙ whose_next live m x
 
 module _ (C : Table) (l : Listed) where
   takes_live : (at : ℕ) (c : Scene) (w : Option Title) (x : ℕ) → (play_to C l at c w (Takes x)).scene.live ≡ c.live
@@ -87,7 +95,9 @@ module _ (C : Table) (l : Listed) where
 
   module _ (p : List ℕ) (m : Message) (x n : ℕ) (h : Within p m (suc n)) where
     at_hand : CurrentFits (length p) (cut p) m
-    at_hand = if_some (CurrentFits (length p) (cut p)) (cut p).current m h.current ((sound (message_reading C l) (is_causal (said_by C l)) (in_turn C l) p).fits h.free).current
+    at_hand =
+        if_some (CurrentFits (length p) (cut p)) (cut p).current m h.current
+        ((sound (message_reading C l) (is_causal (said_by C l)) (in_turn C l) p).fits h.free).current
 
     -- what the octet does to the message whose it is
     abbrev taken : Play
@@ -96,9 +106,14 @@ module _ (C : Table) (l : Listed) where
     octet_takes : plays (message_reading C l) (stage (message_reading C l) p) (happens (open_after p) (with_octet m x)) ≡ taken
     unfolding stage
     octet_takes =
-        let last : get_or (m.payload ++ x ∷ []) (length (m.payload ++ x ∷ []) - 1) 0 ≡ x = get_or_push m.payload x 0 (length (m.payload ++ x ∷ []) - 1) (omega (arith, length_push m.payload x)) in
-        let alone = comes_alone (open_after p) (with_octet m x) (omega (arith, h.named, length_push m.payload x)) (omega (arith, h.before_last, length_push m.payload x)) in
-        rw (alone, ← whose_next (open_after p) m x) (octet_does C l (stage (message_reading C l) p) (with_octet m x) x (suc (length p)) last (place_more m x (length p) at_hand.place_is))
+        let last : get_or (m.payload ++ x ∷ []) (length (m.payload ++ x ∷ []) - 1) 0 ≡ x =
+        get_or_push m.payload x 0 (length (m.payload ++ x ∷ []) - 1) (omega (arith, length_push m.payload x)) in
+        let alone =
+        comes_alone (open_after p) (with_octet m x) (omega (arith, h.named, length_push m.payload x))
+        (omega (arith, h.before_last, length_push m.payload x)) in
+        rw (alone, ← whose_next (open_after p) m x)
+        (octet_does C l (stage (message_reading C l) p) (with_octet m x) x (suc (length p)) last
+        (place_more m x (length p) at_hand.place_is))
 
     octet_adds : Adds (message_reading C l) p (p ++ x ∷ []) (settle (cut p).whole (with_octet m x)) taken.lines taken.scene
     octet_adds =
@@ -109,7 +124,9 @@ module _ (C : Table) (l : Listed) where
     octet_whose : whose (open_after (p ++ x ∷ [])) (with_octet m x) ≡ whose (open_after p) m
     unfolding stage
     octet_whose =
-        let live : open_after (p ++ x ∷ []) ≡ open_after p = ap (λ (c : Scene). c.live) octet_adds.stage ∙ takes_live (suc (length p)) (stage (message_reading C l) p) (whose (open_after p) m) x in
+        let live : open_after (p ++ x ∷ []) ≡ open_after p =
+        ap (λ (c : Scene). c.live) octet_adds.stage
+        ∙ takes_live (suc (length p)) (stage (message_reading C l) p) (whose (open_after p) m) x in
         ap (λ (open' : List Open). whose open' (with_octet m x)) live ∙ whose_on (open_after p) m x h.named
 
 -- ---- All of them.
@@ -117,7 +134,8 @@ module _ (C : Table) (l : Listed) where
 -- what they make of the stream p, in which this message is the current one
 pub record IsRun (C : Table) (l : Listed) (p : List ℕ) (m : Message) (q : List ℕ) : Type 0 where
   pub within : Within (p ++ q) (with_payload m (m.payload ++ q)) 0
-  pub lines : lines (message_reading C l) (p ++ q) ≡ lines (message_reading C l) p ++ (run_play C l (length p) (stage (message_reading C l) p) (whose (open_after p) m) q).lines
+  pub lines : lines (message_reading C l) (p ++ q) ≡ lines
+      (message_reading C l) p ++ (run_play C l (length p) (stage (message_reading C l) p) (whose (open_after p) m) q).lines
   pub stage : stage (message_reading C l) (p ++ q) ≡ (run_play C l (length p) (stage (message_reading C l) p) (whose (open_after p) m) q).scene
   pub whose : whose (open_after (p ++ q)) (with_payload m (m.payload ++ q)) ≡ whose (open_after p) m
 
@@ -144,8 +162,10 @@ module _ (C : Table) (l : Listed) where
       let one = octet_adds C l p m x (length q) h in
       let who = octet_whose C l p m x (length q) h in
       record {
-        within = subst (λ (z : List ℕ). Within (p ++ x ∷ q) (with_payload m z) 0) payload (subst (λ (r : List ℕ). Within r (with_payload m ((m.payload ++ x ∷ []) ++ q)) 0) all more.within);
-        lines = ap (lines R) (sym all) ∙ (more.lines ∙ ((λ j. one.lines j ++ (run_play C l (at j) (one.stage j) (who j) q).lines) ∙ append_assoc (lines R p) _ _));
+        within = subst (λ (z : List ℕ). Within (p ++ x ∷ q) (with_payload m z) 0) payload
+            (subst (λ (r : List ℕ). Within r (with_payload m ((m.payload ++ x ∷ []) ++ q)) 0) all more.within);
+        lines = ap (lines R) (sym all) ∙ (more.lines
+            ∙ ((λ j. one.lines j ++ (run_play C l (at j) (one.stage j) (who j) q).lines) ∙ append_assoc (lines R p) _ _));
         stage = ap (stage R) (sym all) ∙ (more.stage ∙ (λ j. (run_play C l (at j) (one.stage j) (who j) q).scene));
         whose = (λ j. whose (open_after (sym all j)) (with_payload m (sym payload j))) ∙ (more.whose ∙ who);
       }
@@ -158,7 +178,8 @@ number_fits (Ok k) n other less h = h.1
 number_fits (Err e) n other less h = absurd (h less)
 
 -- the current message is the one that started last
-started_last : (R : Reading) → IsCausal R → IsInTurn R → (p : List ℕ) (m : Message) → (cut p).stop ≡ None → (cut p).current ≡ Some m → start_count (lines R p) ≡ m.number
+started_last : (R : Reading) → IsCausal R → IsInTurn R → (p : List ℕ) (m : Message) → (cut p).stop ≡ None
+    → (cut p).current ≡ Some m → start_count (lines R p) ≡ m.number
 unfolding messages
 started_last R causal laws p m free current =
     let so = sound R causal laws p in
@@ -166,7 +187,9 @@ started_last R causal laws p m free current =
     let count : length (messages (cut p)) ≡ length (cut p).whole + 1 = rw current (length_push (cut p).whole m) in
     omega (arith, so.starts, count, at_hand.number_is)
 
-module _ (C : Table) (l : Listed) (s : State) (reached : IsReached C l s) (m : Memory) (h : Shows C l m s) (free : m.stopped ≡ None) (c : Message) (current : (cut reached.stream).current ≡ Some c) (q : List ℕ) (named : 4 ≤ m.come) (before_last : m.come + length q < size m.header) (room : m.totals.octets + length q ≤ 2 ^ 48) where
+module _ (C : Table) (l : Listed) (s : State) (reached : IsReached C l s) (m : Memory) (h : Shows C l m s)
+    (free : m.stopped ≡ None) (c : Message) (current : (cut reached.stream).current ≡ Some c) (q : List ℕ) (named : 4 ≤ m.come)
+    (before_last : m.come + length q < size m.header) (room : m.totals.octets + length q ≤ 2 ^ 48) where
   abbrev R : Reading
   R = message_reading C l
 
@@ -210,24 +233,35 @@ module _ (C : Table) (l : Listed) (s : State) (reached : IsReached C l s) (m : M
   unfolding stage
   run_rises = (sound R (is_causal (said_by C l)) (in_turn C l) p).rising
 
-  pub run_does : {A E : Type 0} (result : Result A E) (before after : OutLog) (f : Memory) → Writes result before after (lines_text ran.lines) → OnOk result (Shows C l f (state_of R (p ++ q))) → Does C l result before after f (runs R s q)
+  pub run_does : {A E : Type 0} (result : Result A E) (before after : OutLog) (f : Memory)
+      → Writes result before after (lines_text ran.lines) → OnOk result (Shows C l f (state_of R (p ++ q)))
+      → Does C l result before after f (runs R s q)
   run_does result before after f text shows = does_run C l s reached m h q ran.lines result before after f grows_by_run text shows
 
   knows_so : (slots : Slots) → Keeps C l slots ran.scene (whose (open_after p) c) → Knows C l slots (p ++ q)
   knows_so slots k =
       let scene : ran.scene ≡ stage R (p ++ q) = rw all (sym run.stage) in
-      let who : whose (open_after p) c ≡ whose_in (open_after (p ++ q)) (cut (p ++ q)).current = sym (ap (whose_in (open_after (p ++ q))) run.within.current ∙ run.whose) in
+      let who : whose (open_after p) c ≡ whose_in (open_after (p ++ q)) (cut (p ++ q)).current =
+      sym (ap (whose_in (open_after (p ++ q))) run.within.current ∙ run.whose) in
       subst (Keeps C l slots (stage R (p ++ q))) who (subst (λ (s : Scene). Keeps C l slots s (whose (open_after p) c)) scene k)
 
-  pub run_shows : (b : Memory) → b.totals.messages ≡ m.totals.messages → b.totals.faults ≡ m.totals.faults + fault_count ran.lines → b.totals.octets ≡ m.totals.octets + length q → b.stopped ≡ m.stopped → b.header ≡ m.header → b.come ≡ m.come + length q → Keeps C l b.slots ran.scene (whose (open_after p) c)
+  pub run_shows : (b : Memory) → b.totals.messages ≡ m.totals.messages
+      → b.totals.faults ≡ m.totals.faults + fault_count ran.lines → b.totals.octets ≡ m.totals.octets + length q
+      → b.stopped ≡ m.stopped → b.header ≡ m.header → b.come ≡ m.come + length q
+      → Keeps C l b.slots ran.scene (whose (open_after p) c)
       → Shows C l b (state_of R (p ++ q))
   unfolding tally
   run_shows b messages faults octets stopped header come keeps =
       let then = run.within.current in
-      let started : b.totals.messages ≡ start_count (lines R (p ++ q)) = messages ∙ (sym (number_is C l s reached m h free c current) ∙ sym (started_last R (is_causal (said_by C l)) (in_turn C l) (p ++ q) (with_payload c (c.payload ++ q)) run.within.free then)) in
-      let grown : fault_count (lines R (p ++ q)) ≡ fault_count (lines R p) + fault_count ran.lines = ap fault_count grows_by_run ∙ count_append (lines R p) ran.lines in
+      let started : b.totals.messages ≡ start_count (lines R (p ++ q)) =
+      messages ∙ (sym (number_is C l s reached m h free c current)
+      ∙ sym (started_last R (is_causal (said_by C l)) (in_turn C l) (p ++ q)
+      (with_payload c (c.payload ++ q)) run.within.free then)) in
+      let grown : fault_count (lines R (p ++ q)) ≡ fault_count (lines R p) + fault_count ran.lines =
+      ap fault_count grows_by_run ∙ count_append (lines R p) ran.lines in
       let faulted : b.totals.faults ≡ fault_count (lines R (p ++ q)) = omega (arith, faults, grown, faults_at C l s reached m h) in
-      let read : b.totals.octets ≡ read_of (p ++ q) (cut (p ++ q)).stop = omega (arith, octets, all, length-append p q) ∙ sym (read_all (p ++ q) run.within.free) in
+      let read : b.totals.octets ≡ read_of (p ++ q) (cut (p ++ q)).stop =
+      omega (arith, octets, all, length-append p q) ∙ sym (read_all (p ++ q) run.within.free) in
       shows_by C l (p ++ q) b (cut (p ++ q)) refl run.within.free (λ j. record { messages = started j; faults = faulted j; octets = read j }) (stopped ∙ free)
       (header ∙ (header_is C l s reached m h free c current ∙ ap (λ (o : Option Message). header_of o (cut (p ++ q)).held) (sym then)))
       (omega (arith, come, come_is C l s reached m h free c current, length-append c.payload q) ∙ ap come_of (sym then)) (knows_so b.slots keeps)

@@ -29,7 +29,8 @@ use Rattle.giop_stream.proofs.Performing.{text_append, does_nothing}
 use Rattle.giop_stream.proofs.Keepers.{Alters, still_takes, still_alters, own_plays, slot_plays, own_has, slot_has, nobody_has}
 
 -- A message that is over stays so.
-over_stays : (S : Signatures) (header s more : List ℕ) → is_over (stage_of (message S header s)) ≡ true → is_over (stage_of (message S header (s ++ more))) ≡ true
+over_stays : (S : Signatures) (header s more : List ℕ) → is_over (stage_of (message S header s)) ≡ true
+    → is_over (stage_of (message S header (s ++ more))) ≡ true
 over_stays S header s more e =
     let old : list_any is_wrong (told_of (message S header s)) ≡ true = sym (over_where_faulted S header s) ∙ e in
     over_where_faulted S header (s ++ more) ∙ (ap (list_any is_wrong) (told_more S header s more)
@@ -41,10 +42,13 @@ module _ (C : Table) (l : Listed) where
 
   -- ---- One octet, of a message that isn't over.
 
-  then_is : (at : ℕ) (w : Title) (s : List ℕ) (x : ℕ) → Over w s ≡ false → octets_then (message_reading C l) (event at w (Takes x)) (Some s) ≡ (if Over w (s ++ x ∷ []) then None else Some (s ++ x ∷ []))
+  then_is : (at : ℕ) (w : Title) (s : List ℕ) (x : ℕ) → Over w s ≡ false
+      → octets_then (message_reading C l) (event at w (Takes x)) (Some s)
+      ≡ (if Over w (s ++ x ∷ []) then None else Some (s ++ x ∷ []))
   then_is at w s x e = then_by C l at w s x ∙ ap (λ (b : Bool). if b then None else Some (s ++ x ∷ [])) (sym (octet_over (said_by C l) w.header s x e))
 
-  count_is : (at : ℕ) (w : Title) (s : List ℕ) (x : ℕ) → Over w s ≡ false → fault_count (lines_of (message_reading C l) (event at w (Takes x)) (Some s)) ≡ (if Over w (s ++ x ∷ []) then 1 else 0)
+  count_is : (at : ℕ) (w : Title) (s : List ℕ) (x : ℕ) → Over w s ≡ false
+      → fault_count (lines_of (message_reading C l) (event at w (Takes x)) (Some s)) ≡ (if Over w (s ++ x ∷ []) then 1 else 0)
   count_is at w s x e = faults_by C l at w s x ∙ ap (λ (b : Bool). if b then 1 else 0) (sym (octet_over (said_by C l) w.header s x e))
 
   -- ---- A message that is over.
@@ -78,8 +82,11 @@ module _ (C : Table) (l : Listed) where
       Rest : Option (List ℕ) → Type 0
       Rest o = lines_text (run_part C l (suc before) w o xs).lines ≡ due_text (said_by C l) w.number (suc before) w.header (s ++ x ∷ []) xs
 
-      rest : (Over w (s ++ x ∷ []) ≡ false → Rest (Some (s ++ x ∷ []))) → (b : Bool) → Over w (s ++ x ∷ []) ≡ b → Rest (octets_then (message_reading C l) (event (suc before) w (Takes x)) (Some s))
-      rest ih true o = rw (then_is (suc before) w s x e, o, none_run w None (suc before) xs tt) (sym (text_over (said_by C l) w.number (suc before) w.header (s ++ x ∷ []) xs o))
+      rest : (Over w (s ++ x ∷ []) ≡ false → Rest (Some (s ++ x ∷ []))) → (b : Bool) → Over w (s ++ x ∷ []) ≡ b
+          → Rest (octets_then (message_reading C l) (event (suc before) w (Takes x)) (Some s))
+      rest ih true o =
+          rw (then_is (suc before) w s x e, o, none_run w None (suc before) xs tt)
+          (sym (text_over (said_by C l) w.number (suc before) w.header (s ++ x ∷ []) xs o))
       rest ih false o = rw (then_is (suc before) w s x e, o) (ih o)
 
   -- it is over where it is with all of them
@@ -95,7 +102,9 @@ module _ (C : Table) (l : Listed) where
       Then : Option (List ℕ) → List ℕ → Type 0
       Then o z = (run_part C l (suc before) w o xs).octets ≡ (if Over w z then None else Some z)
 
-      go : (Over w (s ++ x ∷ []) ≡ false → Then (Some (s ++ x ∷ [])) ((s ++ x ∷ []) ++ xs)) → (b : Bool) → Over w (s ++ x ∷ []) ≡ b → Then (octets_then (message_reading C l) (event (suc before) w (Takes x)) (Some s)) (s ++ x ∷ xs)
+      go : (Over w (s ++ x ∷ []) ≡ false → Then (Some (s ++ x ∷ [])) ((s ++ x ∷ []) ++ xs)) → (b : Bool)
+          → Over w (s ++ x ∷ []) ≡ b → Then (octets_then (message_reading C l) (event (suc before) w (Takes x)) (Some s))
+          (s ++ x ∷ xs)
       go ih true o = rw (then_is (suc before) w s x e, o, none_run w None (suc before) xs tt, over_with w s xs x o) refl
       go ih false o = rw (then_is (suc before) w s x e, o) (ih o ∙ ap (λ (z : List ℕ). if Over w z then None else Some z) (append_assoc s (x ∷ []) xs))
 
@@ -112,8 +121,11 @@ module _ (C : Table) (l : Listed) where
       Counts : Option (List ℕ) → List ℕ → ℕ → Type 0
       Counts o z n = n + fault_count (run_part C l (suc before) w o xs).lines ≡ (if Over w z then 1 else 0)
 
-      go : (Over w (s ++ x ∷ []) ≡ false → fault_count (run_part C l (suc before) w (Some (s ++ x ∷ [])) xs).lines ≡ (if Over w ((s ++ x ∷ []) ++ xs) then 1 else 0))
-          → (b : Bool) → Over w (s ++ x ∷ []) ≡ b → Counts (octets_then (message_reading C l) (event (suc before) w (Takes x)) (Some s)) (s ++ x ∷ xs) (if Over w (s ++ x ∷ []) then 1 else 0)
+      go : (Over w (s ++ x ∷ []) ≡ false → fault_count (run_part C l (suc before) w (Some (s ++ x ∷ [])) xs).lines
+          ≡ (if Over w ((s ++ x ∷ []) ++ xs) then 1 else 0))
+          → (b : Bool) → Over w (s ++ x ∷ []) ≡ b
+          → Counts (octets_then (message_reading C l) (event (suc before) w (Takes x)) (Some s)) (s ++ x ∷ xs)
+          (if Over w (s ++ x ∷ []) then 1 else 0)
       go ih true o = rw (then_is (suc before) w s x e, o, none_run w None (suc before) xs tt, over_with w s xs x o) (unfold fault_count in refl)
       go ih false o = rw (then_is (suc before) w s x e, o) (omega (arith, ih o ∙ ap (λ (z : List ℕ). if Over w z then 1 else 0) (append_assoc s (x ∷ []) xs)))
 
@@ -135,13 +147,16 @@ module _ (C : Table) (l : Listed) where
       let all : (s ++ take n xs) ++ drop n xs ≡ s ++ xs = append_assoc s (take n xs) (drop n xs) ∙ ap (λ (z : List ℕ). s ++ z) (take-append-drop n xs) in
       subst (λ (z : List ℕ). Over w z ≡ true) all (over_stays (said_by C l) w.header (s ++ take n xs) (drop n xs) f.here)
 
-  pub given_text : (P : List ℕ → Type 0) (m : Message) (w : Title) (o : Option (List ℕ)) (before : ℕ) (xs : List ℕ) → IsKept C l (Some m) w o → DueOf P m before xs
+  pub given_text : (P : List ℕ → Type 0) (m : Message) (w : Title) (o : Option (List ℕ)) (before : ℕ) (xs : List ℕ)
+      → IsKept C l (Some m) w o → DueOf P m before xs
       → P (lines_text (run_part C l before w o xs).lines)
   given_text P m w (Some s) before xs k f = subst P (sym (run_text w xs before s (goes m w s k))) (f w.number w.header s k)
   given_text P m w None before xs k f = absurd k
 
   -- where none of them faults it, and where one does
-  pub given_on : {E : Type 0} (m m' : Message) (w : Title) (o : Option (List ℕ)) (before : ℕ) (xs : List ℕ) (found : Option ℕ) (a b : OutLog) → is_some found ≡ false → IsKept C l (Some m) w o → DueOf (Wrote a b) m before xs → TellsAll m m' xs found
+  pub given_on : {E : Type 0} (m m' : Message) (w : Title) (o : Option (List ℕ)) (before : ℕ) (xs : List ℕ)
+      (found : Option ℕ) (a b : OutLog) → is_some found ≡ false → IsKept C l (Some m) w o → DueOf (Wrote a b) m before xs
+      → TellsAll m m' xs found
       → PlaysPart {E = E} C l one_if (Ok false) a b (Some m') w (run_part C l before w o xs)
   given_on m m' w (Some s) before xs None a b e k writes took =
       let goes_before = goes m w s k in
@@ -155,7 +170,9 @@ module _ (C : Table) (l : Listed) where
   given_on m m' w (Some s) before xs (Some n) a b e k writes took = absurd cc
   given_on m m' w None before xs found a b e k writes took = absurd k
 
-  pub given_over : {E : Type 0} (m m' : Message) (w : Title) (o : Option (List ℕ)) (before : ℕ) (xs : List ℕ) (found : Option ℕ) (a b : OutLog) → is_some found ≡ true → IsKept C l (Some m) w o → DueOf (Wrote a b) m before xs → TellsAll m m' xs found
+  pub given_over : {E : Type 0} (m m' : Message) (w : Title) (o : Option (List ℕ)) (before : ℕ) (xs : List ℕ)
+      (found : Option ℕ) (a b : OutLog) → is_some found ≡ true → IsKept C l (Some m) w o → DueOf (Wrote a b) m before xs
+      → TellsAll m m' xs found
       → PlaysPart {E = E} C l one_if (Ok true) a b None w (run_part C l before w o xs)
   given_over m m' w (Some s) before xs (Some n) a b e k writes took =
       let goes_before = goes m w s k in
@@ -191,7 +208,8 @@ module _ (C : Table) (l : Listed) where
   nobody_run [] before c = refl
   nobody_run (x ∷ xs) before c = nobody_run xs (suc before) c
 
-  module _ {E : Type 0} (r : Result Bool E) (a b : OutLog) (s : Slots) (c : Scene) (whose : Option Title) (before : ℕ) (xs : List ℕ) (h : Keeps C l s c whose) where
+  module _ {E : Type 0} (r : Result Bool E) (a b : OutLog) (s : Slots) (c : Scene) (whose : Option Title) (before : ℕ)
+      (xs : List ℕ) (h : Keeps C l s c whose) where
     -- what is made of the message whose they are
     abbrev Makes : Option Message → Title → Type 0
     Makes message w = PlaysPart C l one_if r a b message w (run_part C l before w (c.known w.number) xs)
@@ -199,16 +217,32 @@ module _ (C : Table) (l : Listed) where
     pub own_runs : (own' : Option Message) → s.payload ≡ payload.Own → ((w : Title) → IsKept C l s.own w (c.known w.number) → Makes own' w)
         → Plays C l one_if r a b (record { slots = s.slots; own = own'; payload = s.payload }) (run_play C l before c whose xs) whose
     own_runs own' e f =
-        own_has C l (λ whose. Plays C l one_if r a b (record { slots = s.slots; own = own'; payload = s.payload }) (run_play C l before c whose xs) whose) s c whose e h
+        own_has C l (λ whose. Plays C l one_if r a b (record { slots = s.slots; own = own'; payload = s.payload })
+        (run_play C l before c whose xs) whose) s c whose e h
         (λ w k. own_plays C l r a b s own' c w _ _ e k (run_alters w xs before c) (f w))
 
-    pub slot_runs : (x : Kept_slot) (message : Option Message) (k : ℕ) → s.payload ≡ payload.Open k → slice_get s.slots.items k ≡ Some x → Rising c.live → ((w : Title) → IsKept C l x.message w (c.known w.number) → Makes message w)
-        → Plays C l one_if r a b (record { slots = record { items = slice_set s.slots.items k (record x { message = message }) }; own = s.own; payload = s.payload }) (run_play C l before c whose xs) whose
+    pub slot_runs : (x : Kept_slot) (message : Option Message) (k : ℕ) → s.payload ≡ payload.Open k
+        → slice_get s.slots.items k ≡ Some x → Rising c.live
+        → ((w : Title) → IsKept C l x.message w (c.known w.number) → Makes message w)
+        → Plays C l one_if r a b (record {
+          slots = record {
+            items = slice_set s.slots.items k
+                (record x { message = message });
+          };
+          own = s.own;
+          payload = s.payload;
+        }) (run_play C l before c whose xs) whose
     slot_runs x message k e get rising f =
-        slot_has C l (λ whose. Plays C l one_if r a b (record { slots = record { items = slice_set s.slots.items k (record x { message = message }) }; own = s.own; payload = s.payload }) (run_play C l before c whose xs) whose) s c whose k e h
+        slot_has C l (λ whose. Plays C l one_if r a b
+        (record {
+          slots = record { items = slice_set s.slots.items k (record x { message = message }) };
+          own = s.own;
+          payload = s.payload;
+        }) (run_play C l before c whose xs) whose) s c whose k e h
         (λ w kept. slot_plays C l r a b s x message c w _ _ k e get rising kept (run_alters w xs before c) (λ n. f w))
 
-  pub nobody_runs : {E : Type 0} (log : OutLog) (s : Slots) (c : Scene) (whose : Option Title) (before : ℕ) (xs : List ℕ) → s.payload ≡ payload.Nobody → Keeps C l s c whose
+  pub nobody_runs : {E : Type 0} (log : OutLog) (s : Slots) (c : Scene) (whose : Option Title) (before : ℕ) (xs : List ℕ)
+      → s.payload ≡ payload.Nobody → Keeps C l s c whose
       → Plays {E = E} C l one_if (Ok false) log log s (run_play C l before c whose xs) whose
   nobody_runs {E} log s c whose before xs e h =
       nobody_has C l (λ whose. Plays {E = E} C l one_if (Ok false) log log s (run_play C l before c whose xs) whose) s c whose e h

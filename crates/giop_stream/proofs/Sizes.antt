@@ -10,12 +10,17 @@ use Rattle.giop_message.specs.Headers.{order, size}
 last_four : (header : List ℕ) → length header ≡ 12 → drop 8 header ≡ get_or header 8 0 ∷ get_or header 9 0 ∷ get_or header 10 0 ∷ get_or header 11 0 ∷ []
 last_four header h =
     drop-cons header 8 0 (omega (arith, h))
-    ∙ ap (λ xs. get_or header 8 0 ∷ xs) (drop-cons header 9 0 (omega (arith, h)) ∙ ap (λ xs. get_or header 9 0 ∷ xs) (drop-cons header 10 0 (omega (arith, h)) ∙ ap (λ xs. get_or header 10 0 ∷ xs) (drop-cons header 11 0 (omega (arith, h)) ∙ ap (λ xs. get_or header 11 0 ∷ xs) (drop_all 12 header (omega (arith, h))))))
+    ∙ ap (λ xs. get_or header 8 0 ∷ xs) (drop-cons header 9 0 (omega (arith, h))
+    ∙ ap (λ xs. get_or header 9 0 ∷ xs) (drop-cons header 10 0 (omega (arith, h))
+    ∙ ap (λ xs. get_or header 10 0 ∷ xs) (drop-cons header 11 0 (omega (arith, h))
+    ∙ ap (λ xs. get_or header 11 0 ∷ xs) (drop_all 12 header (omega (arith, h))))))
 
-pub size_big : (header : List ℕ) → length header ≡ 12 → order header ≡ Big → size header ≡ little (get_or header 11 0 ∷ get_or header 10 0 ∷ get_or header 9 0 ∷ get_or header 8 0 ∷ [])
+pub size_big : (header : List ℕ) → length header ≡ 12 → order header ≡ Big
+    → size header ≡ little (get_or header 11 0 ∷ get_or header 10 0 ∷ get_or header 9 0 ∷ get_or header 8 0 ∷ [])
 unfolding size num
 size_big header h o = rw (o, last_four header h) refl
 
-pub size_little : (header : List ℕ) → length header ≡ 12 → order header ≡ Little → size header ≡ little (get_or header 8 0 ∷ get_or header 9 0 ∷ get_or header 10 0 ∷ get_or header 11 0 ∷ [])
+pub size_little : (header : List ℕ) → length header ≡ 12 → order header ≡ Little
+    → size header ≡ little (get_or header 8 0 ∷ get_or header 9 0 ∷ get_or header 10 0 ∷ get_or header 11 0 ∷ [])
 unfolding size num
 size_little header h o = rw (o, last_four header h) refl

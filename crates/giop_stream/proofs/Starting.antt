@@ -27,7 +27,8 @@ none_count ls h = rw (filter_drops (λ l. is_start l.content) ls h) refl
 
 pub start_append : (xs ys : List Line) → start_count (xs ++ ys) ≡ start_count xs + start_count ys
 unfolding start_count
-start_append xs ys = rw (filter-append (λ l. is_start l.content) xs ys) (length-append (filter (λ l. is_start l.content) xs) (filter (λ l. is_start l.content) ys))
+start_append xs ys =
+    rw (filter-append (λ l. is_start l.content) xs ys) (length-append (filter (λ l. is_start l.content) xs) (filter (λ l. is_start l.content) ys))
 
 -- what a reading says is no start
 said_none : (e : Event) (s : Saying) (text : List ℕ) → NoStart (line e (Said s text))
@@ -36,7 +37,9 @@ said_none e s text = refl
 
 takes_none : (R : Reading) (e : Event) (so_far all : List ℕ) (x : ℕ) → Each NoStart (tells R e so_far all (Takes x))
 unfolding tells
-takes_none R e so_far all x = each_map NoStart (λ r. line e (Said r.saying r.text)) (λ r. said_none e r.saying r.text) (filter (λ r. r.at == suc (length so_far)) (R.reads e.whom.header all))
+takes_none R e so_far all x =
+    each_map NoStart (λ r. line e (Said r.saying r.text)) (λ r. said_none e r.saying r.text)
+    (filter (λ r. r.at == suc (length so_far)) (R.reads e.whom.header all))
 
 closes_none : (R : Reading) (e : Event) (so_far all : List ℕ) → Each NoStart (tells R e so_far all Closes)
 unfolding tells
@@ -53,7 +56,9 @@ kept_none R e (Some xs) h = h R xs (xs ++ joined e.whom.number (e ∷ []))
 utters_none : (R : Reading) (K : Kept) (es : List Event) → Each Quiet es → Each NoStart (utters R K es)
 unfolding utters
 utters_none R K [] h = tt
-utters_none R K (e ∷ es) h = each_append NoStart (utters_kept R e (K e.whom.number)) (utters R (taking K (e ∷ [])) es) (kept_none R e (K e.whom.number) h.0) (utters_none R (taking K (e ∷ [])) es h.1)
+utters_none R K (e ∷ es) h =
+    each_append NoStart (utters_kept R e (K e.whom.number)) (utters R (taking K (e ∷ [])) es)
+    (kept_none R e (K e.whom.number) h.0) (utters_none R (taking K (e ∷ [])) es h.1)
 
 -- ---- What tells no start, and so what each part of an octet does but the first.
 
@@ -106,21 +111,27 @@ quiet_octet : (live : List Open) (m : Message) → Each Quiet (at_octet live m)
 unfolding at_octet
 quiet_octet live m =
     let x = get_or m.payload (length m.payload - 1) 0 in
-    quiet_if (goes_past m) (about m (opener_of live m) (Takes x)) (own m (Takes x)) (quiet_about m (opener_of live m) (Takes x) (calm_takes x)) (quiet_own m (Takes x) (calm_takes x))
+    quiet_if (goes_past m) (about m (opener_of live m) (Takes x)) (own m (Takes x))
+    (quiet_about m (opener_of live m) (Takes x) (calm_takes x)) (quiet_own m (Takes x) (calm_takes x))
 
 quiet_opens : (live : List Open) (m : Message) (o : Option Open) → Each Quiet (opens_by live m o)
-quiet_opens live m None = quiet_if (nat_le most_open (length live)) (own m (Imposed TooManyOpen)) (own m (Opens (id m))) (quiet_own m (Imposed TooManyOpen) (calm_imposed TooManyOpen)) (quiet_own m (Opens (id m)) (calm_opens (id m)))
+quiet_opens live m None =
+    quiet_if (nat_le most_open (length live)) (own m (Imposed TooManyOpen)) (own m (Opens (id m)))
+    (quiet_own m (Imposed TooManyOpen) (calm_imposed TooManyOpen)) (quiet_own m (Opens (id m)) (calm_opens (id m)))
 quiet_opens live m (Some other) = quiet_own m (Imposed IdOpen) (calm_imposed IdOpen)
 
 quiet_continues : (m : Message) (o : Option Open) → Each Quiet (continues_by m o)
 quiet_continues m None = quiet_own m (Imposed NoOpen) (calm_imposed NoOpen)
 quiet_continues m (Some o) =
     each_append Quiet (own m (Continues o.opener.number)) _ (quiet_own m (Continues o.opener.number) (calm_continues o.opener.number))
-    (quiet_if (same_order (order m.header) (order o.opener.header)) [] (about m (Some o) (Imposed FragmentOrder)) tt (quiet_about m (Some o) (Imposed FragmentOrder) (calm_imposed FragmentOrder)))
+    (quiet_if (same_order (order m.header) (order o.opener.header)) [] (about m (Some o) (Imposed FragmentOrder)) tt
+    (quiet_about m (Some o) (Imposed FragmentOrder) (calm_imposed FragmentOrder)))
 
 quiet_cancels : (m : Message) (o : Option Open) → Each Quiet (cancels_by m o)
 quiet_cancels m None = tt
-quiet_cancels m (Some o) = quiet_if (may_be_cancelled o.opener.header) (about m (Some o) (Cancelled m.number)) [] (quiet_about m (Some o) (Cancelled m.number) (calm_cancelled m.number)) tt
+quiet_cancels m (Some o) =
+    quiet_if (may_be_cancelled o.opener.header) (about m (Some o) (Cancelled m.number)) []
+    (quiet_about m (Some o) (Cancelled m.number) (calm_cancelled m.number)) tt
 
 quiet_id : (live : List Open) (m : Message) → Each Quiet (at_id live m)
 unfolding at_id opens continues cancels
@@ -132,9 +143,12 @@ quiet_id live m =
 quiet_end : (live : List Open) (m : Message) → Each Quiet (at_end live m)
 unfolding at_end
 quiet_end live m =
-    quiet_if (nat_lt (size m.header) 4 && (is_opener m.header || is_fragment m.header)) (own m (Imposed Short)) _ (quiet_own m (Imposed Short) (calm_imposed Short))
+    quiet_if (nat_lt (size m.header) 4 && (is_opener m.header || is_fragment m.header)) (own m (Imposed Short)) _
+    (quiet_own m (Imposed Short) (calm_imposed Short))
     (quiet_if (is_opener m.header) [] _ tt
-    (quiet_if (is_fragment m.header) _ (own m Closes) (quiet_if (has_more m.header) [] (about m (opener_of live m) Closes) tt (quiet_about m (opener_of live m) Closes calm_closes)) (quiet_own m Closes calm_closes)))
+    (quiet_if (is_fragment m.header) _ (own m Closes)
+    (quiet_if (has_more m.header) [] (about m (opener_of live m) Closes) tt
+    (quiet_about m (opener_of live m) Closes calm_closes)) (quiet_own m Closes calm_closes)))
 
 -- what an octet does behind its first part
 later_part : List Open → Message → List Event
@@ -144,7 +158,8 @@ quiet_later : (live : List Open) (m : Message) → Each Quiet (later_part live m
 unfolding later_part
 quiet_later live m =
     each_append Quiet (if length m.payload == 4 then at_id live m else []) (if length m.payload == size m.header then at_end live m else [])
-    (quiet_if (length m.payload == 4) (at_id live m) [] (quiet_id live m) tt) (quiet_if (length m.payload == size m.header) (at_end live m) [] (quiet_end live m) tt)
+    (quiet_if (length m.payload == 4) (at_id live m) [] (quiet_id live m) tt)
+    (quiet_if (length m.payload == size m.header) (at_end live m) [] (quiet_end live m) tt)
 
 pub none_later : (R : Reading) (K : Kept) (live : List Open) (m : Message) → 0 < length m.payload → start_count (now_written R K (happens live m)) ≡ 0
 unfolding now_written by_class happens later_part
@@ -154,7 +169,8 @@ none_later R K live m h =
     let all : Each NoStart (utters R K es) = utters_none R K es quiet in
     rw (ne_eqb (length m.payload) 0 (λ e. omega arith))
     (none_count (standing (λ i. false) (flat_map (λ class. filter (has_class class) (utters R K es)) classes))
-    (standing_each NoStart (λ i. false) (flat_map (λ class. filter (has_class class) (utters R K es)) classes) (classes_each NoStart (utters R K es) classes all)))
+    (standing_each NoStart (λ i. false) (flat_map (λ class. filter (has_class class) (utters R K es)) classes)
+    (classes_each NoStart (utters R K es) classes all)))
 
 -- the start line comes before all others
 no_start_class : (ls : List Line) → Each NoStart ls → filter (has_class Start) ls ≡ []
@@ -177,7 +193,9 @@ start_first : (l : Line) (header : List ℕ) (ls : List Line) → l.content ≡ 
 unfolding by_class classes
 start_first l header ls e h = rw (e, no_start_class ls h) refl
 
-begun : (R : Reading) (K : Kept) (m : Message) (e : Event) (xs : List ℕ) (rest : List Event) → e.whom ≡ title m → e.what ≡ Begins → K m.number ≡ Some xs → utters R K (e ∷ rest) ≡ line e (Started m.header) ∷ utters R (taking K (e ∷ [])) rest
+begun : (R : Reading) (K : Kept) (m : Message) (e : Event) (xs : List ℕ) (rest : List Event) → e.whom ≡ title m
+    → e.what ≡ Begins → K m.number ≡ Some xs → utters R K (e ∷ rest) ≡ line e (Started m.header) ∷ utters R
+    (taking K (e ∷ [])) rest
 unfolding utters utters_kept tells
 begun R K m e xs rest w b k = rw (w, b, k) refl
 
@@ -189,23 +207,29 @@ by_class_each : (ls : List Line) → Each NoStart ls → Each NoStart (by_class 
 unfolding by_class
 by_class_each ls h = classes_each NoStart ls classes h
 
-one_counted : (l : Line) (ls : List Line) → is_start l.content ≡ true → Each NoStart (standing (λ i. false || is_last_of i l) ls) → start_count (standing (λ i. false) (l ∷ ls)) ≡ 1
+one_counted : (l : Line) (ls : List Line) → is_start l.content ≡ true
+    → Each NoStart (standing (λ i. false || is_last_of i l) ls) → start_count (standing (λ i. false) (l ∷ ls)) ≡ 1
 unfolding standing start_count
 one_counted l ls k h = rw k (ap suc (none_count (standing (λ i. false || is_last_of i l) ls) h))
 
-first_of_all : (e : Event) (header : List ℕ) (more : List Line) → Each NoStart more → by_class (line e (Started header) ∷ more) ≡ line e (Started header) ∷ by_class more
+first_of_all : (e : Event) (header : List ℕ) (more : List Line) → Each NoStart more
+    → by_class (line e (Started header) ∷ more) ≡ line e (Started header) ∷ by_class more
 unfolding line
 first_of_all e header more h = start_first (record { place = e.place; number = e.whom.number; content = Started header }) header more refl h
 
-pub one_first : (R : Reading) (K : Kept) (live : List Open) (m : Message) (xs : List ℕ) → m.payload ≡ [] → K m.number ≡ Some xs → start_count (now_written R K (happens live m)) ≡ 1
+pub one_first : (R : Reading) (K : Kept) (live : List Open) (m : Message) (xs : List ℕ) → m.payload ≡ []
+    → K m.number ≡ Some xs → start_count (now_written R K (happens live m)) ≡ 1
 unfolding now_written happens at_header own later_part
 one_first R K live m xs pay known =
     let e : Event = record { place = place m; whom = title m; what = Begins } in
     let rest : List Event = imposed m (refused m.header) ++ later_part live m in
     let more : List Line = utters R (taking K (e ∷ [])) rest in
-    let none : Each NoStart more = utters_none R (taking K (e ∷ [])) rest (each_append Quiet (imposed m (refused m.header)) (later_part live m) (quiet_imposed m (refused m.header)) (quiet_later live m)) in
+    let none : Each NoStart more =
+    utters_none R (taking K (e ∷ [])) rest (each_append Quiet (imposed m (refused m.header)) (later_part live m)
+    (quiet_imposed m (refused m.header)) (quiet_later live m)) in
     let empty : length m.payload ≡ 0 = rw pay refl in
     let said : utters R K (e ∷ rest) ≡ line e (Started m.header) ∷ more = begun R K m e xs rest refl refl known in
     let calm : Each NoStart (standing (λ i. false || is_last_of i (line e (Started m.header))) (by_class more)) =
     standing_each NoStart (λ i. false || is_last_of i (line e (Started m.header))) (by_class more) (by_class_each more none) in
-    rw (eq-eqb (length m.payload) 0 empty, said, first_of_all e m.header more none) (one_counted (line e (Started m.header)) (by_class more) (first_start e m.header) calm)
+    rw (eq-eqb (length m.payload) 0 empty, said, first_of_all e m.header more none)
+    (one_counted (line e (Started m.header)) (by_class more) (first_start e m.header) calm)

@@ -24,7 +24,9 @@ stays_quiet : (over : ℕ → Bool) (m : Message) (live : List Open) (es : List 
 unfolding Stays
 stays_quiet over m live es h = rw h refl
 
-stays_if : (over : ℕ → Bool) (m : Message) (live : List Open) (b : Bool) (es more : List Event) → (b ≡ true → Each (Dead over) es → Stays over m live es) → (b ≡ false → Each (Dead over) more → Stays over m live more) → Each (Dead over) (if b then es else more) → Stays over m live (if b then es else more)
+stays_if : (over : ℕ → Bool) (m : Message) (live : List Open) (b : Bool) (es more : List Event)
+    → (b ≡ true → Each (Dead over) es → Stays over m live es) → (b ≡ false → Each (Dead over) more → Stays over m live more)
+    → Each (Dead over) (if b then es else more) → Stays over m live (if b then es else more)
 stays_if over m live true es more h k d = h refl d
 stays_if over m live false es more h k d = k refl d
 
@@ -32,7 +34,9 @@ stays_closes : (over : ℕ → Bool) (m : Message) (live : List Open) → Each (
 unfolding own Dead is_final Stays opened changed without
 stays_closes over m live d = removed over m.number live m (d.0 refl)
 
-stays_about : (over : ℕ → Bool) (m : Message) (live : List Open) (o : Option Open) (what : Happening) → ((whom : Title) → changed live whom what ≡ without whom.number live) → is_final what ≡ true → Each (Dead over) (about m o what) → Stays over m live (about m o what)
+stays_about : (over : ℕ → Bool) (m : Message) (live : List Open) (o : Option Open) (what : Happening)
+    → ((whom : Title) → changed live whom what ≡ without whom.number live) → is_final what ≡ true
+    → Each (Dead over) (about m o what) → Stays over m live (about m o what)
 unfolding about Dead Stays opened
 stays_about over m live None what c f d = refl
 stays_about over m live (Some o) what c f d = rw (c o.opener) (removed over o.opener.number live m (d.0 f))
@@ -56,10 +60,14 @@ final_cancelled j = refl
 stays_end : (over : ℕ → Bool) (before live : List Open) (m : Message) → Each (Dead over) (at_end before m) → Stays over m live (at_end before m)
 unfolding at_end
 stays_end over before live m =
-    stays_if over m live (nat_lt (size m.header) 4 && (is_opener m.header || is_fragment m.header)) (own m (Imposed Short)) _ (λ e d. stays_quiet over m live (own m (Imposed Short)) (quiet_own live m (Imposed Short) (still_imposed Short live)))
+    stays_if over m live (nat_lt (size m.header) 4 && (is_opener m.header || is_fragment m.header))
+    (own m (Imposed Short)) _ (λ e d. stays_quiet over m live (own m (Imposed Short))
+    (quiet_own live m (Imposed Short) (still_imposed Short live)))
     (λ e. stays_if over m live (is_opener m.header) [] _ (λ k d. stays_quiet over m live [] (quiet_none live))
     (λ k. stays_if over m live (is_fragment m.header) _ (own m Closes)
-    (λ j. stays_if over m live (has_more m.header) [] (about m (opener_of before m) Closes) (λ i d. stays_quiet over m live [] (quiet_none live)) (λ i d. stays_about over m live (opener_of before m) Closes (close_removes live) final_closes d))
+    (λ j. stays_if over m live (has_more m.header) [] (about m (opener_of before m) Closes)
+    (λ i d. stays_quiet over m live [] (quiet_none live))
+    (λ i d. stays_about over m live (opener_of before m) Closes (close_removes live) final_closes d))
     (λ j d. stays_closes over m live d)))
 
 pub not_open : (live : List Open) (n : ℕ) → Below n live → is_open live n ≡ false
@@ -76,7 +84,8 @@ unfolding Stays own opened changed base tail_of numbers_of
 stays_opens over m live f low =
     let o : Open = record { id = id m; opener = record { number = m.number; header = m.header } } in
     let now : is_open (live ++ o ∷ []) m.number ≡ true = open_last live o in
-    rw (f, now, not_open live m.number low, map-append (λ o. o.opener.number) live (o ∷ [])) (ap (alive over) (append-nil (map (λ o. o.opener.number) live ++ m.number ∷ [])))
+    rw (f, now, not_open live m.number low, map-append (λ o. o.opener.number) live (o ∷ []))
+    (ap (alive over) (append-nil (map (λ o. o.opener.number) live ++ m.number ∷ [])))
 
 stays_opening : (over : ℕ → Bool) (m : Message) (live : List Open) → Below m.number live → is_fragment m.header ≡ false → Stays over m live (opens live m)
 unfolding opens
@@ -96,7 +105,10 @@ stays_cancels over m live = go (opener_of live m)
   where
     go : (o : Option Open) → Each (Dead over) (cancels_by m o) → Stays over m live (cancels_by m o)
     go None d = stays_quiet over m live [] (quiet_none live)
-    go (Some o) d = stays_if over m live (may_be_cancelled o.opener.header) (about m (Some o) (Cancelled m.number)) [] (λ e k. stays_about over m live (Some o) (Cancelled m.number) (cancel_removes live m.number) (final_cancelled m.number) k) (λ e k. stays_quiet over m live [] (quiet_none live)) d
+    go (Some o) d =
+        stays_if over m live (may_be_cancelled o.opener.header) (about m (Some o) (Cancelled m.number)) []
+        (λ e k. stays_about over m live (Some o) (Cancelled m.number) (cancel_removes live m.number)
+        (final_cancelled m.number) k) (λ e k. stays_quiet over m live [] (quiet_none live)) d
 
 stays_id : (over : ℕ → Bool) (m : Message) (live : List Open) → Below m.number live → Each (Dead over) (at_id live m) → Stays over m live (at_id live m)
 unfolding at_id
@@ -113,22 +125,31 @@ each_right : {A : Type 0} (P : A → Type 0) (xs ys : List A) → Each P (xs ++ 
 each_right P [] ys h = h
 each_right P (x ∷ xs) ys h = each_right P xs ys h.1
 
-stays_both : (over : ℕ → Bool) (m : Message) (live : List Open) (es more : List Event) → Stays over m live es → Stays over m (opened live es) more → Stays over m live (es ++ more)
+stays_both : (over : ℕ → Bool) (m : Message) (live : List Open) (es more : List Event) → Stays over m live es
+    → Stays over m (opened live es) more → Stays over m live (es ++ more)
 unfolding Stays
 stays_both over m live es more h k = rw (opened_append live es more) (k ∙ h)
 
-pub stays_happens : (over : ℕ → Bool) (m : Message) (live : List Open) → (length m.payload ≡ 4 → Below m.number live) → Each (Dead over) (happens live m) → Stays over m live (happens live m)
+pub stays_happens : (over : ℕ → Bool) (m : Message) (live : List Open) → (length m.payload ≡ 4 → Below m.number live)
+    → Each (Dead over) (happens live m) → Stays over m live (happens live m)
 unfolding happens
 stays_happens over m live low d =
     let first = if length m.payload == 0 then at_header m else at_octet live m in
     let second = if length m.payload == 4 then at_id live m else [] in
     let third = if length m.payload == size m.header then at_end live m else [] in
-    let still : opened live first ≡ live = quiet_if live (length m.payload == 0) (at_header m) (at_octet live m) (λ e. quiet_header live m) (λ e. quiet_octet live m) in
+    let still : opened live first ≡ live =
+    quiet_if live (length m.payload == 0) (at_header m) (at_octet live m) (λ e. quiet_header live m)
+    (λ e. quiet_octet live m) in
     let rest : Each (Dead over) (second ++ third) = each_right (Dead over) first (second ++ third) d in
     let two : Stays over m live second =
-    stays_if over m live (length m.payload == 4) (at_id live m) [] (λ e. stays_id over m live (low (eqb-true (length m.payload) 4 e))) (λ e k. stays_quiet over m live [] (quiet_none live)) (each_left (Dead over) second third rest) in
+    stays_if over m live (length m.payload == 4) (at_id live m) []
+    (λ e. stays_id over m live (low (eqb-true (length m.payload) 4 e)))
+    (λ e k. stays_quiet over m live [] (quiet_none live)) (each_left (Dead over) second third rest) in
     let three : Stays over m (opened live second) third =
-    stays_if over m (opened live second) (length m.payload == size m.header) (at_end live m) [] (λ e. stays_end over live (opened live second) m) (λ e k. stays_quiet over m (opened live second) [] (quiet_none (opened live second))) (each_right (Dead over) second third rest) in
+    stays_if over m (opened live second) (length m.payload == size m.header) (at_end live m) []
+    (λ e. stays_end over live (opened live second) m)
+    (λ e k. stays_quiet over m (opened live second) [] (quiet_none (opened live second)))
+    (each_right (Dead over) second third rest) in
     stays_both over m live first (second ++ third) (stays_quiet over m live first still) (rw still (stays_both over m live second third two three))
 
 -- A head whose last octet has come is open or over.
@@ -166,7 +187,8 @@ known_opens over m live = go (opener_of live m)
     go (Some other) d = inr (dead_own over m (Imposed IdOpen) (final_imposed IdOpen) d)
     go None d = pick (nat_le most_open (length live)) d
       where
-        pick : (b : Bool) → Each (Dead over) (if b then own m (Imposed TooManyOpen) else own m (Opens (id m))) → Known over (opened live (if b then own m (Imposed TooManyOpen) else own m (Opens (id m)))) m
+        pick : (b : Bool) → Each (Dead over) (if b then own m (Imposed TooManyOpen) else own m (Opens (id m)))
+            → Known over (opened live (if b then own m (Imposed TooManyOpen) else own m (Opens (id m)))) m
         pick true d = inr (dead_own over m (Imposed TooManyOpen) (final_imposed TooManyOpen) d)
         pick false d = opens_known over m live
 
@@ -186,7 +208,8 @@ opener_id : (live : List Open) (m : Message) → is_opener m.header ≡ true →
 unfolding at_id
 opener_id live m o = rw (at_id, o, opener_no_fragment m.header o) refl
 
-third_none : (live : List Open) (m : Message) → is_opener m.header ≡ true → 4 ≤ size m.header → (if length m.payload == size m.header then at_end live m else []) ≡ []
+third_none : (live : List Open) (m : Message) → is_opener m.header ≡ true → 4 ≤ size m.header
+    → (if length m.payload == size m.header then at_end live m else []) ≡ []
 third_none live m o h = go (length m.payload == size m.header)
   where
     go : (b : Bool) → (if b then at_end live m else []) ≡ []
@@ -197,13 +220,19 @@ first_quiet : (live : List Open) (m : Message) → opened live (if length m.payl
 first_quiet live m = quiet_if live (length m.payload == 0) (at_header m) (at_octet live m) (λ e. quiet_header live m) (λ e. quiet_octet live m)
 
 -- the open messages after the three parts of what an octet does
-after_parts : (live : List Open) (m : Message) (second third : List Event) → (if length m.payload == 4 then at_id live m else []) ≡ second → (if length m.payload == size m.header then at_end live m else []) ≡ third → opened live (happens live m) ≡ opened (opened live second) third
+after_parts : (live : List Open) (m : Message) (second third : List Event)
+    → (if length m.payload == 4 then at_id live m else []) ≡ second
+    → (if length m.payload == size m.header then at_end live m else []) ≡ third
+    → opened live (happens live m) ≡ opened (opened live second) third
 unfolding happens
 after_parts live m second third h k =
     let first = if length m.payload == 0 then at_header m else at_octet live m in
     opened_append live first _ ∙ rw (first_quiet live m, h, k) (opened_append live second third)
 
-dead_parts : (over : ℕ → Bool) (live : List Open) (m : Message) (second third : List Event) → (if length m.payload == 4 then at_id live m else []) ≡ second → (if length m.payload == size m.header then at_end live m else []) ≡ third → Each (Dead over) (happens live m) → Each (Dead over) (second ++ third)
+dead_parts : (over : ℕ → Bool) (live : List Open) (m : Message) (second third : List Event)
+    → (if length m.payload == 4 then at_id live m else []) ≡ second
+    → (if length m.payload == size m.header then at_end live m else []) ≡ third → Each (Dead over) (happens live m)
+    → Each (Dead over) (second ++ third)
 unfolding happens
 dead_parts over live m second third h k d =
     let rest = each_right (Dead over) (if length m.payload == 0 then at_header m else at_octet live m) _ d in
@@ -212,7 +241,8 @@ dead_parts over live m second third h k d =
 second_none : (live : List Open) (m : Message) → 4 < length m.payload → (if length m.payload == 4 then at_id live m else []) ≡ []
 second_none live m h = rw (ne_eqb (length m.payload) 4 (λ e. omega arith)) refl
 
-pub opener_known : (over : ℕ → Bool) (m : Message) (live : List Open) → is_opener m.header ≡ true → 4 ≤ length m.payload → length m.payload ≤ size m.header → (4 < length m.payload → Known over live m)
+pub opener_known : (over : ℕ → Bool) (m : Message) (live : List Open) → is_opener m.header ≡ true → 4 ≤ length m.payload
+    → length m.payload ≤ size m.header → (4 < length m.payload → Known over live m)
     → Each (Dead over) (happens live m) → Known over (opened live (happens live m)) m
 unfolding opened
 opener_known over m live o long fits before d = elim (cases_lt 4 (length m.payload)) [
@@ -227,7 +257,8 @@ opener_known over m live o long fits before d = elim (cases_lt 4 (length m.paylo
       rw (after_parts live m (opens live m) [] two none) (known_opens over m live dead_two)
 ]
 
-pub done_known : (over : ℕ → Bool) (m : Message) (live : List Open) → is_fragment m.header ≡ false → length m.payload ≡ size m.header → (is_opener m.header ≡ true → 4 < length m.payload → Known over live m)
+pub done_known : (over : ℕ → Bool) (m : Message) (live : List Open) → is_fragment m.header ≡ false
+    → length m.payload ≡ size m.header → (is_opener m.header ≡ true → 4 < length m.payload → Known over live m)
     → Each (Dead over) (happens live m) → Known over (opened live (happens live m)) m
 unfolding happens Known
 done_known over m live f full before d = go (is_opener m.header) refl

@@ -15,7 +15,10 @@ use Rattle.giop_stream.proofs.HappeningsKeep.{Below}
 use Rattle.giop_stream.proofs.Grown.{octets_idle, open_idle}
 use Rattle.giop_stream.proofs.Soundness.{Fits, IsSound}
 
-pub quiet_sound : (R : Reading) → (p p' : List ℕ) → length p' ≡ suc (length p) → messages (cut p') ≡ messages (cut p) → events p' ≡ events p → said R p' ≡ said R p → start_count (lines R p') ≡ start_count (lines R p) → ((cut p').stop ≡ None → Fits (suc (length p)) (cut p')) → ((cut p').stop ≡ None → IfSome (cut p').current (λ m. length m.payload < 4 → Below m.number (open_after p')))
+pub quiet_sound : (R : Reading) → (p p' : List ℕ) → length p' ≡ suc (length p) → messages (cut p') ≡ messages (cut p)
+    → events p' ≡ events p → said R p' ≡ said R p → start_count (lines R p') ≡ start_count (lines R p)
+    → ((cut p').stop ≡ None → Fits (suc (length p)) (cut p'))
+    → ((cut p').stop ≡ None → IfSome (cut p').current (λ m. length m.payload < 4 → Below m.number (open_after p')))
     → ((cut p').stop ≡ None → IfSome (cut p').current (λ m. length m.payload ≤ 4 → joined m.number (events p') ≡ m.payload)) → IsSound R p → IsSound R p'
 quiet_sound R p p' len ms ev sd sc fits early begun sound = record {
   places = rw (ev, len) (each_weaker (λ e. e.place ≤ length p) (λ e. e.place ≤ suc (length p)) (λ e h. omega arith) (events p) sound.places);

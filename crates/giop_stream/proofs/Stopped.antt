@@ -33,7 +33,8 @@ stop_stays p (x ∷ q) found h = rw (← append_assoc p (x ∷ []) q) (stop_stay
 lines_stay : (R : Reading) → IsCausal R → (p q : List ℕ) (found : ℕ × StreamFault) → (cut p).stop ≡ Some found → lines R (p ++ q) ≡ lines R p
 lines_stay R causal p [] found h = ap (lines R) (append-nil p)
 lines_stay R causal p (x ∷ q) found h =
-    rw (← append_assoc p (x ∷ []) q) (lines_stay R causal (p ++ x ∷ []) q found (ap (λ (c : Cut). c.stop) (cut_stays p x found h) ∙ h) ∙ one_stays R causal p x found h)
+    rw (← append_assoc p (x ∷ []) q) (lines_stay R causal (p ++ x ∷ []) q found
+    (ap (λ (c : Cut). c.stop) (cut_stays p x found h) ∙ h) ∙ one_stays R causal p x found h)
 
 pub text_stays : (R : Reading) → IsCausal R → (p q : List ℕ) (found : ℕ × StreamFault) → (cut p).stop ≡ Some found → text R (p ++ q) ≡ text R p
 unfolding text

@@ -29,10 +29,17 @@ both_by f a b x y e = rw e refl
 
 pub whose_elsewhere : (live : List Open) (m : Message) → (length m.payload == 4) ≡ false → whose live m ≡ whose_octet live m
 unfolding whose whose_octet has_named goes_past
-whose_elsewhere live m other = both_by (is_fragment m.header) (nat_le 4 (length m.payload)) (nat_lt 4 (length m.payload)) (opener_title (opener_of live m)) (Some (title m)) (same (length m.payload) other)
+whose_elsewhere live m other =
+    both_by (is_fragment m.header) (nat_le 4 (length m.payload)) (nat_lt 4 (length m.payload))
+    (opener_title (opener_of live m)) (Some (title m)) (same (length m.payload) other)
   where
     same : (n : ℕ) → (n == 4) ≡ false → nat_le 4 n ≡ nat_lt 4 n
-    same n other = elim (cases_lt 4 n) [ inl past ↦ le-leb 4 n (omega arith) ∙ sym (lt-ltb 4 n past) | inr few ↦ let less : n < 4 = below n few other in lt-leb 4 n less ∙ sym (le-ltb 4 n few) ]
+    same n other =
+        elim (cases_lt 4 n) [
+          | inl past ↦ le-leb 4 n (omega arith)
+              ∙ sym (lt-ltb 4 n past)
+          | inr few ↦ let less : n < 4 = below n few other in lt-leb 4 n less ∙ sym (le-ltb 4 n few)
+        ]
       where
         below : (n : ℕ) → n ≤ 4 → (n == 4) ≡ false → n < 4
         below n few other = elim (cases_lt n 4) [ inl less ↦ less | inr more ↦ absurd (false≢true (sym other ∙ eq-eqb n 4 (omega arith))) ]
@@ -77,7 +84,9 @@ module _ (C : Table) (l : Listed) (s : Slots) (c : Scene) (m : Message) (now : C
   no_id e = rw (h.come, e) (plays_none (message_reading C l) c)
 
   -- the request id that the message's own octets say
-  pub named_here : (i : ℕ) → ((w : Title) (xs : List ℕ) (j : ℕ) → IsKept C l s.own w (Some xs) → id_said (told_of (message (said_by C l) w.header xs)) ≡ Some j → i ≡ j) → (now.come == 4) ≡ true → IsNamed C l s c m now i
+  pub named_here : (i : ℕ) → ((w : Title) (xs : List ℕ) (j : ℕ) → IsKept C l s.own w (Some xs)
+      → id_said (told_of (message (said_by C l) w.header xs)) ≡ Some j → i ≡ j) → (now.come == 4) ≡ true
+      → IsNamed C l s c m now i
   named_here i f e =
       let four = four_is e in
       let few : length m.payload ≤ 4 = omega (arith, four) in
@@ -86,7 +95,9 @@ module _ (C : Table) (l : Listed) (s : Slots) (c : Scene) (m : Message) (now : C
         keeps = keeps;
         rising = h.rising;
         current = h.current;
-        id_is = λ name. sym (f (title m) m.payload (id m) (kept keeps (h.alive name four) (own_by C l s c (title m) (h.newest four) keeps)) (id_is_id C l m four (h.says name)));
+        id_is = λ name. sym (f (title m) m.payload (id m)
+            (kept keeps (h.alive name four) (own_by C l s c (title m) (h.newest four) keeps))
+            (id_is_id C l m four (h.says name)));
         own_comes = λ name. own_by C l s c (title m) (h.newest four) keeps;
         alive = λ name. (m.payload, h.alive name four);
       }
@@ -94,7 +105,8 @@ module _ (C : Table) (l : Listed) (s : Slots) (c : Scene) (m : Message) (now : C
       kept : Keeps C l s c (Some (title m)) → c.known m.number ≡ Some m.payload → s.payload ≡ payload.Own → IsKept C l s.own (title m) (Some m.payload)
       kept keeps known own = let parts = whole keeps own in subst (IsKept C l s.own (title m)) known parts.1
         where
-          whole : Keeps C l s c (Some (title m)) → s.payload ≡ payload.Own → Each (λ o. o.opener.number ≡ m.number → ⊥) c.live × IsKept C l s.own (title m) (c.known m.number)
+          whole : Keeps C l s c (Some (title m)) → s.payload ≡ payload.Own
+              → Each (λ o. o.opener.number ≡ m.number → ⊥) c.live × IsKept C l s.own (title m) (c.known m.number)
           whole keeps own = rw own at keeps.payload
 
   pub whose_then : (now.come == 4) ≡ true → whose c.live m ≡ whose_named c.live m

@@ -23,11 +23,13 @@ unfolding joined
 joined_own e = rw (eq-eqb e.whom.number e.whom.number refl) (append-nil (octet e.what))
 
 -- The lines of an event are settled by the octets up to it.
-tells_early : (R : Reading) → IsCausal R → (e : Event) (so_far more : List ℕ) (what : Happening) → tells R e so_far ((so_far ++ octet what) ++ more) what ≡ tells R e so_far (so_far ++ octet what) what
+tells_early : (R : Reading) → IsCausal R → (e : Event) (so_far more : List ℕ) (what : Happening)
+    → tells R e so_far ((so_far ++ octet what) ++ more) what ≡ tells R e so_far (so_far ++ octet what) what
 unfolding tells octet
 tells_early R causal e so_far more Begins = refl
 tells_early R causal e so_far more (Takes x) =
-    ap (map (λ r. line e (Said r.saying r.text))) (causal.earlier e.whom.header (so_far ++ x ∷ []) more (suc (length so_far)) (omega (arith, length_push so_far x)))
+    ap (map (λ r. line e (Said r.saying r.text)))
+    (causal.earlier e.whom.header (so_far ++ x ∷ []) more (suc (length so_far)) (omega (arith, length_push so_far x)))
 tells_early R causal e so_far more (Opens id) = refl
 tells_early R causal e so_far more (Continues i) = refl
 tells_early R causal e so_far more (Cancelled j) = refl
@@ -45,8 +47,12 @@ told_heard R causal all past [] h = refl
 told_heard R causal all past (e ∷ es) h =
     let i = e.whom.number in
     let split : past ++ e ∷ [] ++ es ≡ all = append_assoc past (e ∷ []) es ∙ h in
-    let octets : joined i all ≡ (joined i past ++ octet e.what) ++ joined i es = ap (joined i) (sym split) ∙ (joined_append i (past ++ e ∷ []) es ∙ rw (joined_append i past (e ∷ []), joined_own e) refl) in
-    let first : tells R e (joined i past) (joined i all) e.what ≡ tells R e (joined i past) (joined i past ++ octet e.what) e.what = rw octets (tells_early R causal e (joined i past) (joined i es) e.what) in
+    let octets : joined i all ≡ (joined i past ++ octet e.what) ++ joined i es =
+    ap (joined i) (sym split) ∙ (joined_append i (past ++ e ∷ []) es
+    ∙ rw (joined_append i past (e ∷ []), joined_own e) refl) in
+    let first : tells R e (joined i past) (joined i all) e.what ≡ tells R e (joined i past)
+    (joined i past ++ octet e.what) e.what =
+    rw octets (tells_early R causal e (joined i past) (joined i es) e.what) in
     rw (first, told_heard R causal all (past ++ e ∷ []) es split) refl
 
 heard_append : (R : Reading) (past es fs : List Event) → heard R past (es ++ fs) ≡ heard R past es ++ heard R (past ++ es) fs
@@ -54,7 +60,8 @@ unfolding heard
 heard_append R past [] fs = rw append-nil refl
 heard_append R past (e ∷ es) fs =
     let first = tells R e (joined e.whom.number past) (joined e.whom.number past ++ octet e.what) e.what in
-    rw (heard_append R (past ++ e ∷ []) es fs, append_assoc past (e ∷ []) es) (sym (append_assoc first (heard R (past ++ e ∷ []) es) (heard R (past ++ e ∷ es) fs)))
+    rw (heard_append R (past ++ e ∷ []) es fs, append_assoc past (e ∷ []) es)
+    (sym (append_assoc first (heard R (past ++ e ∷ []) es) (heard R (past ++ e ∷ es) fs)))
 
 -- More events at the end tell more lines at the end.
 pub told_grows : (R : Reading) → IsCausal R → (es fs : List Event) → told R (es ++ fs) [] (es ++ fs) ≡ told R es [] es ++ heard R es fs
@@ -71,7 +78,9 @@ line_of e content = (refl, refl)
 tells_of : (R : Reading) (e : Event) (so_far all : List ℕ) (what : Happening) → Each (IsOf e) (tells R e so_far all what)
 unfolding tells
 tells_of R e so_far all Begins = (line_of e (Started e.whom.header), tt)
-tells_of R e so_far all (Takes x) = each_map (IsOf e) (λ r. line e (Said r.saying r.text)) (λ r. line_of e (Said r.saying r.text)) (filter (λ r. r.at == suc (length so_far)) (R.reads e.whom.header all))
+tells_of R e so_far all (Takes x) =
+    each_map (IsOf e) (λ r. line e (Said r.saying r.text)) (λ r. line_of e (Said r.saying r.text))
+    (filter (λ r. r.at == suc (length so_far)) (R.reads e.whom.header all))
 tells_of R e so_far all (Opens id) = tt
 tells_of R e so_far all (Continues i) = (line_of e (Goes_on i), tt)
 tells_of R e so_far all (Cancelled j) = (line_of e (Ended_by j), tt)
@@ -84,7 +93,8 @@ heard_each R P past [] h = tt
 heard_each R P past (e ∷ es) h =
     let first = tells R e (joined e.whom.number past) (joined e.whom.number past ++ octet e.what) e.what in
     each_append (λ l. P l.place) first (heard R (past ++ e ∷ []) es)
-    (each_weaker (IsOf e) (λ l. P l.place) (λ l k. subst P (sym k.0) h.0) first (tells_of R e (joined e.whom.number past) (joined e.whom.number past ++ octet e.what) e.what))
+    (each_weaker (IsOf e) (λ l. P l.place) (λ l k. subst P (sym k.0) h.0) first
+    (tells_of R e (joined e.whom.number past) (joined e.whom.number past ++ octet e.what) e.what))
     (heard_each R P (past ++ e ∷ []) es h.1)
 
 -- In order.
@@ -96,10 +106,12 @@ at_place : ℕ → List Line → List Line
 at_place n ls = filter (λ l. l.place == n) ls
 
 earlier_none : (n k : ℕ) (ls : List Line) → Each (λ l. l.place ≤ n) ls → n < k → filter (λ l. l.place == k) ls ≡ []
-earlier_none n k ls h m = filter_drops (λ l. l.place == k) ls (each_weaker (λ l. l.place ≤ n) (λ l. (l.place == k) ≡ false) (λ l j. ne_eqb l.place k (λ e. omega arith)) ls h)
+earlier_none n k ls h m =
+    filter_drops (λ l. l.place == k) ls (each_weaker (λ l. l.place ≤ n) (λ l. (l.place == k) ≡ false) (λ l j. ne_eqb l.place k (λ e. omega arith)) ls h)
 
 later_none : (n k : ℕ) (ls : List Line) → Each (λ l. l.place ≡ suc n) ls → k ≤ n → filter (λ l. l.place == k) ls ≡ []
-later_none n k ls h m = filter_drops (λ l. l.place == k) ls (each_weaker (λ l. l.place ≡ suc n) (λ l. (l.place == k) ≡ false) (λ l j. ne_eqb l.place k (λ e. omega arith)) ls h)
+later_none n k ls h m =
+    filter_drops (λ l. l.place == k) ls (each_weaker (λ l. l.place ≡ suc n) (λ l. (l.place == k) ≡ false) (λ l j. ne_eqb l.place k (λ e. omega arith)) ls h)
 
 now_all : (n : ℕ) (ls : List Line) → Each (λ l. l.place ≡ n) ls → filter (λ l. l.place == n) ls ≡ ls
 now_all n ls h = filter_keeps (λ l. l.place == n) ls (each_weaker (λ l. l.place ≡ n) (λ l. (l.place == n) ≡ true) (λ l j. eq-eqb l.place n j) ls h)
@@ -108,18 +120,32 @@ in_order_same : (k n : ℕ) (old new : List Line) → Each (λ l. l.place ≡ su
 unfolding in_order
 in_order_same zero n old new h m = refl
 in_order_same (suc k) n old new h m =
-    rw (in_order_same k n old new h (omega arith), filter-append (λ l. l.place == suc k) old new, later_none n (suc k) new h m, append-nil (filter (λ l. l.place == suc k) old)) refl
+    rw (
+      in_order_same k n old new h (omega arith),
+      filter-append (λ l. l.place == suc k) old new,
+      later_none n
+          (suc k) new h m,
+      append-nil (filter (λ l. l.place == suc k) old),
+    ) refl
 
-pub in_order_grows : (n : ℕ) (old new : List Line) → Each (λ l. l.place ≤ n) old → Each (λ l. l.place ≡ suc n) new → in_order (suc n) (old ++ new) ≡ in_order n old ++ by_class new
+pub in_order_grows : (n : ℕ) (old new : List Line) → Each (λ l. l.place ≤ n) old → Each (λ l. l.place ≡ suc n) new
+    → in_order (suc n) (old ++ new) ≡ in_order n old ++ by_class new
 unfolding in_order
 in_order_grows n old new h k =
-    rw (in_order_same n n old new k (omega arith), filter-append (λ l. l.place == suc n) old new, earlier_none n (suc n) old h (omega arith), now_all (suc n) new k) refl
+    rw (
+      in_order_same n n old new k (omega arith),
+      filter-append (λ l. l.place == suc n) old new,
+      earlier_none n
+          (suc n) old h (omega arith),
+      now_all (suc n) new k,
+    ) refl
 
 pub in_order_idle : (n : ℕ) (old : List Line) → Each (λ l. l.place ≤ n) old → in_order (suc n) old ≡ in_order n old
 unfolding in_order
 in_order_idle n old h = rw (earlier_none n (suc n) old h (omega arith), by_class_none) (append-nil (in_order n old))
 
-filter_classes : (q : Line → Bool) (ls : List Line) (cs : List Class) → filter q (flat_map (λ c. filter (has_class c) ls) cs) ≡ flat_map (λ c. filter (has_class c) (filter q ls)) cs
+filter_classes : (q : Line → Bool) (ls : List Line) (cs : List Class)
+    → filter q (flat_map (λ c. filter (has_class c) ls) cs) ≡ flat_map (λ c. filter (has_class c) (filter q ls)) cs
 filter_classes q ls [] = refl
 filter_classes q ls (c ∷ cs) =
     filter-append q (filter (has_class c) ls) (flat_map (λ c. filter (has_class c) ls) cs)
@@ -157,10 +183,12 @@ append_by f l xs ys false e ih =
     rw (standing_keeps f l (xs ++ ys) e, standing_keeps f l xs e)
     (ap (λ (zs : List Line). l ∷ zs) (ih (λ i. f i || is_last_of i l)
     ∙ ap (λ (zs : List Line). standing (λ i. f i || is_last_of i l) xs ++ zs)
-    (standing_same (λ i. (f i || is_last_of i l) || list_any (is_last_of i) (standing (λ i. f i || is_last_of i l) xs)) (λ i. f i || (is_last_of i l || list_any (is_last_of i) (standing (λ i. f i || is_last_of i l) xs))) ys
+    (standing_same (λ i. (f i || is_last_of i l) || list_any (is_last_of i) (standing (λ i. f i || is_last_of i l) xs))
+    (λ i. f i || (is_last_of i l || list_any (is_last_of i) (standing (λ i. f i || is_last_of i l) xs))) ys
     (λ i. or_or (f i) (is_last_of i l) (list_any (is_last_of i) (standing (λ i. f i || is_last_of i l) xs))))))
 
-pub standing_append : (f : ℕ → Bool) (xs ys : List Line) → standing f (xs ++ ys) ≡ standing f xs ++ standing (λ i. f i || list_any (is_last_of i) (standing f xs)) ys
+pub standing_append : (f : ℕ → Bool) (xs ys : List Line)
+    → standing f (xs ++ ys) ≡ standing f xs ++ standing (λ i. f i || list_any (is_last_of i) (standing f xs)) ys
 unfolding standing
 standing_append f [] ys = standing_same f (λ i. f i || false) ys (λ i. sym (or_false (f i)))
 standing_append f (l ∷ xs) ys = append_by f l xs ys (f l.number) refl (λ g. standing_append g xs ys)
@@ -178,7 +206,8 @@ drops_by over orig f l ls h ih false false e k =
     ∙ sym (standing_keeps f l (filter (λ l. not (orig l.number)) ls) k)))
 
 -- The lines of messages that are over before never stand.
-pub standing_drops : (over orig f : ℕ → Bool) (ls : List Line) → ((i : ℕ) → over i ≡ (orig i || f i)) → standing over ls ≡ standing f (filter (λ l. not (orig l.number)) ls)
+pub standing_drops : (over orig f : ℕ → Bool) (ls : List Line) → ((i : ℕ) → over i ≡ (orig i || f i))
+    → standing over ls ≡ standing f (filter (λ l. not (orig l.number)) ls)
 unfolding standing
 standing_drops over orig f [] h = refl
 standing_drops over orig f (l ∷ ls) h = drops_by over orig f l ls h (λ o g k. standing_drops o orig g ls k) (orig l.number) (f l.number) refl refl
@@ -191,7 +220,8 @@ taking_one : (over : ℕ → Bool) (past : List Event) (e : Event) (i : ℕ) →
 unfolding taking keeping
 taking_one over past e i = go (over i)
   where
-    go : (b : Bool) → option_map (λ xs. xs ++ joined i (e ∷ [])) (if b then None else Some (joined i past)) ≡ (if b then None else Some (joined i (past ++ e ∷ [])))
+    go : (b : Bool) → option_map (λ xs. xs ++ joined i (e ∷ [])) (if b then None else Some (joined i past))
+        ≡ (if b then None else Some (joined i (past ++ e ∷ [])))
     go true = refl
     go false = ap Some (sym (joined_append i past (e ∷ [])))
 
@@ -199,27 +229,41 @@ utters_same : (R : Reading) (f g : Kept) (es : List Event) → ((i : ℕ) → f 
 utters_same R f g es h = ap (λ (k : Kept). utters R k es) (λ j i. h i j)
 
 one_by : (R : Reading) (over : ℕ → Bool) (past : List Event) (e : Event) (b : Bool) → over e.whom.number ≡ b
-    → filter (λ l. not (over l.number)) (tells R e (joined e.whom.number past) (joined e.whom.number past ++ octet e.what) e.what) ≡ utters_kept R e (keeping over past e.whom.number)
+    → filter (λ l. not (over l.number)) (tells R e (joined e.whom.number past)
+    (joined e.whom.number past ++ octet e.what) e.what) ≡ utters_kept R e (keeping over past e.whom.number)
 unfolding utters_kept keeping IsOf
 one_by R over past e true k =
     let ls = tells R e (joined e.whom.number past) (joined e.whom.number past ++ octet e.what) e.what in
-    filter_drops (λ l. not (over l.number)) ls (each_weaker (IsOf e) (λ l. not (over l.number) ≡ false) (λ l h. rw (h.1, k) refl) ls (tells_of R e (joined e.whom.number past) (joined e.whom.number past ++ octet e.what) e.what))
+    filter_drops (λ l. not (over l.number)) ls
+    (each_weaker (IsOf e) (λ l. not (over l.number) ≡ false) (λ l h. rw (h.1, k) refl) ls
+    (tells_of R e (joined e.whom.number past) (joined e.whom.number past ++ octet e.what) e.what))
     ∙ rw (keeping, k) refl
 one_by R over past e false k =
     let ls = tells R e (joined e.whom.number past) (joined e.whom.number past ++ octet e.what) e.what in
-    filter_keeps (λ l. not (over l.number)) ls (each_weaker (IsOf e) (λ l. not (over l.number) ≡ true) (λ l h. rw (h.1, k) refl) ls (tells_of R e (joined e.whom.number past) (joined e.whom.number past ++ octet e.what) e.what))
+    filter_keeps (λ l. not (over l.number)) ls
+    (each_weaker (IsOf e) (λ l. not (over l.number) ≡ true) (λ l h. rw (h.1, k) refl) ls
+    (tells_of R e (joined e.whom.number past) (joined e.whom.number past ++ octet e.what) e.what))
     ∙ rw (keeping, k, utters_kept, joined_own e) refl
 
-pub heard_utters : (R : Reading) (over : ℕ → Bool) (past es : List Event) → filter (λ l. not (over l.number)) (heard R past es) ≡ utters R (keeping over past) es
+pub heard_utters : (R : Reading) (over : ℕ → Bool) (past es : List Event)
+    → filter (λ l. not (over l.number)) (heard R past es) ≡ utters R (keeping over past) es
 unfolding heard utters
 heard_utters R over past [] = refl
 heard_utters R over past (e ∷ es) =
     filter_append_at R over past e es
     ∙ rw (one_by R over past e (over e.whom.number) refl, heard_utters R over (past ++ e ∷ []) es)
-    (ap (λ (ls : List Line). utters_kept R e (keeping over past e.whom.number) ++ ls) (utters_same R (keeping over (past ++ e ∷ [])) (taking (keeping over past) (e ∷ [])) es (λ i. sym (taking_one over past e i))))
+    (ap (λ (ls : List Line). utters_kept R e (keeping over past e.whom.number) ++ ls)
+    (utters_same R (keeping over (past ++ e ∷ [])) (taking (keeping over past) (e ∷ [])) es
+    (λ i. sym (taking_one over past e i))))
   where
-    filter_append_at : (R : Reading) (over : ℕ → Bool) (past : List Event) (e : Event) (es : List Event) → filter (λ l. not (over l.number)) (heard R past (e ∷ es)) ≡ filter (λ l. not (over l.number)) (tells R e (joined e.whom.number past) (joined e.whom.number past ++ octet e.what) e.what) ++ filter (λ l. not (over l.number)) (heard R (past ++ e ∷ []) es)
-    filter_append_at R over past e es = filter-append (λ l. not (over l.number)) (tells R e (joined e.whom.number past) (joined e.whom.number past ++ octet e.what) e.what) (heard R (past ++ e ∷ []) es)
+    filter_append_at : (R : Reading) (over : ℕ → Bool) (past : List Event) (e : Event) (es : List Event)
+        → filter (λ l. not (over l.number)) (heard R past (e ∷ es)) ≡ filter (λ l. not (over l.number))
+        (tells R e (joined e.whom.number past) (joined e.whom.number past ++ octet e.what) e.what) ++ filter
+        (λ l. not (over l.number)) (heard R (past ++ e ∷ []) es)
+    filter_append_at R over past e es =
+        filter-append (λ l. not (over l.number))
+        (tells R e (joined e.whom.number past) (joined e.whom.number past ++ octet e.what) e.what)
+        (heard R (past ++ e ∷ []) es)
 
 -- It is enough that what is kept agrees at the messages that the events are about.
 pub utters_agree : (R : Reading) (f g : Kept) (es : List Event) → Each (λ e. f e.whom.number ≡ g e.whom.number) es → utters R f es ≡ utters R g es
@@ -232,7 +276,8 @@ utters_agree R f g (e ∷ es) h =
     (λ d k. ap (option_map (λ xs. xs ++ joined d.whom.number (e ∷ []))) k) es h.1)))
 
 -- The new lines that stand are those that the machine writes.
-pub standing_utters : (R : Reading) (over : ℕ → Bool) (past es : List Event) → standing over (by_class (heard R past es)) ≡ standing (λ i. false) (by_class (utters R (keeping over past) es))
+pub standing_utters : (R : Reading) (over : ℕ → Bool) (past es : List Event)
+    → standing over (by_class (heard R past es)) ≡ standing (λ i. false) (by_class (utters R (keeping over past) es))
 standing_utters R over past es =
     standing_drops over over (λ i. false) (by_class (heard R past es)) (λ i. sym (or_false (over i)))
     ∙ rw (by_class_filter (λ l. not (over l.number)) (heard R past es), heard_utters R over past es) refl
@@ -241,27 +286,38 @@ standing_utters R over past es =
 pub tells_number : (R : Reading) (P : ℕ → Type 0) (e : Event) (o : Option (List ℕ)) → P e.whom.number → Each (λ l. P l.number) (utters_kept R e o)
 unfolding utters_kept IsOf
 tells_number R P e None h = tt
-tells_number R P e (Some xs) h = each_weaker (IsOf e) (λ l. P l.number) (λ l k. subst P (sym k.1) h) (tells R e xs (xs ++ joined e.whom.number (e ∷ [])) e.what) (tells_of R e xs (xs ++ joined e.whom.number (e ∷ [])) e.what)
+tells_number R P e (Some xs) h =
+    each_weaker (IsOf e) (λ l. P l.number) (λ l k. subst P (sym k.1) h)
+    (tells R e xs (xs ++ joined e.whom.number (e ∷ [])) e.what)
+    (tells_of R e xs (xs ++ joined e.whom.number (e ∷ [])) e.what)
 
 -- and what holds of their places
 tells_place : (R : Reading) (P : ℕ → Type 0) (e : Event) (o : Option (List ℕ)) → P e.place → Each (λ l. P l.place) (utters_kept R e o)
 unfolding utters_kept IsOf
 tells_place R P e None h = tt
-tells_place R P e (Some xs) h = each_weaker (IsOf e) (λ l. P l.place) (λ l k. subst P (sym k.0) h) (tells R e xs (xs ++ joined e.whom.number (e ∷ [])) e.what) (tells_of R e xs (xs ++ joined e.whom.number (e ∷ [])) e.what)
+tells_place R P e (Some xs) h =
+    each_weaker (IsOf e) (λ l. P l.place) (λ l k. subst P (sym k.0) h)
+    (tells R e xs (xs ++ joined e.whom.number (e ∷ [])) e.what)
+    (tells_of R e xs (xs ++ joined e.whom.number (e ∷ [])) e.what)
 
 pub utters_places : (R : Reading) (P : ℕ → Type 0) (known : Kept) (es : List Event) → Each (λ e. P e.place) es → Each (λ l. P l.place) (utters R known es)
 unfolding utters
 utters_places R P known [] h = tt
-utters_places R P known (e ∷ es) h = each_append (λ l. P l.place) (utters_kept R e (known e.whom.number)) (utters R (taking known (e ∷ [])) es) (tells_place R P e (known e.whom.number) h.0) (utters_places R P (taking known (e ∷ [])) es h.1)
+utters_places R P known (e ∷ es) h =
+    each_append (λ l. P l.place) (utters_kept R e (known e.whom.number)) (utters R (taking known (e ∷ [])) es)
+    (tells_place R P e (known e.whom.number) h.0) (utters_places R P (taking known (e ∷ [])) es h.1)
 
 utters_each : (R : Reading) (P : ℕ → Type 0) (known : Kept) (es : List Event) → Each (λ e. P e.whom.number) es → Each (λ l. P l.number) (utters R known es)
 unfolding utters
 utters_each R P known [] h = tt
-utters_each R P known (e ∷ es) h = each_append (λ l. P l.number) (utters_kept R e (known e.whom.number)) (utters R (taking known (e ∷ [])) es) (tells_number R P e (known e.whom.number) h.0) (utters_each R P (taking known (e ∷ [])) es h.1)
+utters_each R P known (e ∷ es) h =
+    each_append (λ l. P l.number) (utters_kept R e (known e.whom.number)) (utters R (taking known (e ∷ [])) es)
+    (tells_number R P e (known e.whom.number) h.0) (utters_each R P (taking known (e ∷ [])) es h.1)
 
 pub classes_each : (P : Line → Type 0) (ls : List Line) (cs : List Class) → Each P ls → Each P (flat_map (λ c. filter (has_class c) ls) cs)
 classes_each P ls [] h = tt
-classes_each P ls (c ∷ cs) h = each_append P (filter (has_class c) ls) (flat_map (λ c. filter (has_class c) ls) cs) (each_filter P (has_class c) ls h) (classes_each P ls cs h)
+classes_each P ls (c ∷ cs) h =
+    each_append P (filter (has_class c) ls) (flat_map (λ c. filter (has_class c) ls) cs) (each_filter P (has_class c) ls h) (classes_each P ls cs h)
 
 stands_by : (P : Line → Type 0) (b : Bool) (l : Line) (one two : List Line) → P l → Each P one → Each P two → Each P (if b then one else l ∷ two)
 stands_by P true l one two h j k = j
@@ -270,11 +326,15 @@ stands_by P false l one two h j k = (h, k)
 pub standing_each : (P : Line → Type 0) (over : ℕ → Bool) (ls : List Line) → Each P ls → Each P (standing over ls)
 unfolding standing
 standing_each P over [] h = tt
-standing_each P over (l ∷ ls) h = stands_by P (over l.number) l (standing over ls) (standing (λ i. over i || is_last_of i l) ls) h.0 (standing_each P over ls h.1) (standing_each P (λ i. over i || is_last_of i l) ls h.1)
+standing_each P over (l ∷ ls) h =
+    stands_by P (over l.number) l (standing over ls) (standing (λ i. over i || is_last_of i l) ls) h.0
+    (standing_each P over ls h.1) (standing_each P (λ i. over i || is_last_of i l) ls h.1)
 
-pub written_each : (R : Reading) (P : ℕ → Type 0) (known : Kept) (es : List Event) → Each (λ e. P e.whom.number) es → Each (λ l. P l.number) (standing (λ i. false) (by_class (utters R known es)))
+pub written_each : (R : Reading) (P : ℕ → Type 0) (known : Kept) (es : List Event) → Each (λ e. P e.whom.number) es
+    → Each (λ l. P l.number) (standing (λ i. false) (by_class (utters R known es)))
 unfolding by_class
-written_each R P known es h = standing_each (λ l. P l.number) (λ i. false) _ (classes_each (λ l. P l.number) (utters R known es) classes (utters_each R P known es h))
+written_each R P known es h =
+    standing_each (λ l. P l.number) (λ i. false) _ (classes_each (λ l. P l.number) (utters R known es) classes (utters_each R P known es h))
 
 none_last_by : (i : ℕ) (l : Line) → l.number < i → is_last_of i l ≡ false
 unfolding is_last_of

@@ -22,7 +22,8 @@ IsTitled m live = Each (λ o. o.opener.number ≡ m.number → o.opener ≡ titl
 titled_happens : (live : List Open) (m : Message) → IsTitled m live → IsTitled m (opened live (happens live m))
 titled_happens live m h = kept_happens (IsTitled m) live m (record {
   fewer = λ test live h. each_filter (λ o. o.opener.number ≡ m.number → o.opener ≡ title m) test live h;
-  more = λ can q. unfold opened_by in each_append (λ o. o.opener.number ≡ m.number → o.opener ≡ title m) live (record { id = id m; opener = title m } ∷ []) q (λ same. refl, tt);
+  more = λ can q. unfold opened_by in each_append (λ o. o.opener.number ≡ m.number → o.opener ≡ title m) live
+      (record { id = id m; opener = title m } ∷ []) q (λ same. refl, tt);
 }) h
 
 -- of the stream p
@@ -30,11 +31,14 @@ abbrev HasTitle : List ℕ → Type 0
 HasTitle p = (cut p).stop ≡ None → (m : Message) → (cut p).current ≡ Some m → IsTitled m (open_after p)
 
 module _ (R : Reading) (p : List ℕ) (x : ℕ) (so_far : IsSound R p) (ih : HasTitle p) where
-  before : (m : Message) → (cut p).stop ≡ None → m.number ≡ suc (length (cut p).whole) → (((cut p).current ≡ None) × (m.payload ≡ [])) ⊎ ((was : Message) × ((cut p).current ≡ Some was) × (m ≡ with_octet was x)) → IsTitled m (open_after p)
+  before : (m : Message) → (cut p).stop ≡ None → m.number ≡ suc (length (cut p).whole)
+      → (((cut p).current ≡ None) × (m.payload ≡ [])) ⊎ ((was : Message) × ((cut p).current ≡ Some was) × (m
+      ≡ with_octet was x)) → IsTitled m (open_after p)
   unfolding messages
   before m st number (inl (cur, none)) =
       let count : length (messages (cut p)) ≡ length (cut p).whole = rw cur (ap length (append-nil (cut p).whole)) in
-      each_weaker (λ o. o.opener.number ≤ length (messages (cut p))) (λ o. o.opener.number ≡ m.number → o.opener ≡ title m) (λ o k same. absurd (omega (arith, k, same, count, number))) (open_after p) so_far.numbers
+      each_weaker (λ o. o.opener.number ≤ length (messages (cut p))) (λ o. o.opener.number ≡ m.number → o.opener ≡ title m)
+      (λ o k same. absurd (omega (arith, k, same, count, number))) (open_after p) so_far.numbers
   before m st number (inr (was, cur, is)) = subst (λ (n : Message). IsTitled n (open_after p)) (sym is) (ih st was cur)
 
   title_then : (o : Octet) → Then R p x o → HasTitle (p ++ x ∷ [])
@@ -45,8 +49,10 @@ module _ (R : Reading) (p : List ℕ) (x : ℕ) (so_far : IsSound R p) (ih : Has
   title_then (Of now) h st m cur =
       let one = h.1 in
       let s = settled_is (cut p).whole one.m m (ap (λ (c : Cut). c.current) (sym one.adds.cut_is) ∙ cur) in
-      let live : open_after (p ++ x ∷ []) ≡ opened (open_after p) (happens (open_after p) one.m) = ap (λ (c : Scene). c.live) one.adds.stage ∙ plays_live R (stage R p) (happens (open_after p) one.m) in
-      subst (λ (n : Message). IsTitled n (open_after (p ++ x ∷ []))) (sym s.same) (rw live (titled_happens (open_after p) one.m (before one.m h.0 one.number_is one.from)))
+      let live : open_after (p ++ x ∷ []) ≡ opened (open_after p) (happens (open_after p) one.m) =
+      ap (λ (c : Scene). c.live) one.adds.stage ∙ plays_live R (stage R p) (happens (open_after p) one.m) in
+      subst (λ (n : Message). IsTitled n (open_after (p ++ x ∷ []))) (sym s.same)
+      (rw live (titled_happens (open_after p) one.m (before one.m h.0 one.number_is one.from)))
 
 title_start : HasTitle []
 unfolding of_parts

@@ -28,7 +28,8 @@ use giop_sig::{Catalogue, Requests};
 /// At the request id of a message that opens.
 fn opens<O: Out>(slots: &mut Slots, now: Current, id: u32, out: &mut O) -> Result<bool, OutFault>
     ensures does { (C : Table) (l : Listed) (c : Scene) (m : Message) →
-        IsNamed C l slots.old c m now id → is_fragment m.header ≡ false → is_opener m.header ≡ true →
+        IsNamed C l slots.old c m now id →
+        is_fragment m.header ≡ false → is_opener m.header ≡ true →
         Plays C l one_if result (O.log out.old) (O.log out.new) slots.new
         (plays (message_reading C l) c (at_id c.live m)) (Some (title m)) }
     ensures ready { (C : Table) (n : ℕ) → AreReady C n slots.old → AreReady C n slots.new }

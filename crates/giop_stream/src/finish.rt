@@ -43,7 +43,8 @@ impl Framing {
     #[tactic(auto, unfolding(crate::specs::Steps::final_totals))]
     pub fn final_totals(&self) -> Totals
         ensures state { result ≡ final_totals (shown self.now) }
-        ensures value { (C : Table) (l : Listed) (s : State) → Shows C l (shown self.now) s → result ≡ one.final_totals s }
+        ensures value { (C : Table) (l : Listed) (s : State) → Shows C l (shown self.now) s →
+            result ≡ one.final_totals s }
     {
         let mut totals = self.totals;
         if self.is_cut_short() {
@@ -55,7 +56,8 @@ impl Framing {
     /// The line of a stream that ends inside a message or a header.
     fn truncation<O: Out>(&self, out: &mut O) -> Result<(), OutFault>
         ensures { (C : Table) (l : Listed) (s : State) → Shows C l (shown self.now) s →
-            Writes result (O.log out.old) (O.log out.new) (if one.is_cut_short s then truncated_line s.totals.octets else []) }
+            Writes result (O.log out.old) (O.log out.new)
+            (if one.is_cut_short s then truncated_line s.totals.octets else []) }
     {
         if self.is_cut_short() {
             return truncated_line(out, self.totals.octets);
@@ -66,7 +68,8 @@ impl Framing {
     /// The message whose own octets are kept, unless it is a Fragment.
     fn own_unfinished<O: Out>(&self, out: &mut O) -> Result<(), OutFault>
         ensures { (C : Table) (l : Listed) (s : State) → Shows C l (shown self.now) s →
-            Writes result (O.log out.old) (O.log out.new) (flat_map unfinished_line (one.left_own s.own)) }
+            Writes result (O.log out.old) (O.log out.new)
+            (flat_map unfinished_line (one.left_own s.own)) }
     {
         let Some(message) = &self.slots.own else {
             return Ok(());
@@ -80,7 +83,8 @@ impl Framing {
     /// The messages that have neither ended nor been faulted, by number.
     fn unfinished<O: Out>(&self, out: &mut O) -> Result<(), OutFault>
         ensures { (C : Table) (l : Listed) (s : State) → Shows C l (shown self.now) s →
-            Writes result (O.log out.old) (O.log out.new) (flat_map unfinished_line (one.left_over s)) }
+            Writes result (O.log out.old) (O.log out.new)
+            (flat_map unfinished_line (one.left_over s)) }
     {
         self.slots.unfinished(out)?;
         self.own_unfinished(out)
@@ -92,7 +96,8 @@ impl Framing {
         ensures { (C : Table) (l : Listed) (s : State) → Shows C l (shown self.now) s →
             (let t = one.final_totals s in
             Writes result (O.log out.old) (O.log out.new)
-            (flat_map unfinished_line (one.left_over s) ++ total_line t.messages t.faults t.octets)) }
+            (flat_map unfinished_line (one.left_over s)
+            ++ total_line t.messages t.faults t.octets)) }
     {
         self.unfinished(out)?;
         let totals = self.final_totals();

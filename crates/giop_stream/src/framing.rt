@@ -145,7 +145,8 @@ impl Framing {
             Shows catalogue.now l m s → shown self.old ≡ held_on m x →
             Does catalogue.now l result (O.log out.old) (O.log out.new) (shown self.new)
             (one.step (message_reading catalogue.now l) s x) }
-        ensures ready { OnOk result (AreReady catalogue.now (self.new.totals.octets + 1) self.new.slots) }
+        ensures ready { OnOk result
+            (AreReady catalogue.now (self.new.totals.octets + 1) self.new.slots) }
     {
         self.totals.messages += 1;
         let now = self.current();
@@ -170,7 +171,8 @@ impl Framing {
             Shows catalogue.now l (shown self.old) s →
             Does catalogue.now l result (O.log out.old) (O.log out.new) (shown self.new)
             (one.step (message_reading catalogue.now l) s octet) }
-        ensures ready { OnOk result (AreReady catalogue.now (self.new.totals.octets + 1) self.new.slots) }
+        ensures ready { OnOk result
+            (AreReady catalogue.now (self.new.totals.octets + 1) self.new.slots) }
     {
         self.totals.octets += 1;
         self.header.push(octet);
@@ -200,7 +202,8 @@ impl Framing {
             Shows catalogue.now requests.now (shown self.old) s →
             Does catalogue.now requests.now result (O.log out.old) (O.log out.new) (shown self.new)
             (one.step (message_reading catalogue.now requests.now) s octet) }
-        ensures ready { OnOk result (AreReady catalogue.now (self.new.totals.octets + 1) self.new.slots) }
+        ensures ready { OnOk result
+            (AreReady catalogue.now (self.new.totals.octets + 1) self.new.slots) }
     {
         self.totals.octets += 1;
         self.come = self.come.saturating_add(1);
@@ -225,7 +228,8 @@ impl Framing {
             Shows catalogue.now requests.now (shown self.old) s →
             Does catalogue.now requests.now result (O.log out.old) (O.log out.new) (shown self.new)
             (one.step (message_reading catalogue.now requests.now) s octet) }
-        ensures ready { OnOk result (AreReady catalogue.now (self.new.totals.octets + 1) self.new.slots) }
+        ensures ready { OnOk result
+            (AreReady catalogue.now (self.new.totals.octets + 1) self.new.slots) }
     {
         if self.stopped.is_some() {
             return Ok(());

@@ -40,7 +40,8 @@ pub fn give<O: Out>(
         IsKept catalogue.now requests.now message.old w o →
         PlaysPart catalogue.now requests.now one_if result (O.log out.old) (O.log out.new)
         message.new w (run_part catalogue.now requests.now before w o octets.now) }
-    ensures ready { OnOk result (IsReady catalogue.now (before + length octets.now + 1) message.new) }
+    ensures ready { OnOk result
+        (IsReady catalogue.now (before + length octets.now + 1) message.new) }
 {
     let Some(m) = message else {
         return Ok(false);

@@ -21,22 +21,29 @@ pub fn each_slot()
     // An octet or a fault changes the slot of its message,
     ensures stays { (R : Reading) (c : Scene) (e : Event) (k : ℕ) (o : Open) →
         stays e.what ≡ true → Rising c.live → slice_get c.live k ≡ Some o → e.whom ≡ o.opener →
-        slots_at (scene_at R c e) ≡ slice_set (slots_at c) k (record { open_as = o; octets = octets_then R e (c.known o.opener.number) }) }
+        slots_at (scene_at R c e)
+        ≡ slice_set (slots_at c) k (record { open_as = o; octets = octets_then R e (c.known o.opener.number) }) }
     // and none where that isn't open.
-    ensures own { (R : Reading) (c : Scene) (e : Event) → stays e.what ≡ true → IsNotOpen e.whom.number c.live →
+    ensures own { (R : Reading) (c : Scene) (e : Event) →
+        stays e.what ≡ true → IsNotOpen e.whom.number c.live →
         slots_at (scene_at R c e) ≡ slots_at c }
     // A close or a cancel takes the slot away,
     ensures goes { (R : Reading) (c : Scene) (e : Event) (k : ℕ) (o : Open) →
         goes e.what ≡ true → Rising c.live → slice_get c.live k ≡ Some o → e.whom ≡ o.opener →
         slots_at (scene_at R c e) ≡ remove (slots_at c) k }
     // and none where the message isn't open.
-    ensures closes { (R : Reading) (c : Scene) (e : Event) → goes e.what ≡ true → IsNotOpen e.whom.number c.live →
+    ensures closes { (R : Reading) (c : Scene) (e : Event) →
+        goes e.what ≡ true → IsNotOpen e.whom.number c.live →
         slots_at (scene_at R c e) ≡ slots_at c }
     // A message that becomes open gets the last slot.
-    ensures opens { (R : Reading) (c : Scene) (e : Event) (i : ℕ) → e.what ≡ Opens i → IsNotOpen e.whom.number c.live →
-        slots_at (scene_at R c e) ≡ slots_at c ++ record { open_as = record { id = i; opener = e.whom }; octets = c.known e.whom.number } ∷ [] }
+    ensures opens { (R : Reading) (c : Scene) (e : Event) (i : ℕ) →
+        e.what ≡ Opens i → IsNotOpen e.whom.number c.live →
+        (let o : Open = record { id = i; opener = e.whom } in
+        slots_at (scene_at R c e)
+        ≡ slots_at c ++ record { open_as = o; octets = c.known e.whom.number } ∷ []) }
     // A Fragment that continues a message changes nothing.
-    ensures continues { (R : Reading) (c : Scene) (e : Event) (n : ℕ) → e.what ≡ Continues n → scene_at R c e ≡ c }
+    ensures continues { (R : Reading) (c : Scene) (e : Event) (n : ℕ) →
+        e.what ≡ Continues n → scene_at R c e ≡ c }
     // What is kept of the event's message is that of its octets then; nothing else changes.
     ensures kept { (R : Reading) (c : Scene) (e : Event) →
         (scene_at R c e).known e.whom.number ≡ octets_then R e (c.known e.whom.number) }
@@ -58,9 +65,11 @@ pub fn open_messages()
 
 /// Behind a stream fault no octet adds a line, and none is counted.
 pub fn behind_a_stop()
-    ensures text { (R : Reading) → IsCausal R → (p q : List ℕ) (found : ℕ × StreamFault) → (cut p).stop ≡ Some found →
+    ensures text { (R : Reading) → IsCausal R → (p q : List ℕ) (found : ℕ × StreamFault) →
+        (cut p).stop ≡ Some found →
         text R (p ++ q) ≡ text R p }
-    ensures totals { (R : Reading) → IsCausal R → (p q : List ℕ) (found : ℕ × StreamFault) → (cut p).stop ≡ Some found →
+    ensures totals { (R : Reading) → IsCausal R → (p q : List ℕ) (found : ℕ × StreamFault) →
+        (cut p).stop ≡ Some found →
         tally R (p ++ q) ≡ tally R p }
 {}
 

@@ -61,7 +61,8 @@ pub fn imposed_line<O: Out>(
     fault: ImposedFault,
     place: u64,
 ) -> Result<(), OutFault>
-    ensures { Writes result (O.log out.old) (O.log out.new) (fault_line number (imposed_word fault) place) }
+    ensures { Writes result (O.log out.old) (O.log out.new)
+        (fault_line number (imposed_word fault) place) }
 {
     giop_print::fault_line(out, number, imposed_word(fault), place)
 }

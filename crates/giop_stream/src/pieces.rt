@@ -57,7 +57,8 @@ impl Framing {
             Shows catalogue.now requests.now (shown self.old) s →
             Does catalogue.now requests.now result (O.log out.old) (O.log out.new) (shown self.new)
             (one.runs (message_reading catalogue.now requests.now) s octets.now) }
-        ensures ready { OnOk result (AreReady catalogue.now (self.new.totals.octets + 1) self.new.slots) }
+        ensures ready { OnOk result
+            (AreReady catalogue.now (self.new.totals.octets + 1) self.new.slots) }
     {
         let before = self.totals.octets;
         self.totals.octets += octets.len() as u64;
@@ -83,7 +84,8 @@ impl Framing {
             Shows catalogue.now requests.now (shown self.old) s →
             Does catalogue.now requests.now result (O.log out.old) (O.log out.new) (shown self.new)
             (one.runs (message_reading catalogue.now requests.now) s piece.now) }
-        ensures ready { OnOk result (AreReady catalogue.now (self.new.totals.octets + 1) self.new.slots) }
+        ensures ready { OnOk result
+            (AreReady catalogue.now (self.new.totals.octets + 1) self.new.slots) }
     {
         let mut rest = piece;
         while let Some(octet) = rest.first() {

@@ -103,7 +103,8 @@ impl Slots {
             Keeps catalogue.now requests.now self.old c whose → Rising c.live →
             Plays catalogue.now requests.now one_if result (O.log out.old) (O.log out.new) self.new
             (run_play catalogue.now requests.now before c whose octets.now) whose }
-        ensures ready { OnOk result (AreReady catalogue.now (before + length octets.now + 1) self.new) }
+        ensures ready { OnOk result
+            (AreReady catalogue.now (before + length octets.now + 1) self.new) }
     {
         match self.payload {
             Payload::Own => give(&mut self.own, catalogue, requests, octets, before, out),
@@ -211,7 +212,8 @@ impl Slots {
             Keeps catalogue.now l self.old c whose → w.number ≡ number → w.header ≡ header →
             c.known w.number ≡ Some [] → IsNotOpen w.number c.live →
             Keeps catalogue.now l self.new c (Some w) }
-        ensures ready { (n : ℕ) → AreReady catalogue.now n self.old → 12 < n → AreReady catalogue.now n self.new }
+        ensures ready { (n : ℕ) → AreReady catalogue.now n self.old → 12 < n →
+            AreReady catalogue.now n self.new }
     {
         self.own = Some(Message::start(catalogue, number, header));
         self.payload = Payload::Own;

@@ -6,18 +6,26 @@ use Rattle.giop_stream.proofs.dispatch.cancels.Goals as goal
 pub returns-in_default-clause-does : goal.returns-in_default-clause-does
 returns-in_default-clause-does g c =
     λ C l c' m h f o b.
-    rw (misses_all C l c.args.slots.now c' m c.args.now c.args.id h None (sym c.in_default.is ∙ c.find.ensures.value) refl f o b) (does_nothing _ _ refl h.keeps)
+    rw (misses_all C l c.args.slots.now c' m c.args.now c.args.id h None
+    (sym c.in_default.is ∙ c.find.ensures.value) refl f o b) (does_nothing _ _ refl h.keeps)
 
 pub returns-then-may_be_cancelled-clause-does : goal.returns-then-may_be_cancelled-clause-does
 returns-then-may_be_cancelled-clause-does g c =
     λ C l c' m h f o b.
     let found = finds C l c.args.slots.now c' m c.args.now c.args.id h (cancel_named m.header b) c.in-Some.k (sym c.in-Some.is ∙ c.find.ensures.value) in
-    let may = header_may C l c.args.slots.now c' m c.args.now c.args.id h found.o _ c.in-Some.k _ found.here (read_slot _ _ c.in-Some.k c.index-deref-k.result c.deref.ensures.0 c.in-Some.ensures.within) (sym c.if-may_be_cancelled.ensures) in
-    rw (cancels_one C l c.args.slots.now c' m c.args.now c.args.id h found.o f o b found.is may) (c.cancel.ensures.does C l c' _ found.o h.keeps (h.own_comes (cancel_named m.header b)) found.here h.rising)
+    let may =
+    header_may C l c.args.slots.now c' m c.args.now c.args.id h found.o _ c.in-Some.k _ found.here
+    (read_slot _ _ c.in-Some.k c.index-deref-k.result c.deref.ensures.0 c.in-Some.ensures.within)
+    (sym c.if-may_be_cancelled.ensures) in
+    rw (cancels_one C l c.args.slots.now c' m c.args.now c.args.id h found.o f o b found.is may)
+    (c.cancel.ensures.does C l c' _ found.o h.keeps (h.own_comes (cancel_named m.header b)) found.here h.rising)
 
 pub returns-clause-does : goal.returns-clause-does
 returns-clause-does g c =
     λ C l c' m h f o b.
     let found = finds C l c.args.slots.now c' m c.args.now c.args.id h (cancel_named m.header b) c.in-Some.k (sym c.in-Some.is ∙ c.find.ensures.value) in
-    let may = header_may C l c.args.slots.now c' m c.args.now c.args.id h found.o _ c.in-Some.k _ found.here (read_slot _ _ c.in-Some.k c.index-deref-k.result c.deref.ensures.0 c.in-Some.ensures.within) (sym c.if-may_be_cancelled.ensures) in
+    let may =
+    header_may C l c.args.slots.now c' m c.args.now c.args.id h found.o _ c.in-Some.k _ found.here
+    (read_slot _ _ c.in-Some.k c.index-deref-k.result c.deref.ensures.0 c.in-Some.ensures.within)
+    (sym c.if-may_be_cancelled.ensures) in
     rw (spares C l c.args.slots.now c' m c.args.now c.args.id h found.o f o b found.is may) (does_nothing _ _ refl h.keeps)

@@ -18,7 +18,8 @@ returns-then-is_short-clause-ready g c =
 pub returns-then-is_followed-clause-does : goal.returns-then-is_followed-clause-does
 returns-then-is_followed-clause-does g c =
     λ l c' m h last.
-    rw (ends_followed c.args.catalogue.now l c.args.slots.now c' m c.args.now h c.if-is_short.ensures c.if-is_followed.ensures) (does_nothing _ _ refl (c.lose-then-is_followed.ensures.kept c.args.catalogue.now l _ _ h.keeps))
+    rw (ends_followed c.args.catalogue.now l c.args.slots.now c' m c.args.now h c.if-is_short.ensures c.if-is_followed.ensures)
+    (does_nothing _ _ refl (c.lose-then-is_followed.ensures.kept c.args.catalogue.now l _ _ h.keeps))
 
 pub returns-then-is_followed-clause-ready : goal.returns-then-is_followed-clause-ready
 returns-then-is_followed-clause-ready g c =
@@ -27,4 +28,5 @@ returns-then-is_followed-clause-ready g c =
 pub returns-clause-does : goal.returns-clause-does
 returns-clause-does g c =
     λ l c' m h last.
-    rw (ends_closed c.args.catalogue.now l c.args.slots.now c' m c.args.now h c.if-is_short.ensures c.if-is_followed.ensures last) (c.close.ensures.does l c' _ h.keeps h.rising)
+    rw (ends_closed c.args.catalogue.now l c.args.slots.now c' m c.args.now h c.if-is_short.ensures c.if-is_followed.ensures last)
+    (c.close.ensures.does l c' _ h.keeps h.rising)

@@ -8,10 +8,17 @@ pub returns-then-now-size_of-clause-does : goal.returns-then-now-size_of-clause-
 returns-then-now-size_of-clause-does g c =
     λ l c' m h come.
     let here = eq-eqb _ _ (c.if-now-size_of.true ∙ c.size_of.ensures) in
-    rw (end_here c.args.catalogue.now l c.args.slots.now c' m c.args.now h come here, after_here c.args.catalogue.now l c.args.slots.now c' m c.args.now h come here) (c.ends.ensures.does l c' m h (last_here c.args.catalogue.now l c.args.slots.now c' m c.args.now h come here))
+    rw (
+      end_here c.args.catalogue.now l c.args.slots.now c' m c.args.now h come here,
+      after_here c.args.catalogue.now l c.args.slots.now c' m c.args.now h come here,
+    )
+    (c.ends.ensures.does l c' m h (last_here c.args.catalogue.now l c.args.slots.now c' m c.args.now h come here))
 
 pub returns-clause-does : goal.returns-clause-does
 returns-clause-does g c =
     λ l c' m h come.
     let other = ne_eqb _ _ (λ e. c.if-now-size_of.false (e ∙ sym c.size_of.ensures)) in
-    rw (no_end c.args.catalogue.now l c.args.slots.now c' m c.args.now h come other, after_still c.args.catalogue.now l c.args.slots.now c' m c.args.now h come other) (does_nothing _ _ refl h.keeps)
+    rw (
+      no_end c.args.catalogue.now l c.args.slots.now c' m c.args.now h come other,
+      after_still c.args.catalogue.now l c.args.slots.now c' m c.args.now h come other,
+    ) (does_nothing _ _ refl h.keeps)

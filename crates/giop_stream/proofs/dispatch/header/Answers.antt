@@ -17,7 +17,8 @@ returns-in_err-ended-clause-does g c =
     let begun = c.in_ok-refused.ensures.does l c' who m h in
     let at = begun_at c.args.catalogue.now l c.args.slots.now c' who m c.args.now h c.starts.new.slots begun.kept in
     let ended = c.in_err-ended.ensures.does l _ m at (come_is c.args.catalogue.now l c.args.slots.now c' who m c.args.now h) in
-    rw two (then_failed _ c.from_residual-in_err-ended.result _ _ _ c.from_residual-in_err-ended.ensures.0 begun (call_failed _ c.from_residual-in_err-ended.result _ _ c.from_residual-in_err-ended.ensures.0 ended))
+    rw two (then_failed _ c.from_residual-in_err-ended.result _ _ _ c.from_residual-in_err-ended.ensures.0 begun
+    (call_failed _ c.from_residual-in_err-ended.result _ _ c.from_residual-in_err-ended.ensures.0 ended))
 
 pub returns-clause-does : goal.returns-clause-does
 returns-clause-does g c =

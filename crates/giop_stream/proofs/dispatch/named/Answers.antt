@@ -21,7 +21,11 @@ pub returns-then-not-is_cancel-clause-does : goal.returns-then-not-is_cancel-cla
 returns-then-not-is_cancel-clause-does g c =
     λ C l c' m h.
     let f = header_is C l c.args.slots.now c' m c.args.now c.args.id h is_fragment false (sym c.if-is_fragment.ensures) in
-    rw (whose_other c'.live m f, no_name C l c.args.slots.now c' m c.args.now c.args.id h (sym c.if-is_fragment.ensures) (sym c.if-is_opener.ensures) (sym c.if-not-is_cancel.ensures)) (does_nothing _ _ refl h.keeps)
+    rw (
+      whose_other c'.live m f,
+      no_name C l c.args.slots.now c' m c.args.now c.args.id h (sym c.if-is_fragment.ensures)
+          (sym c.if-is_opener.ensures) (sym c.if-not-is_cancel.ensures),
+    ) (does_nothing _ _ refl h.keeps)
 
 pub returns-in_err-cancels-clause-does : goal.returns-in_err-cancels-clause-does
 returns-in_err-cancels-clause-does g c =

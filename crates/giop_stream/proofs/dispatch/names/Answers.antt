@@ -8,7 +8,9 @@ pub returns-then-now-eq4-clause-does : goal.returns-then-now-eq4-clause-does
 returns-then-now-eq4-clause-does g c =
     λ C l c' m h.
     let four = eq-eqb _ _ c.if-now-eq4.true in
-    rw (id_here C l c.args.slots.now c' m c.args.now h four, whose_then C l c.args.slots.now c' m c.args.now h four) (c.named.ensures.does C l c' m (named_here C l c.args.slots.now c' m c.args.now h c.request_id-id.result (c.request_id-id.ensures C l) four))
+    rw (id_here C l c.args.slots.now c' m c.args.now h four, whose_then C l c.args.slots.now c' m c.args.now h four)
+    (c.named.ensures.does C l c' m (named_here C l c.args.slots.now c' m c.args.now h c.request_id-id.result
+    (c.request_id-id.ensures C l) four))
 
 pub returns-clause-does : goal.returns-clause-does
 returns-clause-does g c =

@@ -8,7 +8,13 @@ use Rattle.giop_stream.proofs.dispatch.octet.Goals as goal
 
 pub take-requires : goal.take-requires
 take-requires g c =
-    record { ready = ready_later c.args.catalogue.now _ _ _ (omega (arith, c.args.now.behind_header)) c.requires.ready; of = c.requires.of; limit = omega (arith, c.args.now.behind_header, c.requires.limit) }
+    record {
+      ready = ready_later c.args.catalogue.now _ _ _
+          (omega (arith, c.args.now.behind_header)) c.requires.ready;
+      of = c.requires.of;
+      limit = omega
+          (arith, c.args.now.behind_header, c.requires.limit);
+    }
 
 pub finishes-requires : goal.finishes-requires
 finishes-requires g c =
@@ -35,7 +41,9 @@ returns-in_err-named-clause-does g c =
     let play = takes_play C l c.args.slots.now c' m c.args.now x h in
     let took = performs_on _ _ _ (ap (λ (p : Play). p.lines) play) (λ k. k) (c.in_ok-taken.ensures.does c' _ h.keeps h.rising) in
     let taken = taken_here C l c.args.slots.now c' m c.args.now x h c.take.new.self took.kept in
-    rw parts (then_failed _ c.from_residual-in_err-named.result _ _ _ c.from_residual-in_err-named.ensures.0 took (first_failed _ _ c.from_residual-in_err-named.result _ _ c.from_residual-in_err-named.ensures.0 (c.in_err-named.ensures.does C l _ _ taken)))
+    rw parts (then_failed _ c.from_residual-in_err-named.result _ _ _ c.from_residual-in_err-named.ensures.0 took
+    (first_failed _ _ c.from_residual-in_err-named.result _ _ c.from_residual-in_err-named.ensures.0
+    (c.in_err-named.ensures.does C l _ _ taken)))
 
 pub returns-in_err-ended-clause-does : goal.returns-in_err-ended-clause-does
 returns-in_err-ended-clause-does g c =

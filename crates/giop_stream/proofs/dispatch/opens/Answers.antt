@@ -6,13 +6,15 @@ use Rattle.giop_stream.proofs.dispatch.opens.Goals as goal
 pub returns-then-is_some-clause-does : goal.returns-then-is_some-clause-does
 returns-then-is_some-clause-does g c =
     λ C l c' m h f o.
-    rw (twice C l c.args.slots.now c' m c.args.now c.args.id h c.find.result c.find.ensures.value (sym c.if-is_some.ensures) f o) (c.impose.ensures.does C l c' _ h.keeps h.current.number h.rising)
+    rw (twice C l c.args.slots.now c' m c.args.now c.args.id h c.find.result c.find.ensures.value
+    (sym c.if-is_some.ensures) f o) (c.impose.ensures.does C l c' _ h.keeps h.current.number h.rising)
 
 pub returns-then-is_full-clause-does : goal.returns-then-is_full-clause-does
 returns-then-is_full-clause-does g c =
     λ C l c' m h f o.
     let full = full_is _ (sym c.if-is_full.ensures.value) in
-    rw (no_room C l c.args.slots.now c' m c.args.now c.args.id h c.find.result c.find.ensures.value (sym c.if-is_some.ensures) full f o) (c.impose-then-is_full.ensures.does C l c' _ h.keeps h.current.number h.rising)
+    rw (no_room C l c.args.slots.now c' m c.args.now c.args.id h c.find.result c.find.ensures.value
+    (sym c.if-is_some.ensures) full f o) (c.impose-then-is_full.ensures.does C l c' _ h.keeps h.current.number h.rising)
 
 pub returns-clause-does : goal.returns-clause-does
 returns-clause-does g c =

@@ -6,26 +6,40 @@ use Rattle.giop_stream.proofs.dispatch.passes.Goals as goal
 pub returns-in_err-continues_line-clause-does : goal.returns-in_err-continues_line-clause-does
 returns-in_err-continues_line-clause-does g c =
     λ C l c' m i o h f e here.
-    let number = sym (opener_slot C l c.args.slots.now c' m c.args.now i h c.args.k o _ here (read_slot _ _ c.args.k c.index-deref-k.result c.deref.ensures.0 c.requires)).number in
-    line_failed c.from_residual.result _ _ _ (goes_first C l c.args.slots.now c' m c.args.now i h o f e) (goes_text C l c.args.slots.now c' m c.args.now i h o _ number) c.from_residual.ensures.0 c.in_err-continues_line.ensures
+    let number =
+    sym (opener_slot C l c.args.slots.now c' m c.args.now i h c.args.k o _ here
+    (read_slot _ _ c.args.k c.index-deref-k.result c.deref.ensures.0 c.requires)).number in
+    line_failed c.from_residual.result _ _ _ (goes_first C l c.args.slots.now c' m c.args.now i h o f e)
+    (goes_text C l c.args.slots.now c' m c.args.now i h o _ number) c.from_residual.ensures.0 c.in_err-continues_line.ensures
 
 pub returns-then-same_order-clause-does : goal.returns-then-same_order-clause-does
 returns-then-same_order-clause-does g c =
     λ C l c' m i o h f e here.
-    let number = sym (opener_slot C l c.args.slots.now c' m c.args.now i h c.args.k o _ here (read_slot _ _ c.args.k c.index-deref-k.result c.deref.ensures.0 c.requires)).number in
-    let header = (opener_slot C l c.args.slots.now c' m c.args.now i h c.args.k o _ here (read_slot _ _ c.args.k c.index-deref-k-2.result c.deref-2.ensures.0 c.requires)).header in
+    let number =
+    sym (opener_slot C l c.args.slots.now c' m c.args.now i h c.args.k o _ here
+    (read_slot _ _ c.args.k c.index-deref-k.result c.deref.ensures.0 c.requires)).number in
+    let header =
+    (opener_slot C l c.args.slots.now c' m c.args.now i h c.args.k o _ here
+    (read_slot _ _ c.args.k c.index-deref-k-2.result c.deref-2.ensures.0 c.requires)).header in
     let order = orders C l c.args.slots.now c' m c.args.now i h o _ _ _ _ c.order_of.ensures c.order_of-order.ensures header (sym c.if-same_order.ensures) in
-    rw (in_order C l c.args.slots.now c' m c.args.now i h o f e order) (wrote_line _ _ _ _ (goes_text C l c.args.slots.now c' m c.args.now i h o _ number) (goes_faults m o [] ∙ no_faults) c.in_ok-continues_line.ensures (c.pass_on.ensures.kept C l c' _ o h.keeps here))
+    rw (in_order C l c.args.slots.now c' m c.args.now i h o f e order)
+    (wrote_line _ _ _ _ (goes_text C l c.args.slots.now c' m c.args.now i h o _ number)
+    (goes_faults m o [] ∙ no_faults) c.in_ok-continues_line.ensures (c.pass_on.ensures.kept C l c' _ o h.keeps here))
 
 pub returns-clause-does : goal.returns-clause-does
 returns-clause-does g c =
     λ C l c' m i o h f e here.
-    let number = sym (opener_slot C l c.args.slots.now c' m c.args.now i h c.args.k o _ here (read_slot _ _ c.args.k c.index-deref-k.result c.deref.ensures.0 c.requires)).number in
-    let header = (opener_slot C l c.args.slots.now c' m c.args.now i h c.args.k o _ here (read_slot _ _ c.args.k c.index-deref-k-2.result c.deref-2.ensures.0 c.requires)).header in
+    let number =
+    sym (opener_slot C l c.args.slots.now c' m c.args.now i h c.args.k o _ here
+    (read_slot _ _ c.args.k c.index-deref-k.result c.deref.ensures.0 c.requires)).number in
+    let header =
+    (opener_slot C l c.args.slots.now c' m c.args.now i h c.args.k o _ here
+    (read_slot _ _ c.args.k c.index-deref-k-2.result c.deref-2.ensures.0 c.requires)).header in
     let order = orders C l c.args.slots.now c' m c.args.now i h o _ _ _ _ c.order_of.ensures c.order_of-order.ensures header (sym c.if-same_order.ensures) in
     let passed = c.pass_on.ensures.kept C l c' _ o h.keeps here in
     rw (out_of_order C l c.args.slots.now c' m c.args.now i h o f e order)
-    (line_then c.impose.result _ _ _ _ (goes_text C l c.args.slots.now c' m c.args.now i h o _ number) (goes_faults m o _) c.in_ok-continues_line.ensures (c.impose.ensures.does C l c' _ passed number h.rising))
+    (line_then c.impose.result _ _ _ _ (goes_text C l c.args.slots.now c' m c.args.now i h o _ number)
+    (goes_faults m o _) c.in_ok-continues_line.ensures (c.impose.ensures.does C l c' _ passed number h.rising))
 
 pub returns-clause-ready : goal.returns-clause-ready
 returns-clause-ready g c =

@@ -9,5 +9,7 @@ unsigned m n e = cc
 
 pub overflow_cast-result : goal.overflow_cast-result
 overflow_cast-result c =
-    let same : num c.args.order c.args.carry.now ≡ c.in-Ok-Unsigned.number = unsigned (num c.args.order c.args.carry.now) c.in-Ok-Unsigned.number (rw c.in-Ok-Unsigned.field-0-is at c.in-Ok-Unsigned.ensures.ok) in
+    let same : num c.args.order c.args.carry.now ≡ c.in-Ok-Unsigned.number =
+    unsigned (num c.args.order c.args.carry.now) c.in-Ok-Unsigned.number
+    (rw c.in-Ok-Unsigned.field-0-is at c.in-Ok-Unsigned.ensures.ok) in
     omega (arith, num_bound-4 c.args.order c.args.carry.now c.value.ensures.octets c.requires)

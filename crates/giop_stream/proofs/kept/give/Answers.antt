@@ -15,7 +15,9 @@ pub returns-in_err-take-clause-does : goal.returns-in_err-take-clause-does
 returns-in_err-take-clause-does g c =
     λ w o k.
     failed c.from_residual.result _ _ c.from_residual.ensures.0
-    (given_text c.args.catalogue.now c.args.requests.now (λ text. Writes c.from_residual.result (g.O.Out.log c.args.out.now) (g.O.Out.log c.take.new.out) text) c.in-Some.m w o c.args.before c.args.octets.now (rw c.in-Some.is at k)
+    (given_text c.args.catalogue.now c.args.requests.now
+    (λ text. Writes c.from_residual.result (g.O.Out.log c.args.out.now)
+    (g.O.Out.log c.take.new.out) text) c.in-Some.m w o c.args.before c.args.octets.now (rw c.in-Some.is at k)
     (λ number header s f. writes_failed _ _ _ _ c.from_residual.ensures.0 (c.in_err-take.ensures.writes number header s f)))
 
 pub returns-then-is_none-clause-does : goal.returns-then-is_none-clause-does
@@ -27,5 +29,6 @@ returns-then-is_none-clause-does g c =
 pub returns-clause-does : goal.returns-clause-does
 returns-clause-does g c =
     λ w o k.
-    rw c.forget.ensures (given_over c.args.catalogue.now c.args.requests.now c.in-Some.m c.take.new.self w o c.args.before c.args.octets.now c.in_ok-take.field-0 _ _
+    rw c.forget.ensures
+    (given_over c.args.catalogue.now c.args.requests.now c.in-Some.m c.take.new.self w o c.args.before c.args.octets.now c.in_ok-take.field-0 _ _
     c.if-is_none.ensures (rw c.in-Some.is at k) c.in_ok-take.ensures.writes c.in_ok-take.ensures.took)

@@ -14,10 +14,12 @@ pub returns-in_err-imposed_line-clause-does : goal.returns-in_err-imposed_line-c
 returns-in_err-imposed_line-clause-does g c =
     λ C l w o k n.
     let part = imposed_part C l c.args.message.now w o c.args.place c.args.fault (ap is_some (sym c.take.ensures.value) ∙ c.if-is_none.ensures) k in
-    rw part (line_failed c.from_residual.result _ _ _ (record { more = _; is = refl }) (faulted_text c.args.place c.args.number c.args.fault w n) c.from_residual.ensures.0 c.in_err-imposed_line.ensures)
+    rw part (line_failed c.from_residual.result _ _ _ (record { more = _; is = refl })
+    (faulted_text c.args.place c.args.number c.args.fault w n) c.from_residual.ensures.0 c.in_err-imposed_line.ensures)
 
 pub returns-clause-does : goal.returns-clause-does
 returns-clause-does g c =
     λ C l w o k n.
     let part = imposed_part C l c.args.message.now w o c.args.place c.args.fault (ap is_some (sym c.take.ensures.value) ∙ c.if-is_none.ensures) k in
-    rw (c.take.ensures.after, part) (wrote_line _ _ _ _ (faulted_text c.args.place c.args.number c.args.fault w n) (faulted_one c.args.place w.number c.args.fault) c.in_ok-imposed_line.ensures tt)
+    rw (c.take.ensures.after, part) (wrote_line _ _ _ _ (faulted_text c.args.place c.args.number c.args.fault w n)
+    (faulted_one c.args.place w.number c.args.fault) c.in_ok-imposed_line.ensures tt)

@@ -5,7 +5,8 @@ use Rattle.giop_stream.proofs.kept.shut.Goals as goal
 
 pub returns-in-Some : goal.returns-in-Some
 returns-in-Some g c =
-    λ l w o k. shut_says c.args.catalogue.now l c.in-Some.m w o c.args.place c.close.result _ _ (rw c.in-Some.is at k) (c.close.ensures.writes l) c.close.ensures.short
+    λ l w o k. shut_says c.args.catalogue.now l c.in-Some.m w o c.args.place c.close.result _ _ (rw c.in-Some.is at k)
+    (c.close.ensures.writes l) c.close.ensures.short
 
 pub returns-in-None : goal.returns-in-None
 returns-in-None g c =

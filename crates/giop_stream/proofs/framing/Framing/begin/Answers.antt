@@ -17,7 +17,10 @@ returns-in_err-faults-clause-does g c =
     let known = c.current-now.ensures in
     let first = is_first C l s r m h x b e asks.full asks.right asks.running room c.current-now.result known.number known.header known.place known.come in
     let failed = c.from_residual.ensures.0 in
-    begun_does C l s r m h x b e asks.full asks.right asks.running room _ _ _ _ (writes_failed c.from_residual.result (g.O.Out.log c.args.out.now) (g.O.Out.log c.header.new.out) _ failed ((c.in_err-faults.ensures.does l (stage (message_reading C l) r.stream) _ _ first).text)) (on_err _ c.from_residual.result failed)
+    begun_does C l s r m h x b e asks.full asks.right asks.running room _ _ _ _
+    (writes_failed c.from_residual.result (g.O.Out.log c.args.out.now) (g.O.Out.log c.header.new.out) _ failed
+    ((c.in_err-faults.ensures.does l (stage (message_reading C l) r.stream) _ _ first).text))
+    (on_err _ c.from_residual.result failed)
 
 pub returns-clause-does : goal.returns-clause-does
 returns-clause-does g c =
@@ -31,7 +34,11 @@ returns-clause-does g c =
     let does = c.in_ok-faults.ensures.does l (stage (message_reading C l) r.stream) _ _ first in
     let faults = ap (λ (n : ℕ). b.totals.faults + n) (c.from.ensures ∙ sym does.faults) in
     begun_does C l s r m h x b e asks.full asks.right asks.running room _ _ _ _ does.text
-    (begun_shows C l s r m h x b e asks.full asks.right asks.running room _ (shown c.settle.new.self) c.size_of.result c.settle.ensures refl faults refl refl refl refl (c.size_of.ensures ∙ ap size known.header) does.kept)
+    (begun_shows C l s r m h x b e asks.full asks.right asks.running room _
+    (shown c.settle.new.self) c.size_of.result c.settle.ensures refl faults refl refl refl refl
+    (c.size_of.ensures ∙ ap size known.header) does.kept)
 
 pub returns-clause-ready : goal.returns-clause-ready
-returns-clause-ready g c = ready_settled c.args.catalogue.now _ (shown c.settle.new.self) c.size_of.result c.current-now.result.place c.settle.ensures c.current-now.ensures.place c.in_ok-faults.ensures.ready
+returns-clause-ready g c =
+    ready_settled c.args.catalogue.now _
+    (shown c.settle.new.self) c.size_of.result c.current-now.result.place c.settle.ensures c.current-now.ensures.place c.in_ok-faults.ensures.ready

@@ -24,7 +24,8 @@ returns-in-Some-clause-does g c =
 
 pub returns-in-Some-clause-ready : goal.returns-in-Some-clause-ready
 returns-in-Some-clause-ready g c =
-    on_ok_weaker c.stop.result (λ e. ready_stopped c.args.catalogue.now _ (shown c.stop.new.self) c.in-Some.fault _ e (ready_later c.args.catalogue.now _ _ _ (omega arith) c.requires.ready)) c.stop.ensures.state
+    on_ok_weaker c.stop.result (λ e. ready_stopped c.args.catalogue.now _ (shown c.stop.new.self) c.in-Some.fault _ e
+    (ready_later c.args.catalogue.now _ _ _ (omega arith) c.requires.ready)) c.stop.ensures.state
 
 pub returns-then-len-eq12-clause-does : goal.returns-then-len-eq12-clause-does
 returns-then-len-eq12-clause-does g c = λ l s r h.
@@ -42,7 +43,9 @@ returns-clause-does g c =
     let few = c.requires.held in
     rw (held_step C l m s h x c.requires.running c.requires.limit few w other) (record {
       text = rw (held_text C l m s h x c.requires.running c.requires.limit few) (wrote-nil _);
-      shows = subst (λ (n : Memory). Shows C l n (held_on s (m.header ++ x ∷ [])).state) (sym (pushed_is m x c.push.new.self.items c.push.ensures.items)) (held_shows C l m s h x c.requires.running c.requires.limit few other);
+      shows = subst (λ (n : Memory). Shows C l n (held_on s (m.header ++ x ∷ [])).state)
+          (sym (pushed_is m x c.push.new.self.items c.push.ensures.items))
+          (held_shows C l m s h x c.requires.running c.requires.limit few other);
     })
 
 pub returns-clause-ready : goal.returns-clause-ready

@@ -9,8 +9,14 @@ returns-in_default g c = λ C l s h. rw (nothing_left C l c.args.self.now.slots.
 
 pub returns-then-is_fragment : goal.returns-then-is_fragment
 returns-then-is_fragment g c = λ C l s h.
-    rw (fragment_left C l c.args.self.now.slots.own s.own c.in-Some.message c.in-Some.is (sym (c.is_fragment.ensures ∙ ap is_fragment c.header.ensures) ∙ c.if-is_fragment.true) h.own) (wrote-nil _)
+    rw (fragment_left C l c.args.self.now.slots.own s.own c.in-Some.message c.in-Some.is
+    (sym (c.is_fragment.ensures ∙ ap is_fragment c.header.ensures) ∙ c.if-is_fragment.true) h.own) (wrote-nil _)
 
 pub returns : goal.returns
 returns g c = λ C l s h.
-    rw (message_left C l c.args.self.now.slots.own s.own c.in-Some.message c.in-Some.is (sym (c.is_fragment.ensures ∙ ap is_fragment c.header.ensures) ∙ c.if-is_fragment.false) h.own, sym c.number.ensures) c.unfinished_line.ensures
+    rw (
+      message_left C l c.args.self.now.slots.own s.own c.in-Some.message c.in-Some.is
+          (sym (c.is_fragment.ensures ∙ ap is_fragment c.header.ensures)
+          ∙ c.if-is_fragment.false) h.own,
+      sym c.number.ensures,
+    ) c.unfinished_line.ensures

@@ -20,7 +20,10 @@ returns-in_err-faults-clause-does g c s r h =
     let known = c.current-now.ensures in
     let next = is_next C kept s r m h free here.0 here.1 x c.requires.limit c.current-now.result known.number known.header known.place (known.come ∙ come) in
     let failed = c.from_residual.ensures.0 in
-    paid_does C kept s r m h free here.0 here.1 x c.requires.limit _ _ _ _ (writes_failed c.from_residual.result (g.O.Out.log c.args.out.now) (g.O.Out.log c.octet.new.out) _ failed (c.in_err-faults.ensures.does (stage (message_reading C kept) r.stream) here.0 next).text) (on_err _ c.from_residual.result failed)
+    paid_does C kept s r m h free here.0 here.1 x c.requires.limit _ _ _ _
+    (writes_failed c.from_residual.result (g.O.Out.log c.args.out.now) (g.O.Out.log c.octet.new.out) _ failed
+    (c.in_err-faults.ensures.does (stage (message_reading C kept) r.stream) here.0 next).text)
+    (on_err _ c.from_residual.result failed)
 
 pub returns-clause-does : goal.returns-clause-does
 returns-clause-does g c s r h =
@@ -37,7 +40,11 @@ returns-clause-does g c s r h =
     let does = c.in_ok-faults.ensures.does (stage (message_reading C kept) r.stream) here.0 next in
     let faults = ap (λ (n : ℕ). m.totals.faults + n) (c.from.ensures ∙ sym does.faults) in
     paid_does C kept s r m h free here.0 here.1 x c.requires.limit _ _ _ _ does.text
-    (paid_shows C kept s r m h free here.0 here.1 x c.requires.limit _ (shown c.settle.new.self) c.size_of.result c.settle.ensures refl faults refl refl refl come (c.size_of.ensures ∙ ap size known.header) does.kept)
+    (paid_shows C kept s r m h free here.0 here.1 x c.requires.limit _
+    (shown c.settle.new.self) c.size_of.result c.settle.ensures refl faults refl refl refl come
+    (c.size_of.ensures ∙ ap size known.header) does.kept)
 
 pub returns-clause-ready : goal.returns-clause-ready
-returns-clause-ready g c = ready_settled c.args.catalogue.now _ (shown c.settle.new.self) c.size_of.result c.current-now.result.place c.settle.ensures c.current-now.ensures.place c.in_ok-faults.ensures.ready
+returns-clause-ready g c =
+    ready_settled c.args.catalogue.now _
+    (shown c.settle.new.self) c.size_of.result c.current-now.result.place c.settle.ensures c.current-now.ensures.place c.in_ok-faults.ensures.ready

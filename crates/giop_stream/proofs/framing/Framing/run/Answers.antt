@@ -21,7 +21,9 @@ returns-in_err-take-clause-does g c s r h =
     let rises = run_rises C kept s r m h asks.running here.0 here.1 q asks.named asks.before_last asks.limit in
     let failed = c.from_residual.ensures.0 in
     run_does C kept s r m h asks.running here.0 here.1 q asks.named asks.before_last asks.limit _ _ _ _
-    (writes_failed c.from_residual.result (g.O.Out.log c.args.out.now) (g.O.Out.log c.take.new.out) _ failed (c.in_err-take.ensures.does (stage (message_reading C kept) r.stream) (whose (open_after r.stream) here.0) keeps rises).text) (on_err _ c.from_residual.result failed)
+    (writes_failed c.from_residual.result (g.O.Out.log c.args.out.now) (g.O.Out.log c.take.new.out) _ failed
+    (c.in_err-take.ensures.does (stage (message_reading C kept) r.stream)
+    (whose (open_after r.stream) here.0) keeps rises).text) (on_err _ c.from_residual.result failed)
 
 pub returns-then-branch-clause-does : goal.returns-then-branch-clause-does
 returns-then-branch-clause-does g c s r h =
@@ -34,11 +36,14 @@ returns-then-branch-clause-does g c s r h =
     let keeps = run_keeps C kept s r m h asks.running here.0 here.1 q asks.named asks.before_last asks.limit in
     let fits = run_fits C kept s r m h asks.running here.0 here.1 q asks.named asks.before_last asks.limit in
     let rises = run_rises C kept s r m h asks.running here.0 here.1 q asks.named asks.before_last asks.limit in
-    let all : c.unwrap_or-come.result ≡ length q = c.unwrap_or-come.ensures ∙ number_fits c.try_from.result (length q) _ (omega (arith, fits)) c.try_from.ensures in
+    let all : c.unwrap_or-come.result ≡ length q =
+    c.unwrap_or-come.ensures ∙ number_fits c.try_from.result (length q) _ (omega (arith, fits)) c.try_from.ensures in
     let does = c.in_ok-take.ensures.does (stage (message_reading C kept) r.stream) (whose (open_after r.stream) here.0) keeps rises in
     let one = rw c.if-branch.true at does.faults in
     run_does C kept s r m h asks.running here.0 here.1 q asks.named asks.before_last asks.limit _ _ _ _ does.text
-    (run_shows C kept s r m h asks.running here.0 here.1 q asks.named asks.before_last asks.limit _ refl (ap (λ (n : ℕ). c.args.self.now.totals.faults + n) (sym one)) refl refl refl (omega (arith, c.saturating_add-self.ensures, all, fits)) does.kept)
+    (run_shows C kept s r m h asks.running here.0 here.1 q asks.named asks.before_last asks.limit _ refl
+    (ap (λ (n : ℕ). c.args.self.now.totals.faults + n) (sym one)) refl refl refl
+    (omega (arith, c.saturating_add-self.ensures, all, fits)) does.kept)
 
 pub returns-else-branch-clause-does : goal.returns-else-branch-clause-does
 returns-else-branch-clause-does g c s r h =
@@ -51,8 +56,10 @@ returns-else-branch-clause-does g c s r h =
     let keeps = run_keeps C kept s r m h asks.running here.0 here.1 q asks.named asks.before_last asks.limit in
     let fits = run_fits C kept s r m h asks.running here.0 here.1 q asks.named asks.before_last asks.limit in
     let rises = run_rises C kept s r m h asks.running here.0 here.1 q asks.named asks.before_last asks.limit in
-    let all : c.unwrap_or-come.result ≡ length q = c.unwrap_or-come.ensures ∙ number_fits c.try_from.result (length q) _ (omega (arith, fits)) c.try_from.ensures in
+    let all : c.unwrap_or-come.result ≡ length q =
+    c.unwrap_or-come.ensures ∙ number_fits c.try_from.result (length q) _ (omega (arith, fits)) c.try_from.ensures in
     let does = c.in_ok-take.ensures.does (stage (message_reading C kept) r.stream) (whose (open_after r.stream) here.0) keeps rises in
     let none = rw c.if-branch.false at does.faults in
     run_does C kept s r m h asks.running here.0 here.1 q asks.named asks.before_last asks.limit _ _ _ _ does.text
-    (run_shows C kept s r m h asks.running here.0 here.1 q asks.named asks.before_last asks.limit _ refl (omega (arith, none)) refl refl refl (omega (arith, c.saturating_add-self.ensures, all, fits)) does.kept)
+    (run_shows C kept s r m h asks.running here.0 here.1 q asks.named asks.before_last asks.limit _ refl
+    (omega (arith, none)) refl refl refl (omega (arith, c.saturating_add-self.ensures, all, fits)) does.kept)

@@ -9,7 +9,8 @@ use Rattle.giop_stream.proofs.framing.Framing.step.Goals as goal
 
 pub returns-then-is_some-clause-does : goal.returns-then-is_some-clause-does
 returns-then-is_some-clause-does g c s r h =
-    rw (behind_step c.args.catalogue.now c.args.requests.now (shown c.args.self.now) s h c.args.octet (sym c.is_some.ensures ∙ c.if-is_some.true)) (record { text = nothing_text _; shows = h })
+    rw (behind_step c.args.catalogue.now c.args.requests.now (shown c.args.self.now) s h c.args.octet
+    (sym c.is_some.ensures ∙ c.if-is_some.true)) (record { text = nothing_text _; shows = h })
 
 pub returns-then-self-ge-LIMIT-clause-does : goal.returns-then-self-ge-LIMIT-clause-does
 returns-then-self-ge-LIMIT-clause-does g c s r h =

@@ -30,11 +30,20 @@ returns-in_err-step-clause-does g c s r h =
     let so_far = c.loop-octet.invariant in
     let octet = c.in-Some.octet.now in
     let rest = c.loop-octet.rest.now in
-    let octets = octets_come so_far.come rest c.args.piece.now so_far.split (All-from_get_or (λ x. x < 256) c.args.piece.now 0 (λ i below. omega (arith, c.type_inv.piece i))) in
-    let does = rw (← one_run R (run_state R s so_far.come) octet) at (c.in_err-step.ensures.does (run_state R s so_far.come) (reached_on C kept s so_far.come octets r) (so_far.shows s r h)) in
-    let split = run_within R s so_far.come (octet ∷ []) (drop 1 rest) c.args.piece.now (further so_far.come rest (octet ∷ []) _ c.args.piece.now so_far.split (first_of rest octet c.in-Some.ensures.value)) in
+    let octets =
+    octets_come so_far.come rest c.args.piece.now so_far.split
+    (All-from_get_or (λ x. x < 256) c.args.piece.now 0 (λ i below. omega (arith, c.type_inv.piece i))) in
+    let does =
+    rw (← one_run R (run_state R s so_far.come) octet) at (c.in_err-step.ensures.does (run_state R s so_far.come)
+    (reached_on C kept s so_far.come octets r) (so_far.shows s r h)) in
+    let split =
+    run_within R s so_far.come (octet ∷ []) (drop 1 rest) c.args.piece.now
+    (further so_far.come rest (octet ∷ []) _ c.args.piece.now so_far.split (first_of rest octet c.in-Some.ensures.value)) in
     let failed = c.from_residual.ensures.0 in
-    record { text = rw split.1 (writes_err _ _ _ _ _ failed (wrote-front _ _ _ _ _ (so_far.text s r h) does.text)); shows = on_err _ c.from_residual.result failed }
+    record {
+      text = rw split.1 (writes_err _ _ _ _ _ failed (wrote-front _ _ _ _ _ (so_far.text s r h) does.text));
+      shows = on_err _ c.from_residual.result failed;
+    }
 
 pub loop-octet-preserved-then-quiet-eq0 : goal.loop-octet-preserved-then-quiet-eq0
 loop-octet-preserved-then-quiet-eq0 g c =
@@ -44,10 +53,15 @@ loop-octet-preserved-then-quiet-eq0 g c =
     let so_far = c.loop-octet.invariant in
     let octet = c.in-Some.octet.now in
     let rest = c.loop-octet.rest.now in
-    let octets = octets_come so_far.come rest c.args.piece.now so_far.split (All-from_get_or (λ x. x < 256) c.args.piece.now 0 (λ i below. omega (arith, c.type_inv.piece i))) in
+    let octets =
+    octets_come so_far.come rest c.args.piece.now so_far.split
+    (All-from_get_or (λ x. x < 256) c.args.piece.now 0 (λ i below. omega (arith, c.type_inv.piece i))) in
     let left : drop 1 rest ≡ take (length rest - 1) (drop 1 rest) = sym (take_all (length rest - 1) (drop 1 rest) (omega (arith, length-drop 1 rest))) in
     let parts : rest ≡ octet ∷ take (length rest - 1) (drop 1 rest) = first_of rest octet c.in-Some.ensures.value ∙ ap (λ (z : List ℕ). octet ∷ z) left in
-    let next = λ (s : State) (r : IsReached C kept s) (h : Shows C kept (shown c.args.self.now) s). rw (← one_run R (run_state R s so_far.come) octet) at (c.in_ok-step.ensures.does (run_state R s so_far.come) (reached_on C kept s so_far.come octets r) (so_far.shows s r h)) in
+    let next =
+    λ (s : State) (r : IsReached C kept s) (h : Shows C kept (shown c.args.self.now) s). rw
+    (← one_run R (run_state R s so_far.come) octet) at (c.in_ok-step.ensures.does (run_state R s so_far.come)
+    (reached_on C kept s so_far.come octets r) (so_far.shows s r h)) in
     record {
       come = so_far.come ++ octet ∷ [];
       split = further so_far.come rest (octet ∷ []) _ c.args.piece.now so_far.split parts;
@@ -64,11 +78,18 @@ returns-in_err-run-clause-does g c s r h =
     let so_far = c.loop-octet.invariant in
     let n = c.quiet-quiet.result in
     let rest = c.loop-octet.rest.now in
-    let octets = octets_come so_far.come rest c.args.piece.now so_far.split (All-from_get_or (λ x. x < 256) c.args.piece.now 0 (λ i below. omega (arith, c.type_inv.piece i))) in
+    let octets =
+    octets_come so_far.come rest c.args.piece.now so_far.split
+    (All-from_get_or (λ x. x < 256) c.args.piece.now 0 (λ i below. omega (arith, c.type_inv.piece i))) in
     let does = c.in_err-run.ensures.does (run_state R s so_far.come) (reached_on C kept s so_far.come octets r) (so_far.shows s r h) in
-    let split = run_within R s so_far.come (take n rest) (drop n rest) c.args.piece.now (further so_far.come rest (take n rest) (drop n rest) c.args.piece.now so_far.split (sym (take-append-drop n rest))) in
+    let split =
+    run_within R s so_far.come (take n rest) (drop n rest) c.args.piece.now
+    (further so_far.come rest (take n rest) (drop n rest) c.args.piece.now so_far.split (sym (take-append-drop n rest))) in
     let failed = c.from_residual-in_err-run.ensures.0 in
-    record { text = rw split.1 (writes_err _ _ _ _ _ failed (wrote-front _ _ _ _ _ (so_far.text s r h) does.text)); shows = on_err _ c.from_residual-in_err-run.result failed }
+    record {
+      text = rw split.1 (writes_err _ _ _ _ _ failed (wrote-front _ _ _ _ _ (so_far.text s r h) does.text));
+      shows = on_err _ c.from_residual-in_err-run.result failed;
+    }
 
 pub loop-octet-preserved : goal.loop-octet-preserved
 loop-octet-preserved g c =
@@ -78,12 +99,17 @@ loop-octet-preserved g c =
     let so_far = c.loop-octet.invariant in
     let n = c.quiet-quiet.result in
     let rest = c.loop-octet.rest.now in
-    let octets = octets_come so_far.come rest c.args.piece.now so_far.split (All-from_get_or (λ x. x < 256) c.args.piece.now 0 (λ i below. omega (arith, c.type_inv.piece i))) in
+    let octets =
+    octets_come so_far.come rest c.args.piece.now so_far.split
+    (All-from_get_or (λ x. x < 256) c.args.piece.now 0 (λ i below. omega (arith, c.type_inv.piece i))) in
     let left : drop n rest ≡ take (length rest - n) (drop n rest) = sym (take_all (length rest - n) (drop n rest) (omega (arith, length-drop n rest))) in
-    let next = λ (s : State) (r : IsReached C kept s) (h : Shows C kept (shown c.args.self.now) s). c.in_ok-run.ensures.does (run_state R s so_far.come) (reached_on C kept s so_far.come octets r) (so_far.shows s r h) in
+    let next =
+    λ (s : State) (r : IsReached C kept s) (h : Shows C kept (shown c.args.self.now) s). c.in_ok-run.ensures.does
+    (run_state R s so_far.come) (reached_on C kept s so_far.come octets r) (so_far.shows s r h) in
     record {
       come = so_far.come ++ take n rest;
-      split = further so_far.come rest (take n rest) _ c.args.piece.now so_far.split (sym (take-append-drop n rest) ∙ ap (λ (z : List ℕ). take n rest ++ z) left);
+      split = further so_far.come rest (take n rest) _ c.args.piece.now so_far.split
+          (sym (take-append-drop n rest) ∙ ap (λ (z : List ℕ). take n rest ++ z) left);
       shows = λ s r h. rw (run_state_on R s so_far.come (take n rest)) (next s r h).shows;
       text = λ s r h. rw (run_text_on R s so_far.come (take n rest)) (wrote-append _ _ _ _ _ (so_far.text s r h) (next s r h).text);
       ready = c.in_ok-run.ensures.ready;

@@ -15,7 +15,8 @@ invariant-loop-octet g l =
     record {
       come : List ℕ;
       split : l.piece ≡ come ++ l.rest;
-      shows : (s : State) → IsReached l.catalogue l.requests s → Shows l.catalogue l.requests (shown l.initial.self) s → Shows l.catalogue l.requests (shown l.self) (run_state (message_reading l.catalogue l.requests) s come);
+      shows : (s : State) → IsReached l.catalogue l.requests s → Shows l.catalogue l.requests (shown l.initial.self) s
+          → Shows l.catalogue l.requests (shown l.self) (run_state (message_reading l.catalogue l.requests) s come);
       text : (s : State) → IsReached l.catalogue l.requests s → Shows l.catalogue l.requests (shown l.initial.self) s →
           Wrote (g.O.Out.log l.initial.out) (g.O.Out.log l.out) (lines_text (run (message_reading l.catalogue l.requests) s come));
       ready : AreReady l.catalogue (l.self.totals.octets + 1) l.self.slots;

@@ -20,7 +20,8 @@ returns-else-is_none-clause-does g c =
     let says = cancel_says C l c.in-Some.slot.message o.opener _ c.args.place c.args.by c.if-is_none.ensures was.message in
     let keeps = cancel_keeps C l c.args.self.now c.pop_at.new.self c' w c.args.k o c.args.place c.args.by h e here rising c.in-Some.ensures.items in
     performs_on _ _ _ says (λ k. k)
-    (writes_line c.cancelled_line.result _ _ _ (cancelled_text c.args.place _ c.args.by o.opener (sym was.number)) (λ x. cancelled_none c.args.place o.opener.number c.args.by) c.cancelled_line.ensures keeps)
+    (writes_line c.cancelled_line.result _ _ _ (cancelled_text c.args.place _ c.args.by o.opener (sym was.number))
+    (λ x. cancelled_none c.args.place o.opener.number c.args.by) c.cancelled_line.ensures keeps)
 
 pub returns-in-None-clause-does : goal.returns-in-None-clause-does
 returns-in-None-clause-does g c =

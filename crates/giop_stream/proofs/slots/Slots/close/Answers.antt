@@ -12,12 +12,14 @@ returns-in-Own-clause-does g c =
 pub returns-in-Some-clause-does : goal.returns-in-Some-clause-does
 returns-in-Some-clause-does g c =
     λ l c' whose h rising.
-    slot_closes c.args.catalogue.now l c.shut-in-Some.result _ _ c.args.place c.args.self.now c.in-Some.slot c.pop_at.new.self c' whose c.in-Open.k c.in-Open.is (sym c.in-Some.ensures.value) c.in-Some.ensures.items rising h
+    slot_closes c.args.catalogue.now l c.shut-in-Some.result _ _ c.args.place c.args.self.now c.in-Some.slot c.pop_at.new.self c' whose c.in-Open.k c.in-Open.is
+    (sym c.in-Some.ensures.value) c.in-Some.ensures.items rising h
     (λ w k. c.shut-in-Some.ensures l w (c'.known w.number) k)
 
 pub returns-in-None-clause-does : goal.returns-in-None-clause-does
 returns-in-None-clause-does g c =
-    λ l c' whose h rising. no_slot_says c.args.catalogue.now l c.args.self.now c' whose c.in-Open.k c.in-Open.is (λ l. false≢true (c.in-None.ensures.variant.1 l)) h
+    λ l c' whose h rising. no_slot_says c.args.catalogue.now l c.args.self.now c' whose c.in-Open.k c.in-Open.is
+    (λ l. false≢true (c.in-None.ensures.variant.1 l)) h
 
 pub returns-in-Nobody-clause-does : goal.returns-in-Nobody-clause-does
 returns-in-Nobody-clause-does g c = λ l c' whose h rising. nobody_closes c.args.catalogue.now l _ c.args.place c.args.self.now c' whose c.in-Nobody.is h

@@ -6,7 +6,8 @@ use Rattle.giop_stream.proofs.slots.Slots.impose.Goals as goal
 pub returns-in-Own-clause-does : goal.returns-in-Own-clause-does
 returns-in-Own-clause-does g c =
     λ C l c' w h n rising.
-    own_plays C l c.impose.result _ _ c.args.self.now c.impose.new.message c' w _ _ c.in-Own.is h (still_alters C l c.args.place c' w _ (still_imposed c.args.fault))
+    own_plays C l c.impose.result _ _ c.args.self.now c.impose.new.message c' w _ _ c.in-Own.is h
+    (still_alters C l c.args.place c' w _ (still_imposed c.args.fault))
     (λ k. c.impose.ensures.does C l w (c'.known w.number) k n)
 
 pub returns-in-Some-clause-does : goal.returns-in-Some-clause-does
@@ -26,4 +27,8 @@ returns-in-Own-clause-ready g c =
 
 pub returns-in-Some-clause-ready : goal.returns-in-Some-clause-ready
 returns-in-Some-clause-ready g c =
-    λ C n h. record { own_ready = h.own_ready; each_ready = set_ready C n c.args.self.now.slots.items c.in-Open.k _ (c.impose-in-Some.ensures.ready C n) h.each_ready }
+    λ C n h. record {
+      own_ready = h.own_ready;
+      each_ready = set_ready C n c.args.self.now.slots.items c.in-Open.k _
+          (c.impose-in-Some.ensures.ready C n) h.each_ready;
+    }
