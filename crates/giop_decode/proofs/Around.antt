@@ -1,37 +1,41 @@
 -- The machine, from its innermost part outwards.
-use Rattle.std.proofs.Common.{◌≡◌, ℕ, zero, suc, ◌-◌, ◌<◌, ◌≤◌, List, [], ◌∷◌, ◌++◌, refl, ◌∙◌, ap, arith, add-zero, lit<}
+use Rattle.std.proofs.Common.{◌≡◌, ℕ, zero, suc, ◌-◌, ◌<◌, ◌≤◌, List, [], ◌∷◌, ◌++◌, refl, ◌∙◌, ap, arith, add-zero, lit<, lt-ltb}
 use Rattle.giop_decode.specs.Begins.{start_leaf, start_outer}
-use Rattle.giop_decode.specs.Fits.{HasParts}
+use Rattle.giop_decode.specs.Fits.{HasParts, Surrounds}
 use Rattle.giop_decode.specs.Pieces.{Waiting, block}
 use Rattle.giop_decode.specs.Reading.{parts_from, read}
-use Rattle.giop_decode.specs.Spine.{Coding, Done, Fault, Index, Leaf, Line, Member, Name, Part, Place, Read, Seg, Short, with_front, within}
-use Rattle.giop_decode.specs.Steps.{inner_path, around, part_at, path_in, resumed, seg_in, seg_of}
+use Rattle.giop_decode.specs.Spine.{Coding, Done, Fault, Index, Leaf, Line, Member, Name, Part, Place, Read, Seg, Short, with_front, within, Held, Inside}
+use Rattle.giop_decode.specs.Steps.{inner_path, around, part_at, path_in, resumed, seg_in, seg_of, coding_at, coding_in}
 use Rattle.giop_decode.specs.declared.progress.Kind.{Kind}
 use Rattle.giop_sig.specs.Fits.{IsFit}
-use Rattle.giop_sig.specs.Types.{Array, Octets, Sequence, Single, Struct, Text, Ty, Union, part_of, width}
+use Rattle.giop_sig.specs.Types.{Array, Octets, Sequence, Single, Struct, Text, Ty, Union, part_of, width, Encapsulation}
 use Rattle.giop_decode.proofs.Now.{number_none}
 use Rattle.giop_decode.proofs.Law.{with_front-followed, with_front-within, block_waits, width_pos}
+use Rattle.giop_decode.proofs.Enclosing.{with_front-enclosed}
 
 pub around-append : (coding : Coding) (path : List Seg) (outer : List Place) (place : Place) (r : Read) →
-    around coding path (outer ++ place ∷ []) r ≡ around coding path outer (resumed coding (path_in path outer) place r)
+    around coding path (outer ++ place ∷ []) r ≡ around coding path outer (resumed (coding_in coding outer) (path_in path outer) place r)
 around-append coding path [] place r = refl
-around-append coding path (p ∷ outer) place r = ap (resumed coding path p) (around-append coding (path ++ seg_in p ∷ []) outer place r)
+around-append coding path (p ∷ outer) place r = ap (resumed coding path p) (around-append (coding_at coding p) (path ++ seg_in p ∷ []) outer place r)
 
 pub path_in-append : (path : List Seg) (outer : List Place) (place : Place) → path_in path (outer ++ place ∷ []) ≡ path_in path outer ++ seg_in place ∷ []
 path_in-append path [] place = refl
 path_in-append path (p ∷ outer) place = path_in-append (path ++ seg_in p ∷ []) outer place
 
-pub around-short : (coding : Coding) (path : List Seg) (outer : List Place) (lines : List Line) (at : ℕ) (inner : List Place) (leaf : Leaf) →
+pub around-short : (coding : Coding) (path : List Seg) (outer : List Place) (lines : List Line) (at : ℕ) (inner : List Place) (leaf : Leaf) → Surrounds at outer →
     around coding path outer (Short lines at inner leaf) ≡ Short lines at (outer ++ inner) leaf
-around-short coding path [] lines at inner leaf = refl
-around-short coding path (Part T i count ∷ outer) lines at inner leaf = rw (around-short coding (path ++ seg_of T i ∷ []) outer lines at inner leaf) refl
-around-short coding path (Member T i ∷ outer) lines at inner leaf = rw (around-short coding (path ++ seg_of T i ∷ []) outer lines at inner leaf) refl
+around-short coding path [] lines at inner leaf h = refl
+around-short coding path (Part T i count ∷ outer) lines at inner leaf h = rw (around-short coding (path ++ seg_of T i ∷ []) outer lines at inner leaf h.1) refl
+around-short coding path (Member T i ∷ outer) lines at inner leaf h = rw (around-short coding (path ++ seg_of T i ∷ []) outer lines at inner leaf h.1) refl
+around-short coding path (Inside T c end ∷ outer) lines at inner leaf h =
+    rw (around-short c (path ++ Held ∷ []) outer lines at inner leaf h.1, lt-ltb at end h.0.0) refl
 
 pub around-fault : (coding : Coding) (path : List Seg) (outer : List Place) (lines : List Line) (at : ℕ) (kind : Kind) (S : Ty) →
     around coding path outer (Fault lines at kind S) ≡ Fault lines at kind S
 around-fault coding path [] lines at kind S = refl
 around-fault coding path (Part T i count ∷ outer) lines at kind S = rw (around-fault coding (path ++ seg_of T i ∷ []) outer lines at kind S) refl
 around-fault coding path (Member T i ∷ outer) lines at kind S = rw (around-fault coding (path ++ seg_of T i ∷ []) outer lines at kind S) refl
+around-fault coding path (Inside T c end ∷ outer) lines at kind S = rw (around-fault c (path ++ Held ∷ []) outer lines at kind S) refl
 
 pub around-front : (coding : Coding) (path : List Seg) (outer : List Place) (front : List Line) (r : Read) →
     around coding path outer (with_front front r) ≡ with_front front (around coding path outer r)
@@ -42,6 +46,8 @@ around-front coding path (Part T i count ∷ outer) front r =
     rw (around-front coding (path ++ seg_of T i ∷ []) outer front r, with_front-within front (Part T i count) inner) (with_front-followed front (within (Part T i count) inner) next)
 around-front coding path (Member T i ∷ outer) front r =
     rw (around-front coding (path ++ seg_of T i ∷ []) outer front r) (with_front-within front (Member T i) (around coding (path ++ seg_of T i ∷ []) outer r))
+around-front coding path (Inside T c end ∷ outer) front r =
+    rw (around-front c (path ++ Held ∷ []) outer front r) (with_front-enclosed front path T c end (around c (path ++ Held ∷ []) outer r) [])
 
 -- Before the first octet.
 pub block_none : (n at : ℕ) → 0 < n → block n at [] ≡ Waiting [] at
@@ -61,6 +67,7 @@ read_none coding path (suc d) (Text bound) at h = rw (number_none coding.origin 
 read_none coding path (suc d) (Octets bound) at h = rw (number_none coding.origin 4 at (lit< tt)) refl
 read_none coding path (suc d) (Sequence bound T) at h = rw (number_none coding.origin 4 at (lit< tt)) refl
 read_none coding path (suc d) (Union choice scalar select names cases) at h = rw (number_none coding.origin (width scalar) at (width_pos scalar)) refl
+read_none coding path (suc d) (Encapsulation T) at h = rw (number_none coding.origin 4 at (lit< tt)) refl
 read_none coding path (suc d) (Struct zero names parts) at h = absurd (omega (arith, h.0))
 read_none coding path (suc d) (Struct (suc more) names parts) at h =
     first_part coding path (Struct (suc more) names parts) (suc more) more 0 at (read_none coding (path ++ Name (names 0) ∷ []) d (parts 0) at (h.1 0 h.0))
@@ -78,6 +85,7 @@ fit_part d (Single scalar) i count fit kind below = absurd kind
 fit_part d (Text bound) i count fit kind below = absurd kind
 fit_part d (Octets bound) i count fit kind below = absurd kind
 fit_part d (Union choice scalar select names cases) i count fit kind below = absurd kind
+fit_part d (Encapsulation T) i count fit kind below = absurd kind
 
 pub next_part : (coding : Coding) (path : List Seg) (d : ℕ) (T : Ty) (i count at : ℕ) → IsFit (suc d) T → HasParts T count → suc i < count →
     resumed coding path (Part T i count) (Done [] at []) ≡ Short [] at (Part T (suc i) count ∷ start_outer (part_of T (suc i))) (start_leaf (part_of T (suc i)))

@@ -2,21 +2,22 @@
 use Rattle.std.proofs.Common.{◌≡◌, ℕ, zero, suc, pred, ◌<◌, List, [], ◌∷◌, ◌++◌, map, refl, sym, ◌∙◌, ap, arith, append_assoc}
 use Rattle.std.specs.List.{AllByRecursion}
 use Rattle.giop_decode.specs.Spine.{Place, Part}
-use Rattle.giop_decode.specs.Fits.{HasParts}
+use Rattle.giop_decode.specs.Fits.{HasParts, IsEncapsulation}
 use Rattle.giop_decode.specs.Begins.{start_outer, start_leaf}
-use Rattle.giop_decode.specs.Turns.{IsWhole, place_in}
-use Rattle.giop_sig.specs.Types.{Ty, Single, Text, Octets, Struct, Union, Sequence, Array, part_of, shape_in, HasPlace, IsUnion}
+use Rattle.giop_decode.specs.Turns.{IsWhole, part_in}
+use Rattle.giop_sig.specs.Types.{Encapsulation, Ty, Single, Text, Octets, Struct, Union, Sequence, Array, part_of, shape_in, HasPlace, IsUnion}
 use Rattle.giop_sig.specs.Fits.{IsFit}
 
 pub record Begins (d : ℕ) (T : Ty) (count : ℕ) : Type 0 where
   pub room : 0 < d
   pub some : 0 < count
   pub parts : HasParts T count
-  pub outer : start_outer T ≡ place_in T 0 count ∷ start_outer (part_of T 0)
+  pub outer : start_outer T ≡ part_in T 0 count ∷ start_outer (part_of T 0)
   pub leaf : start_leaf T ≡ start_leaf (part_of T 0)
   pub fit : IsFit (pred d) (part_of T 0)
   pub placed : HasPlace (shape_in T) 0
   pub uncounted : IsUnion (shape_in T) → count ≡ 0
+  pub bare : IsEncapsulation T → ⊥
 
 pub begins : (d : ℕ) (T : Ty) (count : ℕ) → IsFit d T → IsWhole T count → Begins d T count
 unfolding IsFit
@@ -31,6 +32,7 @@ begins (suc d) (Struct n names parts) count fit is =
       fit = fit.1 0 fit.0;
       placed = fit.0;
       uncounted = λ h. absurd h;
+      bare = λ h. h;
     }
 begins (suc d) (Array n E) count fit is =
     record {
@@ -42,12 +44,14 @@ begins (suc d) (Array n E) count fit is =
       fit = fit.1;
       placed = tt;
       uncounted = λ h. absurd h;
+      bare = λ h. h;
     }
 begins (suc d) (Single scalar) count fit is = absurd is
 begins (suc d) (Text bound) count fit is = absurd is
 begins (suc d) (Octets bound) count fit is = absurd is
 begins (suc d) (Union choice scalar select names cases) count fit is = absurd is
 begins (suc d) (Sequence bound E) count fit is = absurd is
+begins (suc d) (Encapsulation E) count fit is = absurd is
 
 pub all_push : {X : Type 0} (P : X → Type 0) (xs : List X) (x : X) → AllByRecursion P xs → P x → AllByRecursion P (xs ++ x ∷ [])
 all_push P [] x h p = (p, tt)
@@ -57,5 +61,5 @@ pub map_push : {X Y : Type 0} (f : X → Y) (xs : List X) (x : X) → map f (xs 
 map_push f [] x = refl
 map_push f (y ∷ xs) x = ap (λ ys. f y ∷ ys) (map_push f xs x)
 
-pub begins_places : (d : ℕ) (ps : List Place) (T : Ty) (count : ℕ) → Begins d T count → (ps ++ place_in T 0 count ∷ []) ++ start_outer (part_of T 0) ≡ ps ++ start_outer T
-begins_places d ps T count b = append_assoc ps (place_in T 0 count ∷ []) (start_outer (part_of T 0)) ∙ ap (λ qs. ps ++ qs) (sym b.outer)
+pub begins_places : (d : ℕ) (ps : List Place) (T : Ty) (count : ℕ) → Begins d T count → (ps ++ part_in T 0 count ∷ []) ++ start_outer (part_of T 0) ≡ ps ++ start_outer T
+begins_places d ps T count b = append_assoc ps (part_in T 0 count ∷ []) (start_outer (part_of T 0)) ∙ ap (λ qs. ps ++ qs) (sym b.outer)

@@ -1,5 +1,5 @@
 -- Octets that only add to the piece of a content, taken together.
-use Rattle.std.proofs.Common.{◌≡◌, ℕ, suc, ◌+◌, ◌-◌, ◌%◌, ◌<◌, List, [], ◌∷◌, ◌++◌, length, Some, refl, sym, ◌∙◌, ap, subst, append_assoc, arith, length-append}
+use Rattle.std.proofs.Common.{◌≡◌, ℕ, suc, ◌+◌, ◌-◌, ◌%◌, ◌<◌, false, List, [], ◌∷◌, ◌++◌, length, Some, refl, sym, ◌∙◌, ap, subst, append_assoc, arith, length-append}
 use Rattle.giop_sig.specs.declared.types.TypeId.{TypeId}
 use Rattle.giop_decode.specs.declared.decoder.Decoder.{Decoder}
 use Rattle.giop_decode.specs.declared.leaf.Leaf.TheVariants as innermost
@@ -7,22 +7,24 @@ use Rattle.giop_decode.specs.declared.progress.Progress.TheVariants as progress
 use Rattle.giop_decode.specs.Holding.{Fits}
 use Rattle.giop_decode.specs.Runs.{dues, AllGathered}
 use Rattle.giop_decode.specs.Spine.{lines_of}
-use Rattle.giop_decode.specs.Turns.{IsClean}
+use Rattle.giop_decode.specs.Turns.{IsClean, is_inside}
 use Rattle.giop_decode.proofs.Advancing.{same_some}
 use Rattle.giop_decode.proofs.PieceLaws.{content_held}
 use Rattle.giop_decode.proofs.Runs.{dues_both, takes_one, takes_both}
 use Rattle.giop_decode.proofs.Taking.{takes_to, due_is}
-use Rattle.giop_decode.proofs.Waiting.{held_in, Holds, step_held, held_comes, held_fits, held_minds}
+use Rattle.giop_decode.proofs.Waiting.{held_in, Holds, step_held, held_comes, held_here, held_fits, held_minds}
 use Rattle.giop_sig.specs.Table.{Table}
 use Rattle.giop_sig.specs.Trees.{tree}
 
--- a decoder whose piece has these octets more
+-- a decoder in no encapsulation, whose piece has these octets more
 pub record HasMore (d new : Decoder) (octets : List ℕ) : Type 0 where
   pub order : new.order ≡ d.order
   pub root : new.root ≡ d.root
   pub message : new.message ≡ d.message
   pub at : new.at ≡ (d.at + length octets) % 8
   pub outer : new.outer ≡ d.outer
+  pub inside : new.inside ≡ d.inside
+  pub free : is_inside d.outer.items ≡ false
   pub leaf : new.leaf ≡ d.leaf
   pub carry : new.carry ≡ d.carry
   pub piece : new.piece.items ≡ d.piece.items ++ octets
@@ -41,7 +43,7 @@ module _ (C : Table) (of : TypeId) (total offset : ℕ) where
       let leaf = innermost.Content of total offset in
       let it : f.leaf ≡ leaf = same_some f.leaf leaf (sym f.goes_on ∙ e) in
       let clean : IsClean leaf d.carry d.piece.items = subst (λ l. IsClean l d.carry d.piece.items) it f.clean in
-      held_fits C d new leaf b f e (more.leaf ∙ e) more.outer more.at (more.carry ∙ clean) (one_holds d new b more room some d.at)
+      held_fits C d new leaf b more.free f e (more.leaf ∙ e) more.outer more.inside more.at (more.carry ∙ clean) (one_holds d new b more room some f.here)
 
   pub one_gathered : (d new : Decoder) (b : ℕ) → HasMore d new (b ∷ []) → Fits C d →
       d.leaf ≡ Some (innermost.Content of total offset) → length d.piece.items + 1 < 32 →
@@ -52,11 +54,11 @@ module _ (C : Table) (of : TypeId) (total offset : ℕ) where
       let e' = more.leaf ∙ e in
       record {
         takes = takes_one C T order at message root new s b progress.More
-            (takes_to C T order at message root d new s b progress.More f more.order more.root more.message more.at
-            (λ here h. held_comes C d new leaf b here e e' more.outer (holds here))
-            (λ here front h old. held_minds C d new leaf b here front e e' more.outer more.memory (holds here) old) r);
+            (takes_to C T order at message root d new s b progress.More f more.order more.root more.message (λ here h. held_here C d new leaf b more.free here more.outer more.at h)
+            (λ here h. held_comes C d new leaf b more.free here f.known_outer e e' more.outer (holds here))
+            (λ here front h old. held_minds C d new leaf b more.free here front f.known_outer e e' more.outer more.memory (holds here) old) r);
         quiet = due_is C T order at message root d s b f r
-            ∙ ap lines_of (step_held C d new leaf b (at + length s) e e' more.outer (holds (at + length s)));
+            ∙ ap lines_of (step_held C d new leaf b more.free (at + length s) f.known_outer e e' more.outer (holds (at + length s)));
       }
 
   -- one octet and then the others
@@ -78,7 +80,7 @@ module _ (C : Table) (of : TypeId) (total offset : ℕ) where
   gathered d new b (b' ∷ bs) more f e room some =
       let mid = held_in d d.carry (record { items = d.piece.items ++ b ∷ [] }) ((d.at + 1) % 8) in
       let first : HasMore d mid (b ∷ []) =
-      record { order = refl; root = refl; message = refl; at = refl; outer = refl; leaf = refl; carry = refl; piece = refl; memory = refl } in
+      record { order = refl; root = refl; message = refl; at = refl; outer = refl; inside = refl; free = more.free; leaf = refl; carry = refl; piece = refl; memory = refl } in
       let one_room : length d.piece.items + 1 < 32 = omega (arith, room) in
       let one_some : length d.piece.items + 1 < total - offset = omega (arith, some) in
       let l = length-append d.piece.items (b ∷ []) in
@@ -89,6 +91,8 @@ module _ (C : Table) (of : TypeId) (total offset : ℕ) where
         message = more.message;
         at = omega (arith, more.at);
         outer = more.outer;
+        inside = more.inside;
+        free = more.free;
         leaf = more.leaf;
         carry = more.carry;
         piece = more.piece ∙ sym (append_assoc d.piece.items (b ∷ []) (b' ∷ bs));

@@ -1,8 +1,9 @@
 -- What is heard of an octet, and what is minded of a reading.
 use Rattle.std.specs.Prelude.{slice_index_or, codes}
 use Rattle.std.specs.Str.{bytes_eq}
-use Rattle.std.proofs.Common.{◌≡◌, ◌≢◌, ℕ, ◌&&◌, Bool, true, false, List, [], ◌∷◌, ◌++◌, length, refl, ◌∙◌, arith}
+use Rattle.std.proofs.Common.{◌≡◌, ◌≢◌, ℕ, ◌&&◌, Bool, true, false, List, [], ◌∷◌, ◌++◌, length, refl, ◌∙◌, arith, Option, Some, None, sym}
 use Rattle.giop_decode.specs.declared.decoder.Decoder.{Decoder}
+use Rattle.giop_cdr.specs.declared.order.Order.{Order}
 use Rattle.giop_decode.specs.declared.leaf.Leaf.{Leaf as Innermost}
 use Rattle.giop_decode.specs.declared.leaf.Leaf.TheVariants as innermost
 use Rattle.giop_decode.specs.declared.leaf.Turn.{Turn}
@@ -11,17 +12,22 @@ use Rattle.giop_decode.specs.declared.leaf.Spoken.TheVariants as spokens
 use Rattle.giop_decode.specs.Heard.{Heard, hear_value, ended, with_piece, heard_piece, is_member, heard, heard_of, hushed, in_content, in_string, is_header_root, is_text, nothing}
 use Rattle.giop_decode.specs.Holding.{Minds, Recalls}
 use Rattle.giop_decode.specs.Recalling.{Voices, hushes, leaf_in_string, turn_in_string}
-use Rattle.giop_decode.specs.Spine.{Seg, Name, Index, Switch, Line, line, Value, Piece, Place, Content, Read, Done, Short, Fault, lines_of, with_front}
+use Rattle.giop_decode.specs.Spine.{Leaf, Head, Opening, Held, Seg, Name, Index, Switch, Line, line, Value, Piece, Place, Content, Read, Done, Short, Fault, lines_of, with_front}
 use Rattle.giop_decode.specs.declared.frame.Frame.{Frame}
 use Rattle.giop_decode.specs.Steps.{path_in, seg_in}
-use Rattle.giop_decode.specs.Turns.{leaf_of, leaf_type, place, place_in, places, AreKnown, IsSpoken}
+use Rattle.giop_decode.specs.Turns.{has_ended, leaf_of, leaf_type, place, part_in, places, AreKnown, IsSpoken}
 use Rattle.giop_decode.proofs.Resuming.{heard-append, lines_front}
 use Rattle.giop_print.specs.declared.path.Root.{Root}
 use Rattle.giop_print.specs.declared.path.Root.TheVariants as roots
 use Rattle.giop_sig.specs.declared.types.Shape.{Shape}
+use Rattle.std.specs.Prelude.{IfSome}
+use Rattle.giop_decode.specs.Fits.{IsEncapsulation}
+use Rattle.giop_decode.specs.Moves.{stopped_with}
+use Rattle.giop_decode.specs.Reading.{cut_off}
+use Rattle.giop_decode.proofs.Surrounding.{shut}
 use Rattle.giop_sig.specs.Table.{Table}
 use Rattle.giop_sig.specs.Trees.{tree}
-use Rattle.giop_sig.specs.Types.{Cases, Ty, Single, Text, Octets, Struct, Union, Sequence, Array, Plain, Enum, HasMember, HasPlace, name_in, shape_in}
+use Rattle.giop_sig.specs.Types.{Cases, Ty, Single, Text, Octets, Struct, Union, Sequence, Array, Plain, Enum, HasMember, HasPlace, name_in, shape_in, Encapsulation, Tag}
 
 content_in : (T : Ty) (total offset : ℕ) (piece : List ℕ) → in_content (Content T total offset piece) ≡ is_text T
 content_in (Text bound) total offset piece = refl
@@ -31,13 +37,43 @@ content_in (Struct n names parts) total offset piece = refl
 content_in (Union choice scalar select names cases) total offset piece = refl
 content_in (Sequence bound T) total offset piece = refl
 content_in (Array n T) total offset piece = refl
+content_in (Encapsulation T) total offset piece = refl
 
 pub leaf_inside : (C : Table) (leaf : Innermost) (carry piece : List ℕ) → in_content (leaf_of C leaf carry piece) ≡ leaf_in_string (tree C (leaf_type leaf)) leaf
 leaf_inside C (innermost.Number of) carry piece = refl
+leaf_inside C (innermost.Opening of left) carry piece = refl
 leaf_inside C (innermost.Content of total offset) carry piece = content_in (tree C of.0) total offset piece
+
+-- an encapsulation's end in a string cuts it off
+pub cut_inside : (leaf : Leaf) → is_text (cut_off leaf) ≡ in_content leaf
+cut_inside (Head T carry) = refl
+cut_inside (Opening T n) = refl
+cut_inside (Content T total offset piece) = sym (content_in T total offset piece)
+
+pub shut_inside : (ended : Bool) (lines : List Line) (at : ℕ) (outer : List Place) (leaf : Leaf) → in_string (shut ended lines at outer leaf) ≡ in_content leaf
+shut_inside true lines at outer leaf = cut_inside leaf
+shut_inside false lines at outer leaf = refl
+
+-- the rest of an encapsulation is no string
+pub rest_silent : (T : Ty) → IsEncapsulation T → is_text T ≡ false
+rest_silent (Encapsulation T) h = refl
+rest_silent (Single scalar) h = absurd h
+rest_silent (Text bound) h = absurd h
+rest_silent (Octets bound) h = absurd h
+rest_silent (Struct n names parts) h = absurd h
+rest_silent (Union n scalar select names cases) h = absurd h
+rest_silent (Sequence bound T) h = absurd h
+rest_silent (Array n T) h = absurd h
+
+pub stopped_silent : (C : Table) (frames : List Frame) (carry piece : List ℕ) (leaf : Option Innermost) (lines : List Line) (at : ℕ) →
+    IfSome leaf (λ l. leaf_in_string (tree C (leaf_type l)) l ≡ false) → in_string (stopped_with C frames carry piece leaf lines at) ≡ false
+stopped_silent C frames carry piece None lines at h = refl
+stopped_silent C frames carry piece (Some leaf) lines at h =
+    shut_inside (has_ended frames) lines at (places C at frames) (leaf_of C leaf carry piece) ∙ (leaf_inside C leaf carry piece ∙ h)
 
 text_inside : (T : Ty) (leaf : Innermost) → leaf_in_string T leaf ≡ true → is_text T ≡ true
 text_inside T (innermost.Number of) h = cc
+text_inside T (innermost.Opening of left) h = cc
 text_inside T (innermost.Content of total offset) h = h
 
 pub front_inside : (front : List Line) (r : Read) → in_string (with_front front r) ≡ in_string r
@@ -66,6 +102,8 @@ piece_heard header (Union choice scalar select names cases) false more h path at
 piece_heard header (Union choice scalar select names cases) true more h path at offset octets k = let e = k refl in cc
 piece_heard header (Sequence bound T) false more h path at offset octets k = refl
 piece_heard header (Sequence bound T) true more h path at offset octets k = let e = k refl in cc
+piece_heard header (Encapsulation T) false more h path at offset octets k = refl
+piece_heard header (Encapsulation T) true more h path at offset octets k = let e = k refl in cc
 piece_heard header (Array n T) false more h path at offset octets k = refl
 piece_heard header (Array n T) true more h path at offset octets k = let e = k refl in cc
 
@@ -77,6 +115,8 @@ spoken_heard header T was turn spokens.Length path at lines h v says k = rw (say
 spoken_heard header T was turn (spokens.Number number) path at lines h v says k = rw (v.0, v.1) refl
 spoken_heard header T was turn (spokens.Switch number) path at lines h v says k = rw (v.0, v.1) refl
 spoken_heard header T was turn (spokens.Count count) path at lines h v says k = rw (v.0, v.1) refl
+spoken_heard header T was turn (spokens.Size size) path at lines h v says k = rw (v.0, v.1, says) refl
+spoken_heard header T was turn (spokens.Ordered order) path at lines h v says k = rw (v.0, v.1, says) refl
 spoken_heard header T was turn (spokens.Piece offset octets more) path at lines h v says k = rw (says, v) (piece_heard header T was more h path at offset octets.items k)
 
 -- What a reading leaves in mind, behind the lines of its front and of one octet.
@@ -114,53 +154,63 @@ piece_last h octets more last = rw last refl
 deep : (name : List ℕ) (x y : Seg) (zs : List Seg) (ps : List Place) → false ≡ is_member name (path_in (x ∷ y ∷ zs) ps)
 deep name (Name octets) y zs [] = refl
 deep name (Index i) y zs [] = refl
-deep name Switch y zs [] = refl
+deep name (Switch tag) y zs [] = refl
+deep name Held y zs [] = refl
 deep name x y zs (p ∷ ps) = deep name x y (zs ++ seg_in p ∷ []) ps
 
-pub no_member : (name : List ℕ) (C : Table) (outer : List Frame) → length outer ≢ 1 → false ≡ is_member name (path_in [] (places C outer))
-no_member name C [] h = refl
-no_member name C (f ∷ []) h = absurd (h refl)
-no_member name C (f ∷ g ∷ outer) h = deep name (seg_in (place C f)) (seg_in (place C g)) [] (places C outer)
+pub no_member : (name : List ℕ) (C : Table) (here : ℕ) (outer : List Frame) → length outer ≢ 1 → false ≡ is_member name (path_in [] (places C here outer))
+no_member name C here [] h = refl
+no_member name C here (f ∷ []) h = absurd (h refl)
+no_member name C here (f ∷ g ∷ outer) h = deep name (seg_in (place C here f)) (seg_in (place C here g)) [] (places C here outer)
 
 -- the one part around it
-only : (C : Table) (outer : List Frame) (d : Frame) → length outer ≡ 1 → path_in [] (places C outer) ≡ seg_in (place C (slice_index_or outer 0 d)) ∷ []
-only C [] d h = absurd (omega arith)
-only C (f ∷ []) d h = refl
-only C (f ∷ g ∷ outer) d h = absurd (omega arith)
+only : (C : Table) (here : ℕ) (outer : List Frame) (d : Frame) → length outer ≡ 1 → path_in [] (places C here outer) ≡ seg_in (place C here (slice_index_or outer 0 d)) ∷ []
+only C here [] d h = absurd (omega arith)
+only C here (f ∷ []) d h = refl
+only C here (f ∷ g ∷ outer) d h = absurd (omega arith)
 
-named_by : (name : List ℕ) (T : Ty) (i count : ℕ) → HasMember (shape_in T) i → is_member name (seg_in (place_in T i count) ∷ []) ≡ bytes_eq name (name_in T i)
+named_by : (name : List ℕ) (T : Ty) (i count : ℕ) → HasMember (shape_in T) i → is_member name (seg_in (part_in T i count) ∷ []) ≡ bytes_eq name (name_in T i)
 named_by name (Struct n names parts) i count h = refl
 named_by name (Union (Cases n) scalar select names cases) i count h = refl
+named_by name (Union Tag scalar select names cases) i count h = refl
 named_by name (Single (Plain p)) i count h = absurd h
 named_by name (Single (Enum n names)) i count h = absurd h
 named_by name (Text bound) i count h = absurd h
 named_by name (Octets bound) i count h = absurd h
 named_by name (Sequence bound T) i count h = absurd h
 named_by name (Array n T) i count h = absurd h
+named_by name (Encapsulation T) i count h = absurd h
 
-pub member_by : (name text : List ℕ) (C : Table) (outer : List Frame) (d : Frame) (b : Bool) → length outer ≡ 1 →
+pub member_by : (name text : List ℕ) (C : Table) (here : ℕ) (outer : List Frame) (d : Frame) (b : Bool) → length outer ≡ 1 → (slice_index_or outer 0 d).inside ≡ None →
     HasMember (shape_in (tree C (slice_index_or outer 0 d).of.0)) (slice_index_or outer 0 d).index →
-    text ≡ name_in (tree C (slice_index_or outer 0 d).of.0) (slice_index_or outer 0 d).index → b ≡ bytes_eq name text → b ≡ is_member name (path_in [] (places C outer))
-member_by name text C outer d b one h is e =
+    text ≡ name_in (tree C (slice_index_or outer 0 d).of.0) (slice_index_or outer 0 d).index → b ≡ bytes_eq name text → b ≡ is_member name (path_in [] (places C here outer))
+member_by name text C here outer d b one part h is e =
     let f = slice_index_or outer 0 d in
-    rw (only C outer d one, named_by name (tree C f.of.0) f.index f.count h, ← is) e
+    rw (only C here outer d one, part, named_by name (tree C f.of.0) f.index f.count h, ← is) e
 
-pub member_known : (C : Table) (outer : List Frame) (d : Frame) (shape : Shape) → length outer ≡ 1 → AreKnown C outer → shape ≡ shape_in (tree C (slice_index_or outer 0 d).of.0) →
+-- what an encapsulation holds is no member
+pub held_member : (name : List ℕ) (C : Table) (here : ℕ) (outer : List Frame) (d : Frame) (order : Order) → length outer ≡ 1 → (slice_index_or outer 0 d).inside ≡ Some order →
+    false ≡ is_member name (path_in [] (places C here outer))
+held_member name C here outer d order one inside = rw (only C here outer d one, inside) refl
+
+pub member_known : (C : Table) (outer : List Frame) (d : Frame) (shape : Shape) → length outer ≡ 1 → AreKnown C outer → (slice_index_or outer 0 d).inside ≡ None → shape ≡ shape_in (tree C (slice_index_or outer 0 d).of.0) →
     ((i : ℕ) → HasPlace shape i → HasMember shape i) → HasMember (shape_in (tree C (slice_index_or outer 0 d).of.0)) (slice_index_or outer 0 d).index
-member_known C [] d shape h known is k = absurd (omega arith)
-member_known C (f ∷ []) d shape h known is k = rw (← is) (k f.index (rw is known.0.place))
-member_known C (f ∷ g ∷ outer) d shape h known is k = absurd (omega arith)
+member_known C [] d shape h known part is k = absurd (omega arith)
+member_known C (f ∷ []) d shape h known part is k = rw (← is) (k f.index (rw is (rw part at known.0.within).0))
+member_known C (f ∷ g ∷ outer) d shape h known part is k = absurd (omega arith)
 
 -- a discriminator is no member
-pub switch_member : (name : List ℕ) (path : List Seg) → is_member name (path ++ Switch ∷ []) ≡ false
-switch_member name [] = refl
-switch_member name (Name octets ∷ []) = refl
-switch_member name (Index i ∷ []) = refl
-switch_member name (Switch ∷ []) = refl
-switch_member name (Name octets ∷ y ∷ path) = refl
-switch_member name (Index i ∷ y ∷ path) = refl
-switch_member name (Switch ∷ y ∷ path) = refl
+pub switch_member : (name : List ℕ) (path : List Seg) (tag : Option (List ℕ)) → is_member name (path ++ Switch tag ∷ []) ≡ false
+switch_member name [] tag = refl
+switch_member name (Name octets ∷ []) tag = refl
+switch_member name (Index i ∷ []) tag = refl
+switch_member name (Switch other ∷ []) tag = refl
+switch_member name (Held ∷ []) tag = refl
+switch_member name (Name octets ∷ y ∷ path) tag = refl
+switch_member name (Index i ∷ y ∷ path) tag = refl
+switch_member name (Switch other ∷ y ∷ path) tag = refl
+switch_member name (Held ∷ y ∷ path) tag = refl
 
-pub switch_heard : (header : Bool) (path : List Seg) (h : Heard) (value : Value) → hear_value false h value ≡ hear_value (header && is_member (codes "request_id") (path ++ Switch ∷ [])) h value
-switch_heard true path h value = rw (switch_member (codes "request_id") path) refl
-switch_heard false path h value = refl
+pub switch_heard : (header : Bool) (path : List Seg) (tag : Option (List ℕ)) (h : Heard) (value : Value) → hear_value false h value ≡ hear_value (header && is_member (codes "request_id") (path ++ Switch tag ∷ [])) h value
+switch_heard true path tag h value = rw (switch_member (codes "request_id") path tag) refl
+switch_heard false path tag h value = refl

@@ -14,7 +14,7 @@ use Rattle.giop_decode.specs.Reading.{headed, member, parts_from, read, refused,
 use Rattle.giop_decode.specs.Spine.{Coding, Count, Done, Fault, Index, Line, Member, Name, Part, Piece, Place, Read, Seg, Short, Switch, followed, line, with_front, within}
 use Rattle.giop_decode.specs.Steps.{advance, after, block_step, head_width, inner_path, number_step, part_at, step}
 use Rattle.giop_decode.specs.declared.progress.Kind.{Kind}
-use Rattle.giop_sig.specs.Types.{Choice, Array, Enum, Octets, Plain, Scalar, Sequence, Single, Struct, Text, Ty, Union, part_of, width}
+use Rattle.giop_sig.specs.Types.{Choice, Enum, Octets, Plain, Scalar, Sequence, Single, Text, Ty, Union, part_of, width, tag_of}
 use Rattle.giop_sig.specs.declared.types.Selected.{Selected}
 use Rattle.giop_sig.specs.declared.types.Selected.TheVariants.{Case, Nothing, Refused}
 use Rattle.giop_cdr.specs.declared.prim.Primitive.TheVariants as prims
@@ -328,25 +328,8 @@ pub union_goes : (coding : Coding) (path : List Seg) (choice : Choice) (scalar :
 union_goes coding path choice scalar select names cases n each at s b =
     let T = Union choice scalar select names cases in
     let next : ℕ → List ℕ → Read = member (select n) (λ i at' s'. within (Member T i) (read coding (inner_path path T i) (part_of T i) at' s')) in
-    let front : List Line = line at (path ++ Switch ∷ []) (Spine.Number scalar n) ∷ [] in
+    let front : List Line = line at (path ++ Switch (tag_of choice names) ∷ []) (Spine.Number scalar n) ∷ [] in
     ap (λ r. unless T (wrong scalar n) at (unless T (refused (select n)) at (with_front front r))) (selected_goes coding path T (select n) each at s b)
     ∙ (ap (λ r. unless T (wrong scalar n) at (unless T (refused (select n)) at r)) (with_front-advance coding path front (next at s) b)
     ∙ (ap (unless T (wrong scalar n) at) (unless_goes coding path T (refused (select n)) at (with_front front (next at s)) b)
     ∙ unless_goes coding path T (wrong scalar n) at (unless T (refused (select n)) at (with_front front (next at s))) b))
-
--- any type
-
-pub read_goes : (coding : Coding) (path : List Seg) (T : Ty) → Goes coding path (read coding path T)
-read_goes coding path (Single scalar) = headed_goes coding path (Single scalar) (width_pos scalar) (λ n. single_goes coding path path scalar n)
-read_goes coding path (Text bound) = headed_goes coding path (Text bound) (lit< tt) (λ n. text_goes coding path bound n)
-read_goes coding path (Octets bound) = headed_goes coding path (Octets bound) (lit< tt) (λ n. octets_goes coding path bound n)
-read_goes coding path (Struct count names parts) =
-    parts_go coding path (Struct count names parts) count (λ i. read_goes coding (path ++ Name (names i) ∷ []) (parts i)) count 0 (omega arith)
-read_goes coding path (Array count T) =
-    parts_go coding path (Array count T) count (λ i. read_goes coding (path ++ Index i ∷ []) T) count 0 (omega arith)
-read_goes coding path (Sequence bound T) =
-    headed_goes coding path (Sequence bound T) (lit< tt) (λ n. counted_goes coding path bound T n
-    (parts_go coding path (Sequence bound T) n (λ i. read_goes coding (path ++ Index i ∷ []) T) n 0 (omega arith)))
-read_goes coding path (Union choice scalar select names cases) =
-    headed_goes coding path (Union choice scalar select names cases) (width_pos scalar) (λ n. union_goes coding path choice scalar select names cases n
-    (λ i. read_goes coding (path ++ Name (names i) ∷ []) (cases i)))

@@ -1,18 +1,18 @@
 -- What fits inside a type, and what one octet more leaves of it.
-use Rattle.std.proofs.Common.{◌≡◌, ℕ, zero, suc, ◌+◌, ◌-◌, ◌<◌, ◌≤◌, List, [], ◌∷◌, ◌++◌, length, refl, subst, arith, ◌⊎◌, inl, inr, lt-ltb, le-ltb}
+use Rattle.std.proofs.Common.{◌≡◌, ℕ, zero, suc, ◌+◌, ◌-◌, ◌<◌, ◌≤◌, List, [], ◌∷◌, ◌++◌, length, refl, subst, arith, add-zero, ◌⊎◌, inl, inr, lt-ltb, le-ltb}
 use Rattle.std.proofs.lemmas.Bool.{cases_lt}
 use Rattle.giop_cdr.specs.Alignment.{padding}
 use Rattle.giop_cdr.specs.Numbers.{num}
-use Rattle.giop_decode.specs.Fits.{leaf_ty, Sound, FitsIn, HasCase, HasContent, HasHead, IsOpen, OpenFrom}
+use Rattle.giop_decode.specs.Fits.{leaf_ty, Sound, FitsIn, HasCase, HasContent, HasHead, IsOpen, OpenFrom, IsEncapsulation, Surrounds}
 use Rattle.giop_decode.specs.Pieces.{Got, Grab, Waiting, content, full_pieces, tail}
-use Rattle.giop_decode.specs.Reading.{headed, parts_from}
-use Rattle.giop_decode.specs.Spine.{Coding, Content, Head, Leaf, Member, Part, Place, Seg, within}
-use Rattle.giop_decode.specs.Steps.{after, block_step, content_step, head_width, leaf_step, number_step, part_at, seg_of, step}
+use Rattle.giop_decode.specs.Reading.{headed, parts_from, enclosed, order_of, ordered}
+use Rattle.giop_decode.specs.Spine.{Coding, Content, Head, Leaf, Member, Part, Place, Seg, within, Held, Inside, Opening}
+use Rattle.giop_decode.specs.Steps.{after, block_step, content_step, head_width, leaf_step, number_step, part_at, seg_of, step, held}
 use Rattle.giop_sig.specs.Fits.{IsFit}
-use Rattle.giop_sig.specs.Types.{Array, Octets, Sequence, Single, Struct, Text, Ty, Union, part_of}
+use Rattle.giop_sig.specs.Types.{Array, Encapsulation, Octets, Sequence, Single, Struct, Text, Ty, Union, part_of}
 use Rattle.giop_decode.proofs.Law.{block_step_waits, block_step_got, number_step_pads, number_step_blocks, length_one_more}
 use Rattle.giop_decode.proofs.Around.{fit_none, fit_part}
-use Rattle.giop_decode.proofs.Sound.{Takes, sound_followed, sound_part, sound_member, parts_keep, after_keeps, read_keeps, full_piece_sound, last_piece_sound, content_keeps}
+use Rattle.giop_decode.proofs.Sound.{Takes, ordered_sound, sound_enclosed, sound_followed, sound_part, sound_member, parts_keep, after_keeps, read_keeps, full_piece_sound, last_piece_sound, content_keeps}
 
 -- the leaf, with how much depth is left at it
 pub record LeafAt (d : ℕ) (outer : List Place) (leaf : Leaf) : Type 0 where
@@ -27,10 +27,22 @@ unfolding IsFit
 fit_case d (Union choice scalar select names cases) i fit kind = fit.1 i kind
 fit_case d (Struct n names parts) i fit kind = absurd kind
 fit_case d (Array n T) i fit kind = absurd kind
+fit_case d (Encapsulation T) i fit kind = absurd kind
 fit_case d (Sequence bound T) i fit kind = absurd kind
 fit_case d (Single scalar) i fit kind = absurd kind
 fit_case d (Text bound) i fit kind = absurd kind
 fit_case d (Octets bound) i fit kind = absurd kind
+
+pub fit_held : (d : ℕ) (T : Ty) → IsFit (suc d) T → IsEncapsulation T → IsFit d (part_of T 0)
+unfolding IsFit
+fit_held d (Encapsulation T) fit kind = fit
+fit_held d (Struct n names parts) fit kind = absurd kind
+fit_held d (Array n T) fit kind = absurd kind
+fit_held d (Sequence bound T) fit kind = absurd kind
+fit_held d (Single scalar) fit kind = absurd kind
+fit_held d (Text bound) fit kind = absurd kind
+fit_held d (Octets bound) fit kind = absurd kind
+fit_held d (Union n scalar select names cases) fit kind = absurd kind
 
 deeper : (d : ℕ) (place : Place) (outer : List Place) (leaf : Leaf) → IsOpen (suc d) place → LeafAt d outer leaf → LeafAt (suc d) (place ∷ outer) leaf
 deeper d place outer leaf is l = record { are_open = (is, l.are_open); left = l.left; depth = omega (arith, l.depth); fit = l.fit; fits = l.fits }
@@ -47,12 +59,17 @@ leaf_at d T [] (Content U total offset piece) fits fit =
       fit = rw fits.same fit;
       fits = record { same = refl; kind = rw fits.same fits.kind; ahead = fits.ahead; room_full = fits.room_full; room_last = rw fits.same fits.room_last };
     }
+leaf_at d T [] (Opening U n) fits fit =
+    record { are_open = tt; left = d; depth = omega arith; fit = rw fits.same fit; fits = record { same = refl; kind = rw fits.same fits.kind } }
 leaf_at zero T (Part U i count ∷ outer) leaf fits fit = absurd fit
 leaf_at (suc d) T (Part U i count ∷ outer) leaf fits fit =
     deeper d (Part U i count) outer leaf (rw fits.0.same (fits.0.kind, fits.0.below, fit)) (leaf_at d (part_of T i) outer leaf fits.1 (fit_part d T i count fit fits.0.kind fits.0.below))
 leaf_at zero T (Member U i ∷ outer) leaf fits fit = absurd fit
 leaf_at (suc d) T (Member U i ∷ outer) leaf fits fit =
     deeper d (Member U i) outer leaf (rw fits.0.same (fits.0.kind, fit)) (leaf_at d (part_of T i) outer leaf fits.1 (fit_case d T i fit fits.0.kind))
+leaf_at zero T (Inside U c end ∷ outer) leaf fits fit = absurd fit
+leaf_at (suc d) T (Inside U c end ∷ outer) leaf fits fit =
+    deeper d (Inside U c end) outer leaf (rw fits.0.same (fits.0.kind, fit)) (leaf_at d (part_of T 0) outer leaf fits.1 (fit_held d T fit fits.0.kind))
 
 -- one octet more
 
@@ -73,7 +90,7 @@ number_step_takes o n at (x ∷ xs) b room = rw (number_step_blocks o n at (x �
 
 headed_sound : (d : ℕ) (coding : Coding) (path : List Seg) (T : Ty) (end : ℕ) → IsFit d T → HasHead T → (g : Grab) → Takes (head_width T) end g →
     Sound T end (headed T (λ xs at rest. after coding path T (num coding.order xs) at rest) g)
-headed_sound d coding path T end fit kind (Waiting carry at) h = (h.0, record { same = refl; kind = kind; room = h.1 })
+headed_sound d coding path T end fit kind (Waiting carry at) h = (h.0, record { same = refl; kind = kind; room = h.1 }, tt)
 headed_sound d coding path T end fit kind (Got xs at rest) h =
     subst (λ e. Sound T e (after coding path T (num coding.order xs) at rest)) h.0 (after_keeps d coding path T (num coding.order xs) fit at rest)
 
@@ -90,23 +107,34 @@ content_step_sound T path total offset at piece b kind ahead room_full room_last
 leaf_step_sound : (d : ℕ) (coding : Coding) (path : List Seg) (T : Ty) (leaf : Leaf) (at b : ℕ) → IsFit d T → FitsIn T [] leaf → Sound T (at + 1) (leaf_step coding path leaf at b)
 leaf_step_sound d coding path T (Head U carry) at b fit fits =
     rw fits.same (headed_sound d coding path T (at + 1) fit fits.kind (number_step coding.origin (head_width T) at carry b) (number_step_takes coding.origin (head_width T) at carry b fits.room))
+leaf_step_sound zero coding path T (Opening U n) at b fit fits = absurd (fit_none T fit)
+leaf_step_sound (suc d) coding path T (Opening U n) at b fit fits =
+    rw (fits.same, block_step_got 1 at [] b (omega arith)) (subst (λ m. Sound T m (ordered path T (held path T) at n (order_of b) (at + 1) [])) (add-zero (at + 1))
+    (ordered_sound T path at n (order_of b) (at + 1) [] fits.kind (omega arith) (λ inner. read_keeps d inner (path ++ Held ∷ []) (part_of T 0) (fit_held d T fit fits.kind))))
 leaf_step_sound d coding path T (Content U total offset piece) at b fit fits =
     rw fits.same (content_step_sound T path total offset at piece b fits.kind fits.ahead fits.room_full fits.room_last)
 
 -- What one octet more leaves fits as well.
-pub step_keeps : (d : ℕ) (coding : Coding) (path : List Seg) (T : Ty) (outer : List Place) (leaf : Leaf) (at b : ℕ) → IsFit d T → FitsIn T outer leaf →
+pub step_keeps : (d : ℕ) (coding : Coding) (path : List Seg) (T : Ty) (outer : List Place) (leaf : Leaf) (at b : ℕ) → IsFit d T → FitsIn T outer leaf → Surrounds at outer →
     Sound T (at + 1) (step coding path outer leaf at b)
-step_keeps d coding path T [] leaf at b fit fits = leaf_step_sound d coding path T leaf at b fit fits
-step_keeps zero coding path T (Part U i count ∷ outer) leaf at b fit fits = absurd (fit_none T fit)
-step_keeps (suc d) coding path T (Part U i count ∷ outer) leaf at b fit fits =
+step_keeps d coding path T [] leaf at b fit fits around = leaf_step_sound d coding path T leaf at b fit fits
+step_keeps zero coding path T (Part U i count ∷ outer) leaf at b fit fits around = absurd (fit_none T fit)
+step_keeps (suc d) coding path T (Part U i count ∷ outer) leaf at b fit fits around =
     let inner = step coding (path ++ seg_of T i ∷ []) outer leaf at b in
     let part_fits : (j : ℕ) → j < count → IsFit d (part_of T j) = λ j below. fit_part d T j count fit fits.0.kind below in
     rw fits.0.same (sound_followed T (at + 1) (within (Part T i count) inner) (parts_from (part_at coding path T count) (count - suc i) (suc i))
     (sound_part T (at + 1) i count inner fits.0.kind fits.0.below
-    (step_keeps d coding (path ++ seg_of T i ∷ []) (part_of T i) outer leaf at b (part_fits i fits.0.below) fits.1))
+    (step_keeps d coding (path ++ seg_of T i ∷ []) (part_of T i) outer leaf at b (part_fits i fits.0.below) fits.1 around.1))
     (parts_keep coding path T count fits.0.kind (λ j below. read_keeps d coding (path ++ seg_of T j ∷ []) (part_of T j) (part_fits j below)) (count - suc i) (suc i) refl))
-step_keeps zero coding path T (Member U i ∷ outer) leaf at b fit fits = absurd (fit_none T fit)
-step_keeps (suc d) coding path T (Member U i ∷ outer) leaf at b fit fits =
+step_keeps zero coding path T (Member U i ∷ outer) leaf at b fit fits around = absurd (fit_none T fit)
+step_keeps (suc d) coding path T (Member U i ∷ outer) leaf at b fit fits around =
     let inner = step coding (path ++ seg_of T i ∷ []) outer leaf at b in
     rw fits.0.same (sound_member T (at + 1) i inner fits.0.kind
-    (step_keeps d coding (path ++ seg_of T i ∷ []) (part_of T i) outer leaf at b (fit_case d T i fit fits.0.kind) fits.1))
+    (step_keeps d coding (path ++ seg_of T i ∷ []) (part_of T i) outer leaf at b (fit_case d T i fit fits.0.kind) fits.1 around.1))
+step_keeps zero coding path T (Inside U c end ∷ outer) leaf at b fit fits around = absurd (fit_none T fit)
+step_keeps (suc d) coding path T (Inside U c end ∷ outer) leaf at b fit fits around =
+    let inner = step c (path ++ Held ∷ []) outer leaf at b in
+    let began : c.origin < at + 1 = omega (arith, around.0.1) in
+    rw fits.0.same (subst (λ m. Sound T m (enclosed path T c end inner [])) (add-zero (at + 1))
+    (sound_enclosed T path c end (at + 1) fits.0.kind began inner []
+    (step_keeps d c (path ++ Held ∷ []) (part_of T 0) outer leaf at b (fit_held d T fit fits.0.kind) fits.1 around.1) (λ _. refl)))

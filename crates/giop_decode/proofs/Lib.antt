@@ -1,5 +1,6 @@
 mod Law
 mod Now
+mod Enclosing
 mod Around
 mod Sound
 mod Leaving
@@ -14,6 +15,7 @@ mod StoredChain
 mod StoredAgain
 mod Beginning
 mod Going
+mod Surrounding
 mod Turning
 mod PieceLaws
 mod Segments

@@ -1,16 +1,19 @@
 -- The lines of a step stand at its octet, and the reading of no octets has none.
-use Rattle.std.proofs.Common.{◌≡◌, ℕ, zero, suc, ◌+◌, ◌-◌, ◌<◌, ◌≤◌, Bool, true, false, List, [], ◌∷◌, ◌++◌, length, take, drop, Option, Some, None, refl, append-nil, arith, add-zero, ◌⊎◌, inl, inr, lit<}
+use Rattle.std.proofs.Common.{◌≡◌, ℕ, zero, suc, ◌+◌, ◌-◌, ◌<◌, ◌≤◌, Bool, true, false, List, [], ◌∷◌, ◌++◌, length, take, drop, get_or, Option, Some, None, refl, append-nil, arith, add-zero, ◌⊎◌, inl, inr, lit<}
 use Rattle.std.specs.Prelude.{cond, ltb}
 use Rattle.std.specs.List.{AllByRecursion as Each}
+use Rattle.std.proofs.Math.Seq.{take-nil, drop-nil}
 use Rattle.std.proofs.lemmas.Bool.{cases_lt, lt-ltb, le-ltb}
 use Rattle.giop_cdr.specs.Alignment.{padding}
 use Rattle.giop_cdr.specs.Numbers.{num}
 use Rattle.giop_decode.specs.Pieces.{Got, Grab, Waiting, block, content, ends, full_piece, full_pieces, last_piece, number, over, tail, unless}
-use Rattle.giop_decode.specs.Reading.{headed, member, parts_from, read, refused, single, wrong}
-use Rattle.giop_decode.specs.Spine.{Coding, Content, Count, Done, Fault, Head, Index, Leaf, Line, Member, Name, Part, Piece, Place, Read, Seg, Short, Switch, followed, line, with_front, within}
-use Rattle.giop_decode.specs.Steps.{OneAt, Now, Quiet, inner_path, after, around, block_step, head_width, leaf_step, number_step, part_at, path_in, seg_of, step}
+use Rattle.giop_decode.specs.Reading.{headed, member, parts_from, read, refused, single, wrong, cut_off, enclosed, opening, order_of, ordered, rest_of, sized}
+use Rattle.giop_decode.specs.Spine.{Coding, Content, Count, Done, Fault, Head, Index, Leaf, Line, Member, Name, Part, Piece, Place, Read, Seg, Short, Switch, followed, line, with_front, within, lines_of, coded, Held, Inside, Opening, Ordered, Size}
+use Rattle.giop_decode.specs.Steps.{OneAt, Now, Quiet, inner_path, after, around, block_step, head_width, leaf_step, number_step, part_at, path_in, seg_of, step, Faulted, coding_in, held}
 use Rattle.giop_decode.specs.declared.progress.Kind.{Kind}
-use Rattle.giop_sig.specs.Types.{Array, Octets, Scalar, Sequence, Single, Struct, Text, Ty, Union, part_of, width}
+use Rattle.giop_decode.specs.declared.progress.Kind.TheVariants as kinds
+use Rattle.giop_cdr.specs.declared.order.Order.{Order}
+use Rattle.giop_sig.specs.Types.{tag_of, Array, Encapsulation, Octets, Scalar, Sequence, Single, Struct, Text, Ty, Union, part_of, width}
 use Rattle.giop_sig.specs.declared.types.Selected.{Selected}
 use Rattle.giop_sig.specs.declared.types.Selected.TheVariants.{Case, Nothing, Refused}
 use Rattle.giop_decode.specs.Spine
@@ -19,6 +22,16 @@ use Rattle.giop_decode.proofs.Law.{block_waits, number_waits, number_blocks, wid
 pub each_append : {A : Type 0} (P : A → Type 0) (xs ys : List A) → Each P xs → Each P ys → Each P (xs ++ ys)
 each_append P [] ys h k = k
 each_append P (x ∷ xs) ys h k = (h.0, each_append P xs ys h.1 k)
+
+-- where nothing is said a fault of any kind may come
+faulted_none : (n : ℕ) (why : Kind) → Faulted n why []
+faulted_none n kinds.Boolean = refl
+faulted_none n kinds.StringEnd = refl
+faulted_none n kinds.Enum = refl
+faulted_none n kinds.Bound = refl
+faulted_none n kinds.Disposition = refl
+faulted_none n kinds.EncapShort = tt
+faulted_none n kinds.EncapOrder = refl
 
 now_front : (n : ℕ) (front : List Line) (r : Read) → OneAt n front → Quiet n r → Now n (with_front front r)
 now_front n front (Done lines at rest) h k = rw (k.0, append-nil front) (h, k.1, k.2)
@@ -52,7 +65,7 @@ quiet_within n place (Fault lines at why S) h = h
 
 now_unless : (n : ℕ) (T : Ty) (why : Option Kind) (r : Read) → Now n r → Now n (unless T why n r)
 now_unless n T None r h = h
-now_unless n T (Some kind) r h = (refl, refl)
+now_unless n T (Some kind) r h = (faulted_none n kind, refl)
 
 -- no octets
 
@@ -79,6 +92,7 @@ read_quiet coding path (Array count T) n =
     (λ i. quiet_within n (Part (Array count T) i count) (read coding (path ++ Index i ∷ []) T n []) (read_quiet coding (path ++ Index i ∷ []) T n)) count 0
 read_quiet coding path (Sequence bound T) n = rw (number_none coding.origin 4 n (lit< tt)) (refl, refl)
 read_quiet coding path (Union choice scalar select names cases) n = rw (number_none coding.origin (width scalar) n (width_pos scalar)) (refl, refl)
+read_quiet coding path (Encapsulation T) n = rw (number_none coding.origin 4 n (lit< tt)) (refl, refl)
 
 pub part_quiet : (coding : Coding) (path : List Seg) (T : Ty) (count n i : ℕ) → Quiet n (part_at coding path T count i n [])
 part_quiet coding path T count n i = quiet_within n (Part T i count) (read coding (inner_path path T i) (part_of T i) n []) (read_quiet coding (inner_path path T i) (part_of T i) n)
@@ -144,6 +158,99 @@ member_quiet n coding path T (Case i) = quiet_within n (Member T i) (read coding
 member_quiet n coding path T Nothing = (refl, refl, refl)
 member_quiet n coding path T Refused = (refl, refl, refl)
 
+-- ---- encapsulations
+
+pub rest_quiet : (n : ℕ) (path : List Seg) (T : Ty) (k : ℕ) → Quiet n (rest_of path T k n [])
+rest_quiet n path T zero = (refl, refl, refl)
+rest_quiet n path T (suc k) = content_quiet n T path (suc k) (full_pieces (suc k)) 0 (omega arith)
+
+enclosed_by : (n : ℕ) (test : Bool) (lines : List Line) (at : ℕ) (outer : List Place) (leaf : Leaf) (S : Ty) → OneAt n lines → at ≡ n →
+    Now n (cond test (Short lines at outer leaf) (Fault lines at kinds.EncapShort S))
+enclosed_by n true lines at outer leaf S one is = (one, is)
+enclosed_by n false lines at outer leaf S one is = (one, is)
+
+pub enclosed_now : (n : ℕ) (path : List Seg) (T : Ty) (inner : Coding) (end : ℕ) (r : Read) → Now n r → Now n (enclosed path T inner end r [])
+enclosed_now n path T inner end (Done lines at rest) h =
+    rw (h.1, h.2) (now_front n lines (rest_of path T (end - n) n []) h.0 (rest_quiet n path T (end - n)))
+enclosed_now n path T inner end (Short lines at outer leaf) h =
+    enclosed_by n (ltb at end) lines at (Inside T inner end ∷ outer) leaf (cut_off leaf) h.0 h.1
+enclosed_now n path T inner end (Fault lines at why S) h = h
+
+-- nothing is said, though an encapsulation may have ended
+abbrev pub Mute : ℕ → Read → Type 0
+Mute n (Done lines at rest) = (lines ≡ []) × (at ≡ n) × (rest ≡ [])
+Mute n (Short lines at outer leaf) = (lines ≡ []) × (at ≡ n)
+Mute n (Fault lines at why S) = (lines ≡ []) × (at ≡ n) × (why ≡ kinds.EncapShort)
+
+mute_front : (n : ℕ) (front : List Line) (r : Read) → OneAt n front → Mute n r → Now n (with_front front r)
+mute_front n front (Done lines at rest) h k = rw (k.0, append-nil front) (h, k.1, k.2)
+mute_front n front (Short lines at outer leaf) h k = rw (k.0, append-nil front) (h, k.1)
+mute_front n front (Fault lines at why S) h k = rw (k.0, append-nil front, k.2) (h, k.1)
+
+pub quiet_mute : (n : ℕ) (r : Read) → Quiet n r → Mute n r
+quiet_mute n (Done lines at rest) h = h
+quiet_mute n (Short lines at outer leaf) h = h
+quiet_mute n (Fault lines at why S) h = absurd h
+
+mute_by : (n : ℕ) (test : Bool) (lines : List Line) (at : ℕ) (outer : List Place) (leaf : Leaf) (S : Ty) → lines ≡ [] → at ≡ n →
+    Mute n (cond test (Short lines at outer leaf) (Fault lines at kinds.EncapShort S))
+mute_by n true lines at outer leaf S none is = (none, is)
+mute_by n false lines at outer leaf S none is = (none, is, refl)
+
+enclosed_mute : (n : ℕ) (path : List Seg) (T : Ty) (inner : Coding) (end : ℕ) (r : Read) → Quiet n r → Mute n (enclosed path T inner end r [])
+enclosed_mute n path T inner end (Done lines at rest) h =
+    rw (h.0, h.1, h.2) (quiet_mute n (with_front [] (rest_of path T (end - n) n [])) (quiet_front n (rest_of path T (end - n) n []) (rest_quiet n path T (end - n))))
+enclosed_mute n path T inner end (Short lines at outer leaf) h =
+    mute_by n (ltb at end) lines at (Inside T inner end ∷ outer) leaf (cut_off leaf) h.0 h.1
+enclosed_mute n path T inner end (Fault lines at why S) h = absurd h
+
+mute_followed : (n : ℕ) (r : Read) (next : ℕ → List ℕ → Read) → Mute n r → Quiet n (next n []) → Mute n (followed r next)
+mute_followed n (Done lines at rest) next h k = rw (h.0, h.1, h.2) (quiet_mute n (with_front [] (next n [])) (quiet_front n (next n []) k))
+mute_followed n (Short lines at outer leaf) next h k = h
+mute_followed n (Fault lines at why S) next h k = h
+
+mute_within : (n : ℕ) (place : Place) (r : Read) → Mute n r → Mute n (within place r)
+mute_within n place (Done lines at rest) h = h
+mute_within n place (Short lines at outer leaf) h = h
+mute_within n place (Fault lines at why S) h = h
+
+mute_enclosed : (n : ℕ) (path : List Seg) (T : Ty) (inner : Coding) (end : ℕ) (r : Read) → Mute n r → Mute n (enclosed path T inner end r [])
+mute_enclosed n path T inner end (Done lines at rest) h = enclosed_mute n path T inner end (Done lines at rest) h
+mute_enclosed n path T inner end (Short lines at outer leaf) h = enclosed_mute n path T inner end (Short lines at outer leaf) h
+mute_enclosed n path T inner end (Fault lines at why S) h = h
+
+pub around_mute : (n : ℕ) (coding : Coding) (path : List Seg) (outer : List Place) (r : Read) → Mute n r → Mute n (around coding path outer r)
+around_mute n coding path [] r h = h
+around_mute n coding path (Part T i count ∷ outer) r h =
+    let inner = around coding (path ++ seg_of T i ∷ []) outer r in
+    mute_followed n (within (Part T i count) inner) (parts_from (part_at coding path T count) (count - suc i) (suc i))
+    (mute_within n (Part T i count) inner (around_mute n coding (path ++ seg_of T i ∷ []) outer r h))
+    (parts_quiet coding path T count n (count - suc i) (suc i))
+around_mute n coding path (Member T i ∷ outer) r h =
+    mute_within n (Member T i) (around coding (path ++ seg_of T i ∷ []) outer r) (around_mute n coding (path ++ seg_of T i ∷ []) outer r h)
+around_mute n coding path (Inside T inner end ∷ outer) r h =
+    mute_enclosed n path T inner end (around inner (path ++ Held ∷ []) outer r) (around_mute n inner (path ++ Held ∷ []) outer r h)
+
+pub mute_lines : (n : ℕ) (r : Read) → Mute n r → lines_of r ≡ []
+mute_lines n (Done lines at rest) h = h.0
+mute_lines n (Short lines at outer leaf) h = h.0
+mute_lines n (Fault lines at kind S) h = h.0
+
+ordered_now : (n : ℕ) (path : List Seg) (T : Ty) (origin k : ℕ) (order : Option Order) → Now n (ordered path T (held path T) origin k order n [])
+ordered_now n path T origin k None = (refl, refl)
+ordered_now n path T origin k (Some order) =
+    let inner = coded order origin in
+    rw (take-nil, drop-nil) (mute_front n (line n path (Ordered order) ∷ []) (enclosed path T inner (n + k) (held path T inner n []) []) refl
+    (enclosed_mute n path T inner (n + k) (held path T inner n []) (read_quiet inner (path ++ Held ∷ []) (part_of T 0) n)))
+
+opening_now : (n : ℕ) (path : List Seg) (T : Ty) (origin k : ℕ) (g : Grab) → GrabNow n g → Now n (opening path T (held path T) origin k g)
+opening_now n path T origin k (Waiting none at) h = (tt, h)
+opening_now n path T origin k (Got xs at rest) h = rw (h.0, h.1) (ordered_now n path T origin k (order_of (get_or xs 0 0)))
+
+sized_now : (n : ℕ) (path : List Seg) (T : Ty) (k m : ℕ) → Now n (with_front (line n path (Size m) ∷ []) (sized path T (held path T) k n []))
+sized_now n path T zero m = (refl, refl)
+sized_now n path T (suc k) m = rw (block_waits 1 n [] (lit< tt), add-zero) (refl, refl)
+
 after_now : (n : ℕ) (coding : Coding) (path : List Seg) (T : Ty) (k : ℕ) → Now n (after coding path T k n [])
 after_now n coding path (Single scalar) k = single_now n path scalar k
 after_now n coding path (Text bound) zero = (refl, refl, refl)
@@ -151,6 +258,7 @@ after_now n coding path (Text bound) (suc k) = now_unless n (Text bound) (over b
 after_now n coding path (Octets bound) k = now_unless n (Octets bound) (over bound k) (content (Octets bound) path k (full_pieces k) 0 n []) (content_now n (Octets bound) path k (full_pieces k) 0)
 after_now n coding path (Struct count names parts) k = (tt, refl, refl)
 after_now n coding path (Array count T) k = (tt, refl, refl)
+after_now n coding path (Encapsulation T) k = sized_now n path (Encapsulation T) k k
 after_now n coding path (Sequence bound T) k =
     let elements = parts_from (part_at coding path (Sequence bound T) k) k 0 n [] in
     now_unless n (Sequence bound T) (over bound k) (with_front (line n path (Count k) ∷ []) elements)
@@ -158,7 +266,7 @@ after_now n coding path (Sequence bound T) k =
 after_now n coding path (Union choice scalar select names cases) k =
     let T = Union choice scalar select names cases in
     let next : ℕ → List ℕ → Read = member (select k) (λ i at s. within (Member T i) (read coding (inner_path path T i) (part_of T i) at s)) in
-    let front : List Line = line n (path ++ Switch ∷ []) (Spine.Number scalar k) ∷ [] in
+    let front : List Line = line n (path ++ Switch (tag_of choice names) ∷ []) (Spine.Number scalar k) ∷ [] in
     now_unless n T (wrong scalar k) (unless T (refused (select k)) n (with_front front (next n [])))
     (now_unless n T (refused (select k)) (with_front front (next n [])) (now_front n front (next n []) refl (member_quiet n coding path T (select k))))
 
@@ -168,6 +276,7 @@ headed_now n coding path T (Got xs at rest) h = rw (h.0, h.1) (after_now n codin
 
 leaf_now : (coding : Coding) (path : List Seg) (leaf : Leaf) (at b : ℕ) → Now (at + 1) (leaf_step coding path leaf at b)
 leaf_now coding path (Head T carry) at b = headed_now (at + 1) coding path T (number_step coding.origin (head_width T) at carry b) (number_now coding.origin (head_width T) at carry b)
+leaf_now coding path (Opening T n) at b = opening_now (at + 1) path T at n (block_step 1 at [] b) (block_now 1 at [] b)
 leaf_now coding path (Content T total offset piece) at b = go (cases_lt 32 (total - offset))
   where
     full : Read
@@ -191,6 +300,8 @@ around_now n coding path (Part T i count ∷ outer) r h =
 around_now n coding path (Member T i ∷ outer) r h =
     let inner = around coding (path ++ seg_of T i ∷ []) outer r in
     now_within n (Member T i) inner (around_now n coding (path ++ seg_of T i ∷ []) outer r h)
+around_now n coding path (Inside T inner end ∷ outer) r h =
+    enclosed_now n path T inner end (around inner (path ++ Held ∷ []) outer r) (around_now n inner (path ++ Held ∷ []) outer r h)
 
 pub step_now : (coding : Coding) (path : List Seg) (outer : List Place) (leaf : Leaf) (at b : ℕ) → Now (at + 1) (step coding path outer leaf at b)
-step_now coding path outer leaf at b = around_now (at + 1) coding path outer (leaf_step coding (path_in path outer) leaf at b) (leaf_now coding (path_in path outer) leaf at b)
+step_now coding path outer leaf at b = around_now (at + 1) coding path outer (leaf_step (coding_in coding outer) (path_in path outer) leaf at b) (leaf_now (coding_in coding outer) (path_in path outer) leaf at b)

@@ -1,17 +1,18 @@
 -- What the crates above may use of the reading of a value, beside its contracts: lemmas on the public definitions, each
 -- proved in the file that it names. No other file of this crate's proofs can be cited from outside.
 use Rattle.std.specs.List.{AllByRecursion as Each}
-use Rattle.std.proofs.Common.{◌≡◌, ℕ, suc, ◌+◌, ◌<◌, Bool, false, List, [], ◌∷◌, ◌++◌, length}
+use Rattle.std.proofs.Common.{◌≡◌, ℕ, suc, ◌+◌, ◌<◌, Bool, false, List, [], ◌∷◌, ◌++◌, length, Option}
 use Rattle.giop_sig.specs.Fits.{IsFit}
 use Rattle.giop_sig.specs.Types.{Scalar, Ty, part_of, width}
 use Rattle.giop_decode.specs.Spine.{Coding, Seg, Switch, Line, Place, Part, Leaf, Read, Done, Short, with_front, within, lines_of}
 use Rattle.giop_decode.specs.Pieces.{Waiting, block, number}
-use Rattle.giop_decode.specs.Reading.{parts_from, read}
+use Rattle.giop_decode.specs.Reading.{cut_off, enclosed, parts_from, read, rest_of}
 use Rattle.giop_decode.specs.Begins.{start_outer, start_leaf}
 use Rattle.giop_decode.specs.Steps.{Now, Quiet, advance, part_at, resumed, step}
 use Rattle.giop_decode.specs.Fits.{HasParts, Sound}
-use Rattle.giop_decode.specs.Heard.{Heard, heard, in_string, is_member}
+use Rattle.giop_decode.specs.Heard.{Heard, heard, in_content, in_string, is_member, is_text}
 use Rattle.giop_decode.proofs.Law as law
+use Rattle.giop_decode.proofs.Enclosing as enclosing
 use Rattle.giop_decode.proofs.Now as now
 use Rattle.giop_decode.proofs.Around as around
 use Rattle.giop_decode.proofs.Sound as sound
@@ -21,7 +22,7 @@ use Rattle.giop_decode.proofs.Hearing as hearing
 -- The laws of `reading_laws`: one octet more is one step;
 pub read_goes : (coding : Coding) (path : List Seg) (T : Ty) (at : ℕ) (s : List ℕ) (b : ℕ) →
     read coding path T at (s ++ b ∷ []) ≡ advance coding path (read coding path T at s) b
-read_goes coding path T at s b = law.read_goes coding path T at s b
+read_goes coding path T at s b = enclosing.read_goes coding path T at s b
 
 -- a step has at most one line, which stands at its octet;
 pub step_now : (coding : Coding) (path : List Seg) (outer : List Place) (leaf : Leaf) (at b : ℕ) → Now (at + 1) (step coding path outer leaf at b)
@@ -47,14 +48,25 @@ front_inside front r = hearing.front_inside front r
 pub now_within : (n : ℕ) (place : Place) (r : Read) → Now n r → Now n (within place r)
 now_within n place r h = now.now_within n place r h
 
+pub enclosed_now : (n : ℕ) (path : List Seg) (T : Ty) (inner : Coding) (end : ℕ) (r : Read) → Now n r → Now n (enclosed path T inner end r [])
+enclosed_now n path T inner end r h = now.enclosed_now n path T inner end r h
+
+-- what the end of an encapsulation cuts off inside a string is one
+pub cut_inside : (leaf : Leaf) → is_text (cut_off leaf) ≡ in_content leaf
+cut_inside leaf = hearing.cut_inside leaf
+
 -- a discriminator is no member
-pub switch_member : (name : List ℕ) (path : List Seg) → is_member name (path ++ Switch ∷ []) ≡ false
-switch_member name path = hearing.switch_member name path
+pub switch_member : (name : List ℕ) (path : List Seg) (tag : Option (List ℕ)) → is_member name (path ++ Switch tag ∷ []) ≡ false
+switch_member name path tag = hearing.switch_member name path tag
 
 -- No octets: nothing is said of a value, of its parts, or of those from a place on.
 
 pub read_quiet : (coding : Coding) (path : List Seg) (T : Ty) (n : ℕ) → Quiet n (read coding path T n [])
 read_quiet coding path T n = now.read_quiet coding path T n
+
+-- and of what is left of an encapsulation
+pub rest_quiet : (n : ℕ) (path : List Seg) (T : Ty) (k : ℕ) → Quiet n (rest_of path T k n [])
+rest_quiet n path T k = now.rest_quiet n path T k
 
 pub quiet_within : (n : ℕ) (place : Place) (r : Read) → Quiet n r → Quiet n (within place r)
 quiet_within n place r h = now.quiet_within n place r h

@@ -7,7 +7,7 @@ use Rattle.giop_cdr.specs.declared.prim.Primitive.TheVariants as prims
 use Rattle.giop_decode.specs.Fits.{HasHead}
 use Rattle.giop_decode.specs.Turns.{IsWhole}
 use Rattle.giop_sig.specs.Fits.{IsEmptyStruct}
-use Rattle.giop_sig.specs.Types.{Ty, Single, Text, Octets, Struct, Union, Sequence, Array, HasShape}
+use Rattle.giop_sig.specs.Types.{Ty, Single, Text, Octets, Struct, Union, Sequence, Array, HasShape, Encapsulation}
 use Rattle.giop_sig.specs.declared.types.Shape.TheVariants as shapes
 
 pub whole_members : (T : Ty) (n : ℕ) → HasShape T (shapes.Members n) → IsWhole T n
@@ -25,7 +25,13 @@ head_enum T n h = rw h.1 tt
 pub head_union : (T : Ty) (n : ℕ) → HasShape T (shapes.Union n) → HasHead T
 head_union T n h = rw h.4 tt
 
-pub ruleset shape_laws = (whole_members, whole_array, head_prim, head_enum, head_union)
+pub head_tag : (T : Ty) → HasShape T shapes.Tagged → HasHead T
+head_tag T h = rw h.4 tt
+
+pub head_encapsulation : (T : Ty) → HasShape T shapes.Encapsulation → HasHead T
+head_encapsulation T h = rw h.1 tt
+
+pub ruleset shape_laws = (whole_members, whole_array, head_prim, head_enum, head_union, head_tag, head_encapsulation)
 
 pub aligned : (p : Primitive) → IsAlignment (size_of p)
 aligned prims.Octet = inl refl
@@ -53,6 +59,7 @@ some_is (Text bound) n h empty = absurd empty
 some_is (Octets bound) n h empty = absurd empty
 some_is (Union m scalar select names cases) n h empty = absurd empty
 some_is (Sequence bound T) n h empty = absurd empty
+some_is (Encapsulation T) n h empty = absurd empty
 
 pub some_array : (T : Ty) (n : ℕ) → HasShape T (shapes.Array n) → IsEmptyStruct T → ⊥
 some_array T n h empty = rw h.1 at empty
@@ -75,4 +82,10 @@ some_union T n h empty = rw h.4 at empty
 pub some_sequence : (T : Ty) (bound : Option ℕ) → HasShape T (shapes.Sequence bound) → IsEmptyStruct T → ⊥
 some_sequence T bound h empty = rw h.1 at empty
 
-pub ruleset empty_laws = (empty_is, some_is, some_array, some_prim, some_enum, some_text, some_octets, some_union, some_sequence)
+pub some_tag : (T : Ty) → HasShape T shapes.Tagged → IsEmptyStruct T → ⊥
+some_tag T h empty = rw h.4 at empty
+
+pub some_encapsulation : (T : Ty) → HasShape T shapes.Encapsulation → IsEmptyStruct T → ⊥
+some_encapsulation T h empty = rw h.1 at empty
+
+pub ruleset empty_laws = (some_tag, some_encapsulation, empty_is, some_is, some_array, some_prim, some_enum, some_text, some_octets, some_union, some_sequence)

@@ -1,17 +1,19 @@
 -- What a reading leaves: the offset at its end, and places that fit the type.
-use Rattle.std.proofs.Common.{◌≡◌, ℕ, zero, suc, ◌+◌, ◌-◌, ◌<◌, ◌≤◌, true, List, [], ◌∷◌, ◌++◌, length, drop, Option, Some, None, refl, subst, arith, length-drop, ◌⊎◌, inl, inr, lit<, length-take-le}
+use Rattle.std.proofs.Common.{◌≡◌, ℕ, zero, suc, ◌+◌, ◌-◌, ◌<◌, ◌≤◌, true, List, [], ◌∷◌, ◌++◌, length, take, drop, Option, Some, None, refl, sym, subst, arith, add-zero, length-append, length-drop, lt-ltb, le-ltb, ◌⊎◌, inl, inr, lit<, length-take-le}
 use Rattle.std.proofs.lemmas.Bool.{cases_lt}
+use Rattle.std.proofs.lemmas.List.{take_all, drop_all}
+use Rattle.giop_cdr.specs.declared.order.Order.{Order}
 use Rattle.giop_cdr.specs.Alignment.{padding}
 use Rattle.giop_cdr.specs.Numbers.{num}
-use Rattle.giop_decode.specs.Fits.{Sound, HasCase, HasContent, HasHead, HasParts}
+use Rattle.giop_decode.specs.Fits.{Sound, HasCase, HasContent, HasHead, HasParts, IsEncapsulation}
 use Rattle.giop_decode.specs.Pieces.{Got, Grab, Waiting, block, content, ends, full_piece, full_pieces, last_piece, number, octets, over, tail, text, unless}
-use Rattle.giop_decode.specs.Reading.{headed, member, parts_from, read, refused, single, wrong}
+use Rattle.giop_decode.specs.Reading.{enclosed, headed, inside, member, order_of, ordered, parts_from, read, refused, rest_of, single, sized, wrong}
 use Rattle.giop_decode.specs.Spine
-use Rattle.giop_decode.specs.Spine.{Coding, Count, Done, Fault, Index, Line, Member, Name, Part, Piece, Read, Seg, Short, Switch, followed, line, with_front, within}
-use Rattle.giop_decode.specs.Steps.{inner_path, after, head_width, part_at}
+use Rattle.giop_decode.specs.Spine.{Coding, Count, Done, Fault, Index, Line, Member, Name, Part, Piece, Read, Seg, Short, Switch, followed, line, with_front, within, coded, Held, Ordered, Size}
+use Rattle.giop_decode.specs.Steps.{inner_path, after, head_width, part_at, held}
 use Rattle.giop_decode.specs.declared.progress.Kind.{Kind}
 use Rattle.giop_sig.specs.Fits.{IsFit, SelectsBelow}
-use Rattle.giop_sig.specs.Types.{places_of, Choice, Array, Octets, Scalar, Sequence, Single, Struct, Text, Ty, Union, part_of}
+use Rattle.giop_sig.specs.Types.{places_of, Choice, Array, Octets, Scalar, Sequence, Single, Struct, Text, Ty, Union, part_of, tag_of, Encapsulation}
 use Rattle.giop_sig.specs.declared.types.Selected.{Selected}
 use Rattle.giop_sig.specs.declared.types.Selected.TheVariants.{Case, Nothing, Refused}
 use Rattle.giop_decode.proofs.Law.{block_waits, block_got, number_waits, number_blocks, width_pos}
@@ -36,12 +38,12 @@ sound_followed T end (Fault lines at kind S) next h keeps = h
 
 pub sound_part : (T : Ty) (end i count : ℕ) (r : Read) → HasParts T count → i < count → Sound (part_of T i) end r → Sound T end (within (Part T i count) r)
 sound_part T end i count (Done lines at rest) kind below h = h
-sound_part T end i count (Short lines at outer leaf) kind below h = (h.0, (record { same = refl; kind = kind; below = below }, h.1))
+sound_part T end i count (Short lines at outer leaf) kind below h = (h.0, (record { same = refl; kind = kind; below = below }, h.1), (tt, h.2))
 sound_part T end i count (Fault lines at k S) kind below h = tt
 
 pub sound_member : (T : Ty) (end i : ℕ) (r : Read) → HasCase T i → Sound (part_of T i) end r → Sound T end (within (Member T i) r)
 sound_member T end i (Done lines at rest) kind h = h
-sound_member T end i (Short lines at outer leaf) kind h = (h.0, (record { same = refl; kind = kind }, h.1))
+sound_member T end i (Short lines at outer leaf) kind h = (h.0, (record { same = refl; kind = kind }, h.1), (tt, h.2))
 sound_member T end i (Fault lines at k S) kind h = tt
 
 -- octets taken: the offset at the end, and how many
@@ -80,20 +82,20 @@ headed_keeps : (coding : Coding) (path : List Seg) (T : Ty) → HasHead T → 0 
 headed_keeps coding path T kind pos keeps at s = go (number coding.origin (head_width T) at s) (number_takes coding.origin (head_width T) at s pos)
   where
     go : (g : Grab) → Takes (head_width T) (at + length s) g → Sound T (at + length s) (headed T (λ xs at rest. after coding path T (num coding.order xs) at rest) g)
-    go (Waiting carry at') h = (h.0, record { same = refl; kind = kind; room = h.1 })
+    go (Waiting carry at') h = (h.0, record { same = refl; kind = kind; room = h.1 }, tt)
     go (Got xs at' rest) h = subst (λ e. Sound T e (after coding path T (num coding.order xs) at' rest)) h.0 (keeps (num coding.order xs) at' rest)
 
 pub last_piece_sound : (T : Ty) (path : List Seg) (total offset end : ℕ) → HasContent T → total - offset ≤ 32 → offset ≤ total → (g : Grab) →
     Takes (total - offset + tail T) end g → Sound T end (last_piece T path total offset g)
 last_piece_sound T path total offset end kind small ahead (Waiting piece at) h =
-    (h.0, record { same = refl; kind = kind; ahead = ahead; room_full = λ more. absurd (omega arith); room_last = λ _. h.1 })
+    (h.0, record { same = refl; kind = kind; ahead = ahead; room_full = λ more. absurd (omega arith); room_last = λ _. h.1 }, tt)
 last_piece_sound T path total offset end kind small ahead (Got xs at rest) h =
     sound_unless T end T (ends T (total - offset) xs) at _ h.0
 
 pub full_piece_sound : (T : Ty) (path : List Seg) (total offset end : ℕ) → HasContent T → 32 < total - offset → (next : ℕ → List ℕ → Read) → Keeps T next → (g : Grab) →
     Takes 32 end g → Sound T end (full_piece T path total offset next g)
 full_piece_sound T path total offset end kind large next keeps (Waiting piece at) h =
-    (h.0, record { same = refl; kind = kind; ahead = omega arith; room_full = λ _. h.1; room_last = λ small. absurd (omega arith) })
+    (h.0, record { same = refl; kind = kind; ahead = omega arith; room_full = λ _. h.1; room_last = λ small. absurd (omega arith) }, tt)
 full_piece_sound T path total offset end kind large next keeps (Got xs at rest) h =
     sound_front T end (line at path (Piece T offset xs true) ∷ []) (next at rest) (subst (λ e. Sound T e (next at rest)) h.0 (keeps at rest))
 
@@ -138,8 +140,80 @@ cases_keep coding path choice scalar select names cases n below each at s =
     let T = Union choice scalar select names cases in
     sound_unless T (at + length s) T (wrong scalar n) at _
     (sound_unless T (at + length s) T (refused (select n)) at _
-    (sound_front T (at + length s) (line at (path ++ Switch ∷ []) (Spine.Number scalar n) ∷ []) _
+    (sound_front T (at + length s) (line at (path ++ Switch (tag_of choice names) ∷ []) (Spine.Number scalar n) ∷ []) _
     (selected_keeps coding path T (select n) (λ i e. below n i e) each at s)))
+
+-- ---- encapsulations
+
+rest_keeps : (T : Ty) (path : List Seg) (n : ℕ) → HasContent T → Keeps T (rest_of path T n)
+rest_keeps T path zero kind at s = refl
+rest_keeps T path (suc n) kind at s = content_keeps T path (suc n) kind (full_pieces (suc n)) 0 (omega arith) (omega arith) at s
+
+encapsulation_content : (T : Ty) → IsEncapsulation T → HasContent T
+encapsulation_content (Encapsulation T) h = tt
+encapsulation_content (Single scalar) h = absurd h
+encapsulation_content (Text bound) h = absurd h
+encapsulation_content (Octets bound) h = absurd h
+encapsulation_content (Struct n names parts) h = absurd h
+encapsulation_content (Union n scalar select names cases) h = absurd h
+encapsulation_content (Sequence bound T) h = absurd h
+encapsulation_content (Array n T) h = absurd h
+
+-- a value in an encapsulation, read up to here, and what follows it, which is nothing while the encapsulation goes on
+pub sound_enclosed : (T : Ty) (path : List Seg) (inner : Coding) (end here : ℕ) → IsEncapsulation T → inner.origin < here → (r : Read) (more : List ℕ) →
+    Sound (part_of T 0) here r → (here < end → more ≡ []) → Sound T (here + length more) (enclosed path T inner end r more)
+sound_enclosed T path inner end here kind began (Done lines at rest) more h none =
+    let e : at + length (rest ++ more) ≡ here + length more = omega (arith, h, length-append rest more) in
+    sound_front T (here + length more) lines _
+    (subst (λ n. Sound T n (rest_of path T (end - at) at (rest ++ more))) e (rest_keeps T path (end - at) (encapsulation_content T kind) at (rest ++ more)))
+sound_enclosed T path inner end here kind began (Short lines at outer leaf) more h none = go (cases_lt at end)
+  where
+    go : (at < end) ⊎ (end ≤ at) → Sound T (here + length more) (enclosed path T inner end (Short lines at outer leaf) more)
+    go (inl k) =
+        let below : here < end = omega (arith, h.0, k) in
+        let e : here ≡ here + length more = rw (none below) (sym (add-zero here)) in
+        subst (λ n. Sound T n (enclosed path T inner end (Short lines at outer leaf) more)) e
+        (rw (lt-ltb at end k) (h.0, (record { same = refl; kind = kind }, h.1), ((below, began), h.2)))
+    go (inr k) = rw le-ltb tt
+sound_enclosed T path inner end here kind began (Fault lines at why S) more h none = tt
+
+inside_sound : (T : Ty) (path : List Seg) (value : Coding → ℕ → List ℕ → Read) (inner : Coding) (n at : ℕ) (s : List ℕ) → IsEncapsulation T → inner.origin < at →
+    Keeps (part_of T 0) (value inner) → Sound T (at + length s) (inside path T value inner n at s)
+inside_sound T path value inner n at s kind began keeps = go (cases_lt (length s) n)
+  where
+    go : (length s < n) ⊎ (n ≤ length s) → Sound T (at + length s) (inside path T value inner n at s)
+    go (inl h) =
+        let k : length s ≤ n = omega arith in
+        rw (take_all n s k, drop_all n s k) (subst (λ m. Sound T m (enclosed path T inner (at + n) (value inner at s) [])) (add-zero (at + length s))
+        (sound_enclosed T path inner (at + n) (at + length s) kind (omega (arith, began)) (value inner at s) [] (keeps at s) (λ _. refl)))
+    go (inr h) =
+        let l : length (take n s) ≡ n = length-take-le n s h in
+        let e : (at + length (take n s)) + length (drop n s) ≡ at + length s = omega (arith, l, length-drop n s) in
+        subst (λ m. Sound T m (inside path T value inner n at s)) e
+        (sound_enclosed T path inner (at + n) (at + length (take n s)) kind (omega (arith, began)) (value inner at (take n s)) (drop n s) (keeps at (take n s))
+        (λ below. absurd (omega (arith, l, below))))
+
+-- what an encapsulation holds keeps so, in each order and from each origin
+abbrev pub HeldKeeps : Ty → List Seg → Type 0
+HeldKeeps T path = (inner : Coding) → Keeps (part_of T 0) (held path T inner)
+
+pub ordered_sound : (T : Ty) (path : List Seg) (origin n : ℕ) (order : Option Order) (at : ℕ) (s : List ℕ) → IsEncapsulation T → origin < at → HeldKeeps T path →
+    Sound T (at + length s) (ordered path T (held path T) origin n order at s)
+ordered_sound T path origin n None at s kind began keeps = tt
+ordered_sound T path origin n (Some order) at s kind began keeps =
+    sound_front T (at + length s) (line at path (Ordered order) ∷ []) _
+    (inside_sound T path (held path T) (coded order origin) n at s kind began (keeps (coded order origin)))
+
+sized_keeps : (T : Ty) (path : List Seg) (n : ℕ) → IsEncapsulation T → HeldKeeps T path → Keeps T (sized path T (held path T) n)
+sized_keeps T path zero kind keeps at s = tt
+sized_keeps T path (suc n) kind keeps at [] = rw (block_waits 1 at [] (lit< tt)) (refl, record { same = refl; kind = kind }, tt)
+sized_keeps T path (suc n) kind keeps at (x ∷ s) =
+    let e : (at + 1) + length s ≡ at + suc (length s) = omega arith in
+    rw (block_got 1 at (x ∷ s) (omega arith)) (subst (λ m. Sound T m (ordered path T (held path T) at n (order_of x) (at + 1) s)) e
+    (ordered_sound T path at n (order_of x) (at + 1) s kind (omega arith) keeps))
+
+size_keeps : (coding : Coding) (path : List Seg) (T : Ty) (n : ℕ) → HeldKeeps (Encapsulation T) path → Keeps (Encapsulation T) (after coding path (Encapsulation T) n)
+size_keeps coding path T n keeps at s = sound_front (Encapsulation T) (at + length s) (line at path (Size n) ∷ []) _ (sized_keeps (Encapsulation T) path n tt keeps at s)
 
 pub read_keeps : (d : ℕ) (coding : Coding) (path : List Seg) (T : Ty) → IsFit d T → Keeps T (read coding path T)
 unfolding IsFit
@@ -154,8 +228,10 @@ read_keeps (suc d) coding path (Array count T) fit =
 read_keeps (suc d) coding path (Sequence bound T) fit =
     headed_keeps coding path (Sequence bound T) tt (lit< tt) (λ n. elements_keep coding path bound T n (λ i. read_keeps d coding (path ++ Index i ∷ []) T fit))
 read_keeps (suc d) coding path (Union choice scalar select names cases) fit =
-    headed_keeps coding path (Union choice scalar select names cases) tt (width_pos scalar) (λ n. cases_keep coding path choice scalar select names cases n fit.0
-    (λ i below. read_keeps d coding (path ++ Name (names i) ∷ []) (cases i) (fit.1 i below)))
+    headed_keeps coding path (Union choice scalar select names cases) tt (width_pos scalar) (λ n.
+    cases_keep coding path choice scalar select names cases n fit.0 (λ i below. read_keeps d coding (path ++ Name (names i) ∷ []) (cases i) (fit.1 i below)))
+read_keeps (suc d) coding path (Encapsulation T) fit =
+    headed_keeps coding path (Encapsulation T) tt (lit< tt) (λ n. size_keeps coding path T n (λ inner. read_keeps d inner (path ++ Held ∷ []) T fit))
 
 pub after_keeps : (d : ℕ) (coding : Coding) (path : List Seg) (T : Ty) (n : ℕ) → IsFit d T → Keeps T (after coding path T n)
 unfolding IsFit
@@ -168,3 +244,4 @@ after_keeps (suc d) coding path (Array count T) n fit = λ at s. refl
 after_keeps (suc d) coding path (Sequence bound T) n fit = elements_keep coding path bound T n (λ i. read_keeps d coding (path ++ Index i ∷ []) T fit)
 after_keeps (suc d) coding path (Union choice scalar select names cases) n fit =
     cases_keep coding path choice scalar select names cases n fit.0 (λ i below. read_keeps d coding (path ++ Name (names i) ∷ []) (cases i) (fit.1 i below))
+after_keeps (suc d) coding path (Encapsulation T) n fit = size_keeps coding path T n (λ inner. read_keeps d inner (path ++ Held ∷ []) T fit)

@@ -1,5 +1,5 @@
 -- A decoder before the first octet.
-use Rattle.std.proofs.Common.{◌≡◌, ℕ, ◌+◌, ◌%◌, ◌<◌, [], length, Some, refl, sym, ◌∙◌, ap, subst, add-zero, inl, inr}
+use Rattle.std.proofs.Common.{◌≡◌, ℕ, ◌+◌, ◌%◌, ◌<◌, [], length, Some, refl, sym, ◌∙◌, ap, subst, add-zero, inl, inr, arith}
 use Rattle.giop_cdr.specs.declared.order.Order.{Order}
 use Rattle.giop_decode.specs.declared.decoder.Decoder.{Decoder}
 use Rattle.giop_decode.specs.declared.leaf.Leaf.TheVariants as innermost
@@ -9,7 +9,7 @@ use Rattle.giop_decode.specs.Heard.{nothing}
 use Rattle.giop_decode.specs.Holding.{Fits, Reads, Recalls, standing_in}
 use Rattle.giop_decode.specs.Reading.{read}
 use Rattle.giop_decode.specs.Spine.{plain, Head, Short}
-use Rattle.giop_decode.specs.Turns.{places, AreKnown, Link}
+use Rattle.giop_decode.specs.Turns.{places, is_inside, AreKnown, Link, AreAhead, StandAt}
 use Rattle.giop_decode.proofs.Around.{read_none}
 use Rattle.giop_decode.proofs.Hearing.{minds_by}
 use Rattle.giop_decode.proofs.Sound.{read_keeps}
@@ -22,24 +22,24 @@ use Rattle.giop_sig.specs.Types.{Ty}
 
 module _ (C : Table) (T : Ty) (order : Order) (at message : ℕ) (root : Root) (d : Decoder) where
   -- a type that isn't the empty struct begins with a number
-  pub first_reads : (first : TypeId) → IsFit 24 T → d.leaf ≡ Some (innermost.Number first) → d.carry ≡ [] → places C d.outer.items ≡ start_outer T → start_leaf T ≡ Head (tree C first.0) [] →
+  pub first_reads : (first : TypeId) → IsFit 24 T → d.leaf ≡ Some (innermost.Number first) → d.carry ≡ [] → ((here : ℕ) → places C here d.outer.items ≡ start_outer T) → StandAt at d.outer.items → start_leaf T ≡ Head (tree C first.0) [] →
       Recalls d.memory nothing → d.order ≡ order → d.message ≡ message → d.root ≡ root → d.at ≡ at % 8 → Reads C T order at message root d []
-  first_reads first fit goes_on empty are leaf recalls same_order same_message same_root offset =
+  first_reads first fit goes_on empty are stand leaf recalls same_order same_message same_root offset =
       let none : read (plain order) [] T at [] ≡ Short [] at (start_outer T) (Head (tree C first.0) []) = read_none (plain order) [] 24 T at fit ∙ ap (Short [] at (start_outer T)) leaf in
       record {
         lines = [];
-        is = none ∙ sym (ap (λ l. standing_in C d l [] (at + 0)) goes_on ∙ rw (add-zero at, are, empty) refl);
+        is = none ∙ sym (ap (λ l. standing_in C d l [] (at + 0)) goes_on ∙ rw (add-zero at, are at, empty) refl);
         minds = minds_by root d (read (plain order) [] T at []) (λ asked. rw none recalls);
         same_order = same_order;
         same_message = same_message;
         same_root = same_root;
-        offset = rw (add-zero at) offset;
+        offset = rw (add-zero at) (sym offset, stand);
       }
 
 pub first_fits : (C : Table) (of : ℕ) (d : Decoder) (first : TypeId) → of < length C.types → IsFit 24 (tree C of) → d.leaf ≡ Some (innermost.Number first) → d.carry ≡ [] → d.piece.items ≡ [] →
-    places C d.outer.items ≡ start_outer (tree C of) → start_leaf (tree C of) ≡ Head (tree C first.0) [] →
+    ((here : ℕ) → places C here d.outer.items ≡ start_outer (tree C of)) → StandAt d.at d.outer.items → AreAhead d.outer.items → d.inside ≡ is_inside d.outer.items → start_leaf (tree C of) ≡ Head (tree C first.0) [] →
     Link C of d.outer.items first.0 → AreKnown C d.outer.items → first.0 < length C.types → d.at < 8 → Fits C d
-first_fits C of d first known_root fit goes_on empty none are leaf link known_outer known at =
+first_fits C of d first known_root fit goes_on empty none are stand ahead inside leaf link known_outer known at =
     let T = tree C of in
     let sound : Sound T (0 + 0) (Short [] 0 (start_outer T) (start_leaf T)) =
     subst (Sound T (0 + 0)) (read_none (plain d.order) [] 24 T 0 fit) (read_keeps 24 (plain d.order) [] T fit 0 []) in
@@ -50,7 +50,11 @@ first_fits C of d first known_root fit goes_on empty none are leaf link known_ou
       known_root = known_root;
       link = link;
       fit = fit;
-      fits = rw (are, empty, ← leaf) sound.1;
+      here = d.at;
+      stands = (omega (arith, at), stand);
+      fits = rw (are d.at, empty, ← leaf) sound.1;
+      ahead = ahead;
+      inside = inside;
       known_outer = known_outer;
       known = known;
       clean = none;

@@ -23,7 +23,11 @@ restored_fits C d e r h = record {
   known_root = h.known_root;
   link = rw r.outer h.link;
   fit = h.fit;
+  here = h.here;
+  stands = (h.stands.0 ∙ sym r.at, rw r.outer h.stands.1);
   fits = rw (r.outer, r.carry, r.piece) h.fits;
+  ahead = rw r.outer h.ahead;
+  inside = r.inside;
   known_outer = rw r.outer h.known_outer;
   known = h.known;
   clean = rw (r.carry, r.piece) h.clean;
@@ -65,7 +69,7 @@ restored_reads C d e T order at message root s r reads = record {
   same_order = r.order ∙ reads.same_order;
   same_message = r.message ∙ reads.same_message;
   same_root = r.root ∙ reads.same_root;
-  offset = r.at ∙ reads.offset;
+  offset = (reads.offset.0 ∙ sym r.at, rw r.outer reads.offset.1);
 }
 
 -- ---- octets

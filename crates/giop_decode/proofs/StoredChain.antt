@@ -1,14 +1,16 @@
 -- What chains fits, and what fits chains; how many parts that are begun fit in a type.
-use Rattle.std.proofs.Common.{◌≡◌, ℕ, zero, suc, ◌<◌, ◌≤◌, max, List, [], ◌∷◌, length, refl, sym, ap, subst, arith, ◌⊎◌, inl, inr}
+use Rattle.std.proofs.Common.{◌≡◌, ℕ, zero, suc, ◌+◌, ◌*◌, ◌<◌, ◌≤◌, max, List, [], ◌∷◌, length, Option, Some, None, refl, sym, ap, subst, arith, ◌⊎◌, inl, inr}
+use Rattle.std.specs.Prelude.{IfSome}
 use Rattle.std.proofs.lemmas.Bool.{cases_lt}
+use Rattle.giop_cdr.specs.declared.order.Order.{Order}
 use Rattle.giop_decode.specs.declared.decoder.Decoder.{Decoder}
 use Rattle.giop_decode.specs.declared.frame.Frame.{Frame}
 use Rattle.giop_decode.specs.declared.leaf.Leaf.{Leaf as Innermost}
-use Rattle.giop_decode.specs.Chained.{HasPart, LeafFits, Chained, Chains, root_of}
-use Rattle.giop_decode.specs.Fits.{FitsIn, HasParts, HasCase}
+use Rattle.giop_decode.specs.Chained.{HasFrame, HasPart, LeafFits, Chained, Chains, root_of}
+use Rattle.giop_decode.specs.Fits.{FitsIn, HasParts, HasCase, IsEncapsulation}
 use Rattle.giop_decode.specs.Holding.{Fits}
-use Rattle.giop_decode.specs.Spine.{Place, Part, Member, Leaf}
-use Rattle.giop_decode.specs.Turns.{places, place_in, AreKnown, Link, leaf_of, leaf_type}
+use Rattle.giop_decode.specs.Spine.{Place, Part, Member, Inside, Leaf}
+use Rattle.giop_decode.specs.Turns.{places, part_in, part_index, place_in, AreAhead, AreKnown, IsWithin, Link, StandAt, leaf_of, leaf_type}
 use Rattle.giop_decode.proofs.Going.{length_places}
 use Rattle.giop_decode.proofs.Starting.{fit_some}
 use Rattle.giop_decode.proofs.Leaving.{leaf_at}
@@ -16,13 +18,15 @@ use Rattle.giop_sig.specs.Fits.{IsFit, IsEmptyStruct}
 use Rattle.giop_sig.specs.Headers.{IsTable}
 use Rattle.giop_sig.specs.Table.{Table, part_number}
 use Rattle.giop_sig.specs.Trees.{tree, depth_of}
-use Rattle.giop_sig.specs.Types.{Cases, Ty, Single, Text, Octets, Struct, Union, Sequence, Array, HasPlace, IsUnion, part_of, shape_in, depth, most}
+use Rattle.giop_sig.specs.Types.{Cases, Tag, Encapsulation, places_of, Ty, Single, Text, Octets, Struct, Union, Sequence, Array, HasPlace, IsUnion, part_of, shape_in, depth, most}
 use Rattle.giop_sig.proofs.PartLaws.{part_is, root_is, depth_is}
 
 -- ---- one place
 
 pub part_place : (T : Ty) (i count : ℕ) → HasPart T i count → HasPlace (shape_in T) i
 part_place (Union (Cases n) scalar select names cases) i count has = has.0
+part_place (Union Tag scalar select names cases) i count has = has.0
+part_place (Encapsulation T) i count has = tt
 part_place (Struct n names parts) i count has = let below : i < n = omega (arith, has.0, has.1) in below
 part_place (Array n T) i count has = tt
 part_place (Sequence bound T) i count has = tt
@@ -31,7 +35,8 @@ part_place (Text bound) i count has = absurd has.0
 part_place (Octets bound) i count has = absurd has.0
 
 part_uncounted : (T : Ty) (i count : ℕ) → HasPart T i count → IsUnion (shape_in T) → count ≡ 0
-part_uncounted (Union (Cases n) scalar select names cases) i count has is = has.1
+part_uncounted (Union choice scalar select names cases) i count has is = has.1
+part_uncounted (Encapsulation T) i count has is = absurd is
 part_uncounted (Struct n names parts) i count has is = absurd is
 part_uncounted (Array n T) i count has is = absurd is
 part_uncounted (Sequence bound T) i count has is = absurd is
@@ -39,8 +44,9 @@ part_uncounted (Single scalar) i count has is = absurd has.0
 part_uncounted (Text bound) i count has is = absurd has.0
 part_uncounted (Octets bound) i count has is = absurd has.0
 
-fits_one_more : (T : Ty) (i count : ℕ) (outer : List Place) (leaf : Leaf) → HasPart T i count → FitsIn (part_of T i) outer leaf → FitsIn T (place_in T i count ∷ outer) leaf
-fits_one_more (Union (Cases n) scalar select names cases) i count outer leaf has fits = (record { same = refl; kind = has.0 }, fits)
+fits_one_more : (T : Ty) (i count : ℕ) (outer : List Place) (leaf : Leaf) → HasPart T i count → FitsIn (part_of T i) outer leaf → FitsIn T (part_in T i count ∷ outer) leaf
+fits_one_more (Encapsulation T) i count outer leaf has fits = absurd has.0
+fits_one_more (Union choice scalar select names cases) i count outer leaf has fits = (record { same = refl; kind = has.0 }, fits)
 fits_one_more (Struct n names parts) i count outer leaf has fits = (record { same = refl; kind = has.0; below = has.1 }, fits)
 fits_one_more (Array n T) i count outer leaf has fits = (record { same = refl; kind = has.0; below = has.1 }, fits)
 fits_one_more (Sequence bound T) i count outer leaf has fits = (record { same = refl; kind = has.0; below = has.1 }, fits)
@@ -48,8 +54,10 @@ fits_one_more (Single scalar) i count outer leaf has fits = absurd has.0
 fits_one_more (Text bound) i count outer leaf has fits = absurd has.0
 fits_one_more (Octets bound) i count outer leaf has fits = absurd has.0
 
-fits_part : (T : Ty) (i count : ℕ) (outer : List Place) (leaf : Leaf) → FitsIn T (place_in T i count ∷ outer) leaf → (IsUnion (shape_in T) → count ≡ 0) → HasPart T i count × FitsIn (part_of T i) outer leaf
+fits_part : (T : Ty) (i count : ℕ) (outer : List Place) (leaf : Leaf) → FitsIn T (part_in T i count ∷ outer) leaf → (IsUnion (shape_in T) → count ≡ 0) → HasPart T i count × FitsIn (part_of T i) outer leaf
+fits_part (Encapsulation T) i count outer leaf fits uncounted = absurd fits.0.kind
 fits_part (Union (Cases n) scalar select names cases) i count outer leaf fits uncounted = ((fits.0.kind, uncounted tt), fits.1)
+fits_part (Union Tag scalar select names cases) i count outer leaf fits uncounted = ((fits.0.kind, uncounted tt), fits.1)
 fits_part (Struct n names parts) i count outer leaf fits uncounted = ((fits.0.kind, fits.0.below), fits.1)
 fits_part (Array n T) i count outer leaf fits uncounted = ((fits.0.kind, fits.0.below), fits.1)
 fits_part (Sequence bound T) i count outer leaf fits uncounted = ((fits.0.kind, fits.0.below), fits.1)
@@ -57,31 +65,85 @@ fits_part (Single scalar) i count outer leaf fits uncounted = absurd fits.0.kind
 fits_part (Text bound) i count outer leaf fits uncounted = absurd fits.0.kind
 fits_part (Octets bound) i count outer leaf fits uncounted = absurd fits.0.kind
 
+part_bare : (T : Ty) (i count : ℕ) → HasPart T i count → IsEncapsulation T → ⊥
+part_bare (Encapsulation T) i count has is = absurd has.0
+part_bare (Union choice scalar select names cases) i count has is = absurd is
+part_bare (Struct n names parts) i count has is = absurd is
+part_bare (Array n T) i count has is = absurd is
+part_bare (Sequence bound T) i count has is = absurd is
+part_bare (Single scalar) i count has is = absurd is
+part_bare (Text bound) i count has is = absurd is
+part_bare (Octets bound) i count has is = absurd is
+
+inside_place : (T : Ty) (i : ℕ) → IsEncapsulation T → HasPlace (shape_in T) i
+inside_place (Encapsulation T) i is = tt
+inside_place (Union choice scalar select names cases) i is = absurd is
+inside_place (Struct n names parts) i is = absurd is
+inside_place (Array n T) i is = absurd is
+inside_place (Sequence bound T) i is = absurd is
+inside_place (Single scalar) i is = absurd is
+inside_place (Text bound) i is = absurd is
+inside_place (Octets bound) i is = absurd is
+
+-- ---- one frame
+
+pub frame_place : (inside : Option Order) (T : Ty) (i count : ℕ) → HasFrame inside T i count → HasPlace (shape_in T) (part_index inside i)
+frame_place None T i count has = part_place T i count has
+frame_place (Some order) T i count has = inside_place T 0 has.0
+
+frame_within : (inside : Option Order) (T : Ty) (i count : ℕ) → HasFrame inside T i count → IsWithin inside i count T
+frame_within None T i count has = (part_place T i count has, part_bare T i count has, part_uncounted T i count has)
+frame_within (Some order) T i count has = (has.0, has.1, omega (arith, has.2))
+
+frame_ahead : (inside : Option Order) (T : Ty) (i count : ℕ) → HasFrame inside T i count → IfSome inside (λ order. i < count)
+frame_ahead None T i count has = tt
+frame_ahead (Some order) T i count has = has.2
+
+frame_fits : (here : ℕ) (inside : Option Order) (T : Ty) (i count : ℕ) (outer : List Place) (leaf : Leaf) → HasFrame inside T i count → FitsIn (part_of T (part_index inside i)) outer leaf →
+    FitsIn T (place_in here inside T i count ∷ outer) leaf
+frame_fits here None T i count outer leaf has fits = fits_one_more T i count outer leaf has fits
+frame_fits here (Some order) T i count outer leaf has fits = (record { same = refl; kind = has.0 }, fits)
+
+record FrameIs (inside : Option Order) (T : Ty) (i count : ℕ) (outer : List Place) (leaf : Leaf) : Type 0 where
+  has : HasFrame inside T i count
+  fits : FitsIn (part_of T (part_index inside i)) outer leaf
+
+frame_is : (here : ℕ) (inside : Option Order) (T : Ty) (i count : ℕ) (outer : List Place) (leaf : Leaf) → IsWithin inside i count T → IfSome inside (λ order. i < count) →
+    FitsIn T (place_in here inside T i count ∷ outer) leaf → FrameIs inside T i count outer leaf
+frame_is here None T i count outer leaf within ahead fits =
+    let p = fits_part T i count outer leaf fits within.2 in
+    record { has = p.0; fits = p.1 }
+frame_is here (Some order) T i count outer leaf within ahead fits = record { has = (within.0, within.1, ahead); fits = fits.1 }
+
 -- ---- a chain
 
-record ChainFits (C : Table) (id : ℕ) (frames : List Frame) (leaf : Innermost) (carry piece : List ℕ) : Type 0 where
-  fits : FitsIn (tree C id) (places C frames) (leaf_of C leaf carry piece)
+record ChainFits (C : Table) (here id : ℕ) (frames : List Frame) (leaf : Innermost) (carry piece : List ℕ) : Type 0 where
+  fits : FitsIn (tree C id) (places C here frames) (leaf_of C leaf carry piece)
+  ahead : AreAhead frames
   known_outer : AreKnown C frames
   link : Link C id frames (leaf_type leaf)
 
-chain_fits : (C : Table) (id : ℕ) (frames : List Frame) (leaf : Innermost) (carry piece : List ℕ) → IsTable C → id < length C.types
-    → Chained C id frames leaf → LeafFits C leaf carry piece → ChainFits C id frames leaf carry piece
-chain_fits C id [] leaf carry piece laws known h inner =
-    record { fits = subst (λ (n : ℕ). FitsIn (tree C n) [] (leaf_of C leaf carry piece)) h inner.0; known_outer = tt; link = h }
-chain_fits C id (f ∷ frames) leaf carry piece laws known h inner =
+chain_fits : (C : Table) (here id : ℕ) (frames : List Frame) (leaf : Innermost) (carry piece : List ℕ) → IsTable C → id < length C.types
+    → Chained C id frames leaf → LeafFits C leaf carry piece → ChainFits C here id frames leaf carry piece
+chain_fits C here id [] leaf carry piece laws known h inner =
+    record { fits = subst (λ (n : ℕ). FitsIn (tree C n) [] (leaf_of C leaf carry piece)) h inner.0; ahead = tt; known_outer = tt; link = h }
+chain_fits C here id (f ∷ frames) leaf carry piece laws known h inner =
     let has = h.1 in
-    let p = part_is C id f.index laws known (part_place (tree C id) f.index f.count has) in
-    let below : part_number C id f.index < length C.types = let b = p.below in omega arith in
-    let rest = chain_fits C (part_number C id f.index) frames leaf carry piece laws below h.2 inner in
-    let fits = fits_one_more (tree C id) f.index f.count (places C frames) (leaf_of C leaf carry piece) has (subst (λ (T : Ty). FitsIn T (places C frames) (leaf_of C leaf carry piece)) p.same rest.fits) in
+    let i = part_index f.inside f.index in
+    let p = part_is C id i laws known (frame_place f.inside (tree C id) f.index f.count has) in
+    let below : part_number C id i < length C.types = let b = p.below in omega arith in
+    let rest = chain_fits C here (part_number C id i) frames leaf carry piece laws below h.2 inner in
+    let ps = places C here frames in
+    let inmost = leaf_of C leaf carry piece in
+    let fits = frame_fits here f.inside (tree C id) f.index f.count ps inmost has (subst (λ (T : Ty). FitsIn T ps inmost) p.same rest.fits) in
     let is : id ≡ f.of.0 = sym h.0 in
     record {
-      fits = subst (λ (n : ℕ). FitsIn (tree C id) (place_in (tree C n) f.index f.count ∷ places C frames) (leaf_of C leaf carry piece)) is fits;
+      fits = subst (λ (n : ℕ). FitsIn (tree C id) (place_in here f.inside (tree C n) f.index f.count ∷ ps) inmost) is fits;
+      ahead = (frame_ahead f.inside (tree C id) f.index f.count has, rest.ahead);
       known_outer = (
         record {
           known = subst (λ (n : ℕ). n < length C.types) is known;
-          place = subst (λ (n : ℕ). HasPlace (shape_in (tree C n)) f.index) is (part_place (tree C id) f.index f.count has);
-          uncounted = subst (λ (n : ℕ). IsUnion (shape_in (tree C n)) → f.count ≡ 0) is (part_uncounted (tree C id) f.index f.count has);
+          within = subst (λ (n : ℕ). IsWithin f.inside f.index f.count (tree C n)) is (frame_within f.inside (tree C id) f.index f.count has);
         },
         rest.known_outer,
       );
@@ -92,19 +154,39 @@ record FitsChain (C : Table) (id : ℕ) (frames : List Frame) (leaf : Innermost)
   chain : Chained C id frames leaf
   inner : FitsIn (tree C (leaf_type leaf)) [] (leaf_of C leaf carry piece)
 
-fits_chain : (C : Table) (id : ℕ) (frames : List Frame) (leaf : Innermost) (carry piece : List ℕ) → IsTable C → id < length C.types
-    → FitsIn (tree C id) (places C frames) (leaf_of C leaf carry piece) → AreKnown C frames → Link C id frames (leaf_type leaf) → FitsChain C id frames leaf carry piece
-fits_chain C id [] leaf carry piece laws known fits are link =
+fits_chain : (C : Table) (here id : ℕ) (frames : List Frame) (leaf : Innermost) (carry piece : List ℕ) → IsTable C → id < length C.types
+    → FitsIn (tree C id) (places C here frames) (leaf_of C leaf carry piece) → AreAhead frames → AreKnown C frames → Link C id frames (leaf_type leaf) → FitsChain C id frames leaf carry piece
+fits_chain C here id [] leaf carry piece laws known fits ahead are link =
     record { chain = link; inner = subst (λ (n : ℕ). FitsIn (tree C n) [] (leaf_of C leaf carry piece)) (sym link) fits }
-fits_chain C id (f ∷ frames) leaf carry piece laws known fits are link =
-    let here = subst (λ (n : ℕ). FitsIn (tree C id) (place_in (tree C n) f.index f.count ∷ places C frames) (leaf_of C leaf carry piece)) link.0 fits in
-    let uncounted = subst (λ (n : ℕ). IsUnion (shape_in (tree C n)) → f.count ≡ 0) link.0 are.0.uncounted in
-    let u = fits_part (tree C id) f.index f.count (places C frames) (leaf_of C leaf carry piece) here uncounted in
-    let p = part_is C id f.index laws known (part_place (tree C id) f.index f.count u.0) in
-    let below : part_number C id f.index < length C.types = let b = p.below in omega arith in
-    let inside = subst (λ (T : Ty). FitsIn T (places C frames) (leaf_of C leaf carry piece)) (sym p.same) u.1 in
-    let rest = fits_chain C (part_number C id f.index) frames leaf carry piece laws below inside are.1 link.1 in
-    record { chain = (link.0, u.0, rest.chain); inner = rest.inner }
+fits_chain C here id (f ∷ frames) leaf carry piece laws known fits ahead are link =
+    let ps = places C here frames in
+    let inmost = leaf_of C leaf carry piece in
+    let i = part_index f.inside f.index in
+    let there = subst (λ (n : ℕ). FitsIn (tree C id) (place_in here f.inside (tree C n) f.index f.count ∷ ps) inmost) link.0 fits in
+    let within = subst (λ (n : ℕ). IsWithin f.inside f.index f.count (tree C n)) link.0 are.0.within in
+    let u = frame_is here f.inside (tree C id) f.index f.count ps inmost within ahead.0 there in
+    let p = part_is C id i laws known (frame_place f.inside (tree C id) f.index f.count u.has) in
+    let below : part_number C id i < length C.types = let b = p.below in omega arith in
+    let inner = subst (λ (T : Ty). FitsIn T ps inmost) (sym p.same) u.fits in
+    let rest = fits_chain C here (part_number C id i) frames leaf carry piece laws below inner ahead.1 are.1 link.1 in
+    record { chain = (link.0, u.has, rest.chain); inner = rest.inner }
+
+-- ---- an offset at which frames can stand
+
+all_octets : List Frame → ℕ
+all_octets [] = 0
+all_octets (f ∷ frames) = f.index + all_octets frames
+
+stands_above : (here i : ℕ) (inside : Option Order) → i ≤ here → IfSome inside (λ order. i ≤ here)
+stands_above here i None h = tt
+stands_above here i (Some order) h = h
+
+stand_above : (here : ℕ) (frames : List Frame) → all_octets frames ≤ here → StandAt here frames
+unfolding all_octets
+stand_above here [] h = tt
+stand_above here (f ∷ frames) h =
+    let sum : f.index + all_octets frames ≤ here = h in
+    (stands_above here f.index f.inside (omega (arith, sum)), stand_above here frames (omega (arith, sum)))
 
 -- ---- a decoder
 
@@ -117,7 +199,8 @@ some_fit (Sequence bound T) fit empty = empty
 some_fit (Single scalar) fit empty = empty
 some_fit (Text bound) fit empty = empty
 some_fit (Octets bound) fit empty = empty
-some_fit (Union (Cases n) scalar select names cases) fit empty = empty
+some_fit (Union choice scalar select names cases) fit empty = empty
+some_fit (Encapsulation T) fit empty = empty
 
 root_linked : (C : Table) (root : ℕ) (frames : List Frame) (leaf : Innermost) → Link C root frames (leaf_type leaf) → root ≡ root_of frames leaf
 root_linked C root [] leaf link = sym link
@@ -126,7 +209,8 @@ root_linked C root (f ∷ frames) leaf link = sym link.0
 pub chains_fits : (C : Table) (d : Decoder) → IsTable C → Chains C d → Fits C d
 chains_fits C d laws h =
     let root = root_of d.outer.items h.leaf in
-    let c = chain_fits C root d.outer.items h.leaf d.carry d.piece.items laws h.known h.chain h.fits in
+    let here = d.at + 8 * all_octets d.outer.items in
+    let c = chain_fits C here root d.outer.items h.leaf d.carry d.piece.items laws h.known h.chain h.fits in
     record {
       leaf = h.leaf;
       goes_on = h.goes_on;
@@ -134,7 +218,11 @@ chains_fits C d laws h =
       known_root = h.known;
       link = c.link;
       fit = fit_some (tree C root) (root_is C root laws h.known) h.some;
+      here = here;
+      stands = (omega (arith, h.at), stand_above here d.outer.items (omega arith));
       fits = c.fits;
+      ahead = c.ahead;
+      inside = h.inside;
       known_outer = c.known_outer;
       known = h.known_leaf;
       clean = h.fits.1;
@@ -144,7 +232,7 @@ chains_fits C d laws h =
 pub fits_chains : (C : Table) (d : Decoder) → IsTable C → Fits C d → Chains C d
 fits_chains C d laws h =
     let is = root_linked C h.root d.outer.items h.leaf h.link in
-    let c = fits_chain C h.root d.outer.items h.leaf d.carry d.piece.items laws h.known_root h.fits h.known_outer h.link in
+    let c = fits_chain C h.here h.root d.outer.items h.leaf d.carry d.piece.items laws h.known_root h.fits h.ahead h.known_outer h.link in
     record {
       leaf = h.leaf;
       goes_on = h.goes_on;
@@ -152,6 +240,7 @@ fits_chains C d laws h =
       known = subst (λ (n : ℕ). n < length C.types) is h.known_root;
       some = subst (λ (n : ℕ). IsEmptyStruct (tree C n) → ⊥) is (some_fit (tree C h.root) h.fit);
       chain = subst (λ (n : ℕ). Chained C n d.outer.items h.leaf) is c.chain;
+      inside = h.inside;
       fits = (c.inner, h.clean);
       at = h.at;
     }
@@ -174,21 +263,24 @@ depth_some (Sequence bound T) = omega arith
 depth_some (Single scalar) = omega arith
 depth_some (Text bound) = omega arith
 depth_some (Octets bound) = omega arith
-depth_some (Union (Cases n) scalar select names cases) = omega arith
+depth_some (Union choice scalar select names cases) = omega arith
+depth_some (Encapsulation T) = omega arith
 
 part_shallower : (T : Ty) (i count : ℕ) → HasParts T count → i < count → depth (part_of T i) < depth T
 unfolding depth
 part_shallower (Struct n names parts) i count kind lt = let below : i < n = omega (arith, kind) in omega (arith, most_at n i (λ j. depth (parts j)) below)
 part_shallower (Array n T) i count kind lt = omega arith
 part_shallower (Sequence bound T) i count kind lt = omega arith
-part_shallower (Union (Cases n) scalar select names cases) i count kind lt = absurd kind
+part_shallower (Union choice scalar select names cases) i count kind lt = absurd kind
+part_shallower (Encapsulation T) i count kind lt = absurd kind
 part_shallower (Single scalar) i count kind lt = absurd kind
 part_shallower (Text bound) i count kind lt = absurd kind
 part_shallower (Octets bound) i count kind lt = absurd kind
 
 case_shallower : (T : Ty) (i : ℕ) → HasCase T i → depth (part_of T i) < depth T
 unfolding depth
-case_shallower (Union (Cases n) scalar select names cases) i kind = omega (arith, most_at n i (λ j. depth (cases j)) kind)
+case_shallower (Union choice scalar select names cases) i kind = omega (arith, most_at (places_of choice) i (λ j. depth (cases j)) kind)
+case_shallower (Encapsulation T) i kind = absurd kind
 case_shallower (Struct n names parts) i kind = absurd kind
 case_shallower (Array n T) i kind = absurd kind
 case_shallower (Sequence bound T) i kind = absurd kind
@@ -196,14 +288,26 @@ case_shallower (Single scalar) i kind = absurd kind
 case_shallower (Text bound) i kind = absurd kind
 case_shallower (Octets bound) i kind = absurd kind
 
+inside_shallower : (T : Ty) → IsEncapsulation T → depth (part_of T 0) < depth T
+unfolding depth
+inside_shallower (Encapsulation T) kind = omega arith
+inside_shallower (Union choice scalar select names cases) kind = absurd kind
+inside_shallower (Struct n names parts) kind = absurd kind
+inside_shallower (Array n T) kind = absurd kind
+inside_shallower (Sequence bound T) kind = absurd kind
+inside_shallower (Single scalar) kind = absurd kind
+inside_shallower (Text bound) kind = absurd kind
+inside_shallower (Octets bound) kind = absurd kind
+
 fits_shallow : (ps : List Place) (T : Ty) (leaf : Leaf) → FitsIn T ps leaf → length ps < depth T
 fits_shallow [] T leaf fits = depth_some T
 fits_shallow (Part U i count ∷ ps) T leaf fits = omega (arith, fits_shallow ps (part_of T i) leaf fits.1, part_shallower T i count fits.0.kind fits.0.below)
 fits_shallow (Member U i ∷ ps) T leaf fits = omega (arith, fits_shallow ps (part_of T i) leaf fits.1, case_shallower T i fits.0.kind)
+fits_shallow (Inside U coding end ∷ ps) T leaf fits = omega (arith, fits_shallow ps (part_of T 0) leaf fits.1, inside_shallower T fits.0.kind)
 
 pub fits_depth : (C : Table) (d : Decoder) → Fits C d → length d.outer.items < depth_of C.types
 fits_depth C d h =
-    omega (arith, length_places C d.outer.items, fits_shallow (places C d.outer.items) (tree C h.root) _ h.fits, depth_is C h.root h.known_root)
+    omega (arith, length_places C h.here d.outer.items, fits_shallow (places C h.here d.outer.items) (tree C h.root) _ h.fits, depth_is C h.root h.known_root)
 
 left_some : (d : ℕ) (T : Ty) → IsFit d T → 0 < d
 unfolding IsFit
@@ -213,5 +317,5 @@ left_some (suc d) T fit = omega arith
 -- room is left for the innermost part's frame
 pub fits_few : (C : Table) (d : Decoder) → Fits C d → length d.outer.items < 24
 fits_few C d h =
-    let l = leaf_at 24 (tree C h.root) (places C d.outer.items) (leaf_of C h.leaf d.carry d.piece.items) h.fits h.fit in
-    omega (arith, length_places C d.outer.items, l.depth, left_some l.left _ l.fit)
+    let l = leaf_at 24 (tree C h.root) (places C h.here d.outer.items) (leaf_of C h.leaf d.carry d.piece.items) h.fits h.fit in
+    omega (arith, length_places C h.here d.outer.items, l.depth, left_some l.left _ l.fit)

@@ -19,6 +19,7 @@ pub leaf_long : (leaf : Innermost) → length (leaf_octets leaf) ≡ 13
 unfolding four
 leaf_long (innermost.Number of) = refl
 leaf_long (innermost.Content of total offset) = refl
+leaf_long (innermost.Opening of count) = refl
 
 pub frame_long : (f : Frame) → length (frame_octets f) ≡ 16
 unfolding four

@@ -1,11 +1,12 @@
 -- The frames of a stored decoder, and its innermost part, are read as they were written.
-use Rattle.std.proofs.Common.{◌≡◌, ℕ, ◌+◌, ◌^◌, ◌<◌, ◌≤◌, List, [], ◌∷◌, ◌++◌, length, drop, refl, sym, ap, ◌∙◌, append_assoc, arith, length-append}
+use Rattle.std.proofs.Common.{◌≡◌, ℕ, ◌+◌, ◌^◌, ◌<◌, ◌≤◌, List, [], ◌∷◌, ◌++◌, length, drop, replicate, Option, refl, sym, ap, ◌∙◌, append_assoc, arith, length-append}
 use Rattle.std.specs.List.{AllByRecursion}
 use Rattle.std.proofs.lemmas.List.{append-nil}
+use Rattle.giop_cdr.specs.declared.order.Order.{Order}
 use Rattle.giop_decode.specs.declared.frame.Frame.{Frame}
 use Rattle.giop_decode.specs.declared.leaf.Leaf.{Leaf as Innermost}
 use Rattle.giop_decode.specs.declared.leaf.Leaf.TheVariants as innermost
-use Rattle.giop_decode.specs.Stored.{leaf_octets, frame_octets, frames_octets, FrameHasRange, LeafHasRange}
+use Rattle.giop_decode.specs.Stored.{leaf_octets, inside_octet, frame_octets, frames_octets, FrameHasRange, LeafHasRange}
 use Rattle.giop_decode.proofs.StoredFields.{frame_long, further}
 use Rattle.giop_octets.specs.Fields.{four}
 use Rattle.giop_octets.proofs.FieldLaws.{four_long, behind}
@@ -30,12 +31,26 @@ number_again (innermost.Number t) at of tag octets rest range is zero_tag tag_is
     let e : of ≡ t.0 = of_is t.0 _ range inner in
     rw e refl
 number_again (innermost.Content t total offset) at of tag octets rest range is zero_tag tag_is of_is = absurd (omega (arith, tag_is 1 _ is, zero_tag))
+number_again (innermost.Opening t count) at of tag octets rest range is zero_tag tag_is of_is = absurd (omega (arith, tag_is 2 _ is, zero_tag))
 
-pub content_again : (leaf : Innermost) (at of total offset tag : ℕ) (octets rest : List ℕ) → LeafHasRange leaf → drop at octets ≡ leaf_octets leaf ++ rest → (tag ≡ 0 → ⊥)
+pub opening_again : (leaf : Innermost) (at of count tag : ℕ) (octets rest : List ℕ) → LeafHasRange leaf → drop at octets ≡ leaf_octets leaf ++ rest → tag ≡ 2
+    → ((n : ℕ) (rest : List ℕ) → drop at octets ≡ n ∷ rest → tag ≡ n) → ReadsFour (at + 1) octets of → ReadsFour (at + 5) octets count
+    → innermost.Opening (type_id of) count ≡ leaf
+opening_again (innermost.Number t) at of count tag octets rest range is two tag_is of_is count_is = absurd (omega (arith, tag_is 0 _ is, two))
+opening_again (innermost.Content t total offset) at of count tag octets rest range is two tag_is of_is count_is = absurd (omega (arith, tag_is 1 _ is, two))
+opening_again (innermost.Opening t k) at of count tag octets rest range is two tag_is of_is count_is =
+    let inner : drop (at + 1) octets ≡ four t.0 ++ (four k ++ (four 0 ++ rest)) = behind at 1 octets (2 ∷ []) _ is refl ∙ three (four t.0) (four k) (four 0) rest in
+    let count_at : drop (at + 5) octets ≡ four k ++ (four 0 ++ rest) = further at 1 4 5 octets _ refl (behind (at + 1) 4 octets _ _ inner (four_long t.0)) in
+    let a : of ≡ t.0 = of_is t.0 _ range.0 inner in
+    let b : count ≡ k = count_is k _ range.1 count_at in
+    rw (a, b) refl
+
+pub content_again : (leaf : Innermost) (at of total offset tag : ℕ) (octets rest : List ℕ) → LeafHasRange leaf → drop at octets ≡ leaf_octets leaf ++ rest → (tag ≡ 0 → ⊥) → (tag ≡ 2 → ⊥)
     → ((n : ℕ) (rest : List ℕ) → drop at octets ≡ n ∷ rest → tag ≡ n) → ReadsFour (at + 1) octets of → ReadsFour (at + 5) octets total → ReadsFour (at + 9) octets offset
     → innermost.Content (type_id of) total offset ≡ leaf
-content_again (innermost.Number t) at of total offset tag octets rest range is other tag_is of_is total_is offset_is = absurd (other (tag_is 0 _ is))
-content_again (innermost.Content t k o) at of total offset tag octets rest range is other tag_is of_is total_is offset_is =
+content_again (innermost.Opening t count) at of total offset tag octets rest range is other third tag_is of_is total_is offset_is = absurd (third (tag_is 2 _ is))
+content_again (innermost.Number t) at of total offset tag octets rest range is other third tag_is of_is total_is offset_is = absurd (other (tag_is 0 _ is))
+content_again (innermost.Content t k o) at of total offset tag octets rest range is other third tag_is of_is total_is offset_is =
     let inner : drop (at + 1) octets ≡ four t.0 ++ (four k ++ (four o ++ rest)) = behind at 1 octets (1 ∷ []) _ is refl ∙ three (four t.0) (four k) (four o) rest in
     let total_at : drop (at + 5) octets ≡ four k ++ (four o ++ rest) = further at 1 4 5 octets _ refl (behind (at + 1) 4 octets _ _ inner (four_long t.0)) in
     let offset_at : drop (at + 9) octets ≡ four o ++ rest = further at 5 4 9 octets _ refl (behind (at + 5) 4 octets _ _ total_at (four_long k)) in
@@ -46,16 +61,21 @@ content_again (innermost.Content t k o) at of total offset tag octets rest range
 
 -- ---- frames
 
-pub frame_again : (f : Frame) (of index count : ℕ) (octets rest : List ℕ) → FrameHasRange f → octets ≡ frame_octets f ++ rest
-    → ReadsFour 0 octets of → ReadsFour 4 octets index → ReadsFour 8 octets count → record { of = type_id of; index = index; count = count } ≡ f
-frame_again f of index count octets rest range is of_is index_is count_is =
-    let first : drop 0 octets ≡ four f.of.0 ++ (four f.index ++ (four f.count ++ (four 0 ++ rest))) = is ∙ four_fields (four f.of.0) (four f.index) (four f.count) (four 0) rest in
-    let second : drop 4 octets ≡ four f.index ++ (four f.count ++ (four 0 ++ rest)) = behind 0 4 octets _ _ first (four_long f.of.0) in
-    let third : drop 8 octets ≡ four f.count ++ (four 0 ++ rest) = behind 4 4 octets _ _ second (four_long f.index) in
+pub frame_again : (f : Frame) (of index count : ℕ) (inside : Option Order) (octets rest : List ℕ) → FrameHasRange f → octets ≡ frame_octets f ++ rest
+    → ReadsFour 0 octets of → ReadsFour 4 octets index → ReadsFour 8 octets count
+    → ((i : Option Order) (rest : List ℕ) → drop 12 octets ≡ inside_octet i ∷ rest → inside ≡ i)
+    → record { of = type_id of; index = index; count = count; inside = inside } ≡ f
+frame_again f of index count inside octets rest range is of_is index_is count_is inside_is =
+    let last : List ℕ = inside_octet f.inside ∷ replicate 3 0 in
+    let first : drop 0 octets ≡ four f.of.0 ++ (four f.index ++ (four f.count ++ (last ++ rest))) = is ∙ four_fields (four f.of.0) (four f.index) (four f.count) last rest in
+    let second : drop 4 octets ≡ four f.index ++ (four f.count ++ (last ++ rest)) = behind 0 4 octets _ _ first (four_long f.of.0) in
+    let third : drop 8 octets ≡ four f.count ++ (last ++ rest) = behind 4 4 octets _ _ second (four_long f.index) in
+    let fourth : drop 12 octets ≡ last ++ rest = behind 8 4 octets _ _ third (four_long f.count) in
     let a : of ≡ f.of.0 = of_is f.of.0 _ range.of first in
     let b : index ≡ f.index = index_is f.index _ range.index second in
     let c : count ≡ f.count = count_is f.count _ range.count third in
-    rw (a, b, c) refl
+    let d : inside ≡ f.inside = inside_is f.inside _ fourth in
+    rw (a, b, c, d) refl
 
 -- frames that are left to read, in front of the last
 pub record Left (all items : List Frame) (own : Frame) (octets : List ℕ) : Type 0 where

@@ -1,5 +1,5 @@
 -- What the number that begins a type comes to, before any octet behind it.
-use Rattle.std.proofs.Common.{◌≡◌, ℕ, zero, suc, ◌+◌, ◌-◌, ◌^◌, ◌<◌, ◌≤◌, ◌⊎◌, inl, inr, false, List, [], ◌∷◌, ◌++◌, length, Option, Some, None, refl, ap, subst, arith, add-zero, lit<, lt-ltb, ne_eqb}
+use Rattle.std.proofs.Common.{◌≡◌, ◌≢◌, ℕ, zero, suc, ◌+◌, ◌-◌, ◌^◌, ◌<◌, ◌≤◌, ◌⊎◌, inl, inr, false, List, [], ◌∷◌, ◌++◌, length, Option, Some, None, refl, ap, subst, arith, add-zero, lit<, lt-ltb, ne_eqb, sym}
 use Rattle.std.proofs.lemmas.Bool.{cases_lt}
 use Rattle.giop_cdr.proofs.NumberLaws.{num_bound}
 use Rattle.giop_cdr.specs.Numbers.{AreOctets, num, taken_as}
@@ -13,16 +13,19 @@ use Rattle.giop_decode.specs.declared.leaf.Turn.TheVariants as turns
 use Rattle.giop_decode.specs.declared.progress.Kind.TheVariants as kinds
 use Rattle.giop_decode.specs.declared.leaf.Spoken.TheVariants as spokens
 use Rattle.giop_decode.specs.Spine
-use Rattle.giop_decode.specs.Spine.{Coding, Seg, Switch, line, Count, Piece, Part, Member, Content, Done, Short, with_front, within}
+use Rattle.giop_decode.specs.Spine.{Coding, Seg, Switch, line, Count, Piece, Part, Member, Content, Done, Short, with_front, within, coded, Line, Fault, Held, Opening, Ordered, Size}
 use Rattle.giop_decode.specs.Pieces.{over, full_pieces, tail, content}
-use Rattle.giop_decode.specs.Reading.{wrong}
-use Rattle.giop_decode.specs.Steps.{inner_path, after, head_width}
+use Rattle.giop_decode.specs.Reading.{order_of, wrong}
+use Rattle.giop_decode.specs.Steps.{leaf_step, inner_path, after, head_width}
 use Rattle.giop_decode.specs.Begins.{start_outer, start_leaf}
-use Rattle.giop_decode.specs.Fits.{HasCase}
+use Rattle.giop_decode.specs.Fits.{HasCase, IsEncapsulation}
 use Rattle.giop_decode.specs.Turns.{IsNumberOf, Turns, over_by}
-use Rattle.giop_decode.proofs.Law.{block_got}
+use Rattle.giop_decode.proofs.Law.{block_got, block_step_got}
+use Rattle.giop_decode.proofs.Leaving.{fit_held}
+use Rattle.giop_decode.proofs.Enclosing.{with_front-enclosed}
+use Rattle.std.proofs.Math.Seq.{take-nil, drop-nil}
 use Rattle.giop_decode.proofs.Around.{block_none, first_part, read_none}
-use Rattle.giop_sig.specs.Types.{Cases, Scalar, Plain, Enum, Ty, Single, Text, Octets, Struct, Union, Sequence, Array, part_of, switch_of, shape_in, select_in, taken_in, IsUnion, HasMember}
+use Rattle.giop_sig.specs.Types.{Cases, Scalar, Plain, Enum, Ty, Single, Text, Octets, Struct, Union, Sequence, Array, part_of, switch_of, shape_in, select_in, taken_in, IsUnion, HasMember, Tag, tag_of, Encapsulation}
 use Rattle.giop_sig.specs.declared.types.Selected.TheVariants.{Case, Nothing, Refused}
 use Rattle.giop_sig.specs.Fits.{IsFit}
 use Rattle.giop_sig.specs.Table.{Table}
@@ -69,6 +72,7 @@ switch_bound (Sequence bound T) p order octets u is whole are = absurd u
 switch_bound (Single (Plain q)) p order octets u is whole are = absurd u
 switch_bound (Single (Enum n names)) p order octets u is whole are = absurd u
 switch_bound (Text bound) p order octets u is whole are = absurd u
+switch_bound (Encapsulation T) p order octets u is whole are = absurd u
 switch_bound (Octets bound) p order octets u is whole are = absurd u
 
 abbrev pub number_prim : (T : Ty) (p : Primitive) (n : ℕ) (number : Taken) → T ≡ Single (Plain p) → taken_as p n ≡ Some number → n < 256 ^ size_of p → IsNumberOf T number
@@ -111,6 +115,8 @@ module _ (C : Table) (coding : Coding) (path : List Seg) (T : Ty) (at : ℕ) whe
 
 pub member_case : (T : Ty) (i : ℕ) → IsUnion (shape_in T) → HasMember (shape_in T) i → HasCase T i
 member_case (Union (Cases n) scalar select names cases) i u h = h
+member_case (Union Tag scalar select names cases) i u h = h
+member_case (Encapsulation T) i u h = absurd u
 member_case (Struct n names parts) i u h = absurd u
 member_case (Array n T) i u h = absurd u
 member_case (Sequence bound T) i u h = absurd u
@@ -129,8 +135,8 @@ module _ (C : Table) (coding : Coding) (path : List Seg) (at : ℕ) (number : Ta
       let s : scalar ≡ is.scalar = same_scalar scalar is.scalar is.is in
       let w : wrong scalar is.n ≡ None = rw s is.right in
       record {
-        lines = line at (path ++ Switch ∷ []) (Spine.Number is.scalar is.n) ∷ [];
-        comes = rw (w, e, read_none coding (inner_path path (Union choice scalar select names cases) i) d (cases i) at (fit.1 i h)) (ap (λ k. Short (line at (path ++ Switch ∷ []) (Spine.Number k is.n) ∷ []) at
+        lines = line at (path ++ Switch (tag_of choice names) ∷ []) (Spine.Number is.scalar is.n) ∷ [];
+        comes = rw (w, e, read_none coding (inner_path path (Union choice scalar select names cases) i) d (cases i) at (fit.1 i h)) (ap (λ k. Short (line at (path ++ Switch (tag_of choice names) ∷ []) (Spine.Number k is.n) ∷ []) at
             (Member (Union choice scalar select names cases) i ∷ start_outer (cases i)) (start_leaf (cases i))) s);
         says = (is, refl);
       }
@@ -141,6 +147,7 @@ module _ (C : Table) (coding : Coding) (path : List Seg) (at : ℕ) (number : Ta
   turns_case (suc d) (Single (Enum n names)) i is fit u e h = absurd u
   turns_case (suc d) (Text bound) i is fit u e h = absurd u
   turns_case (suc d) (Octets bound) i is fit u e h = absurd u
+  turns_case (suc d) (Encapsulation T) i is fit u e h = absurd u
 
   pub turns_nothing : (T : Ty) (is : IsNumberOf (switch_of T) number) → IsUnion (shape_in T) → select_in T is.n ≡ Nothing →
       Turns C T turns.Ended (spokens.Switch number) [] [] path at (after coding path T is.n at [])
@@ -148,8 +155,8 @@ module _ (C : Table) (coding : Coding) (path : List Seg) (at : ℕ) (number : Ta
       let s : scalar ≡ is.scalar = same_scalar scalar is.scalar is.is in
       let w : wrong scalar is.n ≡ None = rw s is.right in
       record {
-        lines = line at (path ++ Switch ∷ []) (Spine.Number is.scalar is.n) ∷ [];
-        comes = rw (w, e) (ap (λ k. Done (line at (path ++ Switch ∷ []) (Spine.Number k is.n) ∷ []) at []) s);
+        lines = line at (path ++ Switch (tag_of choice names) ∷ []) (Spine.Number is.scalar is.n) ∷ [];
+        comes = rw (w, e) (ap (λ k. Done (line at (path ++ Switch (tag_of choice names) ∷ []) (Spine.Number k is.n) ∷ []) at []) s);
         says = (is, refl);
       }
   turns_nothing (Struct n names parts) is u e = absurd u
@@ -159,6 +166,7 @@ module _ (C : Table) (coding : Coding) (path : List Seg) (at : ℕ) (number : Ta
   turns_nothing (Single (Enum n names)) is u e = absurd u
   turns_nothing (Text bound) is u e = absurd u
   turns_nothing (Octets bound) is u e = absurd u
+  turns_nothing (Encapsulation T) is u e = absurd u
 
   pub turns_refused : (T : Ty) (is : IsNumberOf (switch_of T) number) → IsUnion (shape_in T) → select_in T is.n ≡ Refused →
       Turns C T (turns.Refused kinds.Disposition) spokens.Nothing [] [] path at (after coding path T is.n at [])
@@ -173,7 +181,56 @@ module _ (C : Table) (coding : Coding) (path : List Seg) (at : ℕ) (number : Ta
   turns_refused (Single (Enum n names)) is u e = absurd u
   turns_refused (Text bound) is u e = absurd u
   turns_refused (Octets bound) is u e = absurd u
+  turns_refused (Encapsulation T) is u e = absurd u
 
 -- the number of a union's discriminator is a value of its type
 pub taken_number : (T U : Ty) (number : Taken) (is : IsNumberOf U number) → T ≡ U → taken_in T is.n ≡ Some number
 taken_number T U number is e = rw (e, is.is) is.taken
+
+-- ---- encapsulations
+
+pub no_order : (b : ℕ) → b ≢ 0 → b ≢ 1 → order_of b ≡ None
+no_order zero h k = absurd (h refl)
+no_order (suc zero) h k = absurd (k refl)
+no_order (suc (suc b)) h k = refl
+
+module _ (C : Table) (coding : Coding) (path : List Seg) (at : ℕ) where
+  pub size_none : (T : Ty) → IsEncapsulation T → after coding path T 0 at [] ≡ Fault (line at path (Size 0) ∷ []) at kinds.EncapShort T
+  size_none (Encapsulation T) h = refl
+  size_none (Single scalar) h = absurd h
+  size_none (Text bound) h = absurd h
+  size_none (Octets bound) h = absurd h
+  size_none (Struct n names parts) h = absurd h
+  size_none (Union n scalar select names cases) h = absurd h
+  size_none (Sequence bound T) h = absurd h
+  size_none (Array n T) h = absurd h
+
+  pub size_some : (T : Ty) (left : ℕ) → IsEncapsulation T → after coding path T (suc left) at [] ≡ Short (line at path (Size (suc left)) ∷ []) at [] (Opening T left)
+  size_some (Encapsulation T) left h = rw (block_none 1 at (lit< tt)) refl
+  size_some (Single scalar) left h = absurd h
+  size_some (Text bound) left h = absurd h
+  size_some (Octets bound) left h = absurd h
+  size_some (Struct n names parts) left h = absurd h
+  size_some (Union n scalar select names cases) left h = absurd h
+  size_some (Sequence bound T) left h = absurd h
+  size_some (Array n T) left h = absurd h
+
+module _ (C : Table) (coding : Coding) (path : List Seg) (T : Ty) (count here b : ℕ) where
+  pub order_bad : order_of b ≡ None → leaf_step coding path (Opening T (count - 1)) here b ≡ Fault [] (here + 1) kinds.EncapOrder T
+  order_bad e = rw (block_step_got 1 here [] b (omega arith), e) refl
+
+  -- what stands behind the octet of an order
+  pub order_turns : (d : ℕ) (order : Order) → IsFit d T → IsEncapsulation T → order_of b ≡ Some order →
+      Turns C T (turns.Entered order count) (spokens.Ordered order) [] [] path (here + 1) (leaf_step coding path (Opening T (count - 1)) here b)
+  unfolding IsFit
+  order_turns zero order fit kind e = absurd fit
+  order_turns (suc d) order fit kind e =
+      let c = coded order here in
+      let o : (here + 1) - 1 ≡ here = omega arith in
+      let front : List Line = line (here + 1) path (Ordered order) ∷ [] in
+      record {
+        lines = front;
+        comes = rw (block_step_got 1 here [] b (omega arith), e, take-nil, drop-nil, read_none c (path ++ Held ∷ []) d (part_of T 0) (here + 1) (fit_held d T fit kind), o)
+            (sym (with_front-enclosed front path T c ((here + 1) + (count - 1)) (Short [] (here + 1) (start_outer (part_of T 0)) (start_leaf (part_of T 0))) []));
+        says = refl;
+      }

@@ -1,6 +1,6 @@
 -- The lines of a reading that are pieces of strings: those of whole contents, one after the other, and those of one that has begun.
-use Rattle.std.proofs.Common.{◌≡◌, ℕ, zero, suc, ◌+◌, ◌-◌, ◌*◌, ◌<◌, ◌≤◌, true, false, List, [], ◌∷◌, ◌++◌, length, take, drop, Option, Some, None, refl, sym, ◌∙◌, ap, append_assoc, append-nil, length-append, true≢false, arith, ◌⊎◌, inl, inr}
-use Rattle.std.specs.Prelude.{flat_map}
+use Rattle.std.proofs.Common.{◌≡◌, ℕ, zero, suc, ◌+◌, ◌-◌, ◌*◌, ◌<◌, ◌≤◌, Bool, true, false, List, [], ◌∷◌, ◌++◌, length, take, drop, get_or, Option, Some, None, refl, sym, ◌∙◌, ap, append_assoc, append-nil, length-append, true≢false, arith, ◌⊎◌, inl, inr}
+use Rattle.std.specs.Prelude.{cond, flat_map, ltb}
 use Rattle.std.specs.List.{AllByRecursion as Each}
 use Rattle.std.proofs.lemmas.Bool.{cases_lt}
 use Rattle.std.proofs.lemmas.Grind.{flat_map-append}
@@ -8,16 +8,18 @@ use Rattle.std.proofs.lemmas.List.{length-take-le, take_at}
 use Rattle.std.proofs.lemmas.List.Elements.{filter_map-append}
 use Rattle.std.proofs.Math.Seq.{drop-append_seam}
 use Rattle.giop_cdr.specs.Numbers.{num}
+use Rattle.giop_cdr.specs.declared.order.Order.{Order}
 use Rattle.giop_decode.specs.Heard.{in_string}
 use Rattle.giop_decode.specs.Memories.{piece, text_of, text_pieces, cut_from, pieces_of, Strings}
-use Rattle.giop_decode.specs.Pieces.{Got, Grab, Waiting, block, content, ends, full_piece, full_pieces, last_piece, number, octets, over, text, unless}
-use Rattle.giop_decode.specs.Reading.{headed, member, parts_from, read, refused, single, wrong}
-use Rattle.giop_decode.specs.Spine.{Coding, Count, Done, Fault, Index, Line, Member, Name, Number, Part, Piece, Place, Read, Seg, Short, Switch, followed, line, with_front, within, lines_of}
+use Rattle.giop_decode.specs.Pieces.{Got, Grab, Waiting, block, content, ends, full_piece, full_pieces, last_piece, number, octets, over, tail, text, unless}
+use Rattle.giop_decode.specs.Reading.{cut_off, enclosed, headed, inside, member, opening, order_of, ordered, parts_from, read, refused, rest_of, single, sized, wrong}
+use Rattle.giop_decode.specs.Spine.{Coding, Count, Done, Fault, Held, Index, Inside, Line, Member, Name, Number, Opening, Ordered, Part, Piece, Place, Read, Seg, Short, Size, Switch, coded, followed, line, with_front, within, lines_of}
 use Rattle.giop_decode.specs.declared.progress.Kind.{Kind}
-use Rattle.giop_sig.specs.Types.{Array, Octets, Scalar, Sequence, Single, Struct, Text, Ty, Union, width}
+use Rattle.giop_decode.specs.declared.progress.Kind.TheVariants as kinds
+use Rattle.giop_sig.specs.Types.{tag_of, Array, Encapsulation, Octets, Scalar, Sequence, Single, Struct, Text, Ty, Union, width}
 use Rattle.giop_sig.specs.declared.types.Selected.{Selected}
 use Rattle.giop_sig.specs.declared.types.Selected.TheVariants.{Case, Nothing, Refused}
-use Rattle.giop_decode.proofs.Hearing.{front_inside}
+use Rattle.giop_decode.proofs.Hearing.{cut_inside, front_inside}
 use Rattle.giop_decode.proofs.Law.{block_got, block_waits}
 use Rattle.giop_decode.proofs.Resuming.{lines_front}
 
@@ -147,26 +149,27 @@ text_strings bound path (suc n) at s =
 
 -- ---- octets are no string
 
-octets_last : (bound : Option ℕ) (path : List Seg) (total offset : ℕ) (g : Grab) →
-    text_pieces (lines_of (last_piece (Octets bound) path total offset g)) ≡ []
-octets_last bound path total offset (Waiting held at) = refl
-octets_last bound path total offset (Got xs at rest) = refl
+-- pieces of a type that say no string, and that no octet ends
+module _ (T : Ty) (none : (offset : ℕ) (octets : List ℕ) (more : Bool) → text_of (Piece T offset octets more) ≡ None) (endless : (n : ℕ) (xs : List ℕ) → ends T n xs ≡ None) where
+  bare_last : (path : List Seg) (total offset : ℕ) (g : Grab) → text_pieces (lines_of (last_piece T path total offset g)) ≡ []
+  bare_last path total offset (Waiting held at) = refl
+  bare_last path total offset (Got xs at rest) = rw (endless (total - offset) xs, none offset (take (total - offset) xs) false) refl
 
-octets_full : (bound : Option ℕ) (path : List Seg) (total offset : ℕ) (next : ℕ → List ℕ → Read) (g : Grab) →
-    ((at : ℕ) (s : List ℕ) → text_pieces (lines_of (next at s)) ≡ []) → text_pieces (lines_of (full_piece (Octets bound) path total offset next g)) ≡ []
-octets_full bound path total offset next (Waiting held at) h = refl
-octets_full bound path total offset next (Got xs at rest) h = rw (lines_front (line at path (Piece (Octets bound) offset xs true) ∷ []) (next at rest)) (h at rest)
+  bare_full : (path : List Seg) (total offset : ℕ) (next : ℕ → List ℕ → Read) (g : Grab) →
+      ((at : ℕ) (s : List ℕ) → text_pieces (lines_of (next at s)) ≡ []) → text_pieces (lines_of (full_piece T path total offset next g)) ≡ []
+  bare_full path total offset next (Waiting held at) h = refl
+  bare_full path total offset next (Got xs at rest) h =
+      rw (lines_front (line at path (Piece T offset xs true) ∷ []) (next at rest), none offset xs true) (h at rest)
 
-octets_none : (bound : Option ℕ) (path : List Seg) (total full offset at : ℕ) (s : List ℕ) →
-    text_pieces (lines_of (content (Octets bound) path total full offset at s)) ≡ []
-octets_none bound path total zero offset at s = octets_last bound path total offset (block (total - offset + 0) at s)
-octets_none bound path total (suc full) offset at s =
-    octets_full bound path total offset (content (Octets bound) path total full (offset + 32)) (block 32 at s) (octets_none bound path total full (offset + 32))
+  bare_none : (path : List Seg) (total full offset at : ℕ) (s : List ℕ) → text_pieces (lines_of (content T path total full offset at s)) ≡ []
+  bare_none path total zero offset at s = bare_last path total offset (block (total - offset + tail T) at s)
+  bare_none path total (suc full) offset at s =
+      bare_full path total offset (content T path total full (offset + 32)) (block 32 at s) (bare_none path total full (offset + 32))
 
 octets_strings : (bound : Option ℕ) (path : List Seg) (n at : ℕ) (s : List ℕ) →
     Strings (octets bound path n at s)
 octets_strings bound path n at s =
-    unless_strings (Octets bound) (over bound n) at (content (Octets bound) path n (full_pieces n) 0 at s) (no_strings _ (octets_none bound path n (full_pieces n) 0 at s))
+    unless_strings (Octets bound) (over bound n) at (content (Octets bound) path n (full_pieces n) 0 at s) (no_strings _ (bare_none (Octets bound) (λ offset octets more. refl) (λ n xs. refl) path n (full_pieces n) 0 at s))
 
 -- ---- any type
 
@@ -180,6 +183,40 @@ member_strings : (selected : Selected) (case : ℕ → ℕ → List ℕ → Read
 member_strings (Case i) case h at s = h i at s
 member_strings Nothing case h at s = no_strings (Done [] at s) refl
 member_strings Refused case h at s = no_strings (Done [] at s) refl
+
+-- ---- encapsulations
+
+rest_strings : (path : List Seg) (T : Ty) (n at : ℕ) (s : List ℕ) → Strings (rest_of path (Encapsulation T) n at s)
+rest_strings path T zero at s = no_strings (Done [] at s) refl
+rest_strings path T (suc n) at s = no_strings _ (bare_none (Encapsulation T) (λ offset octets more. refl) (λ n xs. refl) path (suc n) (full_pieces (suc n)) 0 at s)
+
+enclosed_strings : (path : List Seg) (T : Ty) (coding : Coding) (end : ℕ) (r : Read) (more : List ℕ) → Strings r →
+    Strings (enclosed path (Encapsulation T) coding end r more)
+enclosed_strings path T coding end (Done lines at rest) more h =
+    whole_then lines h.contents (rest_of path (Encapsulation T) (end - at) at (rest ++ more))
+    (h.lines ∙ (ap (λ begun. flat_map pieces_of h.contents ++ begun) (h.none refl) ∙ append-nil (flat_map pieces_of h.contents)))
+    (rest_strings path T (end - at) at (rest ++ more))
+enclosed_strings path T coding end (Short lines at outer leaf) more h = go (ltb at end)
+  where
+    go : (test : Bool) → Strings (cond test (Short lines at (Inside (Encapsulation T) coding end ∷ outer) leaf) (Fault lines at kinds.EncapShort (cut_off leaf)))
+    go true = record { contents = h.contents; begun = h.begun; lines = h.lines; unended = h.unended; none = h.none }
+    go false = record { contents = h.contents; begun = h.begun; lines = h.lines; unended = h.unended; none = λ k. h.none (sym (cut_inside leaf) ∙ k) }
+enclosed_strings path T coding end (Fault lines at kind S) more h = h
+
+module _ (path : List Seg) (T : Ty) (value : Coding → ℕ → List ℕ → Read) (strings : (coding : Coding) (at : ℕ) (s : List ℕ) → Strings (value coding at s)) where
+  ordered_strings : (origin n : ℕ) (order : Option Order) (at : ℕ) (rest : List ℕ) → Strings (ordered path (Encapsulation T) value origin n order at rest)
+  ordered_strings origin n None at rest = no_strings (Fault [] at kinds.EncapOrder (Encapsulation T)) refl
+  ordered_strings origin n (Some order) at rest =
+      then_strings (line at path (Ordered order) ∷ []) (inside path (Encapsulation T) value (coded order origin) n at rest) refl
+      (enclosed_strings path T (coded order origin) (at + n) (value (coded order origin) at (take n rest)) (drop n rest) (strings (coded order origin) at (take n rest)))
+
+  opening_strings : (origin n : ℕ) (g : Grab) → Strings (opening path (Encapsulation T) value origin n g)
+  opening_strings origin n (Waiting none at) = no_strings (Short [] at [] (Opening (Encapsulation T) n)) refl
+  opening_strings origin n (Got octets at rest) = ordered_strings origin n (order_of (get_or octets 0 0)) at rest
+
+  sized_strings : (n at : ℕ) (s : List ℕ) → Strings (sized path (Encapsulation T) value n at s)
+  sized_strings zero at s = no_strings (Fault [] at kinds.EncapShort (Encapsulation T)) refl
+  sized_strings (suc n) at s = opening_strings at n (block 1 at s)
 
 -- The strings of any reading.
 pub read_strings : (coding : Coding) (path : List Seg) (T : Ty) (at : ℕ) (s : List ℕ) →
@@ -209,9 +246,15 @@ read_strings coding path (Union choice scalar select names cases) at s =
     let T = Union choice scalar select names cases in
     let n = num coding.order xs in
     let case : ℕ → ℕ → List ℕ → Read = λ i at s. within (Member T i) (read coding (path ++ Name (names i) ∷ []) (cases i) at s) in
-    let front : List Line = line at (path ++ Switch ∷ []) (Number scalar n) ∷ [] in
+    let front : List Line = line at (path ++ Switch (tag_of choice names) ∷ []) (Number scalar n) ∷ [] in
     unless_strings T (wrong scalar n) at (unless T (refused (select n)) at (with_front front (member (select n) case at rest)))
     (unless_strings T (refused (select n)) at (with_front front (member (select n) case at rest))
     (then_strings front (member (select n) case at rest) refl
     (member_strings (select n) case (λ i at s. within_strings (Member T i) (read coding (path ++ Name (names i) ∷ []) (cases i) at s) (read_strings coding (path ++ Name (names i) ∷ []) (cases i) at s)) at rest))))
     (number coding.origin (width scalar) at s)
+read_strings coding path (Encapsulation T) at s =
+    headed_strings (Encapsulation T) _ (λ xs at rest.
+    let value : Coding → ℕ → List ℕ → Read = λ inner. read inner (path ++ Held ∷ []) T in
+    then_strings (line at path (Size (num coding.order xs)) ∷ []) (sized path (Encapsulation T) value (num coding.order xs) at rest) refl
+    (sized_strings path T value (λ inner at s. read_strings inner (path ++ Held ∷ []) T at s) (num coding.order xs) at rest))
+    (number coding.origin 4 at s)

@@ -1,10 +1,11 @@
 -- Which places and leaf can stand inside a type (state).
 use Rattle.std.specs.Prelude.{◌≡◌, ℕ, zero, suc, ◌+◌, ◌-◌, ◌<◌, ◌≤◌, List, [], ◌∷◌, length}
-use Rattle.giop_decode.specs.Spine.{Place, Part, Member, Leaf, Head, Content, Read, Done, Short, Fault}
+use Rattle.giop_decode.specs.Spine.{Place, Part, Member, Inside, Leaf, Head, Opening, Content, Read, Done, Short, Fault}
 use Rattle.giop_decode.specs.Pieces.{tail}
 use Rattle.giop_decode.specs.Steps.{head_width}
-use Rattle.giop_sig.specs.Types.{places_of, Ty, Text, Octets, Struct, Union, Sequence, Array, part_of}
+use Rattle.giop_sig.specs.Types.{places_of, Ty, Text, Octets, Struct, Union, Sequence, Array, part_of, Encapsulation}
 use Rattle.giop_sig.specs.Fits.{IsFit}
+use Rattle.std.specs.List.{AllByRecursion}
 
 -- a type that begins with a number
 abbrev pub HasHead : Ty → Type 0
@@ -16,7 +17,18 @@ HasHead T = Unit {0}
 abbrev pub HasContent : Ty → Type 0
 HasContent (Text bound) = Unit {0}
 HasContent (Octets bound) = Unit {0}
+HasContent (Encapsulation T) = Unit {0}
 HasContent T = ⊥
+
+-- a content of octets alone
+abbrev pub IsBare : Ty → Type 0
+IsBare (Octets bound) = Unit {0}
+IsBare (Encapsulation T) = Unit {0}
+IsBare T = ⊥
+
+abbrev pub IsEncapsulation : Ty → Type 0
+IsEncapsulation (Encapsulation T) = Unit {0}
+IsEncapsulation T = ⊥
 
 -- a type of so many parts
 abbrev pub HasParts : Ty → ℕ → Type 0
@@ -56,17 +68,38 @@ pub record MemberFits (T U : Ty) (i : ℕ) : Type 0 where
   pub same : U ≡ T
   pub kind : HasCase T i
 
+-- the octet of an encapsulation that says its order
+pub record OpeningFits (T U : Ty) : Type 0 where
+  pub same : U ≡ T
+  pub kind : IsEncapsulation T
+
+-- what stands behind that octet
+pub record InsideFits (T U : Ty) : Type 0 where
+  pub same : U ≡ T
+  pub kind : IsEncapsulation T
+
 -- places and a leaf that can stand in a type, each in the one before
 abbrev pub FitsIn : Ty → List Place → Leaf → Type 0
 FitsIn T [] (Head U carry) = HeadFits T U carry
+FitsIn T [] (Opening U n) = OpeningFits T U
 FitsIn T [] (Content U total offset piece) = ContentFits T U total offset piece
 FitsIn T (Part U i count ∷ outer) leaf = PartFits T U i count × FitsIn (part_of T i) outer leaf
 FitsIn T (Member U i ∷ outer) leaf = MemberFits T U i × FitsIn (part_of T i) outer leaf
+FitsIn T (Inside U coding end ∷ outer) leaf = InsideFits T U × FitsIn (part_of T 0) outer leaf
+
+-- where so many octets of a message were read, no encapsulation around has ended, and each began among these octets
+abbrev pub Surround : ℕ → Place → Type 0
+Surround at (Inside T coding end) = (at < end) × (coding.origin < at)
+Surround at place = Unit {0}
+
+abbrev pub Surrounds : ℕ → List Place → Type 0
+Surrounds at places = AllByRecursion (Surround at) places
 
 -- a place at which so much depth is left: its whole fits, and has that part
 abbrev pub IsOpen : ℕ → Place → Type 0
 IsOpen d (Part T i count) = HasParts T count × (i < count) × IsFit d T
 IsOpen d (Member T i) = HasCase T i × IsFit d T
+IsOpen d (Inside T coding end) = IsEncapsulation T × IsFit d T
 
 -- places one in the other, the outermost of which has so much depth left
 abbrev pub OpenFrom : ℕ → List Place → Type 0
@@ -77,10 +110,11 @@ OpenFrom (suc d) (place ∷ outer) = IsOpen (suc d) place × OpenFrom d outer
 -- the type of a leaf
 abbrev pub leaf_ty : Leaf → Ty
 leaf_ty (Head T carry) = T
+leaf_ty (Opening T n) = T
 leaf_ty (Content T total offset piece) = T
 
--- What a reading whose last octet stands in front of this offset leaves: that offset, and places and a leaf that fit.
+-- What a reading whose last octet stands in front of this offset leaves: that offset, and places and a leaf that fit there.
 abbrev pub Sound : Ty → ℕ → Read → Type 0
 Sound T end (Done lines at rest) = at + length rest ≡ end
-Sound T end (Short lines at outer leaf) = (at ≡ end) × FitsIn T outer leaf
+Sound T end (Short lines at outer leaf) = (at ≡ end) × FitsIn T outer leaf × Surrounds end outer
 Sound T end (Fault lines at kind S) = Unit {0}

@@ -12,7 +12,7 @@ use Rattle.giop_decode.specs.Spine.{plain, Line, Read, Done, Short, Fault, lines
 use Rattle.giop_decode.specs.Reading.{read}
 use Rattle.giop_decode.specs.Fits.{FitsIn}
 use Rattle.giop_decode.specs.Heard.{Heard, heard_of, is_header_root, names_operation}
-use Rattle.giop_decode.specs.Turns.{places, AreKnown, Link, leaf_of, leaf_type, IsClean}
+use Rattle.giop_decode.specs.Turns.{places, AreKnown, AreAhead, StandAt, is_inside, Link, leaf_of, leaf_type, IsClean}
 use Rattle.giop_print.specs.declared.path.Root.{Root}
 use Rattle.giop_print.specs.declared.path.Root.TheVariants as roots
 use Rattle.giop_sig.specs.Types.{Ty}
@@ -22,6 +22,10 @@ use Rattle.giop_sig.specs.Trees.{tree}
 
 -- ---- a decoder of a catalogue
 
+-- an offset at which a decoder can stand
+abbrev pub IsHere : Decoder → ℕ → Type 0
+IsHere d here = (here % 8 ≡ d.at) × StandAt here d.outer.items
+
 -- A decoder that is neither done nor faulted: its frames name types of the table, each the part of the one before at its place.
 pub record Fits (C : Table) (d : Decoder) : Type 0 where
   pub leaf : Innermost
@@ -30,7 +34,12 @@ pub record Fits (C : Table) (d : Decoder) : Type 0 where
   pub known_root : root < length C.types
   pub link : Link C root d.outer.items (leaf_type leaf)
   pub fit : IsFit 24 (tree C root)
-  pub fits : FitsIn (tree C root) (places C d.outer.items) (leaf_of C leaf d.carry d.piece.items)
+  -- an offset at which it can stand
+  pub here : ℕ
+  pub stands : IsHere d here
+  pub fits : FitsIn (tree C root) (places C here d.outer.items) (leaf_of C leaf d.carry d.piece.items)
+  pub ahead : AreAhead d.outer.items
+  pub inside : d.inside ≡ is_inside d.outer.items
   pub known_outer : AreKnown C d.outer.items
   pub known : leaf_type leaf < length C.types
   pub clean : IsClean leaf d.carry d.piece.items
@@ -46,7 +55,7 @@ IsDone d = d.leaf ≡ None
 abbrev pub standing_in : Table → Decoder → Option Innermost → List Line → ℕ → Read
 standing_in C d None lines at = Done lines at []
 standing_in C d (Some leaf) lines at =
-    Short lines at (places C d.outer.items) (leaf_of C leaf d.carry d.piece.items)
+    Short lines at (places C at d.outer.items) (leaf_of C leaf d.carry d.piece.items)
 
 -- what a decoder's fields stand for, by whether it has an innermost part
 abbrev pub standing : Table → Decoder → List Line → ℕ → Read
@@ -79,7 +88,7 @@ pub record Reads (C : Table) (T : Ty) (order : Order) (at message : ℕ) (root :
   pub same_order : d.order ≡ order
   pub same_message : d.message ≡ message
   pub same_root : d.root ≡ root
-  pub offset : d.at ≡ (at + length s) % 8
+  pub offset : IsHere d (at + length s)
 
 -- ---- one octet more
 

@@ -17,6 +17,7 @@ hushes spoken = false
 -- whether an innermost part of this type stands inside a string
 abbrev pub leaf_in_string : Ty → Innermost → Bool
 leaf_in_string T (innermost.Number of) = false
+leaf_in_string T (innermost.Opening of left) = false
 leaf_in_string T (innermost.Content of total offset) = is_text T
 
 -- and whether what it has come to does

@@ -4,18 +4,20 @@ use Rattle.giop_cdr.specs.Numbers.{taken_as}
 use Rattle.giop_cdr.specs.Primitives.{size_of}
 use Rattle.giop_cdr.specs.declared.number.Number.{Number as Taken}
 use Rattle.giop_cdr.specs.declared.prim.Primitive.{Primitive}
-use Rattle.giop_decode.specs.Spine.{Seg, Name, Index, Switch, Value, Number, Count, Piece, Line}
-use Rattle.giop_print.specs.Lines.{kind_word, spaced, number_text, spaced_hex, more_word}
+use Rattle.giop_decode.specs.Spine.{Seg, Name, Index, Switch, Value, Number, Count, Piece, Line, Held, Size, Ordered}
+use Rattle.giop_print.specs.Lines.{kind_word, spaced, number_text, spaced_hex, more_word, order_word}
 use Rattle.giop_print.specs.Paths.{root_word, name_segment, index_segment}
 use Rattle.giop_print.specs.Text.{joined, quoted}
 use Rattle.giop_print.specs.declared.path.Root.{Root}
-use Rattle.giop_sig.specs.Types.{Plain, Enum, Text, Octets}
+use Rattle.giop_sig.specs.Types.{Plain, Enum, Text, Octets, Encapsulation}
 
 -- the text of a segment: a name behind a point, or an index in brackets
 abbrev pub seg_text : Seg → List ℕ
 seg_text (Name name) = name_segment name
 seg_text (Index i) = index_segment i
-seg_text Switch = name_segment (codes "switch")
+seg_text (Switch None) = name_segment (codes "switch")
+seg_text (Switch (Some name)) = name_segment name
+seg_text Held = []
 
 -- the text of segments, one after the other
 abbrev pub segs_text : List Seg → List ℕ
@@ -40,6 +42,10 @@ value_words (Piece (Text bound) offset octets more) =
     codes " string @" ∷ decimal offset ∷ (codes " " ++ quoted octets) ∷ more_word more ∷ []
 value_words (Piece (Octets bound) offset octets more) =
     codes " octets @" ∷ decimal offset ∷ spaced_hex octets ∷ more_word more ∷ []
+value_words (Piece (Encapsulation T) offset octets more) =
+    codes " rest @" ∷ decimal offset ∷ spaced_hex octets ∷ []
+value_words (Size n) = codes " encapsulation " ∷ decimal n ∷ []
+value_words (Ordered order) = codes " order " ∷ order_word order ∷ []
 value_words value = []
 
 -- the line of a value at a path, in the message of this number

@@ -1,16 +1,18 @@
 -- What the reading of a value says, and what it leaves: its lines, and the parts that it has begun and not ended (meaning).
-use Rattle.std.specs.Prelude.{ℕ, Bool, List, ◌∷◌, ◌++◌}
+use Rattle.std.specs.Prelude.{ℕ, Bool, List, ◌∷◌, ◌++◌, Option}
 use Rattle.giop_cdr.specs.declared.order.Order.{Order}
 use Rattle.giop_decode.specs.declared.progress.Kind.{Kind}
 use Rattle.giop_sig.specs.Types.{Scalar, Ty}
 
 -- ---- lines
 
--- one step of a path: a member, an element, or a union's discriminator
+-- one step of a path: a member, an element, a discriminator with its name if it has one, or what an encapsulation holds,
+-- which has its path
 pub data Seg : Type 0 where
   Name : List ℕ → Seg
   Index : ℕ → Seg
-  Switch : Seg
+  Switch : Option (List ℕ) → Seg
+  Held : Seg
 
 -- what a line tells
 pub data Value : Type 0 where
@@ -18,7 +20,10 @@ pub data Value : Type 0 where
   Number : Scalar → ℕ → Value
   -- of a sequence's elements
   Count : ℕ → Value
-  -- of a string or an octet sequence: where in the content, what, and whether more follows
+  -- of an encapsulation: how many octets it has, and their byte order
+  Size : ℕ → Value
+  Ordered : Order → Value
+  -- of a string, an octet sequence or the rest of an encapsulation: where in the content, what, and whether more follows
   Piece : Ty → ℕ → List ℕ → Bool → Value
 
 -- a line: the offset just past the last octet of its value, its path below the root, and what stands there
@@ -54,12 +59,17 @@ pub data Place : Type 0 where
   Part : Ty → ℕ → ℕ → Place
   -- in which case of a union
   Member : Ty → ℕ → Place
+  -- in an encapsulation: how its octets are taken, and the offset at which they end
+  Inside : Ty → Coding → ℕ → Place
 
 -- the innermost part
 pub data Leaf : Type 0 where
   -- the number that it begins with: the octets that are there, without padding
   Head : Ty → List ℕ → Leaf
-  -- the content of a string or an octet sequence: how long it is, where the piece begins, and what is there of the piece
+  -- the octet with the byte order of an encapsulation, and how many octets stand behind it
+  Opening : Ty → ℕ → Leaf
+  -- the content of a string or an octet sequence, or the rest of an encapsulation: how long it is, where the piece begins, and
+  -- what is there of the piece
   Content : Ty → ℕ → ℕ → List ℕ → Leaf
 
 -- ---- readings

@@ -2,10 +2,12 @@
 use Rattle.std.specs.Prelude.{◌≡◌, ℕ, suc, ◌+◌, ◌-◌, cond, ltb, List, [], ◌∷◌, ◌++◌, length}
 use Rattle.giop_cdr.specs.Alignment.{padding}
 use Rattle.giop_cdr.specs.Numbers.{num}
+use Rattle.giop_decode.specs.declared.progress.Kind.{Kind}
+use Rattle.giop_decode.specs.declared.progress.Kind.TheVariants as kinds
 use Rattle.giop_decode.specs.Pieces.{Got, Grab, Waiting, content, full_piece, full_pieces, last_piece, octets, over, tail, text, unless}
-use Rattle.giop_decode.specs.Reading.{chosen, headed, parts_from, read, single}
-use Rattle.giop_decode.specs.Spine.{Coding, Line, Content, Count, Done, Fault, Head, Index, Leaf, Member, Name, Part, Place, Read, Seg, Short, followed, line, with_front, within}
-use Rattle.giop_sig.specs.Types.{part_of, Octets, Sequence, Single, Struct, Text, Ty, Union, width}
+use Rattle.giop_decode.specs.Reading.{chosen, headed, parts_from, read, single, enclosed, opening, sized}
+use Rattle.giop_decode.specs.Spine.{Coding, Line, Content, Count, Done, Fault, Head, Index, Leaf, Member, Name, Part, Place, Read, Seg, Short, followed, line, with_front, within, Held, Inside, Opening, Size}
+use Rattle.giop_sig.specs.Types.{part_of, Octets, Sequence, Single, Struct, Text, Ty, Union, width, tag_of, Encapsulation}
 
 -- one octet more of n that are taken together, of which some are held
 unfoldable pub block_step : ℕ → ℕ → List ℕ → ℕ → Grab
@@ -29,6 +31,7 @@ head_width T = 4
 abbrev pub seg_of : Ty → ℕ → Seg
 seg_of (Struct count names parts) i = Name (names i)
 seg_of (Union choice scalar select names cases) i = Name (names i)
+seg_of (Encapsulation T) i = Held
 seg_of T i = Index i
 
 -- the path inside a part
@@ -40,6 +43,10 @@ abbrev pub part_at : Coding → List Seg → Ty → ℕ → ℕ → ℕ → List
 part_at coding path T count i at s =
     within (Part T i count) (read coding (path ++ seg_of T i ∷ []) (part_of T i) at s)
 
+-- what an encapsulation holds
+abbrev pub held : List Seg → Ty → Coding → ℕ → List ℕ → Read
+held path T coding = read coding (path ++ Held ∷ []) (part_of T 0)
+
 -- what follows the number that begins a type
 abbrev pub after : Coding → List Seg → Ty → ℕ → ℕ → List ℕ → Read
 after coding path (Single scalar) n at rest = single path scalar n at rest
@@ -49,9 +56,12 @@ after coding path (Sequence bound T) n at rest = unless (Sequence bound T) (over
     (with_front (line at path (Count n) ∷ [])
     (parts_from (part_at coding path (Sequence bound T) n) n 0 at rest))
 after coding path (Union choice scalar select names cases) n at rest =
-    chosen path (Union choice scalar select names cases) scalar (select n) n
+    chosen path (Union choice scalar select names cases) (tag_of choice names) scalar (select n) n
     (λ i at s. within (Member (Union choice scalar select names cases) i)
     (read coding (path ++ Name (names i) ∷ []) (cases i) at s)) at rest
+after coding path (Encapsulation T) n at rest =
+    with_front (line at path (Size n) ∷ [])
+    (sized path (Encapsulation T) (held path (Encapsulation T)) n at rest)
 after coding path T n at rest = Done [] at rest
 
 -- one octet more of a content of so many octets, whose piece begins at an offset in it
@@ -67,6 +77,7 @@ abbrev pub leaf_step : Coding → List Seg → Leaf → ℕ → ℕ → Read
 leaf_step coding path (Head T carry) at b =
     headed T (λ xs at rest. after coding path T (num coding.order xs) at rest)
     (number_step coding.origin (head_width T) at carry b)
+leaf_step coding path (Opening T n) at b = opening path T (held path T) at n (block_step 1 at [] b)
 leaf_step coding path (Content T total offset piece) at b =
     content_step T path total offset at piece b
 
@@ -74,6 +85,12 @@ leaf_step coding path (Content T total offset piece) at b =
 abbrev pub seg_in : Place → Seg
 seg_in (Part T i count) = seg_of T i
 seg_in (Member T i) = seg_of T i
+seg_in (Inside T inner end) = Held
+
+-- how octets are taken in a place
+abbrev pub coding_at : Coding → Place → Coding
+coding_at coding (Inside T inner end) = inner
+coding_at coding place = coding
 
 -- What a place comes to, once what is read in it has come so far.
 abbrev pub resumed : Coding → List Seg → Place → Read → Read
@@ -81,22 +98,28 @@ resumed coding path (Part T i count) r =
     followed (within (Part T i count) r)
     (parts_from (part_at coding path T count) (count - suc i) (suc i))
 resumed coding path (Member T i) r = within (Member T i) r
+resumed coding path (Inside T inner end) r = enclosed path T inner end r []
 
 -- what places, the outermost first, come to once what is read in the innermost has come so far
 abbrev pub around : Coding → List Seg → List Place → Read → Read
 around coding path [] r = r
 around coding path (place ∷ outer) r =
-    resumed coding path place (around coding (path ++ seg_in place ∷ []) outer r)
+    resumed coding path place (around (coding_at coding place) (path ++ seg_in place ∷ []) outer r)
 
 -- the path inside places
 abbrev pub path_in : List Seg → List Place → List Seg
 path_in path [] = path
 path_in path (place ∷ outer) = path_in (path ++ seg_in place ∷ []) outer
 
+-- how octets are taken inside places
+abbrev pub coding_in : Coding → List Place → Coding
+coding_in coding [] = coding
+coding_in coding (place ∷ outer) = coding_in (coding_at coding place) outer
+
 -- The parts begun, the outermost first, after one octet more.
 abbrev pub step : Coding → List Seg → List Place → Leaf → ℕ → ℕ → Read
 step coding path outer leaf at b =
-    around coding path outer (leaf_step coding (path_in path outer) leaf at b)
+    around coding path outer (leaf_step (coding_in coding outer) (path_in path outer) leaf at b)
 
 -- A reading after one octet more.
 abbrev pub advance : Coding → List Seg → Read → ℕ → Read
@@ -116,11 +139,17 @@ OneAt n [] = Unit {0}
 OneAt n (l ∷ []) = l.at ≡ n
 OneAt n (l ∷ l' ∷ ls) = ⊥
 
--- what an octet comes to: a line at most, and none where it is refused
+-- the lines at the octet of a fault: none of a value that breaks a rule, while the last octet of an encapsulation may say
+-- what it completes
+abbrev pub Faulted : ℕ → Kind → List Line → Type 0
+Faulted n kinds.EncapShort lines = OneAt n lines
+Faulted n why lines = lines ≡ []
+
+-- what an octet comes to: a line at most
 abbrev pub Now : ℕ → Read → Type 0
 Now n (Done lines at rest) = OneAt n lines × (at ≡ n) × (rest ≡ [])
 Now n (Short lines at outer leaf) = OneAt n lines × (at ≡ n)
-Now n (Fault lines at why S) = (lines ≡ []) × (at ≡ n)
+Now n (Fault lines at why S) = Faulted n why lines × (at ≡ n)
 
 -- what no octets come to: no line, and no refusal
 abbrev pub Quiet : ℕ → Read → Type 0

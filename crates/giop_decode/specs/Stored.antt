@@ -5,10 +5,10 @@
 --      1       1  root: 0 header, 1 repository id, 2 body
 --      2       8  number of its message
 --     10       1  offset of its next octet in the message, modulo 8
---     11       1  innermost part: 0 the number that begins it, 1 its content
+--     11       1  innermost part: 0 the number that begins it, 1 its content, 2 the octet with an encapsulation's byte order
 --     12       4  its type
---     16       4  octets of the content; 0 in a number
---     20       4  where in the content the piece on its way begins; 0 in a number
+--     16       4  octets of the content, or of the encapsulation; 0 in a number
+--     20       4  where in the content the piece on its way begins; else 0
 --     24       9  the octets held of a number: how many, and room for 8; none in a content
 --     33      33  the octets held of a piece: how many, and room for 32; none in a number
 --     66       5  whether a header's request id was read, 0 or 1, and the id
@@ -18,9 +18,11 @@
 --    206       2  zero
 --
 -- and a frame of 16 octets for each part that is begun and not ended, the outermost first: its type, the place of its own part
--- that is being read, how many it has (0 in a union), and 4 zeros. The last frame is the innermost part's: its type and zeros.
+-- that is being read, how many it has (0 in a union), and 4 zeros. Of an encapsulation whose byte order was read the place says
+-- how many of its octets were taken and the count how many it has, and the first of the zeros is 1 for big or 2 for little. The
+-- last frame is the innermost part's: its type and zeros.
 -- Numbers have the heaviest octet first; what is held is followed by zeros.
-use Rattle.std.specs.Prelude.{◌≡◌, ℕ, ◌^◌, ◌<◌, ◌≤◌, List, [], ◌∷◌, ◌++◌, length, replicate, Some, IfSome}
+use Rattle.std.specs.Prelude.{◌≡◌, ℕ, ◌+◌, ◌^◌, ◌<◌, ◌≤◌, List, [], ◌∷◌, ◌++◌, length, replicate, Option, Some, None, IfSome}
 use Rattle.std.specs.List.{flat_map, AllByRecursion}
 use Rattle.giop_cdr.specs.declared.order.Order.{Order}
 use Rattle.giop_cdr.specs.declared.order.Order.TheVariants as orders
@@ -31,7 +33,7 @@ use Rattle.giop_decode.specs.declared.leaf.Leaf.TheVariants as innermost
 use Rattle.giop_decode.specs.declared.memory.Memory.{Memory}
 use Rattle.giop_decode.specs.declared.memory.Buffer.{Buffer}
 use Rattle.giop_decode.specs.declared.memory.Buffer.TheVariants as buffers
-use Rattle.giop_decode.specs.Turns.{leaf_type}
+use Rattle.giop_decode.specs.Turns.{leaf_type, is_inside}
 use Rattle.giop_octets.specs.Fields.{four, eight, optional, held}
 use Rattle.giop_print.specs.declared.path.Root.{Root}
 use Rattle.giop_print.specs.declared.path.Root.TheVariants as roots
@@ -51,6 +53,7 @@ root_octet roots.Body = 2
 abbrev pub leaf_octets : Innermost → List ℕ
 leaf_octets (innermost.Number of) = 0 ∷ four of.0 ++ four 0 ++ four 0
 leaf_octets (innermost.Content of total offset) = 1 ∷ four of.0 ++ four total ++ four offset
+leaf_octets (innermost.Opening of count) = 2 ∷ four of.0 ++ four count ++ four 0
 
 abbrev pub buffer_octet : Buffer → ℕ
 buffer_octet buffers.Begun = 0
@@ -77,15 +80,19 @@ fixed_octets d leaf = order_octet d.order ∷ root_octet d.root ∷ eight d.mess
 abbrev pub frame_size : ℕ
 frame_size = 16
 
+abbrev pub inside_octet : Option Order → ℕ
+inside_octet None = 0
+inside_octet (Some order) = 1 + order_octet order
+
 abbrev pub frame_octets : Frame → List ℕ
-frame_octets f = four f.of.0 ++ four f.index ++ four f.count ++ four 0
+frame_octets f = four f.of.0 ++ four f.index ++ four f.count ++ inside_octet f.inside ∷ replicate 3 0
 
 abbrev pub frames_octets : List Frame → List ℕ
 frames_octets frames = flat_map frame_octets frames
 
 -- the innermost part's frame
 abbrev pub own_frame : Innermost → Frame
-own_frame leaf = record { of = type_id (leaf_type leaf); index = 0; count = 0 }
+own_frame leaf = record { of = type_id (leaf_type leaf); index = 0; count = 0; inside = None }
 
 -- ---- ranges
 
@@ -97,6 +104,7 @@ pub record FrameHasRange (f : Frame) : Type 0 where
 abbrev pub LeafHasRange : Innermost → Type 0
 LeafHasRange (innermost.Number of) = of.0 < 2 ^ 32
 LeafHasRange (innermost.Content of total offset) = (of.0 < 2 ^ 32) × (total < 2 ^ 32) × (offset < 2 ^ 32)
+LeafHasRange (innermost.Opening of count) = (of.0 < 2 ^ 32) × (count < 2 ^ 32)
 
 pub record MemoryHasRange (m : Memory) : Type 0 where
   pub request_id : IfSome m.request_id (λ n. n < 2 ^ 32)
@@ -138,6 +146,7 @@ pub record IsRestored (d e : Decoder) : Type 0 where
   pub at : e.at ≡ d.at
   pub leaf : e.leaf ≡ d.leaf
   pub outer : e.outer.items ≡ d.outer.items
+  pub inside : e.inside ≡ is_inside e.outer.items
   pub carry : e.carry ≡ d.carry
   pub piece : e.piece.items ≡ d.piece.items
   pub memory : IsKept d.memory e.memory

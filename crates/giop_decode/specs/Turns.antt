@@ -1,6 +1,7 @@
 -- What the fields of a decoder stand for, and what one octet turns its innermost part into (steps).
-use Rattle.std.specs.Prelude.{◌≡◌, ℕ, ◌<◌, ◌^◌, Bool, true, false, List, [], ◌∷◌, ◌++◌, length, map, Option, Some, None}
-use Rattle.std.specs.List.{AllByRecursion}
+use Rattle.std.specs.Prelude.{◌≡◌, ℕ, ◌+◌, ◌-◌, ◌<◌, ◌≤◌, ◌^◌, ◌%◌, Bool, true, false, cond, eqb, List, [], ◌∷◌, ◌++◌, length, map, Option, Some, None, IfSome}
+use Rattle.giop_cdr.specs.declared.order.Order.{Order}
+use Rattle.std.specs.List.{AllByRecursion, list_any}
 use Rattle.giop_cdr.specs.declared.number.Number.{Number as Taken}
 use Rattle.giop_decode.specs.declared.frame.Frame.{Frame}
 use Rattle.giop_decode.specs.declared.leaf.Leaf.{Leaf as Innermost}
@@ -11,44 +12,72 @@ use Rattle.giop_decode.specs.declared.leaf.Spoken.{Spoken}
 use Rattle.giop_decode.specs.declared.leaf.Spoken.TheVariants as spokens
 use Rattle.giop_decode.specs.declared.progress.Kind.{Kind}
 use Rattle.giop_decode.specs.declared.progress.Kind.TheVariants as kinds
-use Rattle.giop_decode.specs.Spine.{Seg, Switch, Number, Count, Piece, Line, line, Place, Part, Member, Leaf, Head, Content, Read, Done, Short, Fault}
+use Rattle.giop_decode.specs.Spine.{Seg, Switch, Number, Count, Size, Ordered, Piece, Line, line, coded, Place, Part, Member, Inside, Leaf, Head, Opening, Content, Read, Done, Short, Fault}
 use Rattle.giop_decode.specs.Pieces.{Grab, Waiting, Got}
-use Rattle.giop_decode.specs.Reading.{wrong}
+use Rattle.giop_decode.specs.Reading.{cut_off, enclosed, wrong}
 use Rattle.giop_decode.specs.Begins.{start_outer, start_leaf}
-use Rattle.giop_decode.specs.Fits.{HasParts, HasCase, HasContent}
-use Rattle.giop_sig.specs.Types.{Scalar, width, taken_by, Ty, Single, Struct, Union, Array, part_of, switch_of, shape_in, HasPlace, IsUnion}
+use Rattle.giop_decode.specs.Fits.{HasParts, HasCase, HasContent, IsEncapsulation}
+use Rattle.giop_sig.specs.Types.{tag_of, Scalar, width, taken_by, Ty, Single, Struct, Union, Array, part_of, switch_of, shape_in, HasPlace, IsUnion}
 use Rattle.giop_sig.specs.Table.{Table, part_number}
 use Rattle.giop_sig.specs.Trees.{tree}
 
 -- ---- frames
 
 -- in a union the index is that of a case
-abbrev pub place_in : Ty → ℕ → ℕ → Place
-place_in (Union choice scalar select names cases) i count = Member (Union choice scalar select names cases) i
-place_in T i count = Part T i count
+abbrev pub part_in : Ty → ℕ → ℕ → Place
+part_in (Union choice scalar select names cases) i count = Member (Union choice scalar select names cases) i
+part_in T i count = Part T i count
 
--- the place that a frame of a table stands for
-abbrev pub place : Table → Frame → Place
-place C f = place_in (tree C f.of.0) f.index f.count
+-- Of an encapsulation the index says how many of its octets stand in front of this offset, and the count how many it has.
+abbrev pub place_in : ℕ → Option Order → Ty → ℕ → ℕ → Place
+place_in here None T i count = part_in T i count
+place_in here (Some order) T i count = Inside T (coded order (here - i)) (here + (count - i))
+
+-- the place that a frame of a table stands for, at an offset
+abbrev pub place : Table → ℕ → Frame → Place
+place C here f = place_in here f.inside (tree C f.of.0) f.index f.count
 
 -- the places of frames, the outermost first
-abbrev pub places : Table → List Frame → List Place
-places C frames = map (place C) frames
+abbrev pub places : Table → ℕ → List Frame → List Place
+places C here frames = map (place C here) frames
+
+-- a part of an encapsulation or of another type
+abbrev pub IsWithin : Option Order → ℕ → ℕ → Ty → Type 0
+IsWithin None i count T = HasPlace (shape_in T) i × (IsEncapsulation T → ⊥) × (IsUnion (shape_in T) → count ≡ 0)
+IsWithin (Some order) i count T = IsEncapsulation T × (0 < i) × (i ≤ count)
 
 -- a frame of a type of the table, that has the place; a union's has no count
 pub record IsKnown (C : Table) (f : Frame) : Type 0 where
   pub known : f.of.0 < length C.types
-  pub place : HasPlace (shape_in (tree C f.of.0)) f.index
-  pub uncounted : IsUnion (shape_in (tree C f.of.0)) → f.count ≡ 0
+  pub within : IsWithin f.inside f.index f.count (tree C f.of.0)
 
 -- frames of types of the table
 abbrev pub AreKnown : Table → List Frame → Type 0
 AreKnown C frames = AllByRecursion (IsKnown C) frames
 
+-- some octet of an encapsulation is to come
+abbrev pub IsAhead : Frame → Type 0
+IsAhead f = IfSome f.inside (λ order. f.index < f.count)
+
+abbrev pub AreAhead : List Frame → Type 0
+AreAhead frames = AllByRecursion IsAhead frames
+
+-- an offset at which a frame can stand: its octets are in front of it
+abbrev pub StandsAt : ℕ → Frame → Type 0
+StandsAt here f = IfSome f.inside (λ order. f.index ≤ here)
+
+abbrev pub StandAt : ℕ → List Frame → Type 0
+StandAt here frames = AllByRecursion (StandsAt here) frames
+
+-- which part is being read: an encapsulation has one
+abbrev pub part_index : Option Order → ℕ → ℕ
+part_index None i = i
+part_index (Some order) i = 0
+
 -- each frame names the part of the one before at its place: from the root to the innermost part
 abbrev pub Link : Table → ℕ → List Frame → ℕ → Type 0
 Link C root [] inner = inner ≡ root
-Link C root (f ∷ frames) inner = (f.of.0 ≡ root) × Link C (part_number C root f.index) frames inner
+Link C root (f ∷ frames) inner = (f.of.0 ≡ root) × Link C (part_number C root (part_index f.inside f.index)) frames inner
 
 -- a type that begins with its first part
 abbrev pub IsWhole : Ty → ℕ → Type 0
@@ -56,27 +85,73 @@ IsWhole (Struct n names parts) count = count ≡ n
 IsWhole (Array n T) count = count ≡ n
 IsWhole T count = ⊥
 
--- what comes behind a part that has ended, at this offset
-abbrev pub gone_on : Table → ℕ → List Frame → Option ℕ → Read
-gone_on C at outer None = Done [] at []
-gone_on C at outer (Some of) = Short [] at (places C outer) (Head (tree C of) [])
-
 -- ---- the innermost part
 
 -- the leaf that an innermost part stands for, with the octets that are held
 abbrev pub leaf_of : Table → Innermost → List ℕ → List ℕ → Leaf
 leaf_of C (innermost.Number of) carry piece = Head (tree C of.0) carry
+leaf_of C (innermost.Opening of count) carry piece = Opening (tree C of.0) (count - 1)
 leaf_of C (innermost.Content of total offset) carry piece = Content (tree C of.0) total offset piece
 
 -- the number of the type of an innermost part
 abbrev pub leaf_type : Innermost → ℕ
 leaf_type (innermost.Number of) = of.0
+leaf_type (innermost.Opening of left) = of.0
 leaf_type (innermost.Content of total offset) = of.0
 
 -- what is held for neither a number nor a content is cleared
 abbrev pub IsClean : Innermost → List ℕ → List ℕ → Type 0
 IsClean (innermost.Number of) carry piece = piece ≡ []
+IsClean (innermost.Opening of count) carry piece = (carry ≡ []) × (piece ≡ []) × (0 < count)
 IsClean (innermost.Content of total offset) carry piece = carry ≡ []
+
+-- ---- the ends of encapsulations
+
+abbrev pub ended_at : Option Order → ℕ → ℕ → Bool
+ended_at None i count = false
+ended_at (Some order) i count = eqb i count
+
+abbrev pub is_some_order : Option Order → Bool
+is_some_order None = false
+is_some_order (Some order) = true
+
+-- whether some of these is an encapsulation
+abbrev pub is_inside : List Frame → Bool
+is_inside frames = list_any (λ f. is_some_order f.inside) frames
+
+abbrev pub ticked_at : Option Order → ℕ → ℕ
+ticked_at None i = i
+ticked_at (Some order) i = i + 1
+
+abbrev pub tick_of : Frame → Frame
+tick_of f = record { of = f.of; index = ticked_at f.inside f.index; count = f.count; inside = f.inside }
+
+-- an octet more in each encapsulation
+abbrev pub ticked : List Frame → List Frame
+ticked frames = map tick_of frames
+
+abbrev pub coding_of : Order × ℕ → Option Order → ℕ → Order × ℕ
+coding_of c None i = c
+coding_of c (Some order) i = (order, i % 8)
+
+-- the byte order of the innermost part, and the offset, modulo 8, by which its numbers are aligned
+abbrev pub coding_by : Order → ℕ → List Frame → Order × ℕ
+coding_by order at [] = (order, at)
+coding_by order at (f ∷ frames) = (let c = coding_of (order, at) f.inside f.index in coding_by c.0 c.1 frames)
+
+-- whether an encapsulation has ended
+abbrev pub has_ended : List Frame → Bool
+has_ended frames = list_any (λ f. ended_at f.inside f.index f.count) frames
+
+-- an innermost part that goes on in these frames, unless one of them has ended
+abbrev pub gone_to : Table → List Line → ℕ → List Frame → Leaf → Read
+gone_to C lines at frames leaf =
+    cond (has_ended frames) (Fault lines at kinds.EncapShort (cut_off leaf)) (Short lines at (places C at frames) leaf)
+
+-- what comes behind a part that has ended, at this offset
+abbrev pub gone_on : Table → ℕ → List Frame → Option Innermost → Read
+gone_on C at outer None = Done [] at []
+gone_on C at outer (Some leaf) = gone_to C [] at outer (leaf_of C leaf [] [])
 
 -- ---- turns
 
@@ -88,6 +163,9 @@ turned C T (turns.Opened count) carry piece lines at =
     Short lines at (Part T 0 count ∷ start_outer (part_of T 0)) (start_leaf (part_of T 0))
 turned C T (turns.Selected i) carry piece lines at =
     Short lines at (Member T i ∷ start_outer (part_of T i)) (start_leaf (part_of T i))
+turned C T (turns.Entered order count) carry piece lines at =
+    enclosed [] T (coded order (at - 1)) (at + (count - 1))
+    (Short lines at (start_outer (part_of T 0)) (start_leaf (part_of T 0))) []
 turned C T (turns.Refused kind) carry piece lines at = Fault lines at kind T
 
 -- parts follow only where there are some, and an innermost part that goes on is of the same type
@@ -95,6 +173,7 @@ abbrev pub TurnsIn : Ty → ℕ → Turn → List ℕ → List ℕ → Type 0
 TurnsIn T of (turns.More leaf) carry piece = (leaf_type leaf ≡ of) × IsClean leaf carry piece
 TurnsIn T of (turns.Opened count) carry piece = HasParts T count × (0 < count)
 TurnsIn T of (turns.Selected i) carry piece = HasCase T i
+TurnsIn T of (turns.Entered order count) carry piece = IsEncapsulation T × (0 < count)
 TurnsIn T of turn carry piece = Unit {0}
 
 -- a number that is a value of a type of one number
@@ -106,6 +185,14 @@ pub record IsNumberOf (T : Ty) (number : Taken) : Type 0 where
   pub taken : taken_by scalar n ≡ Some number
   pub within : n < 256 ^ width scalar
 
+-- the discriminator's step of a path
+abbrev pub tag_in : Ty → Option (List ℕ)
+tag_in (Union choice scalar select names cases) = tag_of choice names
+tag_in T = None
+
+abbrev pub switch_seg : Ty → Seg
+switch_seg T = Switch (tag_in T)
+
 -- the line that an octet gives, if any
 abbrev pub IsSpoken : Ty → List Seg → ℕ → Spoken → List Line → Type 0
 IsSpoken T path at spokens.Nothing lines = lines ≡ []
@@ -114,8 +201,10 @@ IsSpoken T path at (spokens.Number number) lines =
     (is : IsNumberOf T number) × (lines ≡ line at path (Number is.scalar is.n) ∷ [])
 IsSpoken T path at (spokens.Switch number) lines =
     (is : IsNumberOf (switch_of T) number)
-    × (lines ≡ line at (path ++ Switch ∷ []) (Number is.scalar is.n) ∷ [])
+    × (lines ≡ line at (path ++ switch_seg T ∷ []) (Number is.scalar is.n) ∷ [])
 IsSpoken T path at (spokens.Count count) lines = lines ≡ line at path (Count count) ∷ []
+IsSpoken T path at (spokens.Size size) lines = lines ≡ line at path (Size size) ∷ []
+IsSpoken T path at (spokens.Ordered order) lines = lines ≡ line at path (Ordered order) ∷ []
 IsSpoken T path at (spokens.Piece offset octets more) lines =
     lines ≡ line at path (Piece T offset octets.items more) ∷ []
 

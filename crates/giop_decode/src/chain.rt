@@ -1,13 +1,13 @@
 //! Whether the parts of a decoder that comes from octets fit a catalogue.
 
 ghost use Rattle.std.specs.Prelude.{◌≡◌, ◌↔◌, IsTrue, ℕ, ◌+◌, ◌-◌, ◌<◌, ◌≤◌, List, [], length};
-ghost use Rattle.giop_decode.specs.Chained.{HasPart, LeafFits, Chained, Chains, root_of};
-ghost use Rattle.giop_decode.specs.Fits.{HasHead};
-ghost use Rattle.giop_decode.specs.Turns.{leaf_type};
+ghost use Rattle.giop_decode.specs.Chained.{HasFrame, HasPart, LeafFits, Chained, Chains, root_of};
+ghost use Rattle.giop_decode.specs.Fits.{HasHead, IsEncapsulation};
+ghost use Rattle.giop_decode.specs.Turns.{leaf_type, part_index};
 ghost use Rattle.giop_sig.specs.Trees.{tree};
 
 use crate::decoder::Decoder;
-use crate::frame::{Frame, is_empty, whole};
+use crate::frame::{Frame, is_empty, is_inside, whole};
 use crate::heads::width;
 use crate::leaf::Leaf;
 use giop_cdr::Carry;
@@ -26,6 +26,7 @@ impl Decoder {
             && catalogue.has(leaf.of())
             && catalogue.has(root)
             && !is_empty(catalogue, root)
+            && self.inside == is_inside(true, self.outer.as_slice())
             && follow(catalogue, root, self.outer.as_slice(), leaf)
             && leaf_fits(catalogue, leaf, &self.carry, self.piece.as_slice())
     }
@@ -50,9 +51,56 @@ fn follow(catalogue: &Catalogue, of: TypeId, frames: &[Frame], leaf: Leaf) -> bo
         [] => leaf.of() == of,
         [frame, rest @ ..] => {
             frame.of == of
-                && has_part(catalogue, of, frame.index, frame.count)
-                && follow(catalogue, catalogue.part(of, frame.index), rest, leaf)
+                && has_frame(catalogue, of, *frame)
+                && follow(
+                    catalogue,
+                    catalogue.part(of, part_index(*frame)),
+                    rest,
+                    leaf,
+                )
         }
+    }
+}
+
+/// Whether a frame can be of a type: of a part of its own, or of an encapsulation of which octets are to come.
+fn has_frame(catalogue: &Catalogue, of: TypeId, frame: Frame) -> bool
+    requires { of.0 < length catalogue.now.types }
+    ensures { IsTrue result ↔ HasFrame frame.inside (tree catalogue.now of.0) frame.index frame.count }
+{
+    match frame.inside {
+        Some(_) => {
+            is_encapsulation(catalogue, of) && 0 < frame.index && frame.index < frame.count
+        }
+        None => has_part(catalogue, of, frame.index, frame.count),
+    }
+}
+
+/// Which part of a frame's type is being read: an encapsulation has one.
+fn part_index(frame: Frame) -> u32
+    ensures { result ≡ part_index frame.inside frame.index }
+{
+    match frame.inside {
+        Some(_) => 0,
+        None => frame.index,
+    }
+}
+
+/// Whether a type is an encapsulation.
+fn is_encapsulation(catalogue: &Catalogue, of: TypeId) -> bool
+    requires { of.0 < length catalogue.now.types }
+    ensures { IsTrue result ↔ IsEncapsulation (tree catalogue.now of.0) }
+{
+    match catalogue.shape(of) {
+        Shape::Encapsulation => true,
+        Shape::Members(_) => false,
+        Shape::Array(_) => false,
+        Shape::Sequence(_) => false,
+        Shape::Union(_) => false,
+        Shape::Tagged => false,
+        Shape::Prim(_) => false,
+        Shape::Enumeration(_) => false,
+        Shape::Text(_) => false,
+        Shape::Octets(_) => false,
     }
 }
 
@@ -66,6 +114,8 @@ fn has_part(catalogue: &Catalogue, of: TypeId, index: u32, count: u32) -> bool
         Shape::Array(elements) => count == elements && index < count,
         Shape::Sequence(_) => index < count,
         Shape::Union(cases) => index < cases && count == 0,
+        Shape::Tagged => index < 3 && count == 0,
+        Shape::Encapsulation => false,
         Shape::Prim(_) => false,
         Shape::Enumeration(_) => false,
         Shape::Text(_) => false,
@@ -84,11 +134,15 @@ fn leaf_fits(catalogue: &Catalogue, leaf: Leaf, carry: &Carry, piece: &[u8]) -> 
                 && has_head(catalogue, of)
                 && carry.len() < usize::from(width(catalogue, of))
         }
+        Leaf::Opening { of, count } => {
+            carry.is_empty() && piece.is_empty() && 0 < count && is_encapsulation(catalogue, of)
+        }
         Leaf::Content { of, total, offset } => {
             carry.is_empty()
                 && match catalogue.shape(of) {
                     Shape::Text(_) => content_fits(total, offset, piece.len(), 1),
                     Shape::Octets(_) => content_fits(total, offset, piece.len(), 0),
+                    Shape::Encapsulation => content_fits(total, offset, piece.len(), 0),
                     _ => false,
                 }
         }

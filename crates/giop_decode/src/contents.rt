@@ -1,4 +1,5 @@
-//! The content of a string or of an octet sequence, in pieces of 32 octets (docs/FORMATS.md).
+//! The content of a string or of an octet sequence, or the rest of an encapsulation, in pieces of 32 octets
+//! (docs/FORMATS.md).
 
 ghost use Rattle.std.specs.Prelude.{◌≡◌, ℕ, ◌+◌, ◌-◌, ◌<◌, ◌≤◌, List, [], ◌∷◌, ◌++◌, length, take, IsTrue, false};
 ghost use Rattle.arrayvec.specs.ArrayVec.{array_vec_len};
@@ -7,7 +8,7 @@ ghost use Rattle.giop_decode.specs.Heard.{is_text};
 ghost use Rattle.giop_decode.specs.Pieces.{tail};
 ghost use Rattle.giop_decode.specs.Recalling.{Voices};
 ghost use Rattle.giop_decode.specs.Steps.{content_step};
-ghost use Rattle.giop_decode.specs.Fits.{HasContent};
+ghost use Rattle.giop_decode.specs.Fits.{HasContent, IsBare};
 ghost use Rattle.giop_decode.specs.Turns.{Turns, TurnsIn, CanSpeak};
 ghost use Rattle.giop_sig.specs.Types.{Text, Octets};
 ghost use Rattle.giop_sig.specs.Trees.{tree};
@@ -101,17 +102,42 @@ pub(crate) fn take_content(
                 spoken: taken_piece(piece, offset, false),
             }
         }
-        Shape::Octets(_) => {
-            piece.push(octet);
-            if (piece.len() as u32) < left {
-                return goes_on(of, total, offset);
-            }
-            Step {
-                turn: Turn::Ended,
-                spoken: taken_piece(piece, offset, false),
-            }
-        }
+        Shape::Octets(_) => take_last(catalogue, of, total, offset, octet, piece),
+        Shape::Encapsulation => take_last(catalogue, of, total, offset, octet, piece),
         _ => unreachable!(),
+    }
+}
+
+/// Takes an octet of a content's last piece, behind which nothing stands.
+fn take_last(
+    catalogue: &Catalogue,
+    of: TypeId,
+    total: u32,
+    offset: u32,
+    octet: u8,
+    piece: &mut ArrayVec<u8, 32>,
+) -> Step
+    requires bare { IsBare (tree catalogue.now of.0) }
+    requires ahead { offset ≤ total }
+    requires last { total - offset ≤ 32 }
+    requires room { array_vec_len piece.old < total - offset }
+    ensures turns_in { TurnsIn (tree catalogue.now of.0) of.0 result.turn [] piece.new.items }
+    ensures speaks { CanSpeak (tree catalogue.now of.0) result.spoken }
+    ensures voices { Voices (tree catalogue.now of.0) (is_text (tree catalogue.now of.0))
+        result.turn result.spoken }
+    ensures turns { (path : List Seg) (at : ℕ) →
+        Turns catalogue.now (tree catalogue.now of.0) result.turn result.spoken [] piece.new.items path (at + 1)
+        (content_step (tree catalogue.now of.0) path total offset at piece.old.items octet) }
+{
+    let _types = catalogue;
+    let left = total - offset;
+    piece.push(octet);
+    if (piece.len() as u32) < left {
+        return goes_on(of, total, offset);
+    }
+    Step {
+        turn: Turn::Ended,
+        spoken: taken_piece(piece, offset, false),
     }
 }
 

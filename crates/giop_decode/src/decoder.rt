@@ -10,20 +10,20 @@ ghost use Rattle.giop_print.specs.Output.{Writes};
 ghost use Rattle.giop_print.specs.declared.path.Root.{Root as PathRoot};
 ghost use Rattle.giop_decode.specs.Steps.{around};
 ghost use Rattle.giop_decode.specs.Fits.{OpenFrom};
-ghost use Rattle.giop_decode.specs.Turns.{places, AreKnown, Link, TurnsIn, turned, leaf_type, IsClean};
-ghost use Rattle.giop_decode.specs.Heard.{heard_of, in_string};
+ghost use Rattle.giop_decode.specs.Turns.{places, AreKnown, Link, TurnsIn, turned, leaf_type, IsClean, StandAt, is_inside};
+ghost use Rattle.giop_decode.specs.Heard.{heard_of, in_string, is_header_root};
 ghost use Rattle.giop_decode.specs.Recalling.{turn_in_string};
-ghost use Rattle.giop_decode.specs.Holding.{Fits, IsDone, Reads, Takes, Minds, GoesOn, standing, due};
+ghost use Rattle.giop_decode.specs.Holding.{Fits, IsDone, IsHere, Reads, Takes, Minds, GoesOn, standing, due};
 ghost use Rattle.giop_decode.specs.Moves.{settled, stepped, Comes, IsProgress, IsGoing, IsMoved};
 ghost use Rattle.giop_sig.specs.Types.{Ty};
 ghost use Rattle.giop_sig.specs.Fits.{IsFit, IsEmptyStruct};
 ghost use Rattle.giop_sig.specs.Trees.{tree};
 
-use crate::frame::{Frame, begin, go_on, is_empty};
+use crate::frame::{Frame, begin, coding, go_on, has_ended, is_empty, is_inside, tick};
 use crate::leaf::{Leaf, Turn, hold, take_octet};
 use crate::line::say;
 use crate::memory::Memory;
-use crate::progress::Progress;
+use crate::progress::{Kind, Progress};
 use arrayvec::ArrayVec;
 use giop_cdr::{Carry, Order};
 use giop_print::{Out, OutFault, Path, Root};
@@ -38,6 +38,8 @@ pub struct Decoder {
     // The offset of the next octet, modulo 8.
     pub(crate) at: u8,
     pub(crate) outer: ArrayVec<Frame, 24>,
+    // Whether one of these is an encapsulation.
+    pub(crate) inside: bool,
     // None once the value has ended.
     pub(crate) leaf: Option<Leaf>,
     pub(crate) carry: Carry,
@@ -69,6 +71,7 @@ impl Decoder {
             message,
             at: (offset % 8) as u8,
             outer: ArrayVec::new(),
+            inside: false,
             leaf: None,
             carry: Carry::new(),
             piece: ArrayVec::new(),
@@ -148,11 +151,13 @@ impl Decoder {
     fn settle(&mut self, catalogue: &Catalogue, of: TypeId, turn: Turn)
         requires known { of.0 < length catalogue.now.types }
         requires known_outer { AreKnown catalogue.now self.old.outer.items }
-        requires open { OpenFrom 24 (places catalogue.now self.old.outer.items) }
+        requires encloses { self.old.inside ≡ is_inside self.old.outer.items }
+        requires open { (at : ℕ) × OpenFrom 24 (places catalogue.now at self.old.outer.items) }
         requires fit { IsFit (24 - length self.old.outer.items) (tree catalogue.now of.0) }
         requires turns_in { TurnsIn (tree catalogue.now of.0) of.0 turn
             self.old.carry self.old.piece.items }
         ensures known_outer { AreKnown catalogue.now self.new.outer.items }
+        ensures encloses { self.new.inside ≡ is_inside self.new.outer.items }
         ensures known { (leaf : Innermost) → IsMoved turn → self.new.leaf ≡ Some leaf →
             leaf_type leaf < length catalogue.now.types }
         ensures clean { (leaf : Innermost) → IsMoved turn → self.new.leaf ≡ Some leaf →
@@ -168,8 +173,10 @@ impl Decoder {
         ensures inside { (at : ℕ) (lines : List Line) →
             in_string (settled catalogue.now (tree catalogue.now of.0) self.new turn lines at)
             ≡ turn_in_string (tree catalogue.now of.0) turn }
+        ensures stand { (at : ℕ) → 0 < at → StandAt at self.old.outer.items →
+            StandAt at self.new.outer.items }
         ensures settles { (coding : Coding) (path : List Seg) (at : ℕ) (lines : List Line) →
-            around coding path (places catalogue.now self.old.outer.items)
+            around coding path (places catalogue.now at self.old.outer.items)
             (turned catalogue.now (tree catalogue.now of.0) turn
             self.old.carry self.old.piece.items lines at)
             ≡ settled catalogue.now (tree catalogue.now of.0) self.new turn lines at }
@@ -184,6 +191,7 @@ impl Decoder {
                     of,
                     index: 0,
                     count,
+                    inside: None,
                 });
                 let part = catalogue.part(of, 0);
                 self.leaf = Some(Leaf::Number(begin(catalogue, &mut self.outer, part)));
@@ -195,17 +203,29 @@ impl Decoder {
                     of,
                     index,
                     count: 0,
+                    inside: None,
                 });
                 let part = catalogue.part(of, index);
+                self.leaf = Some(Leaf::Number(begin(catalogue, &mut self.outer, part)));
+            }
+            Turn::Entered(order, count) => {
+                self.carry.clear();
+                self.piece.clear();
+                self.outer.push(Frame {
+                    of,
+                    index: 1,
+                    count,
+                    inside: Some(order),
+                });
+                self.inside = true;
+                let part = catalogue.part(of, 0);
                 self.leaf = Some(Leaf::Number(begin(catalogue, &mut self.outer, part)));
             }
             Turn::Ended => {
                 self.carry.clear();
                 self.piece.clear();
-                match go_on(catalogue, &mut self.outer) {
-                    Some(next) => self.leaf = Some(Leaf::Number(next)),
-                    None => self.leaf = None,
-                }
+                self.leaf = go_on(catalogue, &mut self.outer);
+                self.inside = is_inside(self.inside, self.outer.as_slice());
             }
         }
     }
@@ -219,13 +239,13 @@ impl Decoder {
         ensures order { self.new.order ≡ self.old.order }
         ensures root { self.new.root ≡ self.old.root }
         ensures message { self.new.message ≡ self.old.message }
-        ensures at { IsTrue result → self.new.at ≡ (self.old.at + 1) % 8 }
-        ensures quiet { IsTrue result → (here : ℕ) → here % 8 ≡ self.old.at →
+        ensures here { IsTrue result → (here : ℕ) → IsHere self.old here → IsHere self.new (here + 1) }
+        ensures quiet { IsTrue result → (here : ℕ) → IsHere self.old here →
             lines_of (stepped catalogue.now self.old here octet) ≡ [] }
-        ensures steps { IsTrue result → (here : ℕ) → here % 8 ≡ self.old.at →
+        ensures steps { IsTrue result → (here : ℕ) → IsHere self.old here →
             Comes catalogue.now self.new Progress.More (here + 1)
             (stepped catalogue.now self.old here octet) }
-        ensures minds { IsTrue result → (here : ℕ) (front : List Line) → here % 8 ≡ self.old.at →
+        ensures minds { IsTrue result → (here : ℕ) (front : List Line) → IsHere self.old here →
             Minds self.old.root self.old (standing catalogue.now self.old front here) →
             Minds self.old.root self.new
             (with_front front (stepped catalogue.now self.old here octet)) }
@@ -233,6 +253,9 @@ impl Decoder {
         let Some(leaf) = self.leaf else {
             unreachable!();
         };
+        if self.inside {
+            return false;
+        }
         if hold(
             catalogue,
             self.at,
@@ -260,14 +283,14 @@ impl Decoder {
         ensures order { OnOk result (self.new.order ≡ self.old.order) }
         ensures root { OnOk result (self.new.root ≡ self.old.root) }
         ensures message { OnOk result (self.new.message ≡ self.old.message) }
-        ensures at { OnOk result (self.new.at ≡ (self.old.at + 1) % 8) }
+        ensures here { OnOk result ((here : ℕ) → IsHere self.old here → IsHere self.new (here + 1)) }
         ensures fits { IfOk result (λ p. GoesOn p → Fits catalogue.now self.new) }
-        ensures writes { (here : ℕ) → here % 8 ≡ self.old.at →
+        ensures writes { (here : ℕ) → IsHere self.old here →
             Writes result (O.log out.old) (O.log out.new) (lines_text self.old.message self.old.root
             (lines_of (stepped catalogue.now self.old here octet))) }
-        ensures steps { IfOk result (λ p. (here : ℕ) → here % 8 ≡ self.old.at →
+        ensures steps { IfOk result (λ p. (here : ℕ) → IsHere self.old here →
             Comes catalogue.now self.new p (here + 1) (stepped catalogue.now self.old here octet)) }
-        ensures minds { OnOk result ((here : ℕ) (front : List Line) → here % 8 ≡ self.old.at →
+        ensures minds { OnOk result ((here : ℕ) (front : List Line) → IsHere self.old here →
             Minds self.old.root self.old (standing catalogue.now self.old front here) →
             Minds self.old.root self.new
             (with_front front (stepped catalogue.now self.old here octet))) }
@@ -276,10 +299,11 @@ impl Decoder {
             unreachable!();
         };
         let of = leaf.of();
+        let (order, at) = coding(self.inside, self.order, self.at, self.outer.as_slice());
         let step = take_octet(
             catalogue,
-            self.order,
-            self.at,
+            order,
+            at,
             leaf,
             octet,
             &mut self.carry,
@@ -303,30 +327,36 @@ impl Decoder {
             &step.spoken,
         );
         self.at = (self.at + 1) % 8;
+        tick(self.inside, &mut self.outer);
         self.settle(catalogue, of, step.turn);
-        Ok(progress_of(named, step.turn, self.leaf))
+        let ended = has_ended(self.inside, self.outer.as_slice());
+        Ok(progress_of(named, ended, step.turn, self.leaf))
     }
 }
 
-/// What an octet has come to, once the parts around the innermost one have gone on.
-fn progress_of(named: bool, turn: Turn, leaf: Option<Leaf>) -> Progress
-    ensures { IsProgress named turn leaf result }
+/// What an octet has come to, once the parts around the innermost one have gone on, and an encapsulation has or hasn't
+/// ended.
+fn progress_of(named: bool, ended: bool, turn: Turn, leaf: Option<Leaf>) -> Progress
+    ensures { IsProgress named ended turn leaf result }
 {
     match turn {
         Turn::Refused(kind) => Progress::Fault(kind),
-        Turn::More(_) => unended(named, leaf),
-        Turn::Ended => unended(named, leaf),
-        Turn::Opened(_) => unended(named, leaf),
-        Turn::Selected(_) => unended(named, leaf),
+        Turn::More(_) => unended(named, ended, leaf),
+        Turn::Ended => unended(named, ended, leaf),
+        Turn::Opened(_) => unended(named, ended, leaf),
+        Turn::Selected(_) => unended(named, ended, leaf),
+        Turn::Entered(_, _) => unended(named, ended, leaf),
     }
 }
 
 /// Whether more is to come.
-fn unended(named: bool, leaf: Option<Leaf>) -> Progress
-    ensures { IsGoing named leaf result }
+fn unended(named: bool, ended: bool, leaf: Option<Leaf>) -> Progress
+    ensures { IsGoing named ended leaf result }
 {
     match leaf {
-        Some(_) => if named {
+        Some(_) => if ended {
+            Progress::Fault(Kind::EncapShort)
+        } else if named {
             Progress::Named
         } else {
             Progress::More

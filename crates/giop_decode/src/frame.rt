@@ -1,17 +1,20 @@
 //! The parts that are begun and not ended, and have parts of their own.
 
-ghost use Rattle.std.specs.Prelude.{◌≡◌, ℕ, ◌+◌, ◌-◌, ◌<◌, List, [], ◌++◌, length, ◌↔◌, IsTrue, IfSome, IfNone};
+ghost use Rattle.std.specs.Prelude.{◌≡◌, ℕ, ◌+◌, ◌-◌, ◌<◌, List, [], ◌++◌, length, ◌↔◌, IsTrue, IfSome, IfNone, false};
 ghost use Rattle.std.specs.Option.{option_map};
 ghost use Rattle.arrayvec.specs.ArrayVec.{array_vec_len};
 ghost use Rattle.giop_decode.specs.Spine.{Coding, Seg, Head, Done};
 ghost use Rattle.giop_decode.specs.Steps.{around};
 ghost use Rattle.giop_decode.specs.Fits.{HasHead, OpenFrom};
 ghost use Rattle.giop_decode.specs.Begins.{start_outer, start_leaf};
-ghost use Rattle.giop_decode.specs.Turns.{places, AreKnown, Link, IsWhole, gone_on};
+ghost use Rattle.giop_decode.specs.Turns.{IsAhead, coding_of, tick_of, ended_at, places, AreKnown, AreAhead, StandAt, IsClean, Link, IsWhole, coding_by, gone_on, has_ended, is_inside, leaf_type, ticked};
 ghost use Rattle.giop_sig.specs.Fits.{IsFit, IsEmptyStruct, IsRoot};
+ghost use Rattle.giop_decode.specs.Recalling.{leaf_in_string};
 ghost use Rattle.giop_sig.specs.Trees.{tree};
 
+use crate::leaf::Leaf;
 use arrayvec::ArrayVec;
+use giop_cdr::Order;
 use giop_sig::{Catalogue, Shape, TypeId};
 
 /// A part that is begun and not ended, and which of its own parts is being read.
@@ -19,10 +22,13 @@ use giop_sig::{Catalogue, Shape, TypeId};
 pub(crate) struct Frame {
     /// The part's type.
     pub(crate) of: TypeId,
-    /// The place of the part in it: of a member, an element or a case.
+    /// The place of the part in it: of a member, an element or a case. Of an encapsulation, how many of its octets were
+    /// taken, so that its numbers are aligned by this.
     pub(crate) index: u32,
-    /// How many members or elements it has; 0 for a union.
+    /// How many members or elements it has; 0 for a union. Of an encapsulation, how many octets.
     pub(crate) count: u32,
+    /// The byte order of an encapsulation; None for any other part.
+    pub(crate) inside: Option<Order>,
 }
 
 impl Default for Frame {
@@ -31,7 +37,87 @@ impl Default for Frame {
             of: TypeId(0),
             index: 0,
             count: 0,
+            inside: None,
         }
+    }
+}
+
+/// Whether some part is an encapsulation, where this says whether one was before parts had ended.
+pub(crate) fn is_inside(was: bool, outer: &[Frame]) -> bool
+    requires { was ≡ false → is_inside outer.now ≡ false }
+    ensures { result ≡ is_inside outer.now }
+{
+    was && outer.iter().any(|frame| frame.inside.is_some())
+}
+
+/// Counts an octet in each encapsulation, of which there is one or none.
+pub(crate) fn tick(inside: bool, outer: &mut ArrayVec<Frame, 24>)
+    requires inside { inside ≡ is_inside outer.old.items }
+    requires ahead { AreAhead outer.old.items }
+    ensures ticked { outer.new.items ≡ ticked outer.old.items }
+{
+    if !inside {
+        return;
+    }
+    for frame in outer.iter_mut() {
+        *frame = counted(*frame);
+    }
+}
+
+/// A frame after an octet more, which is counted in an encapsulation.
+fn counted(frame: Frame) -> Frame
+    requires ahead { IsAhead frame }
+    ensures ticked { result ≡ tick_of frame }
+{
+    match frame.inside {
+        Some(_) => Frame {
+            index: frame.index + 1,
+            ..frame
+        },
+        None => frame,
+    }
+}
+
+/// Whether an encapsulation has ended, where there is one.
+pub(crate) fn has_ended(inside: bool, outer: &[Frame]) -> bool
+    requires { inside ≡ is_inside outer.now }
+    ensures { result ≡ has_ended outer.now }
+{
+    inside && outer.iter().any(|frame| is_at_end(*frame))
+}
+
+/// Whether all octets of an encapsulation were taken; of no other part.
+fn is_at_end(frame: Frame) -> bool
+    ensures { result ≡ ended_at frame.inside frame.index frame.count }
+{
+    match frame.inside {
+        Some(_) => frame.index == frame.count,
+        None => false,
+    }
+}
+
+/// How the octets of the innermost part are taken: the byte order, and the offset, modulo 8, that is aligned.
+pub(crate) fn coding(inside: bool, order: Order, at: u8, outer: &[Frame]) -> (Order, u8)
+    requires { inside ≡ is_inside outer.now }
+    ensures { result ≡ coding_by order at outer.now }
+{
+    if !inside {
+        return (order, at);
+    }
+    let mut coding = (order, at);
+    for frame in outer {
+        coding = coding_at(coding, *frame);
+    }
+    coding
+}
+
+/// How octets are taken in a part, of what holds around it.
+fn coding_at(coding: (Order, u8), frame: Frame) -> (Order, u8)
+    ensures { result ≡ coding_of coding frame.inside frame.index }
+{
+    match frame.inside {
+        Some(order) => (order, (frame.index % 8) as u8),
+        None => coding,
     }
 }
 
@@ -51,6 +137,8 @@ pub(crate) fn is_empty(catalogue: &Catalogue, t: TypeId) -> bool
         Shape::Octets(_) => false,
         Shape::Union(_) => false,
         Shape::Sequence(_) => false,
+        Shape::Encapsulation => false,
+        Shape::Tagged => false,
     }
 }
 
@@ -70,6 +158,8 @@ pub(crate) fn whole(catalogue: &Catalogue, t: TypeId) -> Option<u32>
         Shape::Octets(_) => None,
         Shape::Union(_) => None,
         Shape::Sequence(_) => None,
+        Shape::Encapsulation => None,
+        Shape::Tagged => None,
     }
 }
 
@@ -80,8 +170,11 @@ pub(crate) fn begin(catalogue: &Catalogue, outer: &mut ArrayVec<Frame, 24>, t: T
     requires fit { IsFit (24 - array_vec_len outer.old) (tree catalogue.now t.0) }
     ensures known { result.0 < length catalogue.now.types }
     ensures known_outer { AreKnown catalogue.now outer.new.items }
-    ensures places { places catalogue.now outer.new.items
-        ≡ places catalogue.now outer.old.items ++ start_outer (tree catalogue.now t.0) }
+    ensures places { (at : ℕ) → places catalogue.now at outer.new.items
+        ≡ places catalogue.now at outer.old.items ++ start_outer (tree catalogue.now t.0) }
+    ensures ended { has_ended outer.new.items ≡ has_ended outer.old.items }
+    ensures inside { is_inside outer.new.items ≡ is_inside outer.old.items }
+    ensures stand { (at : ℕ) → StandAt at outer.old.items → StandAt at outer.new.items }
     ensures leaf { start_leaf (tree catalogue.now t.0) ≡ Head (tree catalogue.now result.0) [] }
     ensures linked { (root : ℕ) → Link catalogue.now root outer.old.items t.0 →
         Link catalogue.now root outer.new.items result.0 }
@@ -92,32 +185,53 @@ pub(crate) fn begin(catalogue: &Catalogue, outer: &mut ArrayVec<Frame, 24>, t: T
             of: inner,
             index: 0,
             count,
+            inside: None,
         });
         inner = catalogue.part(inner, 0);
     }
     inner
 }
 
-/// Goes on behind a part that has ended, and answers the type that begins with the next number, or None where the
-/// whole has ended.
-pub(crate) fn go_on(catalogue: &Catalogue, outer: &mut ArrayVec<Frame, 24>) -> Option<TypeId>
+/// Goes on behind a part that has ended, and answers the innermost part that comes next, the rest of an encapsulation or
+/// the next number, or None where the whole has ended.
+pub(crate) fn go_on(catalogue: &Catalogue, outer: &mut ArrayVec<Frame, 24>) -> Option<Leaf>
     requires known { AreKnown catalogue.now outer.old.items }
-    requires open { OpenFrom 24 (places catalogue.now outer.old.items) }
-    ensures known { IfSome result (λ t. t.0 < length catalogue.now.types) }
+    requires open { (at : ℕ) × OpenFrom 24 (places catalogue.now at outer.old.items) }
+    ensures known { IfSome result (λ leaf. leaf_type leaf < length catalogue.now.types) }
+    ensures clean { IfSome result (λ leaf. IsClean leaf [] []) }
+    ensures silent { IfSome result (λ leaf.
+        leaf_in_string (tree catalogue.now (leaf_type leaf)) leaf ≡ false) }
     ensures known_outer { AreKnown catalogue.now outer.new.items }
+    ensures outside { is_inside outer.old.items ≡ false → is_inside outer.new.items ≡ false }
+    ensures stand { (at : ℕ) → StandAt at outer.old.items → StandAt at outer.new.items }
     ensures gone { (coding : Coding) (path : List Seg) (at : ℕ) →
-        around coding path (places catalogue.now outer.old.items) (Done [] at [])
-        ≡ gone_on catalogue.now at outer.new.items (option_map (λ t. t.0) result) }
-    ensures linked { IfSome result (λ t. (root inner : ℕ) →
-        Link catalogue.now root outer.old.items inner → Link catalogue.now root outer.new.items t.0) }
+        around coding path (places catalogue.now at outer.old.items) (Done [] at [])
+        ≡ gone_on catalogue.now at outer.new.items result }
+    ensures linked { IfSome result (λ leaf. (root inner : ℕ) →
+        Link catalogue.now root outer.old.items inner →
+        Link catalogue.now root outer.new.items (leaf_type leaf)) }
 {
     while let Some(frame) = outer.pop() {
-        let last = frame.count.saturating_sub(1);
-        if frame.index < last {
-            let index = frame.index + 1;
-            outer.push(Frame { index, ..frame });
-            let part = catalogue.part(frame.of, index);
-            return Some(begin(catalogue, outer, part));
+        match frame.inside {
+            Some(_) => {
+                let left = frame.count - frame.index;
+                if left > 0 {
+                    return Some(Leaf::Content {
+                        of: frame.of,
+                        total: left,
+                        offset: 0,
+                    });
+                }
+            }
+            None => {
+                let last = frame.count.saturating_sub(1);
+                if frame.index < last {
+                    let index = frame.index + 1;
+                    outer.push(Frame { index, ..frame });
+                    let part = catalogue.part(frame.of, index);
+                    return Some(Leaf::Number(begin(catalogue, outer, part)));
+                }
+            }
         }
     }
     None

@@ -13,6 +13,7 @@ ghost use Rattle.giop_sig.specs.Types.{Ty, Text, Octets, Sequence, switch_of, sh
 ghost use Rattle.giop_sig.specs.Fits.{IsFit};
 ghost use Rattle.giop_sig.specs.Trees.{tree};
 
+use crate::encapsulation;
 use crate::leaf::{Leaf, Spoken, Step, Turn, refused};
 use crate::progress::Kind;
 use arrayvec::ArrayVec;
@@ -28,10 +29,21 @@ pub(crate) fn width(catalogue: &Catalogue, t: TypeId) -> u8
 {
     match catalogue.shape(t) {
         Shape::Prim(prim) => size(prim),
-        Shape::Union(_) => match catalogue.shape(catalogue.switch_type(t)) {
-            Shape::Prim(prim) => size(prim),
-            _ => 4,
-        },
+        Shape::Union(_) => switch_width(catalogue, t),
+        Shape::Tagged => switch_width(catalogue, t),
+        _ => 4,
+    }
+}
+
+/// The size of the number of a discriminator.
+fn switch_width(catalogue: &Catalogue, t: TypeId) -> u8
+    requires known { t.0 < length catalogue.now.types }
+    requires union { IsUnion (shape_in (tree catalogue.now t.0)) }
+    ensures width { HasHead (tree catalogue.now t.0) → result ≡ head_width (tree catalogue.now t.0) }
+    ensures aligned { IsAlignment result }
+{
+    match catalogue.shape(catalogue.switch_type(t)) {
+        Shape::Prim(prim) => size(prim),
         _ => 4,
     }
 }
@@ -108,6 +120,8 @@ pub(crate) fn take_value(catalogue: &Catalogue, order: Order, of: TypeId, carry:
         Shape::Octets(bound) => take_size(catalogue, of, bound, long_of(order, carry)),
         Shape::Sequence(bound) => take_count(catalogue, of, bound, long_of(order, carry)),
         Shape::Union(_) => take_switch(catalogue, order, of, carry),
+        Shape::Tagged => take_switch(catalogue, order, of, carry),
+        Shape::Encapsulation => encapsulation::take_length(catalogue, of, long_of(order, carry)),
         Shape::Members(_) => unreachable!(),
         Shape::Array(_) => unreachable!(),
     }

@@ -7,7 +7,7 @@ ghost use Rattle.giop_decode.specs.Spine.{Coding, Seg, Line, Place, Leaf, Short,
 ghost use Rattle.giop_decode.specs.Reading.{read};
 ghost use Rattle.giop_decode.specs.Begins.{start_outer, start_leaf};
 ghost use Rattle.giop_decode.specs.Steps.{step, advance, resumes, Now};
-ghost use Rattle.giop_decode.specs.Fits.{FitsIn, Sound};
+ghost use Rattle.giop_decode.specs.Fits.{FitsIn, Sound, Surrounds};
 ghost use Rattle.giop_decode.specs.Heard.{heard_of};
 ghost use Rattle.giop_decode.specs.Memories.{TextPiece, pieces_of, AreUnended, IsLeft};
 
@@ -24,21 +24,22 @@ pub fn reading_laws()
     ensures lines { (coding : Coding) (path : List Seg) (T : Ty) (at : ℕ) (s t : List ℕ) →
         (more : List Line)
         × (lines_of (read coding path T at (s ++ t)) ≡ lines_of (read coding path T at s) ++ more) }
-    // A step has at most one line, which stands at its octet, and none where that is refused.
+    // A step has at most one line, which stands at its octet, and none where that breaks a rule of its own value; an octet
+    // that only ends an encapsulation too soon has the line of what it completes.
     ensures prompt { (coding : Coding) (path : List Seg) (outer : List Place) (leaf : Leaf)
         (at b : ℕ) →
         Now (at + 1) (step coding path outer leaf at b) }
     // Where each part takes some octet, the parts begun before the first octet are those that stand first in their wholes.
     ensures begins { (d : ℕ) (coding : Coding) (path : List Seg) (T : Ty) (at : ℕ) → IsFit d T →
         read coding path T at [] ≡ Short [] at (start_outer T) (start_leaf T) }
-    // The parts begun and not ended fit in the type, each in the one before,
+    // The parts begun and not ended fit in the type, each in the one before, and no encapsulation among them has ended,
     ensures sound { (d : ℕ) (coding : Coding) (path : List Seg) (T : Ty) (at : ℕ) (s : List ℕ) →
         IsFit d T →
         Sound T (at + length s) (read coding path T at s) }
     // and a step from any parts that fit leaves parts that fit.
     ensures kept { (d : ℕ) (coding : Coding) (path : List Seg) (T : Ty) (outer : List Place)
         (leaf : Leaf) (at b : ℕ) → IsFit d T →
-        FitsIn T outer leaf → Sound T (at + 1) (step coding path outer leaf at b) }
+        FitsIn T outer leaf → Surrounds at outer → Sound T (at + 1) (step coding path outer leaf at b) }
 {}
 
 /// What a reading leaves in mind is what its lines say last: of the values at the request id of a header, of the enums, and

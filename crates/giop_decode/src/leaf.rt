@@ -10,6 +10,7 @@ ghost use Rattle.giop_sig.specs.Fits.{IsFit};
 ghost use Rattle.giop_sig.specs.Trees.{tree};
 
 use crate::contents::{hold_content, take_content};
+use crate::encapsulation::take_order;
 use crate::heads::{hold_number, take_number, take_value, width};
 use crate::progress::Kind;
 use arrayvec::ArrayVec;
@@ -21,7 +22,14 @@ use giop_sig::{Catalogue, TypeId};
 pub(crate) enum Leaf {
     /// The number that begins a value of this type.
     Number(TypeId),
-    /// The content of a string, without its zero, or of an octet sequence.
+    /// The octet with the byte order of an encapsulation.
+    Opening {
+        /// The type.
+        of: TypeId,
+        /// How many octets the encapsulation has, this one included.
+        count: u32,
+    },
+    /// The content of a string, without its zero, or of an octet sequence, or the rest of an encapsulation.
     Content {
         /// The type.
         of: TypeId,
@@ -39,6 +47,7 @@ impl Leaf {
     {
         match self {
             Leaf::Number(of) => of,
+            Leaf::Opening { of, .. } => of,
             Leaf::Content { of, .. } => of,
         }
     }
@@ -55,6 +64,8 @@ pub(crate) enum Turn {
     Opened(u32),
     /// The case at this place follows.
     Selected(u32),
+    /// The value in an encapsulation of so many octets follows, in this byte order.
+    Entered(Order, u32),
     /// Its octet breaks a rule.
     Refused(Kind),
 }
@@ -72,6 +83,10 @@ pub(crate) enum Spoken {
     Switch(Number),
     /// How many elements a sequence has.
     Count(u32),
+    /// How many octets an encapsulation has.
+    Size(u32),
+    /// The byte order of an encapsulation.
+    Ordered(Order),
     /// A piece of a content.
     Piece {
         /// Where it begins in the content.
@@ -125,6 +140,7 @@ pub(crate) fn hold(
 {
     match leaf {
         Leaf::Number(of) => hold_number(carry, at, width(catalogue, of), octet),
+        Leaf::Opening { .. } => false,
         Leaf::Content { total, offset, .. } => hold_content(total - offset, octet, piece),
     }
 }
@@ -167,6 +183,7 @@ pub(crate) fn take_octet(
             carry.clear();
             step
         }
+        Leaf::Opening { of, count } => take_order(catalogue, of, count, octet),
         Leaf::Content { of, total, offset } => {
             take_content(catalogue, of, total, offset, octet, piece)
         }

@@ -4,6 +4,7 @@
 mod chain;
 mod contents;
 mod decoder;
+mod encapsulation;
 mod frame;
 mod heads;
 mod laws;

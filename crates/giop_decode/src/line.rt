@@ -6,14 +6,18 @@ ghost use Rattle.giop_decode.specs.Spine as spines;
 ghost use Rattle.giop_decode.specs.Fits.{HasContent};
 ghost use Rattle.giop_decode.specs.Spelling.{seg_text, path_text, value_text, lines_text};
 ghost use Rattle.giop_decode.specs.Steps.{seg_in, path_in};
-ghost use Rattle.giop_decode.specs.Turns.{place, places, IsKnown, AreKnown, IsNumberOf, IsSpoken, CanSpeak};
+ghost use Rattle.giop_decode.specs.Turns.{place, places, IsKnown, AreKnown, IsNumberOf, IsSpoken, CanSpeak, switch_seg};
 ghost use Rattle.giop_print.specs.Output.{Writes};
+ghost use Rattle.giop_sig.specs.Types.{shape_in, IsUnion};
 ghost use Rattle.giop_sig.specs.Trees.{tree};
 
 use crate::frame::Frame;
 use crate::leaf::Spoken;
 use giop_cdr::Number;
-use giop_print::{Out, OutFault, Path, Piece, Root, Value, piece_line, value_line};
+use giop_print::{
+    Out, OutFault, Path, Piece, Root, Value, encapsulation_line, inner_rest_line, order_line,
+    piece_line, value_line,
+};
 use giop_sig::{Catalogue, Shape, TypeId};
 
 /// Goes to the part that is being read.
@@ -21,14 +25,33 @@ use giop_sig::{Catalogue, Shape, TypeId};
 fn push_segment(catalogue: &Catalogue, frame: Frame, path: &mut Path)
     requires known { IsKnown catalogue.now frame }
     requires room { path.old.segments < 24 }
-    ensures text { path.new.text ≡ path.old.text ++ seg_text (seg_in (place catalogue.now frame)) }
-    ensures segments { path.new.segments ≡ path.old.segments + 1 }
+    ensures text { (here : ℕ) →
+        path.new.text ≡ path.old.text ++ seg_text (seg_in (place catalogue.now here frame)) }
+    ensures segments { path.new.segments ≤ path.old.segments + 1 }
 {
+    if frame.inside.is_some() {
+        return;
+    }
     match catalogue.shape(frame.of) {
         Shape::Members(_) => path.push_name(catalogue.part_name(frame.of, frame.index)),
         Shape::Union(_) => path.push_name(catalogue.part_name(frame.of, frame.index)),
+        Shape::Tagged => path.push_name(catalogue.part_name(frame.of, frame.index)),
         Shape::Sequence(_) => path.push_index(frame.index),
         Shape::Array(_) => path.push_index(frame.index),
+        _ => unreachable!(),
+    }
+}
+
+/// Goes to a discriminator, which is called so or has a name of its own.
+fn push_switch(catalogue: &Catalogue, of: TypeId, path: &mut Path)
+    requires known { of.0 < length catalogue.now.types }
+    requires union { IsUnion (shape_in (tree catalogue.now of.0)) }
+    requires room { path.old.segments < 24 }
+    ensures text { path.new.text ≡ path.old.text ++ seg_text (switch_seg (tree catalogue.now of.0)) }
+{
+    match catalogue.shape(of) {
+        Shape::Union(_) => path.push_name(b"switch"),
+        Shape::Tagged => path.push_name(catalogue.part_name(of, 0)),
         _ => unreachable!(),
     }
 }
@@ -37,8 +60,9 @@ fn push_segment(catalogue: &Catalogue, frame: Frame, path: &mut Path)
 fn go_to(catalogue: &Catalogue, root: Root, outer: &[Frame], path: &mut Path)
     requires known { AreKnown catalogue.now outer.now }
     requires room { length outer.now ≤ 24 }
-    ensures text { path.new.text ≡ path_text root (path_in [] (places catalogue.now outer.now)) }
-    ensures segments { path.new.segments ≡ length outer.now }
+    ensures text { (here : ℕ) →
+        path.new.text ≡ path_text root (path_in [] (places catalogue.now here outer.now)) }
+    ensures segments { path.new.segments ≤ length outer.now }
 {
     path.restart(root);
     for frame in outer {
@@ -111,6 +135,7 @@ fn octets_line<O: Out>(
             u64::from(offset),
             more,
         ),
+        Shape::Encapsulation => inner_rest_line(out, message, path, u64::from(offset), octets),
         _ => unreachable!(),
     }
 }
@@ -130,8 +155,8 @@ pub(crate) fn say<O: Out>(
     requires known_outer { AreKnown catalogue.now outer.now }
     requires room { length outer.now < 24 }
     requires speaks { CanSpeak (tree catalogue.now of.0) spoken.now }
-    ensures { (at : ℕ) (lines : List Line) →
-        IsSpoken (tree catalogue.now of.0) (path_in [] (places catalogue.now outer.now))
+    ensures { (here at : ℕ) (lines : List Line) →
+        IsSpoken (tree catalogue.now of.0) (path_in [] (places catalogue.now here outer.now))
         at spoken.now lines →
         Writes result (O.log out.old) (O.log out.new) (lines_text message root lines) }
 {
@@ -144,13 +169,21 @@ pub(crate) fn say<O: Out>(
         }
         Spoken::Switch(number) => {
             go_to(catalogue, root, outer, path);
-            path.push_name(b"switch");
+            push_switch(catalogue, of, path);
             let switch = catalogue.switch_type(of);
             number_line(catalogue, message, path, switch, *number, out)
         }
         Spoken::Count(count) => {
             go_to(catalogue, root, outer, path);
             value_line(out, message, path, Value::Count(*count))
+        }
+        Spoken::Size(size) => {
+            go_to(catalogue, root, outer, path);
+            encapsulation_line(out, message, path, *size)
+        }
+        Spoken::Ordered(order) => {
+            go_to(catalogue, root, outer, path);
+            order_line(out, message, path, *order)
         }
         Spoken::Piece {
             offset,

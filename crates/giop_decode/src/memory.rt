@@ -169,11 +169,11 @@ impl Memory {
         requires known { of.0 < length catalogue.now.types }
         requires known_outer { AreKnown catalogue.now outer.now }
         requires speaks { CanSpeak (tree catalogue.now of.0) spoken.now }
-        ensures hears { (root ≡ Root.Body → ⊥) → (h : Heard) (at : ℕ) (lines : List Line) → Recalls self.old h →
-            IsSpoken (tree catalogue.now of.0) (path_in [] (places catalogue.now outer.now)) at spoken.now lines →
+        ensures hears { (root ≡ Root.Body → ⊥) → (h : Heard) (here at : ℕ) (lines : List Line) → Recalls self.old h →
+            IsSpoken (tree catalogue.now of.0) (path_in [] (places catalogue.now here outer.now)) at spoken.now lines →
             Recalls self.new (hushed (hushes spoken.now) (heard (is_header_root root) h lines)) }
-        ensures named { (at : ℕ) (lines : List Line) →
-            IsSpoken (tree catalogue.now of.0) (path_in [] (places catalogue.now outer.now)) at spoken.now lines →
+        ensures named { (here at : ℕ) (lines : List Line) →
+            IsSpoken (tree catalogue.now of.0) (path_in [] (places catalogue.now here outer.now)) at spoken.now lines →
             result ≡ names_operation (is_header_root root) lines }
     {
         if root == Root::Body {
@@ -182,6 +182,8 @@ impl Memory {
         match spoken {
             Spoken::Nothing => false,
             Spoken::Count(_) => false,
+            Spoken::Size(_) => false,
+            Spoken::Ordered(_) => false,
             Spoken::Length => {
                 self.forget();
                 false
@@ -201,6 +203,7 @@ impl Memory {
                     !*more && is_header_member(catalogue, root, outer, b"operation")
                 }
                 Shape::Octets(_) => false,
+                Shape::Encapsulation => false,
                 _ => unreachable!(),
             },
         }
@@ -221,7 +224,8 @@ fn is_header(root: Root) -> bool
 /// Whether the innermost part is the member of this name of a header.
 fn is_header_member(catalogue: &Catalogue, root: Root, outer: &[Frame], name: &[u8]) -> bool
     requires { AreKnown catalogue.now outer.now }
-    ensures { result ≡ (is_header_root root && is_member name.now (path_in [] (places catalogue.now outer.now))) }
+    ensures { (here : ℕ) → result ≡ (is_header_root root
+        && is_member name.now (path_in [] (places catalogue.now here outer.now))) }
 {
     is_header(root) && is_member(catalogue, outer, name)
 }
@@ -229,15 +233,20 @@ fn is_header_member(catalogue: &Catalogue, root: Root, outer: &[Frame], name: &[
 /// Whether the innermost part is the root's member of this name.
 fn is_member(catalogue: &Catalogue, outer: &[Frame], name: &[u8]) -> bool
     requires { AreKnown catalogue.now outer.now }
-    ensures { result ≡ is_member name.now (path_in [] (places catalogue.now outer.now)) }
+    ensures { (here : ℕ) →
+        result ≡ is_member name.now (path_in [] (places catalogue.now here outer.now)) }
 {
     if outer.len() != 1 {
         return false;
     }
     let frame = outer[0];
+    if frame.inside.is_some() {
+        return false;
+    }
     match catalogue.shape(frame.of) {
         Shape::Members(_) => name == catalogue.part_name(frame.of, frame.index),
         Shape::Union(_) => name == catalogue.part_name(frame.of, frame.index),
+        Shape::Tagged => name == catalogue.part_name(frame.of, frame.index),
         _ => false,
     }
 }

@@ -1,7 +1,7 @@
 //! A decoder from the octets that were stored of one. Octets that no decoder stores are read as any; what was read is stored
 //! anew and compared.
 
-ghost use Rattle.std.specs.Prelude.{◌≡◌, ◌↔◌, IsTrue, ℕ, ◌+◌, ◌<◌, ◌≤◌, List, [], ◌∷◌, ◌++◌, length, drop, Some, IfSome, IsSome};
+ghost use Rattle.std.specs.Prelude.{◌≡◌, ◌↔◌, IsTrue, ℕ, ◌+◌, ◌<◌, ◌≤◌, List, [], ◌∷◌, ◌++◌, length, drop, Option, Some, IfSome, IsSome};
 ghost use Rattle.std.specs.List.{AllByRecursion};
 ghost use Rattle.giop_cdr.specs.declared.order.Order.{Order as ByteOrder};
 ghost use Rattle.giop_decode.specs.declared.decoder.Decoder.{Decoder as State};
@@ -10,13 +10,13 @@ ghost use Rattle.giop_decode.specs.declared.leaf.Leaf.{Leaf as Innermost};
 ghost use Rattle.giop_decode.specs.declared.memory.Buffer.{Buffer as BufferState};
 ghost use Rattle.giop_decode.specs.declared.memory.Memory.{Memory as MemoryState};
 ghost use Rattle.giop_decode.specs.Holding.{Fits, Reads};
-ghost use Rattle.giop_decode.specs.Stored.{order_octet, root_octet, leaf_octets, buffer_octet, memory_octets, frame_octets, frames_octets, frame_size, FrameHasRange, LeafHasRange, MemoryHasRange, Stored, IsKept, IsRestored};
+ghost use Rattle.giop_decode.specs.Stored.{order_octet, root_octet, leaf_octets, buffer_octet, memory_octets, inside_octet, frame_octets, frames_octets, frame_size, FrameHasRange, LeafHasRange, MemoryHasRange, Stored, IsKept, IsRestored};
 ghost use Rattle.giop_print.specs.declared.path.Root.{Root as PathRoot};
 ghost use Rattle.giop_sig.specs.Table.{Table};
 ghost use Rattle.giop_sig.specs.Types.{Ty};
 
 use crate::decoder::Decoder;
-use crate::frame::Frame;
+use crate::frame::{Frame, is_inside};
 use crate::leaf::Leaf;
 use crate::memory::{Buffer, Memory};
 use crate::stored::FRAME_SIZE;
@@ -79,12 +79,15 @@ fn parsed(fixed: &[u8; 208], frames: &[u8]) -> Decoder
 {
     let root = root_at(fixed, 1);
     let carry: ArrayVec<u8, 8> = held_at(fixed, 24);
+    let outer = outer_at(frames);
+    let inside = is_inside(true, outer.as_slice());
     Decoder {
         order: order_at(fixed, 0),
         root,
         message: eight_at(fixed, 2),
         at: octet_at(fixed, 10),
-        outer: outer_at(frames),
+        outer,
+        inside,
         leaf: Some(leaf_at(fixed, 11)),
         carry: carried(carry.as_slice()),
         piece: held_at(fixed, 33),
@@ -125,12 +128,17 @@ fn leaf_at(octets: &[u8], at: usize) -> Leaf
         drop at octets.now ≡ leaf_octets leaf ++ rest → result ≡ leaf }
 {
     let of = TypeId(four_at(octets, at + 1));
-    if octet_at(octets, at) == 0 {
+    let tag = octet_at(octets, at);
+    if tag == 0 {
         return Leaf::Number(of);
+    }
+    let count = four_at(octets, at + 5);
+    if tag == 2 {
+        return Leaf::Opening { of, count };
     }
     Leaf::Content {
         of,
-        total: four_at(octets, at + 5),
+        total: count,
         offset: four_at(octets, at + 9),
     }
 }
@@ -199,5 +207,19 @@ fn frame_at(octets: &[u8]) -> Frame
         of: TypeId(four_at(octets, 0)),
         index: four_at(octets, 4),
         count: four_at(octets, 8),
+        inside: inside_at(octets, 12),
+    }
+}
+
+/// The byte order of an encapsulation that stands there, or none.
+fn inside_at(octets: &[u8], at: usize) -> Option<Order>
+    requires room { at < length octets.now }
+    ensures { (inside : Option ByteOrder) (rest : List ℕ) → drop at octets.now ≡ inside_octet inside ∷ rest →
+        result ≡ inside }
+{
+    match octet_at(octets, at) {
+        0 => None,
+        1 => Some(Order::Big),
+        _ => Some(Order::Little),
     }
 }

@@ -93,8 +93,12 @@ impl Decoder {
         let Some(leaf) = self.leaf else {
             return 0;
         };
+        if self.inside {
+            return 0;
+        }
         match leaf {
             Leaf::Number(_) => 0,
+            Leaf::Opening { .. } => 0,
             Leaf::Content { total, offset, .. } => {
                 let left = total.saturating_sub(offset);
                 let count = gather_content(left, octets, &mut self.piece);

@@ -4,7 +4,7 @@ ghost use Rattle.std.specs.Prelude.{◌≡◌, ◌+◌, ◌*◌, ◌<◌, ◌≤
 ghost use Rattle.std.specs.List.{AllByRecursion};
 ghost use Rattle.arrayvec.specs.ArrayVec.{array_vec_len};
 ghost use Rattle.giop_decode.specs.Holding.{Fits};
-ghost use Rattle.giop_decode.specs.Stored.{order_octet, root_octet, leaf_octets, buffer_octet, kept_name, memory_octets, fixed_octets, frame_size, frame_octets, frames_octets, own_frame, FrameHasRange, LeafHasRange, MemoryHasRange, HasRange, Stored};
+ghost use Rattle.giop_decode.specs.Stored.{order_octet, root_octet, leaf_octets, buffer_octet, kept_name, memory_octets, fixed_octets, frame_size, inside_octet, frame_octets, frames_octets, own_frame, FrameHasRange, LeafHasRange, MemoryHasRange, HasRange, Stored};
 ghost use Rattle.giop_sig.specs.Table.{Table};
 ghost use Rattle.giop_sig.specs.Trees.{depth_of};
 
@@ -106,6 +106,12 @@ fn put_leaf(out: &mut ArrayVec<u8, 208>, leaf: Leaf)
             put_four(out, total);
             put_four(out, offset);
         }
+        Leaf::Opening { of, count } => {
+            out.push(2);
+            put_four(out, of.0);
+            put_four(out, count);
+            put_four(out, 0);
+        }
     }
 }
 
@@ -164,6 +170,7 @@ fn put_frames(out: &mut ArrayVec<u8, 384>, outer: &[Frame], leaf: Leaf)
             of: leaf.of(),
             index: 0,
             count: 0,
+            inside: None,
         },
     );
 }
@@ -178,5 +185,16 @@ fn put_frame(out: &mut ArrayVec<u8, 384>, frame: Frame)
     put_four(out, frame.of.0);
     put_four(out, frame.index);
     put_four(out, frame.count);
-    put_four(out, 0);
+    out.push(inside_octet(frame.inside));
+    put_zeros(out, 3);
+}
+
+/// The octet of an encapsulation's byte order, or of none.
+fn inside_octet(inside: Option<Order>) -> u8
+    ensures { result ≡ inside_octet inside }
+{
+    match inside {
+        None => 0,
+        Some(order) => 1 + order_octet(order),
+    }
 }

@@ -1,10 +1,11 @@
 -- No octet of a message has two lines of one kind: where a part of the rest is written at the last octet, nothing of the rest is left.
-use Rattle.std.proofs.Common.{◌≡◌, ◌≢◌, ℕ, suc, List, [], ◌∷◌, ◌++◌, length, map, refl, ◌⊎◌, inl, inr}
+use Rattle.std.proofs.Common.{◌≡◌, ◌≢◌, ℕ, suc, List, [], ◌∷◌, ◌++◌, length, map, true, refl, ap, ◌⊎◌, inl, inr}
+use Rattle.std.specs.List.{list_any}
 use Rattle.giop_message.specs.Apart.{AreApart, IsApart}
 use Rattle.giop_message.specs.Messages.{Stage, message, stage_of, close}
 use Rattle.giop_message.specs.MessageReading.{saying_of, closing_of, reading_by}
 use Rattle.giop_message.specs.Reading as said
-use Rattle.giop_message.specs.Reading.{Saying, Value, Call, Rest, Fault, End, InTurn, AtClose}
+use Rattle.giop_message.specs.Reading.{Saying, Value, Call, Rest, Fault, End, InTurn, AtClose, is_fault}
 use Rattle.giop_message.specs.Signatures.{Signatures}
 use Rattle.giop_message.proofs.Causal.{is_ordered}
 use Rattle.giop_message.proofs.Closes.{is_closing}
@@ -16,7 +17,7 @@ abbrev Closings : Stage → List Saying
 Closings stage = map (λ l. l.0) (map closing_of (close stage))
 
 leaves_end : (sayings : List Saying) (stage : Stage) → Leaves sayings stage →
-    (sayings ≡ Rest ∷ []) ⊎ (sayings ≡ Fault ∷ []) → Closings stage ≡ End ∷ []
+    (sayings ≡ Rest ∷ []) ⊎ (list_any is_fault sayings ≡ true) → Closings stage ≡ End ∷ []
 unfolding close saying_of
 leaves_end sayings stage h (inl e) = let left = h.0 e in rw left.1 refl
 leaves_end sayings stage h (inr e) = rw (h.1 e) refl
@@ -49,8 +50,10 @@ turn_apart sayings stage (inr (inl e)) h closed =
 turn_apart sayings stage (inr (inr (inl e))) h closed = rw e (call_apart (Closings stage) closed)
 turn_apart sayings stage (inr (inr (inr (inl e)))) h closed =
     rw (leaves_end sayings stage h (inl e), e) (other Rest End (λ k. cc))
-turn_apart sayings stage (inr (inr (inr (inr e)))) h closed =
-    rw (leaves_end sayings stage h (inr e), e) (other Fault End (λ k. cc))
+turn_apart sayings stage (inr (inr (inr (inr (inl e))))) h closed =
+    rw (leaves_end sayings stage h (inr (ap (list_any is_fault) e)), e) (other Fault End (λ k. cc))
+turn_apart sayings stage (inr (inr (inr (inr (inr e))))) h closed =
+    rw (leaves_end sayings stage h (inr (ap (list_any is_fault) e)), e) (((λ k. cc), ((λ k. cc), tt)), other Fault End (λ k. cc))
 
 octet_apart : (S : Signatures) (header xs : List ℕ) (x : ℕ) →
     AreApart (map (λ r. r.saying) (said.due (reading_by S) header xs x) ++ map (λ l. l.0) ((reading_by S).closes header (xs ++ x ∷ [])))

@@ -7,6 +7,7 @@ use Rattle.std.proofs.lemmas.List.Elements.{filter-append}
 use Rattle.giop_cdr.specs.Alignment.{padding}
 use Rattle.giop_print.specs.declared.path.Root.{Root}
 use Rattle.giop_sig.specs.Types.{Ty}
+use Rattle.giop_decode.specs.declared.progress.Kind.{Kind}
 use Rattle.giop_decode.specs.Spine.{plain, Seg, Value as Valued, Line, Read, Done, Short, Fault}
 use Rattle.giop_decode.specs.Reading.{read}
 use Rattle.giop_decode.specs.Steps as decoder
@@ -17,9 +18,10 @@ use Rattle.giop_message.specs.declared.part.Section.{Section}
 use Rattle.giop_message.specs.Headers.{order}
 use Rattle.giop_message.specs.Reading.{Saying, Remark, InTurn, IsOrdered, IsCausal}
 use Rattle.giop_message.specs.Signatures.{Signatures}
-use Rattle.giop_message.specs.Messages.{Said, Called, Left, Told, tell, is_shown, call_of, calls, tells, BodyType, Stage, In_typed, In_padding, In_rest, Over, Message, Comes, with_front, passes, rest_in, rest, body, padded, message, told_of, root_of, may_call, after, through}
+use Rattle.giop_message.specs.Messages.{Said, Called, Left, Wrong, Told, tell, is_shown, call_of, calls, tells, BodyType, Stage, In_typed, In_padding, In_rest, Over, Message, Comes, with_front, passes, rest_in, rest, body, padded, message, told_of, root_of, may_call, after, through}
 use Rattle.giop_message.specs.Steps.{rest_step, message_step, advance}
 use Rattle.giop_message.specs.MessageReading.{saying_of, remark_of, reading_by}
+use Rattle.giop_message.proofs.CutOff.{CallsNone, one_faulted, step_none}
 use Rattle.giop_message.proofs.Going.{front_none, body_has, after_has, message_has, message_goes}
 
 abbrev pub ToldAt : ℕ → List Told → Type 0
@@ -89,13 +91,21 @@ module _ (section : Section) (is : Bool) (next : Heard → ℕ → List ℕ → 
   passes_silent k (Short lines at outer leaf) h = rw (h.0, h.1) (refl, refl)
   passes_silent k (Fault lines at why T) h = absurd h
 
-  passes_prompt : (k : Heard) (r : Read) → Now n r → Prompt n (passes section is next k r)
+  -- a fault, and the value that its octet completes
+  faulted_turn : (k : Heard) (lines : List Line) (at : ℕ) (why : Kind) → at ≡ n → OneAt n lines → Each (λ l. ends_operation is l ≡ false) lines →
+      Turn n (tells R is k lines ++ tell at (Wrong why) ∷ [])
+  unfolding tell tells calls saying_of
+  faulted_turn k [] at why e one none = ((e, tt), inr (inr (inr (inr (inl refl)))))
+  faulted_turn k (l ∷ []) at why e one none = rw none.0 ((one, (e, tt)), inr (inr (inr (inr (inr refl)))))
+  faulted_turn k (l ∷ l' ∷ ls) at why e one none = absurd one
+
+  passes_prompt : (k : Heard) (r : Read) → Now n r → CallsNone is r → Prompt n (passes section is next k r)
   unfolding passes tell tells saying_of
-  passes_prompt k (Done lines at s) h =
+  passes_prompt k (Done lines at s) h none =
       let now = heard (is_header_root R) k lines in
       rw (h.1, h.2) (prompt_front n (tells R is k lines) (next now n []) (tells_turn R is n k lines h.0) (silent now))
-  passes_prompt k (Short lines at outer leaf) h = (tells_turn R is n k lines h.0, inl h.1)
-  passes_prompt k (Fault lines at why T) h = rw h.0 (((h.1, tt), inr (inr (inr (inr refl)))), inr refl)
+  passes_prompt k (Short lines at outer leaf) h none = (tells_turn R is n k lines h.0, inl h.1)
+  passes_prompt k (Fault lines at why T) h none = (faulted_turn k lines at why h.1 (one_faulted n why lines h.0) none, inr refl)
 
 pub rest_silent : (n : ℕ) → Silent n (rest n [])
 unfolding rest rest_in
@@ -140,6 +150,7 @@ unfolding message_step rest_step
 step_prompt S header at (In_typed section k outer leaf) b =
     passes_prompt section (may_call header section) (after S header section) (at + 1) (λ k. after_silent S header section k (at + 1)) k
     (decoder.step (plain (order header)) [] outer leaf at b) (step_now (plain (order header)) [] outer leaf at b)
+    (step_none (may_call header section) (plain (order header)) [] outer leaf at b)
 step_prompt S header at (In_padding t) b = go (nat_lt 1 (padding at 8))
   where
     go : (test : Bool) → Prompt (at + 1) (if test then Comes [] (at + 1) (In_padding t) else body S header t (at + 1) [])

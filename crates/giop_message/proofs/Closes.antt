@@ -35,8 +35,7 @@ pub is_closing : (S : Signatures) → IsClosing (reading_by S)
 unfolding reading_by saying_of close
 is_closing S = record {
   closed = λ header xs. closes_say (stage_of (message S header xs));
-  no_rest = λ header xs x faulted.
-      ends_only (stage_of (message S header (xs ++ x ∷ []))) (ap (λ stage. Sayings (close stage)) ((octet_leaves S header xs x).1 faulted));
+  over = λ header xs x faulted. ap (λ stage. Sayings (close stage)) ((octet_leaves S header xs x).1 faulted);
   one_rest = λ header xs x rested.
       ends_only (stage_of (message S header (xs ++ x ∷ []))) (ap (λ stage. Sayings (close stage)) ((octet_leaves S header xs x).0 rested).1);
 }

@@ -5,7 +5,7 @@ use Rattle.std.proofs.lemmas.Bool.{false≢true, ne_eqb}
 use Rattle.giop_print.specs.Lines.{fault_line, end_line, rest_line}
 use Rattle.giop_sig.specs.declared.types.Shape.{Shape}
 use Rattle.giop_sig.specs.declared.types.Shape.TheVariants as shapes
-use Rattle.giop_sig.specs.Types.{Cases, Ty, Plain, Enum, Single, Text, Octets, Struct, Union, Sequence, Array, shape_in}
+use Rattle.giop_sig.specs.Types.{Cases, Tag, Encapsulation, Ty, Plain, Enum, Single, Text, Octets, Struct, Union, Sequence, Array, shape_in}
 use Rattle.giop_sig.specs.Table.{Table}
 use Rattle.giop_decode.specs.declared.decoder.Decoder.{Decoder}
 use Rattle.giop_decode.specs.Spine.{plain, Line, Place, Leaf, Short}
@@ -50,6 +50,8 @@ lacks_members (Single (Enum n names)) count e = absurd cc
 lacks_members (Text bound) count e = absurd cc
 lacks_members (Octets bound) count e = absurd cc
 lacks_members (Union (Cases n) scalar select names cases) count e = absurd cc
+lacks_members (Union Tag scalar select names cases) count e = absurd cc
+lacks_members (Encapsulation T) count e = absurd cc
 lacks_members (Sequence bound T) count e = absurd cc
 lacks_members (Array n T) count e = absurd cc
 
@@ -61,6 +63,7 @@ lacks_none (Single (Enum n names)) other = refl
 lacks_none (Text bound) other = refl
 lacks_none (Octets bound) other = refl
 lacks_none (Union choice scalar select names cases) other = refl
+lacks_none (Encapsulation T) other = refl
 lacks_none (Sequence bound T) other = refl
 lacks_none (Array n T) other = refl
 

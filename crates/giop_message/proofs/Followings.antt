@@ -5,11 +5,11 @@ use Rattle.std.proofs.Math.Seq.{drop-append_seam}
 use Rattle.std.proofs.lemmas.Bool.{false≢true}
 use Rattle.giop_cdr.specs.declared.prim.Primitive.TheVariants as prims
 use Rattle.giop_print.specs.declared.path.Root.TheVariants as roots
-use Rattle.giop_sig.specs.Types.{Plain, Enum, Text, Octets, Single, Struct, Union, Sequence, Array}
+use Rattle.giop_sig.specs.Types.{Plain, Enum, Text, Octets, Single, Struct, Union, Sequence, Array, Encapsulation}
 use Rattle.giop_sig.specs.Table.{Table}
 use Rattle.giop_decode.specs.declared.decoder.Decoder.{Decoder}
 use Rattle.giop_decode.specs.declared.leaf.Leaf.{Leaf as Innermost}
-use Rattle.giop_decode.specs.Spine.{plain, Seg, Value, Number, Count, Piece, Line, Read, Done, Short, Fault, lines_of}
+use Rattle.giop_decode.specs.Spine.{plain, Seg, Value, Number, Count, Size, Ordered, Piece, Line, Read, Done, Short, Fault, lines_of}
 use Rattle.giop_decode.specs.Reading.{read}
 use Rattle.giop_decode.specs.Heard.{Heard, nothing, first_of, hear, heard, heard_of, hushed, in_string, is_header_root}
 use Rattle.giop_decode.specs.Holding as decoders
@@ -173,6 +173,9 @@ hear_id h at path (Piece (Octets bound) offset octets more) = sym (first_none h.
 hear_id h at path (Piece (Struct count names parts) offset octets more) = sym (first_none h.request_id)
 hear_id h at path (Piece (Union choice scalar select names cases) offset octets more) = sym (first_none h.request_id)
 hear_id h at path (Piece (Sequence bound T) offset octets more) = sym (first_none h.request_id)
+hear_id h at path (Piece (Encapsulation T) offset octets more) = sym (first_none h.request_id)
+hear_id h at path (Size n) = sym (first_none h.request_id)
+hear_id h at path (Ordered order) = sym (first_none h.request_id)
 hear_id h at path (Piece (Array count T) offset octets more) = sym (first_none h.request_id)
 
 lines_heard : (is : Bool) (h : Heard) (lines : List Line) → (heard true h lines).request_id ≡ first_id h.request_id (id_said (tells roots.Header is h lines))

@@ -13,7 +13,7 @@ use Rattle.giop_sig.specs.Builtin.{builtin_types, builtin_table}
 use Rattle.giop_sig.specs.Headers.{header_type, header_number, IsTable, IsCall, IsRaised}
 use Rattle.giop_sig.proofs.Builtins.{builtin_are, builtin_fit, header_built_in}
 use Rattle.giop_decode.specs.Spine
-use Rattle.giop_decode.specs.Spine.{Coding, Seg, Name, Switch, Line, Place, Part, Member, Leaf, Head, Content, Read, Done, Short, Fault, lines_of, with_front}
+use Rattle.giop_decode.specs.Spine.{Coding, Seg, Name, Switch, Held, Line, Place, Part, Member, Inside, Leaf, Head, Opening, Content, Read, Done, Short, Fault, lines_of, with_front}
 use Rattle.giop_decode.specs.Reading.{parts_from}
 use Rattle.giop_decode.specs.Steps.{Now, part_at, path_in, seg_of, seg_in, step, resumed}
 use Rattle.giop_decode.specs.Fits.{FitsIn}
@@ -57,10 +57,11 @@ header_fit minor kind T e = subst (λ found. IfSome found (IsFit 24)) e (number_
 -- ---- no operation at the end
 
 -- a path of several steps is no member of the root
-deep_member : (name : List ℕ) (a b : Seg) (path : List Seg) (outer : List Place) → is_member name (path_in (a ∷ b ∷ path) outer) ≡ false
+pub deep_member : (name : List ℕ) (a b : Seg) (path : List Seg) (outer : List Place) → is_member name (path_in (a ∷ b ∷ path) outer) ≡ false
 deep_member name (Name x) b path [] = refl
 deep_member name (Spine.Index x) b path [] = refl
-deep_member name Switch b path [] = refl
+deep_member name (Switch tag) b path [] = refl
+deep_member name Held b path [] = refl
 deep_member name a b path (place ∷ outer) = deep_member name a b (path ++ seg_in place ∷ []) outer
 
 both_false : (a b c : Bool) → b ≡ false → (a && (b && c)) ≡ false
@@ -70,11 +71,11 @@ both_false false b c e = refl
 no_end : (is : Bool) (path : List Seg) (l : Line) → IsOf path l → is_member (codes "operation") path ≡ false → ends_operation is l ≡ false
 no_end is path l of e = both_false is (is_member (codes "operation") l.path) (ends_text l.value) (go of.stands)
   where
-    go : (l.path ≡ path) ⊎ (l.path ≡ path ++ Switch ∷ []) → is_member (codes "operation") l.path ≡ false
+    go : (l.path ≡ path) ⊎ ((tag : Option (List ℕ)) × (l.path ≡ path ++ Switch tag ∷ [])) → is_member (codes "operation") l.path ≡ false
     go (inl same) = rw same e
-    go (inr same) = rw same (switch_member (codes "operation") path)
+    go (inr same) = rw same.1 (switch_member (codes "operation") path same.0)
 
-no_ends : (is : Bool) (path : List Seg) (lines : List Line) → Each (IsOf path) lines → is_member (codes "operation") path ≡ false → Each (λ l. ends_operation is l ≡ false) lines
+pub no_ends : (is : Bool) (path : List Seg) (lines : List Line) → Each (IsOf path) lines → is_member (codes "operation") path ≡ false → Each (λ l. ends_operation is l ≡ false) lines
 no_ends is path [] each e = tt
 no_ends is path (l ∷ ls) each e = (no_end is path l each.0 e, no_ends is path ls each.1 e)
 
@@ -115,7 +116,9 @@ module _ (coding : Coding) (is : Bool) (n : ℕ) (names : ℕ → List ℕ) (par
 
   in_struct : (outer : List Place) (leaf : Leaf) → FitsIn (Struct (suc n) names parts) outer leaf → done_test (step coding [] outer leaf at b) ≡ true → NoCalls outer leaf
   in_struct [] (Head U carry) fits done = absurd fits.kind
+  in_struct [] (Opening U n) fits done = absurd fits.kind
   in_struct [] (Content U total offset piece) fits done = absurd fits.kind
+  in_struct (Inside U inner end ∷ outer) leaf fits done = absurd fits.0.kind
   in_struct (Member U i ∷ outer) leaf fits done = absurd fits.0.kind
   in_struct (Part U i count ∷ []) leaf fits done =
       let same : Part U i count ≡ Part (Struct (suc n) names parts) i (suc n) = rw (fits.0.same, fits.0.kind) refl in

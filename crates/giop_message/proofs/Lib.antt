@@ -9,6 +9,7 @@ mod Starting
 mod Octets
 mod Operations
 mod LastParts
+mod CutOff
 mod Calling
 mod Faulting
 mod Parts

@@ -1,11 +1,12 @@
 -- What is told at one octet of a section, and its text.
-use Rattle.std.proofs.Common.{◌≡◌, ℕ, ◌+◌, ◌-◌, Bool, List, [], ◌∷◌, ◌++◌, refl, sym, ap, ◌∙◌, append_assoc, append-nil, arith}
+use Rattle.std.proofs.Common.{◌≡◌, ℕ, ◌+◌, ◌-◌, Bool, false, List, [], ◌∷◌, ◌++◌, refl, sym, ap, ◌∙◌, append_assoc, append-nil, arith}
+use Rattle.std.specs.List.{AllByRecursion as Each}
 use Rattle.std.proofs.Math.Seq.{drop-append_seam}
 use Rattle.std.proofs.lemmas.List.Concat.{flat_map-append}
 use Rattle.giop_print.specs.declared.path.Root.{Root}
 use Rattle.giop_decode.specs.Spine.{Line, Read, Done, Short, Fault, lines_of}
 use Rattle.giop_decode.specs.Steps.{Now, OneAt}
-use Rattle.giop_decode.specs.Heard.{Heard, hear, is_header_root}
+use Rattle.giop_decode.specs.Heard.{Heard, hear, ends_operation, is_header_root}
 use Rattle.giop_decode.specs.Spelling.{line_text, lines_text}
 use Rattle.giop_message.specs.Signatures.{Signatures}
 use Rattle.giop_message.specs.Messages.{Said, Wrong, Told, tell, calls, tells, Message, Comes, with_front, message, told_of, stage_of}
@@ -13,6 +14,7 @@ use Rattle.giop_message.specs.MessageReading.{saying_of, text_of}
 use Rattle.giop_message.specs.Holding.{speech_line, told_text, due}
 use Rattle.giop_message.specs.Moves.{fault_text}
 use Rattle.giop_message.proofs.Causal.{Silent}
+use Rattle.giop_message.proofs.CutOff.{CallsNone, one_faulted}
 use Rattle.giop_message.proofs.Spelling.{said_is_line}
 
 pub told_front : (front : List Told) (m : Message) → told_of (with_front front m) ≡ front ++ told_of m
@@ -43,7 +45,7 @@ wrongs (Fault lines at why T) = tell at (Wrong why) ∷ []
 pub one_of : (n : ℕ) (st : Read) → Now n st → OneAt n (lines_of st)
 one_of n (Done lines at rest) now = now.0
 one_of n (Short lines at outer leaf) now = now.0
-one_of n (Fault lines at why T) now = rw now.0 tt
+one_of n (Fault lines at why T) now = one_faulted n why lines now.0
 
 -- ---- the text
 
@@ -79,20 +81,26 @@ wrongs_text number place n (Fault lines at why T) now =
     let e : at - n ≡ 1 = omega (arith, now.1) in
     rw e (append-nil _)
 
--- A line's fault stands where it has no line, so its text may come before that of a call.
-swapped : (number place n : ℕ) (root : Root) (is : Bool) (h : Heard) (st : Read) → Now (n + 1) st →
+-- where no line ends an operation none is called
+pub no_first : (root : Root) (is : Bool) (h : Heard) (lines : List Line) → Each (λ l. ends_operation is l ≡ false) lines → first_call root is h lines ≡ []
+unfolding calls
+no_first root is h [] each = refl
+no_first root is h (l ∷ ls) each = rw each.0 refl
+
+-- A fault stands where nothing is called, so its text may come before that of a call.
+swapped : (number place n : ℕ) (root : Root) (is : Bool) (h : Heard) (st : Read) → Now (n + 1) st → CallsNone is st →
     lines_text number root (lines_of st) ++ (told_text number place n (first_call root is h (lines_of st)) ++ fault_text number (place + 1) st)
     ≡ (lines_text number root (lines_of st) ++ fault_text number (place + 1) st) ++ told_text number place n (first_call root is h (lines_of st))
 unfolding lines_text told_text
-swapped number place n root is h (Done lines at rest) now = rw (append-nil (told_text number place n (first_call root is h lines)), append-nil (lines_text number root lines)) refl
-swapped number place n root is h (Short lines at outer leaf) now = rw (append-nil (told_text number place n (first_call root is h lines)), append-nil (lines_text number root lines)) refl
-swapped number place n root is h (Fault lines at why T) now = rw now.0 (sym (append-nil _))
+swapped number place n root is h (Done lines at rest) now none = rw (append-nil (told_text number place n (first_call root is h lines)), append-nil (lines_text number root lines)) refl
+swapped number place n root is h (Short lines at outer leaf) now none = rw (append-nil (told_text number place n (first_call root is h lines)), append-nil (lines_text number root lines)) refl
+swapped number place n root is h (Fault lines at why T) now none = rw (no_first root is h lines none) (sym (append-nil _))
 
-pub step_text : (number place n : ℕ) (root : Root) (is : Bool) (h : Heard) (st : Read) → Now (n + 1) st →
+pub step_text : (number place n : ℕ) (root : Root) (is : Bool) (h : Heard) (st : Read) → Now (n + 1) st → CallsNone is st →
     told_text number place n (tells root is h (lines_of st) ++ wrongs st)
     ≡ (lines_text number root (lines_of st) ++ fault_text number (place + 1) st) ++ told_text number place n (first_call root is h (lines_of st))
-step_text number place n root is h st now =
+step_text number place n root is h st now none =
     text_both number place n (tells root is h (lines_of st)) (wrongs st)
     ∙ (rw (wrongs_text number place n st now, tells_text number place n (n + 1) root is h (lines_of st) (one_of (n + 1) st now))
     (append_assoc (lines_text number root (lines_of st)) (told_text number place n (first_call root is h (lines_of st))) (fault_text number (place + 1) st)
-    ∙ swapped number place n root is h st now))
+    ∙ swapped number place n root is h st now none))

@@ -23,6 +23,7 @@ use Rattle.giop_message.specs.Holding.{told_text, due, due_text, IsFirst}
 use Rattle.giop_message.specs.Moves.{fault_text}
 use Rattle.giop_message.proofs.Going.{front_twice, front_advance, passes_front, through_goes, after_goes, message_goes}
 use Rattle.giop_message.proofs.Causal.{after_silent}
+use Rattle.giop_message.proofs.CutOff.{CallsNone, step_none}
 use Rattle.giop_message.proofs.Octets.{told_front, told_silent, due_is, wrongs, first_call, step_text}
 
 -- Where a message stands in a section that goes on: the lines before it, the octets before it and its own, and what their
@@ -139,6 +140,9 @@ module _ (S : Signatures) (number : ℕ) (header s : List ℕ) (section : Sectio
   pub added_now : Now (Here + 1) Added
   added_now = step_now (plain (order header)) [] i.outer i.leaf Here b
 
+  pub added_none : CallsNone Is Added
+  added_none = step_none Is (plain (order header)) [] i.outer i.leaf Here b
+
   pub lines_due : decoders.due (order header) T A octets b ≡ lines_of Added
   lines_due = rw (i.was_short, next_is, lines_front i.lines Added) (drop-append_seam i.lines (lines_of Added))
 
@@ -166,7 +170,7 @@ module _ (S : Signatures) (number : ℕ) (header s : List ℕ) (section : Sectio
   text_here place =
       let now = subst (λ n. Now (n + 1) Added) here_is added_now in
       ap (told_text number place (12 + length s)) due_here
-      ∙ (step_text number place (12 + length s) R Is heard_before Added now
+      ∙ (step_text number place (12 + length s) R Is heard_before Added now added_none
       ∙ rw (lines_due, next_is, fault_front number (place + 1) i.lines Added) refl)
 
   -- where it goes on

@@ -1,23 +1,26 @@
 -- The lines of a step: whose paths they have.
-use Rattle.std.proofs.Common.{◌≡◌, ℕ, zero, suc, ◌+◌, ◌-◌, ◌⊎◌, inl, inr, Bool, true, false, List, [], ◌∷◌, ◌++◌, length, take, Option, Some, None, refl, sym, ap, subst, ◌∙◌, append-nil}
+use Rattle.std.proofs.Common.{◌≡◌, ℕ, zero, suc, ◌+◌, ◌-◌, ◌⊎◌, inl, inr, Bool, true, false, List, [], ◌∷◌, ◌++◌, length, take, get_or, Option, Some, None, refl, sym, ap, subst, ◌∙◌, append-nil, lit<}
+use Rattle.std.proofs.Math.Seq.{take-nil, drop-nil}
+use Rattle.giop_cdr.specs.declared.order.Order.{Order}
 use Rattle.std.specs.Prelude.{cond, ltb}
 use Rattle.std.specs.List.{AllByRecursion as Each}
 use Rattle.giop_cdr.specs.Numbers.{num}
-use Rattle.giop_sig.specs.Types.{Scalar, Ty, Single, Text, Octets, Struct, Union, Sequence, Array, part_of}
+use Rattle.giop_sig.specs.Types.{tag_of, Encapsulation, Scalar, Ty, Single, Text, Octets, Struct, Union, Sequence, Array, part_of}
 use Rattle.giop_sig.specs.declared.types.Selected.{Selected}
 use Rattle.giop_sig.specs.declared.types.Selected.TheVariants.{Case, Nothing, Refused}
 use Rattle.giop_decode.specs.declared.progress.Kind.{Kind}
+use Rattle.giop_decode.specs.declared.progress.Kind.TheVariants as kinds
 use Rattle.giop_decode.specs.Spine
-use Rattle.giop_decode.specs.Spine.{Coding, Seg, Switch, Line, Count, Piece, line, Place, Part, Member, Leaf, Head, Content, Read, Done, Short, Fault, lines_of, with_front, followed, within}
+use Rattle.giop_decode.specs.Spine.{Coding, coded, Seg, Switch, Held, Line, Count, Size, Ordered, Piece, line, Place, Part, Member, Inside, Leaf, Head, Opening, Content, Read, Done, Short, Fault, lines_of, with_front, followed, within}
 use Rattle.giop_cdr.specs.Alignment.{padding}
 use Rattle.giop_decode.specs.Pieces.{Grab, Waiting, Got, block, unless, over, content, full_piece, full_pieces, last_piece, tail, ends, text}
-use Rattle.giop_decode.specs.Reading.{read, headed, single, wrong, refused, member, parts_from}
-use Rattle.giop_decode.specs.Steps.{inner_path, Quiet, Now, after, block_step, head_width, leaf_step, number_step, part_at, path_in, seg_of, step}
-use Rattle.giop_decode.proofs.ReadingLaws.{now_within, each_append, quiet_within, read_quiet, parts_quiet, step_now, lines_front}
+use Rattle.giop_decode.specs.Reading.{read, headed, single, wrong, refused, member, parts_from, cut_off, enclosed, opening, order_of, ordered, rest_of, sized}
+use Rattle.giop_decode.specs.Steps.{coding_in, held, inner_path, Quiet, Now, after, block_step, head_width, leaf_step, number_step, part_at, path_in, seg_of, step}
+use Rattle.giop_decode.proofs.ReadingLaws.{now_within, each_append, block_waits, quiet_within, read_quiet, rest_quiet, parts_quiet, step_now, lines_front}
 
 -- a line of the part with this path
 pub record IsOf (path : List Seg) (l : Line) : Type 0 where
-  pub stands : (l.path ≡ path) ⊎ (l.path ≡ path ++ Switch ∷ [])
+  pub stands : (l.path ≡ path) ⊎ ((tag : Option (List ℕ)) × (l.path ≡ path ++ Switch tag ∷ []))
 
 abbrev pub AreOf : List Seg → Read → Type 0
 AreOf path r = Each (IsOf path) (lines_of r)
@@ -66,6 +69,11 @@ member_of n coding path T (Case i) = quiet_of path n (within (Member T i) (read 
 member_of n coding path T Nothing = tt
 member_of n coding path T Refused = tt
 
+-- an encapsulation with no octets behind its length
+sized_of : (path : List Seg) (T : Ty) (n at : ℕ) → AreOf path (sized path T (held path T) n at [])
+sized_of path T zero at = tt
+sized_of path T (suc n) at = rw (block_waits 1 at [] (lit< tt)) tt
+
 -- what follows a number, with no octets behind it
 after_of : (coding : Coding) (path : List Seg) (T : Ty) (n at : ℕ) → AreOf path (after coding path T n at [])
 after_of coding path (Single scalar) n at = single_of path scalar n at []
@@ -80,10 +88,12 @@ after_of coding path (Sequence bound T) n at =
 after_of coding path (Union choice scalar select names cases) n at =
     let T = Union choice scalar select names cases in
     let next : ℕ → List ℕ → Read = member (select n) (λ i at s. within (Member T i) (read coding (inner_path path T i) (part_of T i) at s)) in
-    let front : List Line = line at (path ++ Switch ∷ []) (Spine.Number scalar n) ∷ [] in
+    let front : List Line = line at (path ++ Switch (tag_of choice names) ∷ []) (Spine.Number scalar n) ∷ [] in
     unless_of path T (wrong scalar n) at (unless T (refused (select n)) at (with_front front (next at [])))
     (λ e. unless_of path T (refused (select n)) at (with_front front (next at []))
-    (λ f. front_of path front (next at []) (record { stands = inr refl }, tt) (member_of at coding path T (select n))))
+    (λ f. front_of path front (next at []) (record { stands = inr (tag_of choice names, refl) }, tt) (member_of at coding path T (select n))))
+after_of coding path (Encapsulation T) n at =
+    front_of path (line at path (Size n) ∷ []) (sized path (Encapsulation T) (held path (Encapsulation T)) n at []) (at_path path at (Size n), tt) (sized_of path (Encapsulation T) n at)
 
 -- octets of which none are left
 abbrev pub IsAll : Grab → Type 0
@@ -111,8 +121,35 @@ headed_of : (coding : Coding) (path : List Seg) (T : Ty) (g : Grab) → IsAll g 
 headed_of coding path T (Waiting carry at) h = tt
 headed_of coding path T (Got xs at rest) h = rw h (after_of coding path T (num coding.order xs) at)
 
+-- the octet with a byte order
+rest_of_path : (path : List Seg) (T : Ty) (n at : ℕ) → AreOf path (rest_of path T n at [])
+rest_of_path path T zero at = tt
+rest_of_path path T (suc n) at = content_of path T (suc n) (full_pieces (suc n)) 0 at []
+
+enclosed_of : (path : List Seg) (T : Ty) (inner : Coding) (end n : ℕ) (r : Read) → Quiet n r → AreOf path (enclosed path T inner end r [])
+enclosed_of path T inner end n (Done lines at rest) h =
+    rw (h.0, h.1, h.2) (front_of path [] (rest_of path T (end - n) n []) tt (rest_of_path path T (end - n) n))
+enclosed_of path T inner end n (Short lines at outer leaf) h = rw h.0 (go (ltb at end))
+  where
+    go : (test : Bool) → AreOf path (cond test (Short [] at (Inside T inner end ∷ outer) leaf) (Fault [] at kinds.EncapShort (cut_off leaf)))
+    go true = tt
+    go false = tt
+enclosed_of path T inner end n (Fault lines at why S) h = absurd h
+
+ordered_of : (path : List Seg) (T : Ty) (origin n at : ℕ) (order : Option Order) → AreOf path (ordered path T (held path T) origin n order at [])
+ordered_of path T origin n at None = tt
+ordered_of path T origin n at (Some order) =
+    let inner = coded order origin in
+    rw (take-nil, drop-nil) (front_of path (line at path (Ordered order) ∷ []) (enclosed path T inner (at + n) (held path T inner at []) []) (at_path path at (Ordered order), tt)
+    (enclosed_of path T inner (at + n) at (held path T inner at []) (read_quiet inner (path ++ Held ∷ []) (part_of T 0) at)))
+
+opening_of : (path : List Seg) (T : Ty) (origin n : ℕ) (g : Grab) → IsAll g → AreOf path (opening path T (held path T) origin n g)
+opening_of path T origin n (Waiting none at) h = tt
+opening_of path T origin n (Got xs at rest) h = rw h (ordered_of path T origin n at (order_of (get_or xs 0 0)))
+
 leaf_of : (coding : Coding) (path : List Seg) (leaf : Leaf) (at b : ℕ) → AreOf path (leaf_step coding path leaf at b)
 leaf_of coding path (Head T carry) at b = headed_of coding path T (number_step coding.origin (head_width T) at carry b) (number_all coding.origin (head_width T) at carry b)
+leaf_of coding path (Opening T n) at b = opening_of path T at n (block_step 1 at [] b) (block_all 1 at [] b)
 leaf_of coding path (Content T total offset piece) at b = go (ltb 32 (total - offset))
   where
     full : Read
@@ -142,7 +179,22 @@ lines_within place (Done lines at rest) = refl
 lines_within place (Short lines at outer leaf) = refl
 lines_within place (Fault lines at why S) = refl
 
-lines_step : (coding : Coding) (path : List Seg) (outer : List Place) (leaf : Leaf) (at b : ℕ) → lines_of (step coding path outer leaf at b) ≡ lines_of (leaf_step coding (path_in path outer) leaf at b)
+lines_enclosed : (n : ℕ) (path : List Seg) (T : Ty) (inner : Coding) (end : ℕ) (r : Read) → Now n r → lines_of (enclosed path T inner end r []) ≡ lines_of r
+lines_enclosed n path T inner end (Done lines at rest) h =
+    rw (h.1, h.2) (lines_front lines (rest_of path T (end - n) n []) ∙ (ap (λ ls. lines ++ ls) (none (rest_of path T (end - n) n []) (rest_quiet n path T (end - n))) ∙ append-nil lines))
+  where
+    none : (r : Read) → Quiet n r → lines_of r ≡ []
+    none (Done lines at rest) k = k.0
+    none (Short lines at outer leaf) k = k.0
+    none (Fault lines at why S) k = absurd k
+lines_enclosed n path T inner end (Short lines at outer leaf) h = go (ltb at end)
+  where
+    go : (test : Bool) → lines_of (cond test (Short lines at (Inside T inner end ∷ outer) leaf) (Fault lines at kinds.EncapShort (cut_off leaf))) ≡ lines
+    go true = refl
+    go false = refl
+lines_enclosed n path T inner end (Fault lines at why S) h = refl
+
+lines_step : (coding : Coding) (path : List Seg) (outer : List Place) (leaf : Leaf) (at b : ℕ) → lines_of (step coding path outer leaf at b) ≡ lines_of (leaf_step (coding_in coding outer) (path_in path outer) leaf at b)
 lines_step coding path [] leaf at b = refl
 lines_step coding path (Part T i count ∷ outer) leaf at b =
     let inner = step coding (path ++ seg_of T i ∷ []) outer leaf at b in
@@ -151,8 +203,12 @@ lines_step coding path (Part T i count ∷ outer) leaf at b =
     ∙ (lines_within (Part T i count) inner ∙ lines_step coding (path ++ seg_of T i ∷ []) outer leaf at b)
 lines_step coding path (Member T i ∷ outer) leaf at b =
     lines_within (Member T i) (step coding (path ++ seg_of T i ∷ []) outer leaf at b) ∙ lines_step coding (path ++ seg_of T i ∷ []) outer leaf at b
+lines_step coding path (Inside T inner end ∷ outer) leaf at b =
+    let r = step inner (path ++ Held ∷ []) outer leaf at b in
+    lines_enclosed (at + 1) path T inner end r (step_now inner (path ++ Held ∷ []) outer leaf at b)
+    ∙ lines_step inner (path ++ Held ∷ []) outer leaf at b
 
 -- The lines of a step are of its innermost part.
 pub step_of : (coding : Coding) (path : List Seg) (outer : List Place) (leaf : Leaf) (at b : ℕ) → AreOf (path_in path outer) (step coding path outer leaf at b)
 step_of coding path outer leaf at b =
-    subst (λ ls. Each (IsOf (path_in path outer)) ls) (sym (lines_step coding path outer leaf at b)) (leaf_of coding (path_in path outer) leaf at b)
+    subst (λ ls. Each (IsOf (path_in path outer)) ls) (sym (lines_step coding path outer leaf at b)) (leaf_of (coding_in coding outer) (path_in path outer) leaf at b)

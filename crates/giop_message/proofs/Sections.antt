@@ -31,17 +31,13 @@ use Rattle.giop_message.specs.Holding.{speech_line, told_text, due_text}
 use Rattle.giop_message.specs.Moves.{fault_text, called_text, request_call}
 use Rattle.giop_message.proofs.Faulting.{fault_is, no_fault}
 use Rattle.giop_message.proofs.Spelling.{call_said}
-use Rattle.giop_message.proofs.Operations.{step_closed, NoEnds}
+use Rattle.giop_message.proofs.CutOff.{CallsNone}
+use Rattle.giop_message.proofs.Operations.{AllHold, fits_hold, step_closed, NoEnds}
 use Rattle.giop_message.proofs.LastParts.{request_ends, header_fit, EndsOtherwise, done_test, last_no_call}
-use Rattle.giop_message.proofs.Octets.{first_call, one_of}
-use Rattle.giop_message.proofs.Parts.{Inside, Next, Added, heard_before, next_is, added_now, lines_due, text_here}
+use Rattle.giop_message.proofs.Octets.{first_call, no_first, one_of}
+use Rattle.giop_message.proofs.Parts.{Inside, Next, Added, heard_before, next_is, added_none, added_now, lines_due, text_here}
 
 -- ---- calls
-
-no_first : (root : Root) (is : Bool) (h : Heard) (lines : List Line) → Each (λ l. ends_operation is l ≡ false) lines → first_call root is h lines ≡ []
-unfolding calls
-no_first root is h [] each = refl
-no_first root is h (l ∷ ls) each = rw each.0 refl
 
 and_false : (is test : Bool) → test ≡ false → (is && test) ≡ false
 and_false true test e = e
@@ -148,10 +144,11 @@ done_is end named (Done ls at rest) lines answer = refl
 done_is end named (Short ls at outer leaf) lines answer = absurd answer
 done_is end named (Fault ls at why U) lines answer = absurd answer
 
-none_faulted : (end : ℕ) (named : Bool) (kind : Kind) (n : ℕ) (st : Read) (lines : List Line) → decoders.IsAnswer end named (progress.Fault kind) (Spine.with_front lines st) → Now n st → lines_of st ≡ []
-none_faulted end named kind n (Fault ls at why U) lines answer now = now.0
-none_faulted end named kind n (Done ls at rest) lines answer now = absurd answer
-none_faulted end named kind n (Short ls at outer leaf) lines answer now = absurd answer
+none_faulted : (is : Bool) (end : ℕ) (named : Bool) (kind : Kind) (st : Read) (lines : List Line) → decoders.IsAnswer end named (progress.Fault kind) (Spine.with_front lines st) → CallsNone is st →
+    Each (λ l. ends_operation is l ≡ false) (lines_of st)
+none_faulted is end named kind (Fault ls at why U) lines answer none = none
+none_faulted is end named kind (Done ls at rest) lines answer none = absurd answer
+none_faulted is end named kind (Short ls at outer leaf) lines answer none = absurd answer
 
 more_unnamed : (end : ℕ) (named : Bool) (r : Read) → decoders.IsAnswer end named progress.More r → named ≡ false
 more_unnamed end named (Short lines at outer leaf) answer = answer
@@ -183,6 +180,16 @@ ends_by S number header s sections.Header T before front octets i b done = go (i
         last_no_call (plain (order header)) true T _ _ _ b ends (header_fit (minor header) (kind header) T found) sound done
 ends_by S number header s sections.Exception T before front octets i b done = never (lines_of (Added S number header s sections.Exception T before front octets i b))
 ends_by S number header s sections.Body T before front octets i b done = never (lines_of (Added S number header s sections.Body T before front octets i b))
+
+-- the encapsulations that a header stands in are of their types
+holds_by : (S : Signatures) (header s : List ℕ) (section : Section) (T : Ty) (before : List Told) (front octets : List ℕ)
+    (i : Inside S header s section T before front octets) → section ≡ sections.Header → AllHold i.outer
+holds_by S header s sections.Header T before front octets i e =
+    let fit = header_fit (minor header) (kind header) T i.first.0 in
+    let sound = (subst (Sound T ((12 + length front) + length octets)) i.was_short (read_keeps 24 (plain (order header)) [] T fit (12 + length front) octets)).1 in
+    fits_hold i.outer T i.leaf sound
+holds_by S header s sections.Exception T before front octets i e = absurd cc
+holds_by S header s sections.Body T before front octets i e = absurd cc
 
 -- ---- an octet of a message
 
@@ -253,9 +260,9 @@ module _ (S : Signatures) (number : ℕ) (header s : List ℕ) (section : Sectio
   -- one that breaks a rule
   pub wrong_text : (why : Kind) → Is (progress.Fault why) → (place : ℕ) → Due place ≡ Lines ++ fault_line number (fault_word why) (place + 1)
   wrong_text why answer place =
-      let none : lines_of St ≡ [] = none_faulted End Names why _ St i.lines (subst (decoders.IsAnswer End Names (progress.Fault why)) (next_is S number header s section T before front octets i b) answer) (added_now S number header s section T before front octets i b) in
+      let none = none_faulted (may_call header section) End Names why St i.lines (subst (decoders.IsAnswer End Names (progress.Fault why)) (next_is S number header s section T before front octets i b) answer) (added_none S number header s section T before front octets i b) in
       joined_text (Due place) Lines (fault_text number (place + 1) Behind) (Call place) (fault_line number (fault_word why) (place + 1)) [] (here place) (fault_is number (place + 1) End Names why Behind answer)
-      (uncalled place (subst (λ ls. Each (λ l. ends_operation (may_call header section) l ≡ false) ls) (sym none) tt))
+      (uncalled place none)
       ∙ ap (λ z. Lines ++ z) (append-nil _)
 
   -- one that ends an operation
@@ -266,7 +273,7 @@ module _ (S : Signatures) (number : ℕ) (header s : List ℕ) (section : Sectio
   named_text answer place =
       let now = added_now S number header s section T before front octets i b in
       let named = subst (λ ls. names_operation (is_header_root R) ls ≡ true) (lines_due S number header s section T before front octets i b) (named_is End Names Behind answer) in
-      let closed = step_closed (plain (order header)) [] i.outer i.leaf _ b in
+      let closed = step_closed (plain (order header)) [] i.outer i.leaf _ b (holds_by S header s section T before front octets i (named_in answer)) in
       joined_text (Due place) Lines (fault_text number (place + 1) Behind) (Call place) [] (request_call number header (heard_of true Behind)) (here place)
       (no_fault number (place + 1) End Names progress.Named Behind answer (λ fault. fault))
       (call_here number place (12 + length s) header section i.lines St _ (one_of _ St now) closed named

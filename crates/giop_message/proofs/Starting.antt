@@ -4,7 +4,7 @@ use Rattle.std.specs.Prelude.{◌&&◌, ◌||◌, ◌==◌, nat_lt, if◌then◌
 use Rattle.std.proofs.lemmas.Bool.{ltb-false, ne_eqb, false≢true}
 use Rattle.giop_cdr.specs.Alignment.{padding}
 use Rattle.giop_cdr.specs.declared.order.Order.{Order}
-use Rattle.giop_sig.specs.Types.{Ty, Single, Text, Octets, Struct, Union, Sequence, Array}
+use Rattle.giop_sig.specs.Types.{Ty, Single, Text, Octets, Struct, Union, Sequence, Array, Encapsulation}
 use Rattle.giop_sig.specs.Fits.{IsFit, IsEmptyStruct}
 use Rattle.giop_decode.specs.Spine.{plain}
 use Rattle.giop_decode.specs.Reading.{read}
@@ -29,6 +29,7 @@ fit_some (Text bound) fit empty = absurd empty
 fit_some (Octets bound) fit empty = absurd empty
 fit_some (Union choice scalar select names cases) fit empty = absurd empty
 fit_some (Sequence bound T) fit empty = absurd empty
+fit_some (Encapsulation T) fit empty = absurd empty
 fit_some (Array count T) fit empty = absurd empty
 
 -- before its first octet a message has no line
@@ -105,6 +106,7 @@ empty_rests o (Text bound) n empty = absurd (false≢true empty)
 empty_rests o (Octets bound) n empty = absurd (false≢true empty)
 empty_rests o (Union choice scalar select names cases) n empty = absurd (false≢true empty)
 empty_rests o (Sequence bound T) n empty = absurd (false≢true empty)
+empty_rests o (Encapsulation T) n empty = absurd (false≢true empty)
 empty_rests o (Array count T) n empty = absurd (false≢true empty)
 
 -- and no other type is
@@ -117,6 +119,7 @@ some_not_empty (Text bound) e empty = empty
 some_not_empty (Octets bound) e empty = empty
 some_not_empty (Union choice scalar select names cases) e empty = empty
 some_not_empty (Sequence bound T) e empty = empty
+some_not_empty (Encapsulation T) e empty = empty
 some_not_empty (Array count T) e empty = empty
 
 -- ---- by the message type

@@ -41,9 +41,11 @@ pub record IsEnding (R : Reading) : Type 0 where
 pub record IsNamed (R : Reading) : Type 0 where
   pub named : (header xs : List ℕ) → has_name header ≡ true → length xs ≤ 4 → Each (λ r. r.saying ≡ Value) (R.reads header xs)
 
--- what is said at one octet: nothing, a value, a value and its call, a part of the rest, or a fault
+-- what is said at one octet: nothing, a value, a value and its call, a part of the rest, a fault, or a value and a fault
 abbrev pub InTurn : List Saying → Type 0
-InTurn sayings = (sayings ≡ []) ⊎ (sayings ≡ Value ∷ []) ⊎ (sayings ≡ Value ∷ Call ∷ []) ⊎ (sayings ≡ Rest ∷ []) ⊎ (sayings ≡ Fault ∷ [])
+InTurn sayings =
+    (sayings ≡ []) ⊎ (sayings ≡ Value ∷ []) ⊎ (sayings ≡ Value ∷ Call ∷ []) ⊎ (sayings ≡ Rest ∷ [])
+    ⊎ (sayings ≡ Fault ∷ []) ⊎ (sayings ≡ Value ∷ Fault ∷ [])
 
 pub record IsOrdered (R : Reading) : Type 0 where
   pub ordered : (header xs : List ℕ) (k : ℕ) → InTurn (map (λ r. r.saying) (filter (λ r. r.at == k) (R.reads header xs)))
@@ -52,15 +54,24 @@ pub record IsOrdered (R : Reading) : Type 0 where
 abbrev pub due : Reading → List ℕ → List ℕ → ℕ → List Remark
 due R header xs x = filter (λ r. r.at == suc (length xs)) (R.reads header (xs ++ x ∷ []))
 
+-- a fault
+abbrev pub is_fault : Saying → Bool
+is_fault Value = false
+is_fault Call = false
+is_fault Rest = false
+is_fault Fault = true
+is_fault End = false
+
 -- what a close says: a fault, the end, or the last part of the rest and the end
 abbrev pub AtClose : List Saying → Type 0
 AtClose sayings = (sayings ≡ Fault ∷ []) ⊎ (sayings ≡ End ∷ []) ⊎ (sayings ≡ Rest ∷ End ∷ [])
 
--- A close ends the message, once. A message that is faulted at its last octet has no rest left, and neither has one whose
--- last octet ends a part of it.
+-- A close ends the message, once. A message that is faulted at its last octet has its end alone left, and one whose last
+-- octet ends a part of its rest has no rest left.
 pub record IsClosing (R : Reading) : Type 0 where
   pub closed : (header xs : List ℕ) → AtClose (map (λ l. l.0) (R.closes header xs))
-  pub no_rest : (header xs : List ℕ) (x : ℕ) → map (λ r. r.saying) (due R header xs x) ≡ Fault ∷ [] → map (λ l. l.0) (R.closes header (xs ++ x ∷ [])) ≡ Rest ∷ End ∷ [] → ⊥
+  pub over : (header xs : List ℕ) (x : ℕ) → list_any is_fault (map (λ r. r.saying) (due R header xs x)) ≡ true →
+      map (λ l. l.0) (R.closes header (xs ++ x ∷ [])) ≡ End ∷ []
   pub one_rest : (header xs : List ℕ) (x : ℕ) → map (λ r. r.saying) (due R header xs x) ≡ Rest ∷ [] → map (λ l. l.0) (R.closes header (xs ++ x ∷ [])) ≡ Rest ∷ End ∷ [] → ⊥
 
 -- what is asked of a reading whose lines are written as they come
@@ -68,10 +79,3 @@ pub record IsInTurn (R : Reading) : Type 0 where
   pub named : IsNamed R
   pub ordered : IsOrdered R
   pub closing : IsClosing R
-
-abbrev pub is_fault : Saying → Bool
-is_fault Value = false
-is_fault Call = false
-is_fault Rest = false
-is_fault Fault = true
-is_fault End = false

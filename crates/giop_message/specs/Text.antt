@@ -27,6 +27,8 @@ fault_word kinds.StringEnd = codes "string-end"
 fault_word kinds.Enum = codes "enum"
 fault_word kinds.Bound = codes "bound"
 fault_word kinds.Disposition = codes "disposition"
+fault_word kinds.EncapShort = codes "encap-short"
+fault_word kinds.EncapOrder = codes "encap-order"
 
 -- ---- lines
 

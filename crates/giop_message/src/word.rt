@@ -16,6 +16,8 @@ pub fn fault_word(kind: Kind) -> &'static str
         Kind::Enum => "enum",
         Kind::Bound => "bound",
         Kind::Disposition => "disposition",
+        Kind::EncapShort => "encap-short",
+        Kind::EncapOrder => "encap-order",
     }
 }
 

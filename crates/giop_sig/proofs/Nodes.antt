@@ -3,7 +3,7 @@ use Rattle.std.proofs.Common.{◌≡◌, ℕ, zero, suc, ◌<◌, Bool, true, fa
 use Rattle.std.proofs.lemmas.Bool.{ltb-true, ltb-false}
 use Rattle.std.specs.Prelude.{slice_get}
 use Rattle.giop_cdr.specs.declared.number.Number.{Number}
-use Rattle.giop_sig.specs.Types.{Cases, Plain, Enum, Ty, Single, Text, Octets, Struct, Union, Sequence, Array, shape_in, HasShape, HasMember, HasPlace, part_of, name_in, enum_name_in, switch_of, select_in, taken_in}
+use Rattle.giop_sig.specs.Types.{Cases, Plain, Enum, Ty, Single, Text, Octets, Struct, Union, Sequence, Array, shape_in, HasShape, HasMember, HasPlace, part_of, name_in, enum_name_in, switch_of, select_in, taken_in, Tag, Encapsulation}
 use Rattle.giop_sig.specs.Table.{Node, Part, Case, shape_of, part_at, type_of, name_of, name_at, switch_at, selected, case_part}
 use Rattle.giop_sig.specs.Table as nodes
 use Rattle.giop_sig.specs.Trees.{grow, selected_by, name_or}
@@ -25,6 +25,8 @@ has_shape (Text bound) = refl
 has_shape (Octets bound) = refl
 has_shape (Struct count names parts) = (names, parts, refl)
 has_shape (Union (Cases count) scalar select names cases) = (scalar, select, names, cases, refl)
+has_shape (Union Tag scalar select names cases) = (scalar, select, names, cases, refl)
+has_shape (Encapsulation T) = (T, refl)
 has_shape (Sequence bound T) = (T, refl)
 has_shape (Array count T) = (T, refl)
 

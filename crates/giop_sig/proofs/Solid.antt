@@ -6,7 +6,7 @@ use Rattle.std.proofs.lemmas.Bool.{cases_lt}
 use Rattle.giop_cdr.specs.declared.number.Number.{Number}
 use Rattle.giop_sig.specs.declared.types.Selected.{Selected}
 use Rattle.giop_sig.specs.declared.types.Selected.TheVariants as selecteds
-use Rattle.giop_sig.specs.Types.{places_of, taken_by, Ty, Single, Text, Octets, Struct, Union, Sequence, Array, depth, most, HasMember}
+use Rattle.giop_sig.specs.Types.{places_of, taken_by, Ty, Single, Text, Octets, Struct, Union, Sequence, Array, depth, most, HasMember, Encapsulation}
 use Rattle.giop_sig.specs.Fits.{IsSolid, IsFit, IsEmptyStruct, IsRoot}
 use Rattle.giop_sig.specs.Table.{Node, Part, Case, node_in, shape_of, part_at, type_of, selected, case_with, case_or, same_number, no_case, IsFormed, IsInner, IsCaseBelow, TakesOctet}
 use Rattle.giop_sig.specs.Table as nodes
@@ -94,6 +94,8 @@ fit_by (Union choice scalar select names cases) (suc d) solid le =
     (solid.0, λ i lt. fit_by (cases i) d (solid.1 i lt) (omega (arith, most_above (places_of choice) (λ k. depth (cases k)) i lt)))
 fit_by (Sequence bound T) zero solid le = absurd (omega arith)
 fit_by (Sequence bound T) (suc d) solid le = fit_by T d solid (omega arith)
+fit_by (Encapsulation T) zero solid le = absurd (omega arith)
+fit_by (Encapsulation T) (suc d) solid le = fit_by T d solid (omega arith)
 fit_by (Array count T) zero solid le = absurd (omega arith)
 fit_by (Array count T) (suc d) solid le = (solid.0, fit_by T d solid.1 (omega arith))
 

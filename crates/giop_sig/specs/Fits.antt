@@ -2,7 +2,7 @@
 use Rattle.std.specs.Prelude.{◌≡◌, ℕ, zero, suc, ◌<◌, ◌⊎◌}
 use Rattle.giop_sig.specs.declared.types.Selected.{Selected}
 use Rattle.giop_sig.specs.declared.types.Selected.TheVariants.{Case}
-use Rattle.giop_sig.specs.Types.{Ty, places_of, Struct, Union, Sequence, Array}
+use Rattle.giop_sig.specs.Types.{Ty, places_of, Struct, Union, Sequence, Array, Encapsulation}
 
 -- each case that is selected is one of so many
 abbrev pub SelectsBelow : ℕ → (ℕ → Selected) → Type 0
@@ -13,6 +13,7 @@ unfoldable pub IsSolid : Ty → Type 0
 IsSolid (Struct count names parts) = (0 < count) × ((i : ℕ) → i < count → IsSolid (parts i))
 IsSolid (Array count T) = (0 < count) × IsSolid T
 IsSolid (Sequence bound T) = IsSolid T
+IsSolid (Encapsulation T) = IsSolid T
 IsSolid (Union choice scalar select names cases) =
     SelectsBelow (places_of choice) select × ((i : ℕ) → i < places_of choice → IsSolid (cases i))
 IsSolid T = Unit {0}
@@ -22,6 +23,7 @@ unfoldable pub IsFit : ℕ → Ty → Type 0
 IsFit (suc d) (Struct count names parts) = (0 < count) × ((i : ℕ) → i < count → IsFit d (parts i))
 IsFit (suc d) (Array count T) = (0 < count) × IsFit d T
 IsFit (suc d) (Sequence bound T) = IsFit d T
+IsFit (suc d) (Encapsulation T) = IsFit d T
 IsFit (suc d) (Union choice scalar select names cases) =
     SelectsBelow (places_of choice) select × ((i : ℕ) → i < places_of choice → IsFit d (cases i))
 IsFit (suc d) T = Unit {0}

@@ -27,13 +27,20 @@ abbrev pub taken_by : Scalar → ℕ → Option Number
 taken_by (Plain p) n = taken_as p n
 taken_by (Enum count names) n = Some (numbers.Unsigned n)
 
--- what a union's discriminator chooses among: so many cases
+-- what a union's discriminator chooses among: so many cases; or it is a tag, a member itself, part 0 of three
 pub data Choice : Type 0 where
   Cases : ℕ → Choice
+  Tag : Choice
 
 -- how many places it has
 abbrev pub places_of : Choice → ℕ
 places_of (Cases n) = n
+places_of Tag = 3
+
+-- the name of the discriminator, where that is a member
+abbrev pub tag_of : Choice → (ℕ → List ℕ) → Option (List ℕ)
+tag_of (Cases n) names = None
+tag_of Tag names = Some (names 0)
 
 pub data Ty : Type 0 where
   Single : Scalar → Ty
@@ -47,6 +54,8 @@ pub data Ty : Type 0 where
   Union : Choice → Scalar → (ℕ → Selected) → (ℕ → List ℕ) → (ℕ → Ty) → Ty
   Sequence : Option ℕ → Ty → Ty
   Array : ℕ → Ty → Ty
+  -- octets with a byte order of their own, that hold a value of a type
+  Encapsulation : Ty → Ty
 
 -- ---- what stands in a type
 
@@ -56,6 +65,7 @@ part_of (Struct count names parts) i = parts i
 part_of (Union choice scalar select names cases) i = cases i
 part_of (Array count T) i = T
 part_of (Sequence bound T) i = T
+part_of (Encapsulation T) i = T
 part_of T i = T
 
 -- the name of the part in a place; an element has none
@@ -86,6 +96,10 @@ taken_in T n = None
 
 -- ---- shapes and places
 
+abbrev pub union_shape : Choice → Shape
+union_shape (Cases n) = shapes.Union n
+union_shape Tag = shapes.Tagged
+
 -- what a type's outermost form is
 abbrev pub shape_in : Ty → Shape
 shape_in (Single (Plain p)) = shapes.Prim p
@@ -93,9 +107,10 @@ shape_in (Single (Enum count names)) = shapes.Enumeration count
 shape_in (Text bound) = shapes.Text bound
 shape_in (Octets bound) = shapes.Octets bound
 shape_in (Struct count names parts) = shapes.Members count
-shape_in (Union (Cases count) scalar select names cases) = shapes.Union count
+shape_in (Union choice scalar select names cases) = union_shape choice
 shape_in (Sequence bound T) = shapes.Sequence bound
 shape_in (Array count T) = shapes.Array count
+shape_in (Encapsulation T) = shapes.Encapsulation
 
 -- a type has that outermost form
 abbrev pub HasShape : Ty → Shape → Type 0
@@ -107,11 +122,14 @@ HasShape T (shapes.Members count) = (names : ℕ → List ℕ) × (parts : ℕ �
 HasShape T (shapes.Union count) = (scalar : Scalar) × (select : ℕ → Selected) × (names : ℕ → List ℕ) × (cases : ℕ → Ty) × (T ≡ Union (Cases count) scalar select names cases)
 HasShape T (shapes.Sequence bound) = (E : Ty) × (T ≡ Sequence bound E)
 HasShape T (shapes.Array count) = (E : Ty) × (T ≡ Array count E)
+HasShape T shapes.Encapsulation = (E : Ty) × (T ≡ Encapsulation E)
+HasShape T shapes.Tagged = (scalar : Scalar) × (select : ℕ → Selected) × (names : ℕ → List ℕ) × (cases : ℕ → Ty) × (T ≡ Union Tag scalar select names cases)
 
 -- a shape whose parts have names has a part in that place
 abbrev pub HasMember : Shape → ℕ → Type 0
 HasMember (shapes.Members count) i = i < count
 HasMember (shapes.Union count) i = i < count
+HasMember shapes.Tagged i = i < 3
 HasMember s i = ⊥
 
 -- a shape has a part in that place; elements stand in any place
@@ -120,10 +138,13 @@ HasPlace (shapes.Members count) i = i < count
 HasPlace (shapes.Union count) i = i < count
 HasPlace (shapes.Sequence bound) i = Unit {0}
 HasPlace (shapes.Array count) i = Unit {0}
+HasPlace shapes.Encapsulation i = Unit {0}
+HasPlace shapes.Tagged i = i < 3
 HasPlace s i = ⊥
 
 abbrev pub IsUnion : Shape → Type 0
 IsUnion (shapes.Union count) = Unit {0}
+IsUnion shapes.Tagged = Unit {0}
 IsUnion s = ⊥
 
 -- ---- depth
@@ -142,3 +163,4 @@ depth (Struct count names parts) = 1 + most count (λ i. depth (parts i))
 depth (Union choice scalar select names cases) = 1 + max 1 (most (places_of choice) (λ i. depth (cases i)))
 depth (Sequence bound T) = 1 + depth T
 depth (Array count T) = 1 + depth T
+depth (Encapsulation T) = 1 + depth T

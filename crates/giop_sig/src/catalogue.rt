@@ -107,7 +107,6 @@ impl Catalogue {
     /// The outermost form of a type.
     pub fn shape(&self, t: TypeId) -> Shape
         requires { t.0 < length self.now.types }
-        ensures is { result ≡ shape_of (node_at self.now t.0) }
         ensures tree { result ≡ shape_in (tree self.now t.0) }
         ensures shape { HasShape (tree self.now t.0) result }
         ensures root { IsRoot (tree self.now t.0) }

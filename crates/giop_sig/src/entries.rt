@@ -248,6 +248,8 @@ impl Types {
             Shape::Union(count) => 1 + self.deepest_part(entry, count).max(1),
             Shape::Sequence(_) => 1 + self.depth_at(entry.part(0)),
             Shape::Array(_) => 1 + self.depth_at(entry.part(0)),
+            Shape::Encapsulation => unreachable!(),
+            Shape::Tagged => unreachable!(),
         }
     }
 

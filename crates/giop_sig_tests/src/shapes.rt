@@ -57,6 +57,8 @@ fn add_kind(catalogue: &Catalogue, t: TypeId, row: &mut Vec<u8>) -> Result<(), A
         Shape::Sequence(_) => b"sequence",
         Shape::Array(3) => b"array of 3",
         Shape::Array(_) => b"array",
+        Shape::Encapsulation => b"encapsulation",
+        Shape::Tagged => b"tagged",
     };
     row.extend_from_slice(word)
 }

@@ -1,5 +1,5 @@
 -- What the reading of a message by a table makes of its events, and what a message's calls do of it.
-use Rattle.std.proofs.Common.{inl, inr, ◌≡◌, ℕ, suc, Bool, true, false, List, [], ◌∷◌, ◌++◌, length, map, refl, sym, ap, subst, ◌∙◌, Option, Some, None, Result, Ok, Err}
+use Rattle.std.proofs.Common.{inl, inr, ◌⊎◌, ◌≡◌, ℕ, suc, Bool, true, false, List, [], ◌∷◌, ◌++◌, length, map, refl, sym, ap, subst, ◌∙◌, Option, Some, None, Result, Ok, Err}
 use Rattle.std.specs.Prelude.{◌||◌, if◌then◌else◌, is_some, IfOk}
 use Rattle.std.specs.List.{list_any}
 use Rattle.std.proofs.lemmas.Bool.{eq-eqb}
@@ -42,27 +42,30 @@ unfolding lines_text closes_text
 closed_is at number [] = refl
 closed_is at number (c ∷ cs) = ap (λ (t : List ℕ). saying_line at number c.0 c.1 ++ t) (closed_is at number cs)
 
--- two lines of one octet are a value and its call
-two_values : (s t : Saying) → InTurn (s ∷ t ∷ []) → (s ≡ Value) × (t ≡ Call)
+-- two lines of one octet are a value and its call, or a value and a fault
+two_values : (s t : Saying) → InTurn (s ∷ t ∷ []) → (s ≡ Value) × ((t ≡ Call) ⊎ (t ≡ Fault))
 two_values s t (inl e) = absurd cc
 two_values s t (inr (inl e)) = absurd cc
-two_values s t (inr (inr (inl e))) = (cc, cc)
+two_values s t (inr (inr (inl e))) = (cc, inl cc)
 two_values s t (inr (inr (inr (inl e)))) = absurd cc
-two_values s t (inr (inr (inr (inr e)))) = absurd cc
+two_values s t (inr (inr (inr (inr (inl e))))) = absurd cc
+two_values s t (inr (inr (inr (inr (inr e))))) = (cc, inr cc)
 
 few_in_turn : (a b c : Saying) (more : List Saying) → InTurn (a ∷ b ∷ c ∷ more) → ⊥
 few_in_turn a b c more (inl e) = absurd cc
 few_in_turn a b c more (inr (inl e)) = absurd cc
 few_in_turn a b c more (inr (inr (inl e))) = absurd cc
 few_in_turn a b c more (inr (inr (inr (inl e)))) = absurd cc
-few_in_turn a b c more (inr (inr (inr (inr e)))) = absurd cc
+few_in_turn a b c more (inr (inr (inr (inr (inl e))))) = absurd cc
+few_in_turn a b c more (inr (inr (inr (inr (inr e))))) = absurd cc
 
 no_end : InTurn (End ∷ []) → ⊥
 no_end (inl e) = absurd cc
 no_end (inr (inl e)) = absurd cc
 no_end (inr (inr (inl e))) = absurd cc
 no_end (inr (inr (inr (inl e)))) = absurd cc
-no_end (inr (inr (inr (inr e)))) = absurd cc
+no_end (inr (inr (inr (inr (inl e))))) = absurd cc
+no_end (inr (inr (inr (inr (inr e))))) = absurd cc
 
 -- two lines of a close are a part of the rest and the end
 two_closes : (s t : Saying) → AtClose (s ∷ t ∷ []) → (s ≡ Rest) × (t ≡ End)
@@ -94,7 +97,11 @@ turn_faults : (at n : ℕ) (rs : List Remark) → InTurn (map (λ r. r.saying) r
 unfolding fault_count
 turn_faults at n [] h = refl
 turn_faults at n (r ∷ []) h = unfold fault_count in one_fault at n r.saying r.text
-turn_faults at n (r ∷ s ∷ []) h = let e = two_values r.saying s.saying h in rw (e.0, e.1) refl
+turn_faults at n (r ∷ s ∷ []) h = go (two_values r.saying s.saying h)
+  where
+    go : (r.saying ≡ Value) × ((s.saying ≡ Call) ⊎ (s.saying ≡ Fault)) → fault_count (said_lines at n (r ∷ s ∷ [])) ≡ (if list_any (λ r. is_fault r.saying) (r ∷ s ∷ []) then 1 else 0)
+    go (e, inl c) = rw (e, c) refl
+    go (e, inr c) = rw (e, c) refl
 turn_faults at n (r ∷ s ∷ t ∷ rs) h = absurd (few_in_turn r.saying s.saying t.saying (map (λ r. r.saying) rs) h)
 
 one_last : (s : Saying) → InTurn (s ∷ []) → is_last s ≡ is_fault s
@@ -108,7 +115,11 @@ turn_last : (at n : ℕ) (rs : List Remark) → InTurn (map (λ r. r.saying) rs)
 unfolding is_last_of
 turn_last at n [] h = refl
 turn_last at n (r ∷ []) h = rw (eq-eqb n n refl) (ap (λ (b : Bool). b || false) (one_last r.saying h))
-turn_last at n (r ∷ s ∷ []) h = let e = two_values r.saying s.saying h in rw (e.0, e.1, eq-eqb n n refl) refl
+turn_last at n (r ∷ s ∷ []) h = go (two_values r.saying s.saying h)
+  where
+    go : (r.saying ≡ Value) × ((s.saying ≡ Call) ⊎ (s.saying ≡ Fault)) → list_any (is_last_of n) (said_lines at n (r ∷ s ∷ [])) ≡ list_any (λ r. is_fault r.saying) (r ∷ s ∷ [])
+    go (e, inl c) = rw (e, c, eq-eqb n n refl) refl
+    go (e, inr c) = rw (e, c, eq-eqb n n refl) refl
 turn_last at n (r ∷ s ∷ t ∷ rs) h = absurd (few_in_turn r.saying s.saying t.saying (map (λ r. r.saying) rs) h)
 
 close_stands : (at n : ℕ) (cs : List (Saying × List ℕ)) → AtClose (map (λ c. c.0) cs) → standing (λ i. false) (close_lines at n cs) ≡ close_lines at n cs

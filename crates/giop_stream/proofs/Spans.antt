@@ -1,7 +1,7 @@
 -- Lines whose classes rise, from one rank to another; and the same of what is said.
-use Rattle.std.proofs.Common.{inl, inr, ◌⊎◌, ◌≡◌, ℕ, ◌<◌, ◌≤◌, List, [], ◌∷◌, ◌++◌, map, refl, sym, ap, subst, arith}
-use Rattle.std.specs.List.{AllByRecursion as Each}
-use Rattle.giop_message.specs.Reading.{Saying, Value, Call, Rest, Fault, End, InTurn, AtClose}
+use Rattle.std.proofs.Common.{inl, inr, ◌⊎◌, ◌≡◌, ℕ, ◌<◌, ◌≤◌, true, List, [], ◌∷◌, ◌++◌, map, refl, sym, ap, subst, arith}
+use Rattle.std.specs.List.{list_any, AllByRecursion as Each}
+use Rattle.giop_message.specs.Reading.{Saying, Value, Call, Rest, Fault, End, InTurn, AtClose, is_fault}
 use Rattle.giop_stream.specs.Events.{Event}
 use Rattle.giop_stream.specs.Lines.{Said, Line, line}
 use Rattle.giop_stream.proofs.Lists.{each_append, each_weaker}
@@ -78,7 +78,8 @@ turn_spans ss (inl e) = rw e (record { within = tt; rises = tt })
 turn_spans ss (inr (inl e)) = rw e (record { within = omega arith; rises = omega arith })
 turn_spans ss (inr (inr (inl e))) = rw e (record { within = omega arith; rises = omega arith })
 turn_spans ss (inr (inr (inr (inl e)))) = rw e (record { within = omega arith; rises = omega arith })
-turn_spans ss (inr (inr (inr (inr e)))) = rw e (record { within = omega arith; rises = omega arith })
+turn_spans ss (inr (inr (inr (inr (inl e))))) = rw e (record { within = omega arith; rises = omega arith })
+turn_spans ss (inr (inr (inr (inr (inr e))))) = rw e (record { within = omega arith; rises = omega arith })
 
 pub close_spans : (ss : List Saying) → AtClose ss → SaySpans 6 8 ss
 close_spans ss (inl e) = rw e (record { within = omega arith; rises = omega arith })
@@ -86,7 +87,7 @@ close_spans ss (inr (inl e)) = rw e (record { within = omega arith; rises = omeg
 close_spans ss (inr (inr e)) = rw e (record { within = omega arith; rises = omega arith })
 
 -- at one octet and at the close behind it, where only a fault can be said twice
-pub both_say : (ds cs : List Saying) → InTurn ds → AtClose cs → (ds ≡ Fault ∷ [] → cs ≡ Rest ∷ End ∷ [] → ⊥) → (ds ≡ Rest ∷ [] → cs ≡ Rest ∷ End ∷ [] → ⊥)
+pub both_say : (ds cs : List Saying) → InTurn ds → AtClose cs → (list_any is_fault ds ≡ true → cs ≡ End ∷ []) → (ds ≡ Rest ∷ [] → cs ≡ Rest ∷ End ∷ [] → ⊥)
     → SayingsRise (ds ++ cs) ⊎ ((ds ≡ Fault ∷ []) × (cs ≡ Fault ∷ []))
 both_say ds cs (inl e) c h k = rw e (inl (close_spans cs c).rises)
 both_say ds cs (inr (inl e)) (inl f) h k = rw (e, f) (inl (omega arith))
@@ -98,9 +99,8 @@ both_say ds cs (inr (inr (inl e))) (inr (inr f)) h k = rw (e, f) (inl (omega ari
 both_say ds cs (inr (inr (inr (inl e)))) (inl f) h k = rw (e, f) (inl (omega arith))
 both_say ds cs (inr (inr (inr (inl e)))) (inr (inl f)) h k = rw (e, f) (inl (omega arith))
 both_say ds cs (inr (inr (inr (inl e)))) (inr (inr f)) h k = absurd (k e f)
-both_say ds cs (inr (inr (inr (inr e)))) (inl f) h k = inr (e, f)
-both_say ds cs (inr (inr (inr (inr e)))) (inr (inl f)) h k = rw (e, f) (inl (omega arith))
-both_say ds cs (inr (inr (inr (inr e)))) (inr (inr f)) h k = absurd (h e f)
+both_say ds cs (inr (inr (inr (inr (inl e))))) c h k = let f = h (ap (list_any is_fault) e) in rw (e, f) (inl (omega arith))
+both_say ds cs (inr (inr (inr (inr (inr e))))) c h k = let f = h (ap (list_any is_fault) e) in rw (e, f) (inl (omega arith))
 
 values_each : {A : Type 0} (f : A → Saying) (xs : List A) → Each (λ a. f a ≡ Value) xs → Each (λ s. (1 ≤ said_rank s) × (said_rank s ≤ 1)) (map f xs)
 values_each f [] h = tt
@@ -111,7 +111,8 @@ values_rise ss (inl e) h = rw e tt
 values_rise ss (inr (inl e)) h = rw e (tt, tt)
 values_rise ss (inr (inr (inl e))) h = absurd (let each = rw e at h in let two = each.1.0.1 in omega arith)
 values_rise ss (inr (inr (inr (inl e)))) h = absurd (let each = rw e at h in let six = each.0.1 in omega arith)
-values_rise ss (inr (inr (inr (inr e)))) h = absurd (let each = rw e at h in let seven = each.0.1 in omega arith)
+values_rise ss (inr (inr (inr (inr (inl e))))) h = absurd (let each = rw e at h in let seven = each.0.1 in omega arith)
+values_rise ss (inr (inr (inr (inr (inr e))))) h = absurd (let each = rw e at h in let seven = each.1.0.1 in omega arith)
 
 pub value_spans : {A : Type 0} (f : A → Saying) (xs : List A) → InTurn (map f xs) → Each (λ a. f a ≡ Value) xs → SaySpans 1 1 (map f xs)
 value_spans f xs t h = let each = values_each f xs h in record { within = each; rises = values_rise (map f xs) t each }

@@ -237,7 +237,7 @@ pair_by R laws at whom x None = fine_none
 pair_by R laws at whom x (Some xs) =
     rw (one_octet (event at whom (Takes x)) x refl)
     (pair_fine (event at whom (Takes x)) (event at whom Closes) (λ r. r.saying) (λ r. r.text) (λ l. l.0) (λ l. l.1) (due R whom.header xs x) (R.closes whom.header (xs ++ x ∷ [])) refl
-    (both_say _ _ (laws.ordered.ordered whom.header (xs ++ x ∷ []) (suc (length xs))) (laws.closing.closed whom.header (xs ++ x ∷ [])) (laws.closing.no_rest whom.header xs x) (laws.closing.one_rest whom.header xs x)))
+    (both_say _ _ (laws.ordered.ordered whom.header (xs ++ x ∷ []) (suc (length xs))) (laws.closing.closed whom.header (xs ++ x ∷ [])) (laws.closing.over whom.header xs x) (laws.closing.one_rest whom.header xs x)))
 
 pair_fine_at : (R : Reading) → IsInTurn R → (K : Kept) (at : ℕ) (whom : Title) (x : ℕ) → Fine (utters R K (event at whom (Takes x) ∷ event at whom Closes ∷ []))
 unfolding utters taking

@@ -1,7 +1,8 @@
 use Rattle.std.proofs.Common.{◌≡◌, ◌-◌, length, pred, refl, sym, ◌∙◌, arith}
 use Rattle.giop_sig.specs.Trees.{tree}
-use Rattle.giop_decode.specs.Turns.{places, IsKnown}
+use Rattle.giop_decode.specs.Turns.{places, is_inside, IsKnown}
 use Rattle.giop_decode.proofs.Beginning.{begins, begins_places, all_push, map_push}
+use Rattle.giop_decode.proofs.Surrounding.{ended_push, inside_push, or_false, stand_push}
 use Rattle.giop_decode.proofs.Linking.{link_push}
 use Rattle.giop_decode.proofs.frame.begin.Goals as goal
 
@@ -16,9 +17,12 @@ loop-count-preserved c =
     record {
       known = omega (arith, c.part-inner.ensures.below, c.loop-count.invariant.known);
       known_outer = rw c.push.ensures.items (all_push (IsKnown t) old _ c.loop-count.invariant.known_outer
-          (record { known = c.loop-count.invariant.known; place = b.placed; uncounted = b.uncounted }));
+          (record { known = c.loop-count.invariant.known; within = (b.placed, b.bare, b.uncounted) }));
       fit = rw (← e, c.part-inner.ensures.tree) b.fit;
-      placed = rw (c.push.ensures.items, map_push, c.part-inner.ensures.tree) (begins_places d (places t old) T c.in-Some.count b ∙ c.loop-count.invariant.placed);
+      placed = λ at. rw (c.push.ensures.items, map_push, c.part-inner.ensures.tree) (begins_places d (places t at old) T c.in-Some.count b ∙ c.loop-count.invariant.placed at);
+      ended = rw c.push.ensures.items (ended_push old _ refl ∙ c.loop-count.invariant.ended);
+      inside = rw (c.push.ensures.items, inside_push) (or_false (is_inside old) ∙ c.loop-count.invariant.inside);
+      stand = λ at h. rw c.push.ensures.items (stand_push at old _ (c.loop-count.invariant.stand at h) tt);
       leaf = rw c.part-inner.ensures.tree (sym b.leaf ∙ c.loop-count.invariant.leaf);
       linked = λ root h. link_push t root old c.push.new.self.items c.loop-count.inner.0 c.part-inner.result.0 _ refl c.push.ensures.items c.part-inner.ensures.number (c.loop-count.invariant.linked root h);
     }

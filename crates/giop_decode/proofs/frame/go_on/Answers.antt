@@ -1,51 +1,146 @@
-use Rattle.std.proofs.Common.{◌≡◌, suc, ◌+◌, ◌-◌, ◌<◌, [], length, refl, ap, ◌∙◌, arith, add-one}
-use Rattle.giop_decode.specs.Spine.{Done}
+use Rattle.std.proofs.Common.{◌≡◌, suc, false, ◌+◌, ◌-◌, ◌<◌, [], ◌∷◌, ◌++◌, length, refl, ap, subst, ◌∙◌, arith, add-one, append_assoc}
+use Rattle.giop_decode.specs.Begins.{start_leaf, start_outer}
+use Rattle.giop_decode.specs.Spine.{Content, Done, coded}
 use Rattle.giop_decode.specs.Steps.{around}
-use Rattle.giop_decode.specs.Turns.{place, places, IsKnown}
+use Rattle.giop_decode.specs.Turns.{has_ended, is_inside, part_in, place, places, IsKnown, StandAt}
+use Rattle.giop_sig.specs.Types.{part_of}
 use Rattle.giop_sig.specs.Trees.{tree}
 use Rattle.giop_decode.proofs.Around.{fit_part}
 use Rattle.giop_decode.proofs.Beginning.{all_push, map_push}
-use Rattle.giop_decode.proofs.Going.{popped, next_in, length_places, goes_next, goes_out}
+use Rattle.giop_decode.proofs.Going.{part_popped, held_popped, next_in, length_places, goes_next, goes_out, goes_rest, goes_past, part_is, held_is}
+use Rattle.giop_decode.proofs.Surrounding.{around_gone, around_shut, ended_push, inside_push, outside_pop, shut, stand_pop, stand_push}
+use Rattle.giop_decode.proofs.Hearing.{rest_silent}
 use Rattle.giop_decode.proofs.Linking.{link_push, link_pop}
 use Rattle.giop_decode.proofs.frame.go_on.Goals as goal
+
+pub returns-then-left-gt0-clause-stand : goal.returns-then-left-gt0-clause-stand
+returns-then-left-gt0-clause-stand c at h =
+    stand_pop at c.pop.new.self.items c.in-Some.frame (subst (StandAt at) c.in-Some.ensures.items (c.loop-frame.invariant.stand at h))
+
+pub returns-then-left-gt0-clause-gone : goal.returns-then-left-gt0-clause-gone
+returns-then-left-gt0-clause-gone c coding path at =
+    let t = c.args.catalogue.now in
+    let f = c.in-Some.frame in
+    let rest = c.pop.new.self.items in
+    let T = tree t f.of.0 in
+    let v = c.loop-frame.invariant in
+    let p = held_popped t v.are_open.0 c.loop-frame.outer.items rest f c.in-Some-inside.field-0 v.known v.are_open.1 c.in-Some.ensures.items c.in-Some-inside.is in
+    let order = c.in-Some-inside.field-0 in
+    let end = at + (f.count - f.index) in
+    let left : end - at ≡ f.count - f.index = omega arith in
+    v.same coding path at
+    ∙ (ap (λ ps. around coding path ps (Done [] at [])) (ap (places t at) c.in-Some.ensures.items ∙ map_push (place t at) rest f)
+    ∙ (ap (λ q. around coding path (places t at rest ++ q ∷ []) (Done [] at [])) (held_is t at f order c.in-Some-inside.is)
+    ∙ (goes_rest coding path (places t at rest) T (coded order (at - f.index)) end at (f.count - f.index) (omega arith) left
+    ∙ around_gone t coding path at rest [] (Content T (f.count - f.index) 0 []) p.known_rest)))
+
+pub returns-then-left-gt0-clause-linked : goal.returns-then-left-gt0-clause-linked
+returns-then-left-gt0-clause-linked c root inner h =
+    let t = c.args.catalogue.now in
+    let f = c.in-Some.frame in
+    let rest = c.pop.new.self.items in
+    let T = tree t f.of.0 in
+    let v = c.loop-frame.invariant in
+    let l = v.linked root inner h in
+    link_pop t root c.loop-frame.outer.items rest f l.0 c.in-Some.ensures.items l.1
+
+pub loop-frame-preserved-else-left-gt0 : goal.loop-frame-preserved-else-left-gt0
+loop-frame-preserved-else-left-gt0 c =
+    let t = c.args.catalogue.now in
+    let f = c.in-Some.frame in
+    let rest = c.pop.new.self.items in
+    let T = tree t f.of.0 in
+    let v = c.loop-frame.invariant in
+    let p = held_popped t v.are_open.0 c.loop-frame.outer.items rest f c.in-Some-inside.field-0 v.known v.are_open.1 c.in-Some.ensures.items c.in-Some-inside.is in
+    let order = c.in-Some-inside.field-0 in
+    record {
+      known = p.known_rest;
+      are_open = (v.are_open.0, p.front);
+      outside = λ h. outside_pop rest f (subst (λ fs. is_inside fs ≡ false) c.in-Some.ensures.items (v.outside h));
+      stand = λ at h. stand_pop at rest f (subst (StandAt at) c.in-Some.ensures.items (v.stand at h));
+      same = λ coding path at. (let none : (at + (f.count - f.index)) - at ≡ 0 = omega (arith, p.within) in v.same coding path at
+          ∙ (ap (λ ps. around coding path ps (Done [] at [])) (ap (places t at) c.in-Some.ensures.items ∙ map_push (place t at) rest f)
+          ∙ (ap (λ q. around coding path (places t at rest ++ q ∷ []) (Done [] at [])) (held_is t at f order c.in-Some-inside.is)
+          ∙ goes_past coding path (places t at rest) T (coded order (at - f.index)) (at + (f.count - f.index)) at none)));
+      linked = λ root inner h. (let l = v.linked root inner h in (f.of.0, link_pop t root c.loop-frame.outer.items rest f l.0 c.in-Some.ensures.items l.1));
+    }
 
 pub push-requires : goal.push-requires
 push-requires c =
     let t = c.args.catalogue.now in
-    let p = popped t c.loop-frame.outer.items c.pop.new.self.items c.in-Some.frame c.loop-frame.invariant.known c.loop-frame.invariant.are_open c.in-Some.ensures.items in
-    (omega arith, omega (arith, p.inner.depth, length_places t c.pop.new.self.items))
+    let f = c.in-Some.frame in
+    let rest = c.pop.new.self.items in
+    let T = tree t f.of.0 in
+    let v = c.loop-frame.invariant in
+    let p = part_popped t v.are_open.0 c.loop-frame.outer.items rest f v.known v.are_open.1 c.in-Some.ensures.items c.in-None.is in
+    (omega arith, omega (arith, p.depth, length_places t v.are_open.0 rest))
 
 pub part-part-requires-clause-known : goal.part-part-requires-clause-known
 part-part-requires-clause-known c =
-    (popped c.args.catalogue.now c.loop-frame.outer.items c.pop.new.self.items c.in-Some.frame c.loop-frame.invariant.known c.loop-frame.invariant.are_open c.in-Some.ensures.items).known.known
+    let t = c.args.catalogue.now in
+    let f = c.in-Some.frame in
+    let rest = c.pop.new.self.items in
+    let T = tree t f.of.0 in
+    let v = c.loop-frame.invariant in
+    let p = part_popped t v.are_open.0 c.loop-frame.outer.items rest f v.known v.are_open.1 c.in-Some.ensures.items c.in-None.is in
+    p.known
 
 pub part-part-requires-clause-place : goal.part-part-requires-clause-place
 part-part-requires-clause-place c =
     let t = c.args.catalogue.now in
     let f = c.in-Some.frame in
-    let p = popped t c.loop-frame.outer.items c.pop.new.self.items f c.loop-frame.invariant.known c.loop-frame.invariant.are_open c.in-Some.ensures.items in
+    let rest = c.pop.new.self.items in
+    let T = tree t f.of.0 in
+    let v = c.loop-frame.invariant in
+    let p = part_popped t v.are_open.0 c.loop-frame.outer.items rest f v.known v.are_open.1 c.in-Some.ensures.items c.in-None.is in
     let below : suc f.index < f.count = omega arith in
-    let n = next_in (suc p.inner.left) (tree t f.of.0) f.index f.count p.inner.«open» p.known.uncounted below in
+    let n = next_in (suc p.left) T f.index f.count p.«open» p.uncounted below in
     rw add-one n.placed
 
 pub begin-requires-clause-known_outer : goal.begin-requires-clause-known_outer
 begin-requires-clause-known_outer c =
     let t = c.args.catalogue.now in
     let f = c.in-Some.frame in
-    let p = popped t c.loop-frame.outer.items c.pop.new.self.items f c.loop-frame.invariant.known c.loop-frame.invariant.are_open c.in-Some.ensures.items in
+    let rest = c.pop.new.self.items in
+    let T = tree t f.of.0 in
+    let v = c.loop-frame.invariant in
+    let p = part_popped t v.are_open.0 c.loop-frame.outer.items rest f v.known v.are_open.1 c.in-Some.ensures.items c.in-None.is in
     let below : suc f.index < f.count = omega arith in
-    let n = next_in (suc p.inner.left) (tree t f.of.0) f.index f.count p.inner.«open» p.known.uncounted below in
-    rw c.push.ensures.items (all_push (IsKnown t) c.pop.new.self.items _ p.known_rest (record { known = p.known.known; place = rw add-one n.placed; uncounted = p.known.uncounted }))
+    let n = next_in (suc p.left) T f.index f.count p.«open» p.uncounted below in
+    rw c.push.ensures.items (all_push (IsKnown t) rest _ p.known_rest (record { known = p.known; within = rw c.in-None.is (rw add-one n.placed, p.bare, p.uncounted) }))
 
 pub begin-requires-clause-fit : goal.begin-requires-clause-fit
 begin-requires-clause-fit c =
     let t = c.args.catalogue.now in
     let f = c.in-Some.frame in
-    let p = popped t c.loop-frame.outer.items c.pop.new.self.items f c.loop-frame.invariant.known c.loop-frame.invariant.are_open c.in-Some.ensures.items in
+    let rest = c.pop.new.self.items in
+    let T = tree t f.of.0 in
+    let v = c.loop-frame.invariant in
+    let p = part_popped t v.are_open.0 c.loop-frame.outer.items rest f v.known v.are_open.1 c.in-Some.ensures.items c.in-None.is in
     let below : suc f.index < f.count = omega arith in
-    let n = next_in (suc p.inner.left) (tree t f.of.0) f.index f.count p.inner.«open» p.known.uncounted below in
-    let e : p.inner.left ≡ 24 - length c.push.new.self.items = omega (arith, p.inner.depth, length_places t c.pop.new.self.items, c.push.ensures.len) in
-    rw (← e, c.part-part.ensures.tree) (fit_part p.inner.left (tree t f.of.0) (f.index + 1) f.count n.fit n.parts (rw add-one below))
+    let n = next_in (suc p.left) T f.index f.count p.«open» p.uncounted below in
+    let e : p.left ≡ 24 - length c.push.new.self.items = omega (arith, p.depth, length_places t v.are_open.0 rest, c.push.ensures.len) in
+    rw (← e, c.part-part.ensures.tree) (fit_part p.left T (f.index + 1) f.count n.fit n.parts (rw add-one below))
+
+pub returns-then-left-gt0-clause-outside : goal.returns-then-left-gt0-clause-outside
+returns-then-left-gt0-clause-outside c h =
+    outside_pop c.pop.new.self.items c.in-Some.frame (subst (λ fs. is_inside fs ≡ false) c.in-Some.ensures.items (c.loop-frame.invariant.outside h))
+
+pub returns-then-frame-last-clause-outside : goal.returns-then-frame-last-clause-outside
+returns-then-frame-last-clause-outside c h =
+    let f = c.in-Some.frame in
+    let rest = c.pop.new.self.items in
+    let none = outside_pop rest f (subst (λ fs. is_inside fs ≡ false) c.in-Some.ensures.items (c.loop-frame.invariant.outside h)) in
+    c.begin.ensures.inside ∙ rw (c.push.ensures.items, inside_push, c.in-None.is, none) refl
+
+pub returns-then-frame-last-clause-stand : goal.returns-then-frame-last-clause-stand
+returns-then-frame-last-clause-stand c at h =
+    let t = c.args.catalogue.now in
+    let f = c.in-Some.frame in
+    let rest = c.pop.new.self.items in
+    let T = tree t f.of.0 in
+    let v = c.loop-frame.invariant in
+    c.begin.ensures.stand at (rw c.push.ensures.items (stand_push at rest _ (stand_pop at rest f (subst (StandAt at) c.in-Some.ensures.items (v.stand at h))) (rw c.in-None.is tt)))
 
 pub returns-then-frame-last-clause-gone : goal.returns-then-frame-last-clause-gone
 returns-then-frame-last-clause-gone c coding path at =
@@ -53,21 +148,32 @@ returns-then-frame-last-clause-gone c coding path at =
     let f = c.in-Some.frame in
     let rest = c.pop.new.self.items in
     let T = tree t f.of.0 in
-    let p = popped t c.loop-frame.outer.items rest f c.loop-frame.invariant.known c.loop-frame.invariant.are_open c.in-Some.ensures.items in
+    let v = c.loop-frame.invariant in
+    let p = part_popped t v.are_open.0 c.loop-frame.outer.items rest f v.known v.are_open.1 c.in-Some.ensures.items c.in-None.is in
     let below : suc f.index < f.count = omega arith in
-    let n = next_in (suc p.inner.left) T f.index f.count p.inner.«open» p.known.uncounted below in
-    c.loop-frame.invariant.same coding path at
-    ∙ (ap (λ ps. around coding path ps (Done [] at [])) (ap (places t) c.in-Some.ensures.items ∙ map_push (place t) rest f)
-    ∙ (goes_next coding path (places t rest) T f.index f.count at p.inner.left n below
-    ∙ rw (← c.begin.ensures.leaf, c.begin.ensures.places, c.push.ensures.items, map_push, c.part-part.ensures.tree, add-one f.index) refl))
+    let n = next_in (suc p.left) T f.index f.count p.«open» p.uncounted below in
+    let next = part_in T (suc f.index) f.count in
+    let part = part_of T (suc f.index) in
+    let ended : has_ended c.push.new.self.items ≡ has_ended rest = rw c.push.ensures.items (ended_push rest _ (rw c.in-None.is refl)) in
+    let new = c.begin.new.outer.items in
+    let same : shut (has_ended rest) [] at (places t at rest ++ (next ∷ start_outer part)) (start_leaf part) ≡ shut (has_ended new) [] at (places t at new) (start_leaf part) =
+    rw (c.begin.ensures.ended, c.begin.ensures.places at, ended, c.push.ensures.items, map_push, c.part-part.ensures.tree, add-one f.index, c.in-None.is, append_assoc) refl in
+    v.same coding path at
+    ∙ (ap (λ ps. around coding path ps (Done [] at [])) (ap (places t at) c.in-Some.ensures.items ∙ map_push (place t at) rest f)
+    ∙ (ap (λ q. around coding path (places t at rest ++ q ∷ []) (Done [] at [])) (part_is t at f c.in-None.is)
+    ∙ (goes_next coding path (places t at rest) T f.index f.count at p.left n below
+    ∙ (around_shut t coding path at rest [] (next ∷ start_outer part) (start_leaf part) p.known_rest
+    ∙ (same ∙ ap (λ l. shut (has_ended new) [] at (places t at new) l) (rw (c.part-part.ensures.tree, add-one) at c.begin.ensures.leaf))))))
 
 pub returns-then-frame-last-clause-linked : goal.returns-then-frame-last-clause-linked
 returns-then-frame-last-clause-linked c root inner h =
     let t = c.args.catalogue.now in
     let f = c.in-Some.frame in
     let rest = c.pop.new.self.items in
-    let l = c.loop-frame.invariant.linked root inner h in
-    c.begin.ensures.linked root (link_push t root rest c.push.new.self.items f.of.0 c.part-part.result.0 _ refl c.push.ensures.items c.part-part.ensures.number
+    let T = tree t f.of.0 in
+    let v = c.loop-frame.invariant in
+    let l = v.linked root inner h in
+    c.begin.ensures.linked root (link_push t root rest c.push.new.self.items f.of.0 c.part-part.result.0 _ refl c.push.ensures.items (rw c.in-None.is c.part-part.ensures.number)
     (link_pop t root c.loop-frame.outer.items rest f l.0 c.in-Some.ensures.items l.1))
 
 pub loop-frame-preserved : goal.loop-frame-preserved
@@ -75,12 +181,26 @@ loop-frame-preserved c =
     let t = c.args.catalogue.now in
     let f = c.in-Some.frame in
     let rest = c.pop.new.self.items in
-    let p = popped t c.loop-frame.outer.items rest f c.loop-frame.invariant.known c.loop-frame.invariant.are_open c.in-Some.ensures.items in
+    let T = tree t f.of.0 in
+    let v = c.loop-frame.invariant in
+    let p = part_popped t v.are_open.0 c.loop-frame.outer.items rest f v.known v.are_open.1 c.in-Some.ensures.items c.in-None.is in
     record {
       known = p.known_rest;
-      are_open = p.inner.front;
-      same = λ coding path at. c.loop-frame.invariant.same coding path at
-          ∙ (ap (λ ps. around coding path ps (Done [] at [])) (ap (places t) c.in-Some.ensures.items ∙ map_push (place t) rest f)
-          ∙ goes_out coding path (places t rest) (tree t f.of.0) f.index f.count at (omega arith));
-      linked = λ root inner h. (let l = c.loop-frame.invariant.linked root inner h in (f.of.0, link_pop t root c.loop-frame.outer.items rest f l.0 c.in-Some.ensures.items l.1));
+      are_open = (v.are_open.0, p.front);
+      outside = λ h. outside_pop rest f (subst (λ fs. is_inside fs ≡ false) c.in-Some.ensures.items (v.outside h));
+      stand = λ at h. stand_pop at rest f (subst (StandAt at) c.in-Some.ensures.items (v.stand at h));
+      same = λ coding path at. v.same coding path at
+          ∙ (ap (λ ps. around coding path ps (Done [] at [])) (ap (places t at) c.in-Some.ensures.items ∙ map_push (place t at) rest f)
+          ∙ (ap (λ q. around coding path (places t at rest ++ q ∷ []) (Done [] at [])) (part_is t at f c.in-None.is)
+          ∙ goes_out coding path (places t at rest) T f.index f.count at (omega arith)));
+      linked = λ root inner h. (let l = v.linked root inner h in (f.of.0, link_pop t root c.loop-frame.outer.items rest f l.0 c.in-Some.ensures.items l.1));
     }
+
+pub returns-then-left-gt0-clause-silent : goal.returns-then-left-gt0-clause-silent
+returns-then-left-gt0-clause-silent c =
+    let t = c.args.catalogue.now in
+    let f = c.in-Some.frame in
+    let rest = c.pop.new.self.items in
+    let v = c.loop-frame.invariant in
+    let p = held_popped t v.are_open.0 c.loop-frame.outer.items rest f c.in-Some-inside.field-0 v.known v.are_open.1 c.in-Some.ensures.items c.in-Some-inside.is in
+    rest_silent (tree t f.of.0) p.kind

@@ -1,4 +1,5 @@
 use Rattle.std.proofs.Common.{Some, ap, sym, ◌∙◌}
+use Rattle.giop_decode.specs.Turns.{is_inside}
 use Rattle.giop_decode.proofs.StoredFields.{fields_stand}
 use Rattle.giop_decode.proofs.restored.parsed.Goals as goal
 
@@ -11,8 +12,9 @@ returns c d h =
       message = c.eight_at.ensures d.message _ h.range.message f.message.1;
       at = c.octet_at.ensures d.at _ f.at.1;
       leaf = ap Some (c.leaf_at.ensures h.leaf _ h.leaf_range f.leaf.1) ∙ sym h.goes_on;
-      outer = c.outer_at.ensures d.outer.items _ h.outer_range h.few h.frames_are;
-      carry = c.carried.ensures ∙ c.as_slice.ensures.value ∙ c.held_at-carry.ensures d.carry _ h.range.carry f.carry.1;
+      outer = c.outer_at-outer.ensures d.outer.items _ h.outer_range h.few h.frames_are;
+      inside = c.is_inside-inside.ensures ∙ ap is_inside c.as_slice.ensures.value;
+      carry = c.carried.ensures ∙ c.as_slice-2.ensures.value ∙ c.held_at-carry.ensures d.carry _ h.range.carry f.carry.1;
       piece = c.held_at.ensures d.piece.items _ h.range.piece f.piece.1;
       memory = c.memory_at.ensures d.memory _ h.range.memory f.memory.1;
     }

@@ -1,4 +1,4 @@
-use Rattle.std.proofs.Common.{◌≡◌, length, take, Some, refl, ◌∙◌, ap, arith}
+use Rattle.std.proofs.Common.{◌≡◌, length, take, Some, refl, sym, ◌∙◌, ap, arith}
 use Rattle.std.proofs.lemmas.List.{length-take-le}
 use Rattle.giop_decode.specs.declared.leaf.Leaf.TheVariants as innermost
 use Rattle.giop_decode.proofs.Gathering.{gathered_some}
@@ -22,6 +22,8 @@ returns-then-count-gt0-clause-fits c C f =
       message = refl;
       at = rw (c.from.ensures, size) refl;
       outer = refl;
+      inside = refl;
+      free = sym f.inside ∙ c.if-self.false;
       leaf = refl;
       carry = refl;
       piece = some.0;
@@ -46,6 +48,8 @@ returns-then-count-gt0-clause-gathers c C f =
       message = refl;
       at = rw (c.from.ensures, size) refl;
       outer = refl;
+      inside = refl;
+      free = sym f.inside ∙ c.if-self.false;
       leaf = refl;
       carry = refl;
       piece = some.0;

@@ -8,8 +8,8 @@ use Rattle.giop_decode.proofs.Hearing.{switch_heard}
 use Rattle.giop_decode.proofs.memory.Memory.hear.Goals as goal
 
 pub returns-in-Switch-clause-hears : goal.returns-in-Switch-clause-hears
-returns-in-Switch-clause-hears c asked h at lines recalls says =
-    let path = path_in [] (places c.args.catalogue.now c.args.outer.now) in
+returns-in-Switch-clause-hears c asked h here at lines recalls says =
+    let path = path_in [] (places c.args.catalogue.now here c.args.outer.now) in
     let k = rw c.in-Switch.is at says in
     let heard = rw c.switch_type.ensures.tree at c.hear_number-in-Switch.ensures in
-    rw (c.in-Switch.is, k.1) (subst (Recalls c.hear_number-in-Switch.new.self) (switch_heard (is_header_root c.args.root) path h (Number k.0.scalar k.0.n)) (heard h k.0 recalls))
+    rw (c.in-Switch.is, k.1) (subst (Recalls c.hear_number-in-Switch.new.self) (switch_heard (is_header_root c.args.root) path _ h (Number k.0.scalar k.0.n)) (heard h k.0 recalls))
