@@ -1,5 +1,5 @@
 -- What reading gives of a signature file, and what one that was read is spelled as.
-use Rattle.std.proofs.Common.{◌≡◌, ℕ, zero, suc, ◌<◌, ◌≤◌, Bool, true, false, cond, eqb, List, [], ◌∷◌, ◌++◌, length, Option, Some, None, Result, Ok, Err, refl, sym, ap, subst, ◌∙◌, lit<, arith}
+use Rattle.std.proofs.Common.{◌≡◌, ℕ, zero, suc, ◌+◌, ◌<◌, ◌≤◌, Bool, true, false, cond, eqb, List, [], ◌∷◌, ◌++◌, length, Option, Some, None, Result, Ok, Err, refl, sym, ap, subst, ◌∙◌, lit<, arith}
 use Rattle.std.specs.Prelude.{MatchResult, codes}
 use Rattle.std.specs.Str.{bytes_eq}
 use Rattle.std.proofs.lemmas.Bool.{eqb-true}
@@ -26,6 +26,7 @@ use Rattle.giop_sig.proofs.CallLaws.{operation_reads, operation_takes}
 use Rattle.giop_sig.proofs.EnumLaws.{enumeration_reads, TakenEnumeration, enumeration_takes}
 use Rattle.giop_sig.proofs.TokensFew.{tokens_few, next_none}
 use Rattle.giop_sig.proofs.SpellLaws.{spelled_few}
+use Rattle.giop_sig.proofs.SizeLaws.{types_few}
 use Rattle.giop_sig.proofs.FreeLaws.{free_declared}
 use Rattle.giop_sig.specs.Builtin.{builtin_types}
 
@@ -235,6 +236,13 @@ file_valid union text t ds spells e shallow =
       },
       ap (λ (x : Scope). x.table) o.0,
     )
+
+-- it adds no more types than the text has octets
+pub file_few : UnionReads → UnionTakes → (text : List ℕ) (t : Scope) → length text ≤ 1048576 → file_at text ≡ Ok t → size t ≤ length builtin_types + length text
+file_few reads takes text t short e =
+    let s = file_takes takes text t short e in
+    let o : FileOut builtin_scope s.0 (Ok t) = subst (FileOut builtin_scope s.0) e (file_reads reads text s.0 s.1) in
+    omega (arith, ap size o.0, tokens_few (spell_file s.0) text (s.1).tokens, types_few builtin_scope s.0)
 
 refuses : (k : Kind) (ds : List Declaration) → BrokenIn k builtin_scope ds → Refuses k ds
 refuses kinds.Token ds b = b.breaks

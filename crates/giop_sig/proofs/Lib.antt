@@ -34,6 +34,7 @@ mod EnumLaws
 mod LabelLaws
 mod TokensFew
 mod SpellLaws
+mod SizeLaws
 mod FreeLaws
 mod FileLoop
 mod FileLaws

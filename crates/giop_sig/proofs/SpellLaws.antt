@@ -9,7 +9,7 @@ between : (a b : Mark) (o : Option ℕ) (more : List Token) → length more ≤ 
 between a b None more = omega arith
 between a b (Some n) more = omega arith
 
-most : (o : Option ℕ) (more : List Token) → length more ≤ length (spell_most o more)
+pub most : (o : Option ℕ) (more : List Token) → length more ≤ length (spell_most o more)
 most None more = omega arith
 most (Some n) more = omega arith
 
@@ -31,7 +31,7 @@ more_names : (ns : List (List ℕ)) (more : List Token) → length more ≤ leng
 more_names [] more = omega arith
 more_names (n ∷ ns) more = omega (arith, more_names ns more)
 
-names : (ns : List (List ℕ)) (more : List Token) → length more ≤ length (spell_names ns more)
+pub names : (ns : List (List ℕ)) (more : List Token) → length more ≤ length (spell_names ns more)
 names [] more = omega arith
 names (n ∷ ns) more = omega (arith, more_names ns more)
 
@@ -41,11 +41,11 @@ value (Below n) more = omega arith
 value (Truth b) more = omega arith
 value (Enumerator w) more = omega arith
 
-label : (l : Label) (more : List Token) → length more ≤ length (spell_label l more)
+pub label : (l : Label) (more : List Token) → length more ≤ length (spell_label l more)
 label Default more = omega arith
 label (Of v) more = omega (arith, value v (mark marks.Colon ∷ more))
 
-labels : (ls : List Label) (more : List Token) → length more ≤ length (spell_labels ls more)
+pub labels : (ls : List Label) (more : List Token) → length more ≤ length (spell_labels ls more)
 labels [] more = omega arith
 labels (l ∷ ls) more = omega (arith, label l (spell_labels ls more), labels ls more)
 

@@ -1,5 +1,6 @@
 //! Reading a signature file (docs/FORMATS.md).
-ghost use Rattle.std.specs.Prelude.{◌≡◌, ◌<◌, ◌≤◌, ◌↔◌, List, length, IfOk, IfErr};
+ghost use Rattle.std.specs.Prelude.{◌≡◌, ◌+◌, ◌<◌, ◌≤◌, ◌↔◌, List, length, IfOk, IfErr};
+ghost use Rattle.giop_sig.specs.Builtin.{builtin_types};
 ghost use Rattle.giop_sig.specs.Grammar.{Declaration};
 ghost use Rattle.giop_sig.specs.Scopes.{builtin_scope, table};
 ghost use Rattle.giop_sig.specs.Validity.{AreValid, Spells, Refuses};
@@ -98,6 +99,8 @@ impl Catalogue {
     pub fn parse(alloc: Global, text: &[u8]) -> Result<Catalogue, SigFault>
         // The text spells some valid declarations, and this is their table.
         ensures ok { IfOk result (λ c. (ds : List Declaration) × Spells text.now ds × AreValid ds × (c ≡ table ds)) }
+        // It adds no more types than the text has octets.
+        ensures few { IfOk result (λ c. length c.types ≤ length builtin_types + length text.now) }
         // Of a text that spells declarations, the refusal is that of a rule which one of them breaks, unless memory was
         // refused.
         ensures err { (ds : List Declaration) → Spells text.now ds → IfErr result (λ f. Refuses f.kind ds) }

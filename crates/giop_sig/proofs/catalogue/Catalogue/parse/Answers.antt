@@ -1,10 +1,10 @@
-use Rattle.std.proofs.Common.{◌≤◌, sym, subst, ◌∙◌, inr, arith}
+use Rattle.std.proofs.Common.{◌≤◌, length, sym, ap, subst, ◌∙◌, inr, arith}
 use Rattle.giop_sig.specs.Table.{Table}
 use Rattle.giop_sig.specs.Trees.{depth_of}
 use Rattle.giop_sig.specs.Outcomes.{Stops}
 use Rattle.giop_sig.specs.FileReading.{file_at}
 use Rattle.giop_sig.specs.Validity.{Refuses}
-use Rattle.giop_sig.proofs.FileLaws.{file_takes, file_valid, file_refuses}
+use Rattle.giop_sig.proofs.FileLaws.{file_takes, file_valid, file_few, file_refuses}
 use Rattle.giop_sig.proofs.Told.{has_line}
 use Rattle.giop_sig.proofs.UnionWhole.{union_read, union_taken}
 use Rattle.giop_sig.proofs.catalogue.Catalogue.parse.Goals as goal
@@ -16,6 +16,11 @@ returns-in-Ok-clause-ok c =
     let shallow = subst (λ (t : Table). depth_of t.types ≤ 24) c.into_catalogue-catalogue.ensures c.laws.ensures.types.shallow in
     let v = file_valid union_read text c.in-Ok.draft s.0 s.1 c.in-Ok.ensures shallow in
     (s.0, s.1, v.0, c.into_catalogue-catalogue.ensures ∙ v.1)
+
+pub returns-in-Ok-clause-few : goal.returns-in-Ok-clause-few
+returns-in-Ok-clause-few c =
+    let few = file_few union_read union_taken c.args.text.now c.in-Ok.draft (let short = c.if-text-gt-TEXT_MAX.false in omega arith) c.in-Ok.ensures in
+    omega (arith, few, ap (λ t. length t.types) c.into_catalogue-catalogue.ensures)
 
 pub returns-in-Err-Refused-clause-err : goal.returns-in-Err-Refused-clause-err
 returns-in-Err-Refused-clause-err c = λ ds spells.
