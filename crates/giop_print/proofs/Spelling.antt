@@ -1,10 +1,12 @@
 -- How the code spells octets and numbers, one after another.
-use Rattle.std.proofs.Common.{◌≡◌, ℕ, zero, suc, ◌+◌, ◌-◌, ◌*◌, ◌/◌, ◌%◌, ◌^◌, ◌<◌, ◌≤◌, List, [], ◌∷◌, ◌++◌, length, take, get_or, refl, sym, ap, ◌∙◌, arith, append_assoc, append-nil, pow-suc}
+use Rattle.std.proofs.Common.{◌≡◌, ℕ, zero, suc, ◌+◌, ◌-◌, ◌*◌, ◌/◌, ◌%◌, ◌^◌, ◌<◌, ◌≤◌, List, [], ◌∷◌, ◌++◌, length, take, get_or, refl, sym, ap, ◌∙◌, arith, append_assoc, append-nil, pow-suc, add-one, drop, flat_map, Bool, true, ◌&&◌, T, eqb, eqb→eq, eq-zero-or-pos, inl, inr}
 use Rattle.std.proofs.lemmas.Nat.{pow-add}
-use Rattle.std.proofs.lemmas.List.{take_all}
+use Rattle.std.proofs.lemmas.List.{take_all, drop_all, drop_more}
+use lib.Ieee.Fits.{and_l, and_r}
+use Rattle.giop_print.specs.declared.line.TheConstants.{PAIRS}
 use Rattle.std.proofs.lemmas.List.Concat.{flat_map-append}
 use Rattle.std.specs.Prelude.{codes}
-use Rattle.giop_print.specs.Text.{hex_digit, hex_octet, hex, hex_number, escaped_octet, escaped}
+use Rattle.giop_print.specs.Text.{hex_digit, hex_octet, hex, hex_number, escaped_octet, escaped, quoted}
 use Rattle.giop_print.specs.Lines.{spaced_hex}
 use Rattle.giop_print.proofs.Writing.{flat_map-take}
 
@@ -13,25 +15,14 @@ pub hex_none : (text : List ℕ) (xs : List ℕ) → text ≡ text ++ hex (take 
 unfolding hex
 hex_none text xs = sym (append-nil text)
 
-pub escaped_none : (text : List ℕ) (xs : List ℕ) → text ≡ text ++ escaped (take 0 xs)
-unfolding escaped
-escaped_none text xs = sym (append-nil text)
-
 -- one octet more
 pub hex_more : (before text : List ℕ) (xs : List ℕ) (i : ℕ) → i < length xs → text ≡ before ++ hex (take i xs) → text ++ hex_octet (get_or xs i 0) ≡ before ++ hex (take (i + 1) xs)
 unfolding hex
 hex_more before text xs i h e = rw (flat_map-take hex_octet xs i 0 h, e) (append_assoc before (hex (take i xs)) (hex_octet (get_or xs i 0)))
 
-pub escaped_more : (before text : List ℕ) (xs : List ℕ) (i : ℕ) → i < length xs → text ≡ before ++ escaped (take i xs) → text ++ escaped_octet (get_or xs i 0) ≡ before ++ escaped (take (i + 1) xs)
-unfolding escaped
-escaped_more before text xs i h e = rw (flat_map-take escaped_octet xs i 0 h, e) (append_assoc before (escaped (take i xs)) (escaped_octet (get_or xs i 0)))
-
 -- all octets
 pub hex_all : (before text : List ℕ) (xs : List ℕ) (i : ℕ) → length xs ≤ i → text ≡ before ++ hex (take i xs) → text ≡ before ++ hex xs
 hex_all before text xs i h e = e ∙ ap (λ ys. before ++ hex ys) (take_all i xs h)
-
-pub escaped_all : (before text : List ℕ) (xs : List ℕ) (i : ℕ) → length xs ≤ i → text ≡ before ++ escaped (take i xs) → text ≡ before ++ escaped xs
-escaped_all before text xs i h e = e ∙ ap (λ ys. before ++ escaped ys) (take_all i xs h)
 
 -- octets, and those that follow them
 pub hex_append : (xs ys : List ℕ) → hex (xs ++ ys) ≡ hex xs ++ hex ys
@@ -46,6 +37,15 @@ pub spaced_some : (xs : List ℕ) → 0 < length xs → spaced_hex xs ≡ codes 
 spaced_some [] h = absurd (omega arith)
 spaced_some (x ∷ xs) h = refl
 
+-- a piece's text before another
+pub quoted_before : (held next text : List ℕ) → 32 ∷ 34 ∷ (escaped held ++ (escaped next ++ (34 ∷ text))) ≡ (codes " " ++ quoted (held ++ next)) ++ text
+quoted_before held next text =
+    rw escaped_append (ap (λ z. 32 ∷ 34 ∷ z) (sym (append_assoc (escaped held ++ escaped next) (34 ∷ []) text ∙ append_assoc (escaped held) (escaped next) (34 ∷ text))))
+
+pub spaced_before : (held next text : List ℕ) → 0 < length (held ++ next) → 32 ∷ (hex held ++ (hex next ++ text)) ≡ spaced_hex (held ++ next) ++ text
+spaced_before held next text some =
+    rw (spaced_some (held ++ next) some, hex_append) (ap (λ z. 32 ∷ z) (sym (append_assoc (hex held) (hex next) text)))
+
 -- one octet alone
 pub escaped_one : (x : ℕ) → escaped (x ∷ []) ≡ escaped_octet x
 unfolding escaped
@@ -56,14 +56,52 @@ pow-16 : (k : ℕ) → 16 ^ k ≡ 2 ^ (4 * k)
 pow-16 zero = refl
 pow-16 (suc k) = let e : 4 * suc k ≡ 4 * k + 4 = omega arith in rw (pow-suc, e, pow-add, pow-16 k) refl
 
--- one digit more of a number
-pub hex_number_more : (text whole : List ℕ) (left n : ℕ) → 0 < left → text ++ hex_number left n ≡ whole → (text ++ hex_digit (n / 2 ^ (4 * (left - 1)) % 16) ∷ []) ++ hex_number (left - 1) n ≡ whole
-unfolding hex_number
-hex_number_more text whole zero n h e = absurd (omega arith)
-hex_number_more text whole (suc k) n h e = let p : suc k - 1 ≡ k = omega arith in rw (p, append_assoc, ← pow-16 k) e
+-- the two digits of each octet stand in a table
+are_pairs : ℕ → Bool
+are_pairs zero = true
+are_pairs (suc x) = (eqb (get_or PAIRS (x * 2) 0) (hex_digit (x / 16)) && eqb (get_or PAIRS (x * 2 + 1) 0) (hex_digit (x % 16))) && are_pairs x
 
-pub hex_number_all : (text whole : List ℕ) (n : ℕ) → text ++ hex_number 0 n ≡ whole → text ≡ whole
-unfolding hex_number
-hex_number_all text whole n e = sym (append-nil text) ∙ e
+pairs_below : (n x : ℕ) → T (are_pairs n) → x < n → (get_or PAIRS (x * 2) 0 ≡ hex_digit (x / 16)) × (get_or PAIRS (x * 2 + 1) 0 ≡ hex_digit (x % 16))
+unfolding are_pairs
+pairs_below zero x t h = absurd (omega arith)
+pairs_below (suc n) x t h =
+    elim (eq-zero-or-pos (n - x)) [
+      | inl z ↦ let e : x ≡ n = omega arith in let a = and_l _ (are_pairs n) t in rw e (eqb→eq _ _ (and_l _ _ a), eqb→eq _ _ (and_r _ _ a))
+      | inr g ↦ pairs_below n x (and_r _ (are_pairs n) t) (omega arith)
+    ]
 
-pub ruleset spelling_steps = (hex_none, hex_more, hex_all, escaped_none, escaped_more, escaped_all, hex_number_more, hex_number_all)
+pub pair_at : (x : ℕ) → x < 256 → (get_or PAIRS (x * 2) 0 ≡ hex_digit (x / 16)) × (get_or PAIRS (x * 2 + 1) 0 ≡ hex_digit (x % 16))
+unfolding are_pairs
+pair_at x h = pairs_below 256 x tt h
+
+-- no octet yet, from the end
+pub hex_last : (text : List ℕ) (xs : List ℕ) → text ≡ hex (drop (length xs) xs) ++ text
+unfolding hex
+hex_last text xs = rw (drop_all (length xs) xs (omega arith)) refl
+
+pub escaped_last : (text : List ℕ) (xs : List ℕ) → text ≡ escaped (drop (length xs) xs) ++ text
+unfolding escaped
+escaped_last text xs = rw (drop_all (length xs) xs (omega arith)) refl
+
+-- one octet more, from the end
+from_end : (xs : List ℕ) (i : ℕ) → 0 < i → i ≤ length xs → drop (i - 1) xs ≡ get_or xs (i - 1) 0 ∷ drop i xs
+from_end xs i p h = let e : i - 1 + 1 ≡ i = omega arith in rw e at (drop_more xs (i - 1) 0 (omega arith))
+
+pub hex_before : (text before : List ℕ) (xs : List ℕ) (i : ℕ) → 0 < i → i ≤ length xs → before ≡ hex (drop i xs) ++ text → hex_octet (get_or xs (i - 1) 0) ++ before ≡ hex (drop (i - 1) xs) ++ text
+unfolding hex
+hex_before text before xs i p h e = rw (from_end xs i p h, e) refl
+
+pub escaped_before : (text before : List ℕ) (xs : List ℕ) (i : ℕ) → 0 < i → i ≤ length xs → before ≡ escaped (drop i xs) ++ text → escaped_octet (get_or xs (i - 1) 0) ++ before ≡ escaped (drop (i - 1) xs) ++ text
+unfolding escaped
+escaped_before text before xs i p h e = rw (from_end xs i p h, e) (sym (append_assoc (escaped_octet (get_or xs (i - 1) 0)) (flat_map escaped_octet (drop i xs)) text))
+
+-- one digit more of a number, from the lowest
+pub hex_number_none : (text : List ℕ) (n : ℕ) → text ≡ hex_number 0 n ++ text
+unfolding hex_number
+hex_number_none text n = refl
+
+pub hex_number_before : (text before : List ℕ) (k n : ℕ) → before ≡ hex_number k n ++ text → hex_digit (n / 2 ^ (4 * k) % 16) ∷ before ≡ hex_number (k + 1) n ++ text
+unfolding hex_number
+hex_number_before text before k n e = rw (add-one, ← pow-16 k, e) refl
+
+pub ruleset spelling_steps = (hex_none, hex_more, hex_all, hex_last, hex_before, escaped_last, escaped_before, hex_number_none, hex_number_before)

@@ -1,10 +1,11 @@
 -- Writing in parts.
-use Rattle.std.proofs.Common.{◌≡◌, Result, Ok, Err, IsOk, IsErr, ℕ, suc, get_or, flat_map, ◌+◌, ◌-◌, ◌≤◌, List, [], ◌∷◌, ◌++◌, length, take, drop, take-add, ◌<◌, length-take, length-drop, Option, Some, None, refl, sym, ap, ◌∙◌, arith, append-nil, append_assoc, add-one, length-append, min, inl, inr}
+use Rattle.std.proofs.Common.{◌≡◌, Result, Ok, Err, IsOk, IsErr, ℕ, suc, get_or, flat_map, ◌+◌, ◌-◌, ◌≤◌, List, [], ◌∷◌, ◌++◌, length, take, drop, take-add, ◌<◌, length-take, length-drop, Option, Some, None, refl, sym, ap, subst, ◌∙◌, arith, append-nil, append_assoc, add-one, length-append, min, inl, inr}
 use Rattle.std.proofs.Math.Seq.{take-append-add, take-append_seam, take-suc}
 use Rattle.std.proofs.lemmas.List.Concat.{flat_map-append}
 use Rattle.std.proofs.lemmas.List.{take-append-le, take_all, take-append-drop}
 use Rattle.std.proofs.lemmas.Bool.{cases_lt, false≢true}
 use Rattle.std.specs.Io.KnownBytes.{Appends, Keeps}
+use Rattle.giop_print.specs.Line.{headed}
 use Rattle.giop_print.specs.Output.{OutLog, counted, Took, Failed, Wrote, WroteFront, Writes}
 
 appends-nil : (a : Option (List ℕ)) → Appends a a []
@@ -122,3 +123,7 @@ writes_nothing (Err v) a e = absurd (false≢true e)
 pub writes_failed : {A E : Type 0} (r : Result A E) (a b : OutLog) (x : List ℕ) → IsErr r → WroteFront a b x → Writes r a b x
 writes_failed (Ok v) a b x e p = absurd (false≢true e)
 writes_failed (Err v) a b x e p = p
+
+-- the parts of a line of a message
+pub writes_headed : {A E : Type 0} (r : Result A E) (a b : OutLog) (message : ℕ) (place kind rest : List ℕ) → Writes r a b (headed message place kind (rest ++ [])) → Writes r a b (headed message place kind rest)
+writes_headed r a b message place kind rest w = subst (Writes r a b) (ap (headed message place kind) (append-nil rest)) w

@@ -4,4 +4,5 @@ pub mod Sheet
 pub mod Written
 pub mod Text
 pub mod Paths
+pub mod Line
 pub mod Lines

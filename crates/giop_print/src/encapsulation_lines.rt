@@ -8,7 +8,6 @@ ghost use Rattle.giop_print.specs.Lines.{encapsulation_line, order_line, inner_r
 use crate::lines::{content_line, kind_line};
 use crate::path::Path;
 use crate::sink::{Out, OutFault};
-use crate::text::split_text;
 use crate::value::Piece;
 use crate::words::order_word;
 use giop_cdr::Order;
@@ -71,6 +70,6 @@ pub fn split_inner_rest_line<O: Out>(
     ensures { Writes result (O.log out.old) (O.log out.new)
         (inner_rest_line message path.now.text offset (held.now ++ octets.now)) }
 {
-    let text = split_text(Piece::Octets(held), octets);
-    content_line(out, message, path, b" rest @", offset, &text, b"")
+    let held = Piece::Octets(held);
+    content_line(out, message, path, b" rest @", offset, held, octets, false)
 }

@@ -2,6 +2,7 @@
 #![tactic(auto)]
 
 mod encapsulation_lines;
+mod line;
 mod lines;
 mod path;
 mod sheet;

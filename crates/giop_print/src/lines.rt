@@ -4,11 +4,13 @@
 ghost use Rattle.std.specs.Prelude.{◌+◌, ◌≤◌, ◌++◌, length};
 ghost use Rattle.giop_cdr.specs.Primitives.{size_of};
 ghost use Rattle.giop_print.specs.Output.{Writes};
-ghost use Rattle.giop_print.specs.Lines.{kind_line, kind_word, spaced, number_text, piece_octets, value_line, content_line, piece_line, split_piece_line, rest_line, start_line, call_line, continues_line, cancelled_line, fault_line, end_line, stream_fault_line, unfinished_line, total_line};
+ghost use Rattle.giop_print.specs.Line.{line_text, headed};
+ghost use Rattle.giop_print.specs.Lines.{kind_line, kind_word, spaced, number_text, piece_octets, split_text, more_word, value_line, content_line, piece_line, split_piece_line, rest_line, start_line, call_line, continues_line, cancelled_line, fault_line, end_line, stream_fault_line, unfinished_line, total_line};
 
+use crate::line::Line;
 use crate::path::Path;
-use crate::sink::{Out, OutFault, put_parts};
-use crate::text::{hex_number, push_hex, quoted_octet, split_text};
+use crate::sink::{Out, OutFault, put_all, put_parts};
+use crate::text::{push_hex, quoted_octet};
 use crate::value::{Piece, Value};
 use crate::words::{kind_word, more_word, order_word, piece_word, truth_word, type_word};
 use arrayvec::ArrayVec;
@@ -37,6 +39,7 @@ pub fn value_line<O: Out>(
 }
 
 /// The line of a primitive's number.
+#[tactic(auto, unfolding(crate::specs::Lines::kind_line))]
 fn number_line<O: Out>(
     out: &mut O,
     message: u64,
@@ -47,22 +50,46 @@ fn number_line<O: Out>(
     ensures { Writes result (O.log out.old) (O.log out.new)
         (kind_line message path.now.text (spaced (kind_word prim)) (number_text (size_of prim) number)) }
 {
-    let mut digits = Buffer::new();
     let kind = kind_word(prim);
+    let mut line = Line::new();
+    line.put(b'\n');
     match number {
-        Number::Unsigned(n) => kind_line(out, message, path, kind, digits.format(n).as_bytes()),
-        Number::Signed(n) => kind_line(out, message, path, kind, digits.format(n).as_bytes()),
-        Number::Truth(truth) => kind_line(out, message, path, kind, truth_word(truth)),
-        Number::Char(octet) => kind_line(out, message, path, kind, &quoted_octet(octet)),
-        Number::Bits(bits) => {
-            kind_line(out, message, path, kind, &hex_number(bits, 2 * size(prim)))
-        }
+        Number::Unsigned(n) => line.put_number(n),
+        Number::Signed(n) => line.put_signed(n),
+        Number::Bits(bits) => line.put_hex_number(bits, 2 * size(prim)),
+        Number::Truth(truth) => return kind_line(out, message, path, kind, truth_word(truth)),
+        Number::Char(octet) => return kind_line(out, message, path, kind, &quoted_octet(octet)),
     }
+    headed_line(out, message, path.text(), kind, &mut line)
 }
+
+/// How long a text may be that is spelled with its line. Most are shorter.
+const SHORT: usize = 128;
 
 /// The line of a value of a kind, whose word has its spaces.
 #[tactic(auto, unfolding(crate::specs::Lines::kind_line))]
 pub fn kind_line<'a, O: Out>(
+    out: &mut O,
+    message: u64,
+    path: &'a Path,
+    kind: &'a [u8],
+    text: &'a [u8],
+) -> Result<(), OutFault>
+    ensures { Writes result (O.log out.old) (O.log out.new)
+        (kind_line message path.now.text kind.now text.now) }
+{
+    if text.len() > SHORT {
+        return long_kind_line(out, message, path, kind, text);
+    }
+    let mut line = Line::new();
+    line.put(b'\n');
+    line.put_octets(text);
+    headed_line(out, message, path.text(), kind, &mut line)
+}
+
+/// The same of any text, in parts.
+#[tactic(auto, unfolding(crate::specs::Lines::kind_line))]
+fn long_kind_line<'a, O: Out>(
     out: &mut O,
     message: u64,
     path: &'a Path,
@@ -85,6 +112,56 @@ pub fn kind_line<'a, O: Out>(
             b"\n",
         ],
     )
+}
+
+/// How long a kind may be that is spelled with its line. All are shorter.
+const KIND: usize = 32;
+
+/// What begins a line of a message, and the rest of it, in parts.
+fn long_line<'a, O: Out>(
+    out: &mut O,
+    message: u64,
+    place: &'a [u8],
+    kind: &'a [u8],
+    rest: &'a [u8],
+) -> Result<(), OutFault>
+    ensures { Writes result (O.log out.old) (O.log out.new)
+        (headed message place.now kind.now rest.now) }
+{
+    let mut digits = Buffer::new();
+    put_parts(
+        out,
+        &[
+            b"m",
+            digits.format(message).as_bytes(),
+            b" ",
+            place,
+            kind,
+            rest,
+        ],
+    )
+}
+
+/// What begins a line of a message, and the rest of it, which is spelled.
+fn headed_line<O: Out>(
+    out: &mut O,
+    message: u64,
+    place: &[u8],
+    kind: &[u8],
+    line: &mut Line,
+) -> Result<(), OutFault>
+    ensures { Writes result (O.log out.old) (O.log out.new)
+        (headed message place.now kind.now (line_text line.old)) }
+{
+    if kind.len() > KIND || place.len() + KIND + 22 > line.room() {
+        return long_line(out, message, place, kind, line.text());
+    }
+    line.put_octets(kind);
+    line.put_octets(place);
+    line.put(b' ');
+    line.put_number(message);
+    line.put(b'm');
+    put_all(out, line.text())
 }
 
 /// The line of a piece of at most 32 octets, which stands at this offset in its content, and whether more comes.
@@ -117,48 +194,40 @@ pub fn split_piece_line<O: Out>(
     ensures { Writes result (O.log out.old) (O.log out.new)
         (split_piece_line message path.now.text held.entry octets.now offset more) }
 {
-    let text = split_text(held, octets);
     content_line(
         out,
         message,
         path,
         piece_word(held),
         offset,
-        &text,
-        more_word(more),
+        held,
+        octets,
+        more,
     )
 }
 
-/// The line of a part of a content.
+/// The line of a part of a content, which came in two.
 #[tactic(auto, unfolding(crate::specs::Lines::content_line))]
-pub fn content_line<'a, O: Out>(
+pub fn content_line<O: Out>(
     out: &mut O,
     message: u64,
-    path: &'a Path,
-    word: &'a [u8],
+    path: &Path,
+    word: &[u8],
     offset: u64,
-    text: &'a [u8],
-    more: &'a [u8],
+    held: Piece<'_>,
+    octets: &[u8],
+    more: bool,
 ) -> Result<(), OutFault>
+    requires { length (piece_octets held) + length octets.now ≤ 32 }
     ensures { Writes result (O.log out.old) (O.log out.new)
-        (content_line message path.now.text word.now offset text.now more.now) }
+        (content_line message path.now.text word.now offset (split_text held.entry octets.now) (more_word more)) }
 {
-    let mut message_digits = Buffer::new();
-    let mut offset_digits = Buffer::new();
-    put_parts(
-        out,
-        &[
-            b"m",
-            message_digits.format(message).as_bytes(),
-            b" ",
-            path.text(),
-            word,
-            offset_digits.format(offset).as_bytes(),
-            text,
-            more,
-            b"\n",
-        ],
-    )
+    let mut line = Line::new();
+    line.put(b'\n');
+    line.put_octets(more_word(more));
+    line.put_piece(held, octets);
+    line.put_number(offset);
+    headed_line(out, message, path.text(), word, &mut line)
 }
 
 /// The line of at most 32 octets that stand at this offset in the rest.

@@ -1,6 +1,6 @@
 //! The words of the lines.
 
-ghost use Rattle.std.specs.Prelude.{◌≡◌};
+ghost use Rattle.std.specs.Prelude.{◌≡◌, ◌≤◌, length};
 ghost use Rattle.giop_print.specs.Lines.{order_word, type_word, more_word, truth_word, kind_word, piece_word, spaced};
 
 use crate::value::Piece;
@@ -37,7 +37,8 @@ pub fn type_word(kind: u8, digits: &mut Buffer) -> &[u8]
 
 /// What ends a line after which more comes.
 pub fn more_word(more: bool) -> &'static [u8]
-    ensures { result.now ≡ more_word more }
+    ensures value { result.now ≡ more_word more }
+    ensures short { length result.now ≤ 5 }
 {
     if more { b" more" } else { b"" }
 }

@@ -1,0 +1,203 @@
+//! A line that is spelled from its end to its front, so that a number is written where it stands.
+
+ghost use Rattle.std.specs.Prelude.{◌≡◌, ◌≤◌, ◌<◌, ◌+◌, ◌*◌, [], ◌∷◌, ◌++◌, length, decimal};
+ghost use Rattle.std.specs.Fmt.{signed_decimal};
+ghost use Rattle.giop_print.specs.Text.{hex_octet, hex, hex_number, escaped_octet, escaped};
+ghost use Rattle.giop_print.specs.Lines.{piece_octets, split_text};
+
+use crate::text::hex_digit;
+use crate::value::Piece;
+use itoa::write_digits;
+
+/// How many octets fit. Most lines are shorter.
+const ROOM: usize = 256;
+
+/// The two digits of each octet, one after another.
+static PAIRS: [u8; 512] =
+    *b"000102030405060708090a0b0c0d0e0f101112131415161718191a1b1c1d1e1f202122232425262728292a2b2c2d2e2f303132333435363738393a3b3c3d3e3f404142434445464748494a4b4c4d4e4f505152535455565758595a5b5c5d5e5f606162636465666768696a6b6c6d6e6f707172737475767778797a7b7c7d7e7f808182838485868788898a8b8c8d8e8f909192939495969798999a9b9c9d9e9fa0a1a2a3a4a5a6a7a8a9aaabacadaeafb0b1b2b3b4b5b6b7b8b9babbbcbdbebfc0c1c2c3c4c5c6c7c8c9cacbcccdcecfd0d1d2d3d4d5d6d7d8d9dadbdcdddedfe0e1e2e3e4e5e6e7e8e9eaebecedeeeff0f1f2f3f4f5f6f7f8f9fafbfcfdfeff";
+
+/// The end of a line. It stands last in an array, and what stands before it says nothing.
+#[derive(Drop)]
+pub struct Line {
+    octets: [u8; ROOM],
+    at: usize,
+    ghost within: { at ≤ 256 },
+}
+
+impl Line {
+    ghost use Rattle.giop_print.specs.Line.{line_text, line_room};
+
+    /// A line of which nothing is spelled.
+    #[inline]
+    pub fn new() -> Line
+        ensures text { line_text result ≡ [] }
+        ensures room { line_room result ≡ 256 }
+    {
+        Line {
+            octets: [0; ROOM],
+            at: ROOM,
+        }
+    }
+
+    /// What was spelled.
+    #[inline]
+    pub fn text(&self) -> &[u8]
+        ensures { result.now ≡ line_text self.now }
+    {
+        &self.octets[self.at..]
+    }
+
+    /// How many octets more fit.
+    #[inline]
+    pub fn room(&self) -> usize
+        ensures { result ≡ line_room self.now }
+    {
+        self.at
+    }
+
+    /// Puts an octet before what was spelled.
+    #[inline]
+    pub fn put(&mut self, octet: u8)
+        requires { 0 < line_room self.old }
+        ensures text { line_text self.new ≡ octet ∷ line_text self.old }
+        ensures room { line_room self.new + 1 ≡ line_room self.old }
+    {
+        let at = self.at - 1;
+        self.octets[at] = octet;
+        self.at = at;
+    }
+
+    /// Puts octets before what was spelled.
+    #[inline]
+    pub fn put_octets(&mut self, octets: &[u8])
+        requires { length octets.now ≤ line_room self.old }
+        ensures text { line_text self.new ≡ octets.now ++ line_text self.old }
+        ensures room { line_room self.new + length octets.now ≡ line_room self.old }
+    {
+        let at = self.at - octets.len();
+        self.octets[at..self.at].copy_from_slice(octets);
+        self.at = at;
+    }
+
+    /// Puts a number before what was spelled.
+    #[inline]
+    pub fn put_number(&mut self, n: u64)
+        requires { 20 ≤ line_room self.old }
+        ensures text { line_text self.new ≡ decimal n ++ line_text self.old }
+        ensures room { line_room self.old ≤ line_room self.new + 20 }
+    {
+        self.at = write_digits(n, &mut self.octets, self.at);
+    }
+
+    /// Puts a number with its sign before what was spelled.
+    #[inline]
+    pub fn put_signed(&mut self, n: i64)
+        requires { 21 ≤ line_room self.old }
+        ensures text { line_text self.new ≡ signed_decimal n ++ line_text self.old }
+        ensures room { line_room self.old ≤ line_room self.new + 21 }
+    {
+        self.put_number(n.unsigned_abs());
+        if n < 0 {
+            self.put(b'-');
+        }
+    }
+
+    /// Puts the two digits of an octet before what was spelled.
+    #[inline]
+    fn put_octet(&mut self, octet: u8)
+        requires { 2 ≤ line_room self.old }
+        ensures text { line_text self.new ≡ hex_octet octet ++ line_text self.old }
+        ensures room { line_room self.new + 2 ≡ line_room self.old }
+    {
+        let pair = octet as usize * 2;
+        self.put(PAIRS[pair + 1]);
+        self.put(PAIRS[pair]);
+    }
+
+    /// Puts two digits for each octet before what was spelled.
+    #[tactic(auto, using(crate::proofs::Spelling::spelling_steps))]
+    pub fn put_hex(&mut self, octets: &[u8])
+        requires { 2 * length octets.now ≤ line_room self.old }
+        ensures text { line_text self.new ≡ hex octets.now ++ line_text self.old }
+        ensures room { line_room self.new + 2 * length octets.now ≡ line_room self.old }
+    {
+        let mut left = octets.len();
+        while left > 0 {
+            left -= 1;
+            self.put_octet(octets[left]);
+        }
+    }
+
+    /// Puts the octet itself, or what stands for it between quotes, before what was spelled.
+    #[inline]
+    fn put_escaped_octet(&mut self, octet: u8)
+        requires { 4 ≤ line_room self.old }
+        ensures text { line_text self.new ≡ escaped_octet octet ++ line_text self.old }
+        ensures room { line_room self.old ≤ line_room self.new + 4 }
+    {
+        match octet {
+            b'"' | b'\\' | 0..=0x1f | 0x7f..=0xff => {
+                self.put_octet(octet);
+                self.put(b'x');
+                self.put(b'\\');
+            }
+            _ => self.put(octet),
+        }
+    }
+
+    /// Puts what stands for the octets between quotes before what was spelled.
+    #[tactic(auto, using(crate::proofs::Spelling::spelling_steps))]
+    pub fn put_escaped(&mut self, octets: &[u8])
+        requires { 4 * length octets.now ≤ line_room self.old }
+        ensures text { line_text self.new ≡ escaped octets.now ++ line_text self.old }
+        ensures room { line_room self.old ≤ line_room self.new + 4 * length octets.now }
+    {
+        let mut left = octets.len();
+        while left > 0 {
+            left -= 1;
+            self.put_escaped_octet(octets[left]);
+        }
+    }
+
+    /// Puts so many digits of a number, the lowest last, before what was spelled.
+    #[tactic(auto, using(crate::proofs::Spelling::spelling_steps))]
+    pub fn put_hex_number(&mut self, n: u64, digits: u8)
+        requires digits { digits ≤ 16 }
+        requires room { 16 ≤ line_room self.old }
+        ensures text { line_text self.new ≡ hex_number digits n ++ line_text self.old }
+        ensures room { line_room self.new + digits ≡ line_room self.old }
+    {
+        let mut done = 0;
+        while done < digits {
+            self.put(hex_digit(((n >> (4 * done)) % 16) as u8));
+            done += 1;
+        }
+    }
+
+    /// Puts what a piece has behind its offset, where `next` follows its octets, before what was spelled: a space and
+    /// its text between quotes, or a space and its digits where it has octets.
+    pub fn put_piece(&mut self, piece: Piece<'_>, next: &[u8])
+        requires size { length (piece_octets piece) + length next.now ≤ 32 }
+        requires room { 131 ≤ line_room self.old }
+        ensures text { line_text self.new ≡ split_text piece.entry next.now ++ line_text self.old }
+        ensures room { line_room self.old ≤ line_room self.new + 131 }
+    {
+        match piece {
+            Piece::Text(octets) => {
+                self.put(b'"');
+                self.put_escaped(next);
+                self.put_escaped(octets);
+                self.put(b'"');
+                self.put(b' ');
+            }
+            Piece::Octets(octets) => {
+                let size = octets.len() + next.len();
+                if size > 0 {
+                    self.put_hex(next);
+                    self.put_hex(octets);
+                    self.put(b' ');
+                }
+            }
+        }
+    }
+}
