@@ -1,6 +1,6 @@
 -- What the code keeps of the messages, event by event.
-use Rattle.std.proofs.Common.{◌≡◌, ℕ, zero, suc, ◌<◌, ◌≤◌, Bool, true, false, not, List, [], ◌∷◌, ◌++◌, length, refl, sym, ap, subst, ◌∙◌, Option, Some, None, Result, Ok, Err, arith, append-nil}
-use Rattle.std.specs.Prelude.{◌==◌, slice_get, slice_set, slice_index_or, OnOk}
+use Rattle.std.proofs.Common.{◌≡◌, ℕ, zero, suc, ◌<◌, ◌≤◌, true, false, not, List, [], ◌∷◌, ◌++◌, length, refl, sym, ap, subst, ◌∙◌, Option, Some, None, Result, Ok, arith, append-nil}
+use Rattle.std.specs.Prelude.{◌==◌, slice_get, slice_set, slice_index_or}
 use Rattle.std.specs.List.{filter, remove, AllByRecursion as Each}
 use Rattle.std.proofs.lemmas.Bool.{ne_eqb}
 use Rattle.arrayvec.specs.ArrayVec.{ArrayVec}
@@ -20,7 +20,7 @@ use Rattle.giop_stream.specs.State.{Slot, Kept, slots_of}
 use Rattle.giop_stream.specs.Machine.{utters_kept}
 use Rattle.giop_stream.specs.Plays.{Scene, Play, Part, part_of, scene_at, lines_of, octets_then, one_play, IsNotOpen}
 use Rattle.giop_stream.specs.Keeping.{IsKept, IsReady, IsSlot, AreSlots, Keeps, event, play_to}
-use Rattle.giop_stream.specs.Playing.{Performs, Plays, PlaysPart, Says, one_if}
+use Rattle.giop_stream.specs.Playing.{Plays, PlaysPart, Says, one_if}
 use Rattle.giop_stream.proofs.Lists.{each_weaker, each_filter, filter_keeps}
 use Rattle.giop_stream.proofs.Performing.{performs_on, does_nothing}
 use Rattle.giop_stream.proofs.InPlace.{at_index, own_then, others_then, slot_at, no_slot, slot_gone, slot_comes}
