@@ -455,20 +455,7 @@ set_ready C n [] k x h hs = tt
 set_ready C n (y ∷ ks) zero x h hs = (h, hs.1)
 set_ready C n (y ∷ ks) (suc k) x h hs = (hs.0, set_ready C n ks k x h hs.1)
 
-pub get_ready : (C : Table) (n : ℕ) (ks : List Kept_slot) (k : ℕ) (x : Kept_slot) → slice_get ks k ≡ Some x
-    → Each (λ slot. IsReady C n slot.message) ks → IsReady C n x.message
-get_ready C n [] k x e hs = absurd cc
-get_ready C n (y ∷ ks) zero x e hs = let same : y ≡ x = cc in rw (← same) hs.0
-get_ready C n (y ∷ ks) (suc k) x e hs = get_ready C n ks k x e hs.1
-
 pub push_ready : (C : Table) (n : ℕ) (ks : List Kept_slot) (x : Kept_slot) → IsReady C n x.message
     → Each (λ slot. IsReady C n slot.message) ks → Each (λ slot. IsReady C n slot.message) (ks ++ x ∷ [])
 push_ready C n [] x h hs = (h, tt)
 push_ready C n (y ∷ ks) x h hs = (hs.0, push_ready C n ks x h hs.1)
-
-pub remove_ready : (C : Table) (n : ℕ) (ks : List Kept_slot) (k : ℕ) → Each (λ slot. IsReady C n slot.message) ks
-    → Each (λ slot. IsReady C n slot.message) (remove ks k)
-remove_ready C n [] zero hs = tt
-remove_ready C n [] (suc k) hs = tt
-remove_ready C n (y ∷ ks) zero hs = hs.1
-remove_ready C n (y ∷ ks) (suc k) hs = (hs.0, remove_ready C n ks k hs.1)
