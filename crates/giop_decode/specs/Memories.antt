@@ -10,6 +10,7 @@ use Rattle.giop_sig.specs.Types.{Plain, Enum, Text}
 
 -- ---- numbers
 
+-- the number of a value that is an enum's
 abbrev pub enum_of : Value → Option ℕ
 enum_of (Number (Enum count names) n) = Some n
 enum_of value = None
@@ -18,6 +19,7 @@ enum_of value = None
 abbrev pub enums : List Line → List ℕ
 enums lines = filter_map (λ l. enum_of l.value) lines
 
+-- the number of a value that is an unsigned long
 abbrev pub ulong_of : Value → Option ℕ
 ulong_of (Number (Plain prims.ULong) n) = Some n
 ulong_of value = None
@@ -43,9 +45,11 @@ pub record TextPiece : Type 0 where
   pub octets : List ℕ
   pub more : Bool
 
+-- one with these fields
 abbrev pub piece : ℕ → List ℕ → Bool → TextPiece
 piece offset octets more = record { offset = offset; octets = octets; more = more }
 
+-- what a value is of a string, if it is a piece of one
 abbrev pub text_of : Value → Option TextPiece
 text_of (Piece (Text bound) offset octets more) = Some (piece offset octets more)
 text_of value = None
@@ -84,6 +88,7 @@ abbrev pub name_of : Option (List ℕ) → Option (List ℕ)
 name_of None = None
 name_of (Some content) = name_if content
 
+-- This is left in mind by a reading, of a header or not.
 pub record IsLeft (is_header : Bool) (r : Read) (h : Heard) : Type 0 where
   -- the header's
   pub request_id : h.request_id ≡ first_in (request_ids is_header (lines_of r))

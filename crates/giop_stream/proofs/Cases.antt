@@ -1,14 +1,13 @@
 -- What the octets of a message do, case by case, as code does it.
 use Rattle.std.proofs.Common.{◌≡◌, ℕ, ◌-◌, ◌<◌, ◌≤◌, true, false, List, [], ◌∷◌, ◌++◌, length, get_or, refl, sym, ◌∙◌, Some, None, append-nil, append_assoc}
-use Rattle.std.specs.Prelude.{nat_lt, ◌||◌}
-use Rattle.std.proofs.lemmas.Bool.{lt-ltb, le-ltb, lt-leb, le-leb, and_right}
+use Rattle.std.proofs.lemmas.Bool.{lt-leb, le-leb}
 use Rattle.giop_stream.specs.declared.fault.ImposedFault.{ImposedFault}
-use Rattle.giop_stream.specs.declared.fault.ImposedFault.TheVariants.{Short, NoOpen, IdOpen, TooManyOpen, FragmentOrder}
-use Rattle.giop_message.specs.Headers.{order, has_more, size, is_fragment, is_opener, is_cancel}
+use Rattle.giop_stream.specs.declared.fault.ImposedFault.TheVariants.{NoOpen, IdOpen, TooManyOpen, FragmentOrder}
+use Rattle.giop_message.specs.Headers.{order, is_fragment, is_opener, is_cancel}
 use Rattle.giop_stream.specs.Framing.{Message}
 use Rattle.giop_message.specs.Reading.{Reading}
 use Rattle.giop_stream.specs.Kinds.{may_be_cancelled, refused}
-use Rattle.giop_stream.specs.Events.{Happening, Begins, Takes, Opens, Continues, Cancelled, Imposed, Closes, Title, Event, Open, title, place, id, own, about, opener_of, goes_past, at_header, at_octet, opens, most_open, same_order, continues, cancels, at_id, at_end}
+use Rattle.giop_stream.specs.Events.{Happening, Begins, Takes, Opens, Continues, Cancelled, Imposed, Title, Event, Open, title, place, id, own, about, opener_of, goes_past, at_header, at_octet, opens, most_open, same_order, continues, cancels, at_id}
 use Rattle.giop_stream.specs.Lines.{Line, line, tells, standing}
 use Rattle.giop_stream.specs.Machine.{utters_kept}
 use Rattle.giop_stream.specs.Plays.{Scene, lines_at, scene_at, lines_of, plays, one_play, no_play, starts, goes_on}
@@ -186,37 +185,3 @@ pub other_id : (R : Reading) (c : Scene) (live : List Open) (m : Message) → is
     → is_opener m.header ≡ false → is_cancel m.header ≡ false → plays R c (at_id live m) ≡ no_play c
 unfolding at_id
 other_id R c live m f g h = rw (f, g, h) (plays_none R c)
-
--- ---- The last octet.
-
-pub end_short : (R : Reading) (c : Scene) (live : List Open) (m : Message) → size m.header < 4
-    → (is_opener m.header || is_fragment m.header) ≡ true
-    → plays R c (at_end live m) ≡ one_play R c (place m) (title m) (Imposed Short)
-unfolding at_end
-end_short R c live m h k = rw (lt-ltb (size m.header) 4 h, k) (plays_own R c m (Imposed Short))
-
-pub end_opener : (R : Reading) (c : Scene) (live : List Open) (m : Message) → 4 ≤ size m.header → is_opener m.header ≡ true
-    → plays R c (at_end live m) ≡ no_play c
-unfolding at_end
-end_opener R c live m h k = rw (le-ltb (size m.header) 4 h, k) (plays_none R c)
-
-pub end_more : (R : Reading) (c : Scene) (live : List Open) (m : Message) → 4 ≤ size m.header → is_opener m.header ≡ false
-    → is_fragment m.header ≡ true → has_more m.header ≡ true → plays R c (at_end live m) ≡ no_play c
-unfolding at_end
-end_more R c live m h g f k = rw (le-ltb (size m.header) 4 h, g, f, k) (plays_none R c)
-
-pub end_closes : (R : Reading) (c : Scene) (live : List Open) (m : Message) (o : Open) → 4 ≤ size m.header
-    → is_opener m.header ≡ false → is_fragment m.header ≡ true → has_more m.header ≡ false → opener_of live m ≡ Some o
-    → plays R c (at_end live m) ≡ one_play R c (place m) o.opener Closes
-unfolding at_end
-end_closes R c live m o h g f k e = rw (le-ltb (size m.header) 4 h, g, f, k, e) (plays_about R c m o Closes)
-
-pub end_lost : (R : Reading) (c : Scene) (live : List Open) (m : Message) → 4 ≤ size m.header → is_opener m.header ≡ false
-    → is_fragment m.header ≡ true → has_more m.header ≡ false → opener_of live m ≡ None → plays R c (at_end live m) ≡ no_play c
-unfolding at_end
-end_lost R c live m h g f k e = rw (le-ltb (size m.header) 4 h, g, f, k, e) (plays_nobody R c m Closes)
-
-pub end_own : (R : Reading) (c : Scene) (live : List Open) (m : Message) → is_opener m.header ≡ false
-    → is_fragment m.header ≡ false → plays R c (at_end live m) ≡ one_play R c (place m) (title m) Closes
-unfolding at_end
-end_own R c live m g f = rw (g, f, and_right (nat_lt (size m.header) 4) false refl) (plays_own R c m Closes)

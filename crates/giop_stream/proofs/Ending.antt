@@ -11,8 +11,8 @@ use Rattle.giop_stream.specs.declared.slots.Slots.{Slots}
 use Rattle.giop_stream.specs.declared.current.Current.{Current}
 use Rattle.giop_stream.specs.Framing.{Message}
 use Rattle.giop_stream.specs.Kinds.{is_short, is_followed}
-use Rattle.giop_stream.specs.Events.{Title, Open, Event, Happening, Closes, Imposed, title, opener_of, has_named, own, about, at_end}
-use Rattle.giop_stream.specs.Plays.{Scene, Play, plays, one_play, no_play}
+use Rattle.giop_stream.specs.Events.{Open, Event, Closes, Imposed, title, opener_of, has_named, own, about, at_end}
+use Rattle.giop_stream.specs.Plays.{Scene, plays, one_play, no_play}
 use Rattle.giop_stream.specs.Keeping.{play_to}
 use Rattle.giop_stream.specs.Whose.{IsAt, opener_title, whose}
 use Rattle.giop_stream.proofs.Cases.{plays_none, plays_own, plays_about, plays_nobody}

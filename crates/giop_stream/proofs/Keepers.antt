@@ -1,6 +1,6 @@
 -- What the code keeps of the messages, event by event.
-use Rattle.std.proofs.Common.{◌≡◌, ℕ, zero, suc, ◌<◌, ◌≤◌, Bool, true, false, not, List, [], ◌∷◌, ◌++◌, length, refl, sym, ap, subst, ◌∙◌, Option, Some, None, Result, Ok, Err, arith, append-nil}
-use Rattle.std.specs.Prelude.{◌==◌, slice_get, slice_set, slice_index_or, OnOk}
+use Rattle.std.proofs.Common.{◌≡◌, ℕ, zero, suc, ◌<◌, ◌≤◌, true, false, not, List, [], ◌∷◌, ◌++◌, length, refl, sym, ap, subst, ◌∙◌, Option, Some, None, Result, Ok, arith, append-nil}
+use Rattle.std.specs.Prelude.{◌==◌, slice_get, slice_set, slice_index_or}
 use Rattle.std.specs.List.{filter, remove, AllByRecursion as Each}
 use Rattle.std.proofs.lemmas.Bool.{ne_eqb}
 use Rattle.arrayvec.specs.ArrayVec.{ArrayVec}
@@ -20,7 +20,7 @@ use Rattle.giop_stream.specs.State.{Slot, Kept, slots_of}
 use Rattle.giop_stream.specs.Machine.{utters_kept}
 use Rattle.giop_stream.specs.Plays.{Scene, Play, Part, part_of, scene_at, lines_of, octets_then, one_play, IsNotOpen}
 use Rattle.giop_stream.specs.Keeping.{IsKept, IsReady, IsSlot, AreSlots, Keeps, event, play_to}
-use Rattle.giop_stream.specs.Playing.{Performs, Plays, PlaysPart, Says, one_if}
+use Rattle.giop_stream.specs.Playing.{Plays, PlaysPart, Says, one_if}
 use Rattle.giop_stream.proofs.Lists.{each_weaker, each_filter, filter_keeps}
 use Rattle.giop_stream.proofs.Performing.{performs_on, does_nothing}
 use Rattle.giop_stream.proofs.InPlace.{at_index, own_then, others_then, slot_at, no_slot, slot_gone, slot_comes}
@@ -455,20 +455,7 @@ set_ready C n [] k x h hs = tt
 set_ready C n (y ∷ ks) zero x h hs = (h, hs.1)
 set_ready C n (y ∷ ks) (suc k) x h hs = (hs.0, set_ready C n ks k x h hs.1)
 
-pub get_ready : (C : Table) (n : ℕ) (ks : List Kept_slot) (k : ℕ) (x : Kept_slot) → slice_get ks k ≡ Some x
-    → Each (λ slot. IsReady C n slot.message) ks → IsReady C n x.message
-get_ready C n [] k x e hs = absurd cc
-get_ready C n (y ∷ ks) zero x e hs = let same : y ≡ x = cc in rw (← same) hs.0
-get_ready C n (y ∷ ks) (suc k) x e hs = get_ready C n ks k x e hs.1
-
 pub push_ready : (C : Table) (n : ℕ) (ks : List Kept_slot) (x : Kept_slot) → IsReady C n x.message
     → Each (λ slot. IsReady C n slot.message) ks → Each (λ slot. IsReady C n slot.message) (ks ++ x ∷ [])
 push_ready C n [] x h hs = (h, tt)
 push_ready C n (y ∷ ks) x h hs = (hs.0, push_ready C n ks x h hs.1)
-
-pub remove_ready : (C : Table) (n : ℕ) (ks : List Kept_slot) (k : ℕ) → Each (λ slot. IsReady C n slot.message) ks
-    → Each (λ slot. IsReady C n slot.message) (remove ks k)
-remove_ready C n [] zero hs = tt
-remove_ready C n [] (suc k) hs = tt
-remove_ready C n (y ∷ ks) zero hs = hs.1
-remove_ready C n (y ∷ ks) (suc k) hs = (hs.0, remove_ready C n ks k hs.1)

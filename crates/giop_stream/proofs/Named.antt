@@ -1,5 +1,5 @@
 -- What the code does at a request id, by the slots that it finds.
-use Rattle.std.proofs.Common.{inl, inr, ◌≡◌, ℕ, zero, suc, ◌<◌, ◌≤◌, Bool, true, false, List, [], ◌∷◌, ◌++◌, length, refl, sym, ap, ◌∙◌, Option, Some, None, arith, append-nil}
+use Rattle.std.proofs.Common.{inl, inr, ◌≡◌, ℕ, zero, suc, ◌<◌, ◌≤◌, Bool, true, false, List, [], ◌∷◌, length, refl, sym, ap, ◌∙◌, Option, Some, None, arith}
 use Rattle.std.specs.Prelude.{◌==◌, ◌||◌, slice_get, slice_index_or, is_some}
 use Rattle.std.proofs.lemmas.Bool.{cases_eq, eq-eqb, eqb-true, false≢true}
 use Rattle.std.specs.List.{find, position_from}
@@ -11,7 +11,7 @@ use Rattle.giop_stream.specs.declared.fault.ImposedFault.TheVariants.{NoOpen, Id
 use Rattle.giop_stream.specs.declared.slots.Slots.{Slots}
 use Rattle.giop_stream.specs.declared.current.Current.{Current}
 use Rattle.giop_stream.specs.Framing.{Message}
-use Rattle.giop_stream.specs.Events.{Open, Opens, Imposed, Cancelled, Title, title, opener_of, at_id, most_open, same_order}
+use Rattle.giop_stream.specs.Events.{Open, Opens, Imposed, Cancelled, title, opener_of, at_id, most_open, same_order}
 use Rattle.giop_stream.specs.State.{slots_of}
 use Rattle.giop_stream.specs.Plays.{Scene, Play, plays, one_play, no_play, line_play, lines_of, goes_on}
 use Rattle.giop_stream.specs.Lines.{Line, tells, standing}

@@ -22,7 +22,7 @@ use Rattle.giop_stream.specs.Stream.{fault_count}
 use Rattle.giop_stream.specs.Machine.{utters_kept}
 use Rattle.giop_stream.specs.Plays.{lines_of, octets_then, part_of, no_part}
 use Rattle.giop_stream.specs.Keeping.{IsKept, event}
-use Rattle.giop_stream.specs.Playing.{Performs, Says, one_if}
+use Rattle.giop_stream.specs.Playing.{Says, one_if}
 
 -- ---- Lines that a reading says.
 

@@ -1,6 +1,7 @@
 -- Octets that are of a message's contents alone, all at once: what is known of the stream with them, and that the code does
 -- their steps.
-use Rattle.std.proofs.Common.{◌≡◌, ℕ, suc, ◌+◌, ◌-◌, ◌^◌, ◌<◌, ◌≤◌, List, [], ◌∷◌, ◌++◌, length, get_or, refl, sym, ap, subst, ◌∙◌, append_assoc, append-nil, length-append, Option, Some, None, Result, Ok, Err, arith}
+use Rattle.std.proofs.Common.{◌≡◌, ℕ, suc, ◌+◌, ◌-◌, ◌^◌, ◌<◌, ◌≤◌, Bool, true, false, List, [], ◌∷◌, ◌++◌, length, get_or, refl, sym, ap, subst, ◌∙◌, append_assoc, append-nil, length-append, Option, Some, None, Result, Ok, Err, arith}
+use mir.Val.{bool_byte}
 use Rattle.std.specs.Prelude.{OnOk}
 use Rattle.std.specs.Result.{OkIff, result_unwrap_or}
 use Rattle.std.proofs.lemmas.Bool.{le-ltb, ne_eqb}
@@ -15,11 +16,12 @@ use Rattle.giop_message.proofs.MessageLaws.{is_causal}
 use Rattle.giop_stream.specs.declared.slots.Slots.{Slots}
 use Rattle.giop_stream.specs.Framing.{Message, Cut, with_payload, limit, cut, messages, read_of}
 use Rattle.giop_stream.specs.Events.{Takes, Title, Open, Rising, happens, at_octet, changed, open_after}
-use Rattle.giop_stream.specs.Lines.{Line, lines}
+use Rattle.giop_stream.specs.Lines.{lines}
 use Rattle.giop_stream.specs.Text.{lines_text}
 use Rattle.giop_stream.specs.Stream.{start_count, fault_count, tally}
 use Rattle.giop_stream.specs.Plays.{Scene, Play, plays, scene_at, stage, with_octet}
 use Rattle.giop_stream.specs.Keeping.{Keeps, play_to}
+use Rattle.giop_stream.specs.Playing.{one_if}
 use Rattle.giop_stream.specs.Runs.{run_play}
 use Rattle.giop_stream.specs.Whose.{Knows, whose, whose_in}
 use Rattle.giop_stream.specs.Remembering.{Memory}
@@ -171,6 +173,11 @@ module _ (C : Table) (l : Listed) where
       }
 
 -- ---- What the fields show with them.
+
+-- a fault, as the code counts it
+pub one_byte : (b : Bool) → bool_byte b ≡ one_if b
+one_byte true = refl
+one_byte false = refl
 
 -- so many octets as a size counts fit a number of 32 bits
 pub number_fits : {E : Type 0} (r : Result ℕ E) (n other : ℕ) → n < 2 ^ 32 → OkIff r (n < 2 ^ 32) n → result_unwrap_or r other ≡ n

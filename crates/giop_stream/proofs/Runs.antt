@@ -20,7 +20,7 @@ use Rattle.giop_stream.specs.Text.{lines_text}
 use Rattle.giop_stream.specs.Stream.{fault_count}
 use Rattle.giop_stream.specs.Plays.{Scene, Part, part_of, scene_at, lines_of, octets_then, no_play, no_part}
 use Rattle.giop_stream.specs.Keeping.{IsKept, Keeps, event}
-use Rattle.giop_stream.specs.Playing.{Performs, Plays, PlaysPart, one_if}
+use Rattle.giop_stream.specs.Playing.{Plays, PlaysPart, one_if}
 use Rattle.giop_stream.specs.Runs.{run_play, run_part}
 use Rattle.giop_stream.proofs.Lists.{any_append}
 use Rattle.giop_stream.proofs.Grown.{count_append}

@@ -64,9 +64,8 @@ impl Framing {
         self.totals.octets += octets.len() as u64;
         let come = u32::try_from(octets.len()).unwrap_or(u32::MAX);
         self.come = self.come.saturating_add(come);
-        if self.slots.take(catalogue, requests, octets, before, out)? {
-            self.totals.faults += 1;
-        }
+        let faulted = self.slots.take(catalogue, requests, octets, before, out)?;
+        self.totals.faults += u64::from(faulted);
         Ok(())
     }
 

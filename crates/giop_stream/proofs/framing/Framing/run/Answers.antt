@@ -6,11 +6,11 @@ use Rattle.giop_stream.specs.Whose.{whose}
 use Rattle.giop_stream.specs.Shown.{shown}
 use Rattle.giop_print.proofs.Writing.{writes_failed}
 use Rattle.giop_stream.proofs.Doing.{on_err, has_current}
-use Rattle.giop_stream.proofs.Running.{run_keeps, run_fits, run_rises, run_does, run_shows, number_fits}
+use Rattle.giop_stream.proofs.Running.{run_keeps, run_fits, run_rises, run_does, run_shows, number_fits, one_byte}
 use Rattle.giop_stream.proofs.framing.Framing.run.Goals as goal
 
-pub returns-in_err-take-clause-does : goal.returns-in_err-take-clause-does
-returns-in_err-take-clause-does g c s r h =
+pub returns-in_err-faulted-clause-does : goal.returns-in_err-faulted-clause-does
+returns-in_err-faulted-clause-does g c s r h =
     let C = c.args.catalogue.now in
     let kept = c.args.requests.now in
     let m = shown c.args.self.now in
@@ -22,11 +22,11 @@ returns-in_err-take-clause-does g c s r h =
     let failed = c.from_residual.ensures.0 in
     run_does C kept s r m h asks.running here.0 here.1 q asks.named asks.before_last asks.limit _ _ _ _
     (writes_failed c.from_residual.result (g.O.Out.log c.args.out.now) (g.O.Out.log c.take.new.out) _ failed
-    (c.in_err-take.ensures.does (stage (message_reading C kept) r.stream)
+    (c.in_err-faulted.ensures.does (stage (message_reading C kept) r.stream)
     (whose (open_after r.stream) here.0) keeps rises).text) (on_err _ c.from_residual.result failed)
 
-pub returns-then-branch-clause-does : goal.returns-then-branch-clause-does
-returns-then-branch-clause-does g c s r h =
+pub returns-clause-does : goal.returns-clause-does
+returns-clause-does g c s r h =
     let C = c.args.catalogue.now in
     let kept = c.args.requests.now in
     let m = shown c.args.self.now in
@@ -38,28 +38,8 @@ returns-then-branch-clause-does g c s r h =
     let rises = run_rises C kept s r m h asks.running here.0 here.1 q asks.named asks.before_last asks.limit in
     let all : c.unwrap_or-come.result ≡ length q =
     c.unwrap_or-come.ensures ∙ number_fits c.try_from.result (length q) _ (omega (arith, fits)) c.try_from.ensures in
-    let does = c.in_ok-take.ensures.does (stage (message_reading C kept) r.stream) (whose (open_after r.stream) here.0) keeps rises in
-    let one = rw c.if-branch.true at does.faults in
+    let does = c.in_ok-faulted.ensures.does (stage (message_reading C kept) r.stream) (whose (open_after r.stream) here.0) keeps rises in
     run_does C kept s r m h asks.running here.0 here.1 q asks.named asks.before_last asks.limit _ _ _ _ does.text
     (run_shows C kept s r m h asks.running here.0 here.1 q asks.named asks.before_last asks.limit _ refl
-    (ap (λ (n : ℕ). c.args.self.now.totals.faults + n) (sym one)) refl refl refl
+    (ap (λ (n : ℕ). m.totals.faults + n) (c.from.ensures ∙ (one_byte _ ∙ sym does.faults))) refl refl refl
     (omega (arith, c.saturating_add-self.ensures, all, fits)) does.kept)
-
-pub returns-else-branch-clause-does : goal.returns-else-branch-clause-does
-returns-else-branch-clause-does g c s r h =
-    let C = c.args.catalogue.now in
-    let kept = c.args.requests.now in
-    let m = shown c.args.self.now in
-    let q = c.args.octets.now in
-    let asks = c.requires in
-    let here = has_current C kept s r m h asks.running asks.full in
-    let keeps = run_keeps C kept s r m h asks.running here.0 here.1 q asks.named asks.before_last asks.limit in
-    let fits = run_fits C kept s r m h asks.running here.0 here.1 q asks.named asks.before_last asks.limit in
-    let rises = run_rises C kept s r m h asks.running here.0 here.1 q asks.named asks.before_last asks.limit in
-    let all : c.unwrap_or-come.result ≡ length q =
-    c.unwrap_or-come.ensures ∙ number_fits c.try_from.result (length q) _ (omega (arith, fits)) c.try_from.ensures in
-    let does = c.in_ok-take.ensures.does (stage (message_reading C kept) r.stream) (whose (open_after r.stream) here.0) keeps rises in
-    let none = rw c.if-branch.false at does.faults in
-    run_does C kept s r m h asks.running here.0 here.1 q asks.named asks.before_last asks.limit _ _ _ _ does.text
-    (run_shows C kept s r m h asks.running here.0 here.1 q asks.named asks.before_last asks.limit _ refl
-    (omega (arith, none)) refl refl refl (omega (arith, c.saturating_add-self.ensures, all, fits)) does.kept)

@@ -1,4 +1,4 @@
-use Rattle.std.proofs.Common.{Some, refl, sym, ap}
+use Rattle.std.proofs.Common.{Some, refl, sym}
 use Rattle.std.proofs.lemmas.Bool.{false≢true}
 use Rattle.giop_stream.proofs.ReadingPlays.{cancel_says, cancelled_text, cancelled_none, no_lines, no_message}
 use Rattle.giop_stream.proofs.Keepers.{open_slot, open_there, cancel_keeps}
