@@ -1,28 +1,13 @@
 -- How the code spells octets and numbers, one after another.
-use Rattle.std.proofs.Common.{◌≡◌, ℕ, zero, suc, ◌+◌, ◌-◌, ◌*◌, ◌/◌, ◌%◌, ◌^◌, ◌<◌, ◌≤◌, List, [], ◌∷◌, ◌++◌, length, take, get_or, refl, sym, ap, ◌∙◌, arith, append_assoc, append-nil, pow-suc, add-one, drop, flat_map, Bool, true, ◌&&◌, T, eqb, eqb→eq, eq-zero-or-pos, inl, inr}
+use Rattle.std.proofs.Common.{◌≡◌, ℕ, zero, suc, ◌+◌, ◌-◌, ◌*◌, ◌/◌, ◌%◌, ◌^◌, ◌<◌, ◌≤◌, List, [], ◌∷◌, ◌++◌, length, get_or, refl, sym, ap, ◌∙◌, arith, append_assoc, append-nil, pow-suc, add-one, drop, flat_map, Bool, true, ◌&&◌, T, eqb, eqb→eq, eq-zero-or-pos, inl, inr}
 use Rattle.std.proofs.lemmas.Nat.{pow-add}
-use Rattle.std.proofs.lemmas.List.{take_all, drop_all, drop_more}
+use Rattle.std.proofs.lemmas.List.{drop_all, drop_more}
 use lib.Ieee.Fits.{and_l, and_r}
 use Rattle.giop_print.specs.declared.line.TheConstants.{PAIRS}
 use Rattle.std.proofs.lemmas.List.Concat.{flat_map-append}
 use Rattle.std.specs.Prelude.{codes}
 use Rattle.giop_print.specs.Text.{hex_digit, hex_octet, hex, hex_number, escaped_octet, escaped, quoted}
 use Rattle.giop_print.specs.Lines.{spaced_hex}
-use Rattle.giop_print.proofs.Writing.{flat_map-take}
-
--- no octet yet
-pub hex_none : (text : List ℕ) (xs : List ℕ) → text ≡ text ++ hex (take 0 xs)
-unfolding hex
-hex_none text xs = sym (append-nil text)
-
--- one octet more
-pub hex_more : (before text : List ℕ) (xs : List ℕ) (i : ℕ) → i < length xs → text ≡ before ++ hex (take i xs) → text ++ hex_octet (get_or xs i 0) ≡ before ++ hex (take (i + 1) xs)
-unfolding hex
-hex_more before text xs i h e = rw (flat_map-take hex_octet xs i 0 h, e) (append_assoc before (hex (take i xs)) (hex_octet (get_or xs i 0)))
-
--- all octets
-pub hex_all : (before text : List ℕ) (xs : List ℕ) (i : ℕ) → length xs ≤ i → text ≡ before ++ hex (take i xs) → text ≡ before ++ hex xs
-hex_all before text xs i h e = e ∙ ap (λ ys. before ++ hex ys) (take_all i xs h)
 
 -- octets, and those that follow them
 pub hex_append : (xs ys : List ℕ) → hex (xs ++ ys) ≡ hex xs ++ hex ys
@@ -104,4 +89,4 @@ pub hex_number_before : (text before : List ℕ) (k n : ℕ) → before ≡ hex_
 unfolding hex_number
 hex_number_before text before k n e = rw (add-one, ← pow-16 k, e) refl
 
-pub ruleset spelling_steps = (hex_none, hex_more, hex_all, hex_last, hex_before, escaped_last, escaped_before, hex_number_none, hex_number_before)
+pub ruleset spelling_steps = (hex_last, hex_before, escaped_last, escaped_before, hex_number_none, hex_number_before)

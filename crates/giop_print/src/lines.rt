@@ -10,10 +10,9 @@ ghost use Rattle.giop_print.specs.Lines.{kind_line, kind_word, spaced, number_te
 use crate::line::Line;
 use crate::path::Path;
 use crate::sink::{Out, OutFault, put_all, put_parts};
-use crate::text::{push_hex, quoted_octet};
+use crate::text::quoted_octet;
 use crate::value::{Piece, Value};
 use crate::words::{kind_word, more_word, order_word, piece_word, truth_word, type_word};
-use arrayvec::ArrayVec;
 use giop_cdr::{Number, Order, Prim, size};
 use itoa::Buffer;
 
@@ -256,23 +255,13 @@ pub fn split_rest_line<O: Out>(
     ensures { Writes result (O.log out.old) (O.log out.new)
         (rest_line message offset (held.now ++ octets.now)) }
 {
-    let mut message_digits = Buffer::new();
-    let mut offset_digits = Buffer::new();
-    let mut text = ArrayVec::<u8, 64>::new();
-    push_hex(&mut text, held);
-    push_hex(&mut text, octets);
-    put_parts(
-        out,
-        &[
-            b"m",
-            message_digits.format(message).as_bytes(),
-            b" rest @",
-            offset_digits.format(offset).as_bytes(),
-            b" ",
-            text.as_slice(),
-            b"\n",
-        ],
-    )
+    let mut line = Line::new();
+    line.put(b'\n');
+    line.put_hex(octets);
+    line.put_hex(held);
+    line.put(b' ');
+    line.put_number(offset);
+    headed_line(out, message, b"rest @", b"", &mut line)
 }
 
 /// The line of a header: the minor version, the order, the message type, the size, and whether fragments follow.

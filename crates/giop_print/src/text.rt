@@ -42,18 +42,6 @@ fn push_escaped_octet<const N: usize>(text: &mut ArrayVec<u8, N>, octet: u8)
     }
 }
 
-/// Appends two digits for each octet.
-#[tactic(auto, using(crate::proofs::Spelling::spelling_steps))]
-pub fn push_hex<const N: usize>(text: &mut ArrayVec<u8, N>, octets: &[u8])
-    requires { array_vec_len text.old + 2 * length octets.now ≤ N }
-    ensures text { text.new.items ≡ text.old.items ++ hex octets.now }
-    ensures room { array_vec_len text.new ≡ array_vec_len text.old + 2 * length octets.now }
-{
-    for octet in octets {
-        push_octet(text, *octet);
-    }
-}
-
 /// An octet between quotes.
 pub fn quoted_octet(octet: u8) -> ArrayVec<u8, 6>
     ensures { result.items ≡ quoted (octet ∷ []) }
