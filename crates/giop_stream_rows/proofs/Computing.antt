@@ -1,8 +1,11 @@
 -- The streams, computed.
-use Rattle.std.proofs.Common.{ℕ, refl}
+use Rattle.std.proofs.Common.{ℕ, zero, suc, ◌<◌, List, [], ◌∷◌, None, arith, refl}
+use Rattle.std.specs.List.{AllByRecursion as Each}
 use Rattle.std.specs.Fmt.{digits}
 use Rattle.giop_cdr.specs.Alignment.{padding}
-use Rattle.giop_cdr.specs.Numbers.{num, twos_complement}
+use Rattle.giop_cdr.specs.Numbers.{num, twos_complement, AreOctets}
+use Rattle.giop_octets.specs.Fields.{four, eight}
+use Rattle.giop_checkpoint.specs.Fixed.{magic, counts_octets, state_octets, fixed_octets}
 use Rattle.giop_print.specs.Text.{hex, hex_number, escaped}
 use Rattle.giop_print.specs.Lines.{type_word, continues_line, cancelled_line, fault_line, stream_fault_line, unfinished_line, total_line}
 use Rattle.giop_print.specs.Lines as print
@@ -23,8 +26,15 @@ use Rattle.giop_stream.specs.Events.{place, own, about, id, opener_of, has_named
 use Rattle.giop_stream.specs.Lines.{classes, line, tells, told, by_class, in_order, is_last_of, standing, said, stop_line, lines}
 use Rattle.giop_stream.specs.Text.{start_line, lines_text}
 use Rattle.giop_stream.specs.Stream.{text, start_count, fault_count, tally, is_inside, is_truncated, is_over, heads, unfinished, final, closing}
+use Rattle.giop_stream.specs.declared.slots.Payload.TheVariants.{Nobody}
+use Rattle.giop_stream.specs.State.{octets_of, slots_of}
+use Rattle.giop_stream.specs.Remembering.{Memory}
+use Rattle.giop_stream.specs.Engine.{state_of}
+use Rattle.giop_stream.specs.Showing.{come_in, comes_itself}
+use Rattle.giop_stream.specs.Checkpoint.{counts_of, fixed_of, checkpoint_octets}
 use Rattle.giop_stream_rows.specs.Worked.{digit, octets, stream, written, reading, called, table_of, builtin, puts, bigs, late, asks, kept}
 use Rattle.giop_stream_rows.specs.Streams.{CloseConnection, LittleRequest, Interleaved, OpenTwice, Cancelled, Replied, Raised}
+use Rattle.giop_stream_rows.specs.Checkpoints.{InAHeader}
 
 -- what one message is read with
 one_message : ℕ
@@ -68,3 +78,54 @@ replied = record { text = refl; closing = refl }
 pub raised : Raised
 unfolding one_message a_stream told_with
 raised = record { text = refl; closing = refl }
+
+-- ---- Checkpoints.
+
+-- what a checkpoint is spelled with
+a_checkpoint : ℕ
+unfolding four eight magic counts_octets state_octets fixed_octets counts_of fixed_of checkpoint_octets octets_of slots_of state_of come_in comes_itself
+a_checkpoint = 0
+
+are_octets : (xs : List ℕ) → Each (λ x. x < 256) xs → AreOctets xs
+are_octets [] h k d below = absurd (omega (arith, below))
+are_octets (x ∷ xs) h zero d below = h.0
+are_octets (x ∷ xs) h (suc k) d below = are_octets xs h.1 k d (omega (arith, below))
+
+-- the first octets of a header
+front : List ℕ
+front = 71 ∷ 73 ∷ 79 ∷ 80 ∷ 1 ∷ []
+
+front_octets : AreOctets front
+unfolding front
+front_octets = are_octets front (omega arith, (omega arith, (omega arith, (omega arith, (omega arith, tt)))))
+
+held : Memory
+unfolding front
+held = record {
+  totals = record { messages = 0; faults = 0; octets = 5 };
+  stopped = None;
+  header = front;
+  come = 0;
+  slots = record { slots = record { items = [] }; own = None; payload = Nobody };
+}
+
+pub in_a_header : InAHeader
+unfolding one_message a_stream told_with a_checkpoint front held
+in_a_header = record {
+  memory = held;
+  entries = [];
+  octets_are = refl;
+  entries_are = tt;
+  stream = front_octets;
+  shows = record {
+    totals = refl;
+    stopped = refl;
+    header = refl;
+    come = refl;
+    slots = tt;
+    own = tt;
+    owner = refl;
+    turn = λ _. refl;
+  };
+  ready = record { own_ready = tt; each_ready = tt };
+}

@@ -3,6 +3,7 @@
 
 ghost use Rattle.giop_stream_rows.specs.Worked.{AreOfTheirList};
 ghost use Rattle.giop_stream_rows.specs.Streams.{CloseConnection, LittleRequest, Interleaved, OpenTwice, Cancelled, Replied, Raised};
+ghost use Rattle.giop_stream_rows.specs.Checkpoints.{InAHeader};
 
 /// The text and the closing of these streams, by the declarations and the requests of each. It has no body, and is called
 /// for its contract.
@@ -22,4 +23,10 @@ pub fn worked_streams()
     ensures raised { Raised }
     // What is kept of the request list of these two answers as the list does.
     ensures listed { AreOfTheirList }
+{}
+
+/// The checkpoints of worked streams, octet for octet. It has no body, and is called for its contract.
+pub fn worked_checkpoints()
+    // Behind 5 octets of a CloseConnection.
+    ensures in_a_header { InAHeader }
 {}
