@@ -1,8 +1,12 @@
 -- The streams, computed.
-use Rattle.std.proofs.Common.{ℕ, refl}
+use Rattle.std.proofs.Common.{◌≡◌, ℕ, zero, suc, true, nat_lt, List, [], ◌∷◌, None, Some, arith, refl}
+use Rattle.std.specs.List.{list_all}
+use Rattle.std.proofs.lemmas.Bool.{ltb-true, and_parts}
 use Rattle.std.specs.Fmt.{digits}
 use Rattle.giop_cdr.specs.Alignment.{padding}
-use Rattle.giop_cdr.specs.Numbers.{num, twos_complement}
+use Rattle.giop_cdr.specs.Numbers.{num, twos_complement, AreOctets}
+use Rattle.giop_octets.specs.Fields.{four, eight}
+use Rattle.giop_checkpoint.specs.Fixed.{magic, counts_octets, state_octets, fixed_octets}
 use Rattle.giop_print.specs.Text.{hex, hex_number, escaped}
 use Rattle.giop_print.specs.Lines.{type_word, continues_line, cancelled_line, fault_line, stream_fault_line, unfinished_line, total_line}
 use Rattle.giop_print.specs.Lines as print
@@ -23,8 +27,19 @@ use Rattle.giop_stream.specs.Events.{place, own, about, id, opener_of, has_named
 use Rattle.giop_stream.specs.Lines.{classes, line, tells, told, by_class, in_order, is_last_of, standing, said, stop_line, lines}
 use Rattle.giop_stream.specs.Text.{start_line, lines_text}
 use Rattle.giop_stream.specs.Stream.{text, start_count, fault_count, tally, is_inside, is_truncated, is_over, heads, unfinished, final, closing}
+use Rattle.giop_checkpoint.specs.declared.fault.StreamFault.TheVariants.{Magic}
+use Rattle.giop_stream.specs.declared.slots.Slots.{Slots}
+use Rattle.giop_stream.specs.declared.slots.Payload.{Payload}
+use Rattle.giop_stream.specs.declared.slots.Payload.TheVariants as payload
+use Rattle.giop_stream.specs.State.{octets_of, slots_of, is_open}
+use Rattle.giop_stream.specs.Remembering.{Memory}
+use Rattle.giop_stream.specs.Engine.{state_of, own_for, owner_for}
+use Rattle.giop_stream.specs.Octet.{now_of}
+use Rattle.giop_stream.specs.Showing.{come_in, comes_itself}
+use Rattle.giop_stream.specs.Checkpoint.{counts_of, fixed_of, checkpoint_octets}
 use Rattle.giop_stream_rows.specs.Worked.{digit, octets, stream, written, reading, called, table_of, builtin, puts, bigs, late, asks, kept}
 use Rattle.giop_stream_rows.specs.Streams.{CloseConnection, LittleRequest, Interleaved, OpenTwice, Cancelled, Replied, Raised}
+use Rattle.giop_stream_rows.specs.Checkpoints.{five_octets, one_in_payload, bad_magic, InAHeader, InAPayload, BehindAFault}
 
 -- what one message is read with
 one_message : ℕ
@@ -68,3 +83,112 @@ replied = record { text = refl; closing = refl }
 pub raised : Raised
 unfolding one_message a_stream told_with
 raised = record { text = refl; closing = refl }
+
+-- ---- Checkpoints.
+
+-- what a checkpoint is spelled with
+a_checkpoint : ℕ
+unfolding four eight magic counts_octets state_octets fixed_octets counts_of fixed_of checkpoint_octets octets_of slots_of state_of own_for owner_for is_open now_of come_in comes_itself five_octets one_in_payload bad_magic
+a_checkpoint = 0
+
+-- numbers that are each below 256
+are_octets : (xs : List ℕ) → list_all (λ x. nat_lt x 256) xs ≡ true → AreOctets xs
+are_octets [] h k d below = absurd (omega (arith, below))
+are_octets (x ∷ xs) h zero d below = ltb-true x 256 (and_parts (nat_lt x 256) (list_all (λ y. nat_lt y 256) xs) h).0
+are_octets (x ∷ xs) h (suc k) d below =
+    are_octets xs (and_parts (nat_lt x 256) (list_all (λ y. nat_lt y 256) xs) h).1 k d (omega (arith, below))
+
+-- no message is kept
+no_messages : Payload → Slots
+no_messages payload = record { slots = record { items = [] }; own = None; payload = payload }
+
+-- what is held in each place
+in_header : Memory
+in_header = record {
+  totals = record { messages = 0; faults = 0; octets = 5 };
+  stopped = None;
+  header = 71 ∷ 73 ∷ 79 ∷ 80 ∷ 1 ∷ [];
+  come = 0;
+  slots = no_messages payload.Nobody;
+}
+
+in_payload : Memory
+in_payload = record {
+  totals = record { messages = 1; faults = 1; octets = 13 };
+  stopped = None;
+  header = 71 ∷ 73 ∷ 79 ∷ 80 ∷ 1 ∷ 0 ∷ 0 ∷ 7 ∷ 0 ∷ 0 ∷ 0 ∷ 4 ∷ [];
+  come = 1;
+  slots = no_messages payload.Own;
+}
+
+behind_fault : Memory
+behind_fault = record {
+  totals = record { messages = 1; faults = 1; octets = 15 };
+  stopped = Some Magic;
+  header = [];
+  come = 0;
+  slots = no_messages payload.Nobody;
+}
+
+pub in_a_header : InAHeader
+unfolding one_message a_stream told_with a_checkpoint no_messages in_header
+in_a_header = record {
+  memory = in_header;
+  entries = [];
+  octets_are = refl;
+  entries_are = tt;
+  stream = are_octets five_octets refl;
+  shows = record {
+    totals = refl;
+    stopped = refl;
+    header = refl;
+    come = refl;
+    slots = tt;
+    own = tt;
+    owner = refl;
+    turn = λ _. refl;
+  };
+  ready = record { own_ready = tt; each_ready = tt };
+}
+
+pub in_a_payload : InAPayload
+unfolding one_message a_stream told_with a_checkpoint no_messages in_payload
+in_a_payload = record {
+  memory = in_payload;
+  entries = [];
+  octets_are = refl;
+  entries_are = tt;
+  stream = are_octets one_in_payload refl;
+  shows = record {
+    totals = refl;
+    stopped = refl;
+    header = refl;
+    come = refl;
+    slots = tt;
+    own = tt;
+    owner = refl;
+    turn = λ _. refl;
+  };
+  ready = record { own_ready = tt; each_ready = tt };
+}
+
+pub behind_a_fault : BehindAFault
+unfolding one_message a_stream told_with a_checkpoint no_messages behind_fault
+behind_a_fault = record {
+  memory = behind_fault;
+  entries = [];
+  octets_are = refl;
+  entries_are = tt;
+  stream = are_octets bad_magic refl;
+  shows = record {
+    totals = refl;
+    stopped = refl;
+    header = refl;
+    come = refl;
+    slots = tt;
+    own = tt;
+    owner = refl;
+    turn = λ _. refl;
+  };
+  ready = record { own_ready = tt; each_ready = tt };
+}

@@ -1,8 +1,9 @@
-//! Streams worked by hand: what an engine writes of them and at their end holds by computation.
+//! Streams worked by hand: what an engine writes of them and at their end, and checkpoints of them, hold by computation.
 #![tactic(auto)]
 
 ghost use Rattle.giop_stream_rows.specs.Worked.{AreOfTheirList};
 ghost use Rattle.giop_stream_rows.specs.Streams.{CloseConnection, LittleRequest, Interleaved, OpenTwice, Cancelled, Replied, Raised};
+ghost use Rattle.giop_stream_rows.specs.Checkpoints.{InAHeader, InAPayload, BehindAFault};
 
 /// The text and the closing of these streams, by the declarations and the requests of each. It has no body, and is called
 /// for its contract.
@@ -22,4 +23,12 @@ pub fn worked_streams()
     ensures raised { Raised }
     // What is kept of the request list of these two answers as the list does.
     ensures listed { AreOfTheirList }
+{}
+
+/// The checkpoints of worked streams, octet for octet. It has no body, and is called for its contract.
+pub fn worked_checkpoints()
+    // In a header, in the payload of a faulted message, and behind a stream fault.
+    ensures in_a_header { InAHeader }
+    ensures in_a_payload { InAPayload }
+    ensures behind_a_fault { BehindAFault }
 {}
