@@ -1,6 +1,6 @@
-"""Fails each open, read and write of the program in turn, and all from it on, and cuts them short: what is written is a
-front of what it always is, and the status and the text on standard error say what failed. A read or write that
-is interrupted is made again."""
+"""Fails each open, read, write, sync and rename of the program in turn, and all from it on, and cuts reads and writes
+short: what is written is a front of what it always is, and the status and the text on standard error say what failed. A
+file that isn't saved is what it was, and none stands beside it. A read or write that is interrupted is made again."""
 
 from __future__ import annotations
 
@@ -14,19 +14,21 @@ ERRORS = (errno.EIO, errno.ENOSPC, errno.EAGAIN)
 ON = 2**63
 INTERRUPTIONS = 100
 FAILED = {
-    "open": (b"cannot read\n",),
+    "open": (b"cannot read\n", b"cannot write\n"),
     "read": (b"cannot read\n", b"giopdump: read failed\n"),
-    "write": (b"giopdump: write failed\n", b""),
+    "write": (b"giopdump: write failed\n", b"cannot write\n", b""),
+    "sync": (b"cannot write\n",),
+    "rename": (b"cannot write\n",),
 }
 
 
-def is_told(call: str, ended: Ended, usual: Ended) -> bool:
+def is_told(case: Case, call: str, ended: Ended, usual: Ended) -> bool:
     """Whether what was written is a front of the usual lines, and the failure is told, unless it was of telling."""
     if not usual.lines.startswith(ended.lines):
         return False
-    if ended.status == usual.status and ended.lines == usual.lines:
+    if ended.status == usual.status and ended.lines == usual.lines and ended.files == usual.files:
         return ended.said == usual.said or call == "write" and usual.said.startswith(ended.said)
-    return ended.status == 4 and any(ended.said.endswith(said) for said in FAILED[call])
+    return ended.is_as_before(case) and ended.status == 4 and any(ended.said.endswith(said) for said in FAILED[call])
 
 
 def fail_each(library: str, case: Case, call: str, usual: Ended, seen: Differences) -> None:
@@ -34,7 +36,7 @@ def fail_each(library: str, case: Case, call: str, usual: Ended, seen: Differenc
         for error in ERRORS:
             for last, which in ((at, "alone"), (ON, "and all behind it")):
                 ended = run(library, case, call, at=at, last=last, how=error)
-                as_wanted = is_told(call, ended, usual) and ended.touched > 0
+                as_wanted = is_told(case, call, ended, usual) and ended.touched > 0
                 seen.note(as_wanted, f"{case.name}: {call} {at} {which}, {errno.errorcode[error]}", ended)
 
 
@@ -69,7 +71,7 @@ def main(library: str) -> int:
         for call in ("read", "write"):
             interrupt_each(library, case, call, usual, seen)
             cut_each(library, case, call, usual, seen)
-    print(f"opens/reads/writes: {', '.join(f'{case.name} {made}' for case, made in zip(cases(), counted))}")
+    print(f"opens/reads/writes/syncs/renames: {', '.join(f'{case.name} {made}' for case, made in zip(cases(), counted))}")
     print(f"{seen.runs} runs, {seen.differ} differ")
     return seen.status()
 

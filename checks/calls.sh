@@ -1,6 +1,7 @@
 #!/usr/bin/env bash
-# Fails each of the program's calls of open, read and write in turn, and all from it on, interrupts it and cuts it
-# short: what is written is a front of what it always is, and what failed is told.
+# Fails each of the program's calls of open, read, write, fsync and rename in turn, and all from it on, interrupts it and
+# cuts it short: what is written is a front of what it always is, and what failed is told. A file that can't be saved is
+# what it was.
 set -euo pipefail
 cd "$(dirname "$0")/.."
 . checks/packages.sh

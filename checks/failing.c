@@ -1,6 +1,7 @@
-/* A library to be preloaded: it refuses requests for memory, fails opens, reads and writes, and cuts them short.
+/* A library to be preloaded: it refuses requests for memory, fails opens, reads, writes, syncs and renames, and cuts reads
+ * and writes short.
  *
- * FAILING_CALL   which calls: memory, open, read or write
+ * FAILING_CALL   which calls: memory, open, read, write, sync or rename
  * FAILING_AT     the first of them that is touched, counted from 1
  * FAILING_LAST   the last one; without it, all from the first on
  * FAILING_HOW    the number of the error that a call gives (memory has none); 0 where a read or write is cut short
@@ -23,9 +24,9 @@ extern void *__libc_malloc(size_t size);
 extern void *__libc_calloc(size_t count, size_t size);
 extern void *__libc_realloc(void *old, size_t size);
 
-enum call { MEMORY, OPEN, READ, WRITE, CALLS, NONE = CALLS };
+enum call { MEMORY, OPEN, READ, WRITE, SYNC, RENAME, CALLS, NONE = CALLS };
 
-static const char *const names[CALLS] = {"memory", "open", "read", "write"};
+static const char *const names[CALLS] = {"memory", "open", "read", "write", "sync", "rename"};
 static unsigned long counts[CALLS], touched;
 static enum call failing = NONE;
 static unsigned long first = 1, last = -1UL, cut, drawn = 1;
@@ -54,8 +55,8 @@ __attribute__((constructor)) static void begin(void)
 __attribute__((destructor)) static void end(void)
 {
     char text[128];
-    int length = snprintf(text, sizeof text, "%lu %lu %lu %lu %lu\n", counts[MEMORY], counts[OPEN], counts[READ],
-                          counts[WRITE], touched);
+    int length = snprintf(text, sizeof text, "%lu %lu %lu %lu %lu %lu %lu\n", counts[MEMORY], counts[OPEN], counts[READ],
+                          counts[WRITE], counts[SYNC], counts[RENAME], touched);
     if (report >= 0 && syscall(SYS_write, report, text, length) != length)
         _exit(99);
 }
@@ -124,3 +125,21 @@ static ssize_t written(int file, const void *from, size_t size)
 ssize_t write(int file, const void *from, size_t size) { return written(file, from, size); }
 
 ssize_t __write(int file, const void *from, size_t size) { return written(file, from, size); }
+
+int fsync(int file)
+{
+    if (is_touched(SYNC)) {
+        errno = how;
+        return -1;
+    }
+    return syscall(SYS_fsync, file);
+}
+
+int rename(const char *from, const char *to)
+{
+    if (is_touched(RENAME)) {
+        errno = how;
+        return -1;
+    }
+    return syscall(SYS_renameat2, AT_FDCWD, from, AT_FDCWD, to, 0);
+}

@@ -1,17 +1,20 @@
 """Streams made from the examples by seeds: messages are taken in any order, and octets of them changed, left out, put
-in and repeated. Of each the program writes the same text however its reads are cut, and a front of it when the stream
-ends early; it ends with status 0 or 1, its total line is right, and it makes as many requests for memory as ever."""
+in and repeated. Of each the program writes the same text however its reads are cut, and in parts, each gone on from where
+the one before it was saved; and a front of it when the stream ends early. It ends with status 0 or 1, its total line is
+right, and it makes as many requests for memory as ever."""
 
 from __future__ import annotations
 
 import os
 import random
+import subprocess
 import sys
+import tempfile
 import time
 from concurrent.futures import ThreadPoolExecutor
 from typing import Dict, List, Tuple
 
-from failing import EXAMPLES, TOUR, Case, Differences, Ended, run
+from failing import EXAMPLES, PROGRAM, SECONDS, TOUR, Case, Differences, Ended, run
 
 MOST = 20_000
 TYPES = [
@@ -91,6 +94,22 @@ def before_the_closing(text: bytes) -> bytes:
     return b"".join(lines)
 
 
+def in_parts(case: Case, cuts: List[int]) -> Tuple[bytes, int]:
+    """The joined lines of the parts of a stream, and the status of the last."""
+    ends = [0, *cuts, len(case.stream)]
+    lines, status = b"", 0
+    with tempfile.TemporaryDirectory() as folder:
+        saved = os.path.join(folder, "checkpoint")
+        for place, (start, end) in enumerate(zip(ends, ends[1:])):
+            words = [str(PROGRAM), *case.words]
+            words += ["--resume", saved] if place > 0 else []
+            words += ["--save", saved] if place < len(cuts) else []
+            part = subprocess.run(words, input=case.stream[start:end], capture_output=True, timeout=SECONDS)
+            lines += part.stdout + part.stderr
+            status = part.returncode
+    return lines, status
+
+
 def try_seed(library: str, seed: int, known: List[bytes], requests: Requests) -> List[Tuple[bool, str, Ended]]:
     """What came of the runs of a seed."""
     case = stream_of(seed, known)
@@ -104,10 +123,13 @@ def try_seed(library: str, seed: int, known: List[bytes], requests: Requests) ->
     ended = run(library, Case(case.name, case.words, case.stream[:end]))
     is_front = usual.lines.startswith(before_the_closing(ended.lines)) and is_right(ended, end)
     tried.append((is_front, f"the first {end} octets", ended))
+    cuts = sorted(draw.choices(range(len(case.stream) + 1), k=draw.choice((1, 1, 2, 5))))
+    parts = in_parts(case, cuts)
+    saved = (parts == (usual.lines, usual.status), f"saved at {', '.join(map(str, cuts))}", usual)
     usually = requests[case.words]
     return [
         (as_wanted and ended.calls.get("memory") == usually, f"seed {seed}, {what}", ended)
-        for as_wanted, what, ended in tried
+        for as_wanted, what, ended in [*tried, saved]
     ]
 
 

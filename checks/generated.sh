@@ -1,6 +1,6 @@
 #!/usr/bin/env bash
-# Dumps streams that are made by seeds from the examples, for so many seconds: whole, with the reads cut, and ended
-# early.
+# Dumps streams that are made by seeds from the examples, for so many seconds: whole, with the reads cut, in parts that are
+# saved and gone on from, and ended early.
 #
 #     checks/generated.sh [SECONDS [FIRST_SEED]]
 set -euo pipefail

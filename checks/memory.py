@@ -10,6 +10,11 @@ from failing import Case, Differences, Ended, cases, run
 NO_MEMORY = (b"", b"giopdump: out of memory\n", 5)
 
 
+def has_no_memory(case: Case, ended: Ended) -> bool:
+    """Whether it is told that there is no memory, and nothing is written or saved."""
+    return (ended.lines, ended.said, ended.status) == NO_MEMORY and ended.is_as_before(case)
+
+
 def refuse_each(library: str, case: Case, seen: Differences) -> int:
     """How many requests the case makes."""
     usual = run(library, case)
@@ -18,7 +23,7 @@ def refuse_each(library: str, case: Case, seen: Differences) -> int:
     for at in range(1, requests + 1):
         for last, which in ((at, "alone"), (2**63, "and all behind it")):
             ended = run(library, case, "memory", at=at, last=last)
-            may_be = ended.usual() in (usual.usual(), NO_MEMORY) and ended.touched > 0
+            may_be = (ended.usual() == usual.usual() or has_no_memory(case, ended)) and ended.touched > 0
             seen.note(may_be, f"{case.name}: request {at} {which}", ended)
     return requests
 

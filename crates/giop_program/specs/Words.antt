@@ -8,5 +8,7 @@ asked_of words =
     record {
       signatures = option_map (λ name. name.now) words.signatures;
       requests = option_map (λ name. name.now) words.requests;
+      resume = option_map (λ name. name.now) words.resume;
+      save = option_map (λ name. name.now) words.save;
       stream = option_map (λ name. name.now) words.stream;
     }

@@ -11,6 +11,12 @@ const SIGNATURES_HELP: &str =
 const REQUESTS_HELP: &str =
     "The requests that the replies of STREAM answer; none where it is missing";
 
+const RESUME_HELP: &str =
+    "The checkpoint that STREAM goes on from; a new stream where it is missing";
+
+const SAVE_HELP: &str =
+    "Where a checkpoint is saved at the end of STREAM, in place of the closing lines";
+
 const STREAM_HELP: &str = "The octets of one direction; standard input where it is missing";
 
 const EXAMPLES: &str = "\
@@ -26,6 +32,12 @@ A request list has a line for each request of the other direction, its id and it
     1 distance
     2 distance
 
+A stream in parts is dumped one after the other, with the same two files:
+
+    giopdump --save c first.giop
+    giopdump --resume c --save c second.giop
+    giopdump --resume c last.giop
+
 docs/FORMATS.md has every line, fault and status; docs/SIGNATURES.md says how IDL becomes a signature file.";
 
 /// What the words ask for: each file by its name, of which none has a special meaning.
@@ -35,6 +47,10 @@ pub struct Arguments<'a> {
     pub signatures: Option<&'a str>,
     /// The request list; None for the empty list.
     pub requests: Option<&'a str>,
+    /// The checkpoint that is gone on from; None for a new stream.
+    pub resume: Option<&'a str>,
+    /// The file that a checkpoint is saved in; None where the stream ends.
+    pub save: Option<&'a str>,
     /// The file with the stream's octets; None for standard input.
     pub stream: Option<&'a str>,
 }
@@ -55,6 +71,8 @@ fn command<'a>(alloc: Global) -> Result<Command<'a>, AllocError> {
         .after_help(EXAMPLES)
         .arg(file_option(alloc, "signatures", SIGNATURES_HELP))?
         .arg(file_option(alloc, "requests", REQUESTS_HELP))?
+        .arg(file_option(alloc, "resume", RESUME_HELP))?
+        .arg(file_option(alloc, "save", SAVE_HELP))?
         .arg(Arg::new(alloc, "STREAM").help(STREAM_HELP))
 }
 
@@ -66,6 +84,8 @@ impl<'a> Arguments<'a> {
         Ok(Arguments {
             signatures: matches.get_str("signatures"),
             requests: matches.get_str("requests"),
+            resume: matches.get_str("resume"),
+            save: matches.get_str("save"),
             stream: matches.get_str("STREAM"),
         })
     }

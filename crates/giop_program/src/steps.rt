@@ -1,23 +1,26 @@
-//! The program's steps: words, signatures, requests, the opening of the stream, the run. The first that fails decides
-//! the status.
+//! The program's steps: words, signatures, requests, checkpoint, the opening of the stream, the run, the save. The first
+//! that fails decides the status.
 
-ghost use Rattle.std.specs.Prelude.{◌≡◌, ◌≢◌, ◌≤◌, ◌⊎◌, [], None, Some, IfSome, IfErr, OnOk, option_map};
+ghost use Rattle.std.specs.Prelude.{◌≡◌, ◌≢◌, ◌≤◌, ◌⊎◌, ℕ, List, [], false, None, Some, IfSome, IfErr, OnOk, OnErr, option_map};
 ghost use Rattle.clap.specs.Values.{kind_of};
-ghost use Rattle.giop_sig.specs.Table.{Table};
 ghost use Rattle.giop_message.specs.Signatures.{Kept as Listed};
-ghost use Rattle.giop_message.specs.MessageReading.{message_reading};
-ghost use Rattle.giop_stream.specs.Holding.{AreOf};
+ghost use Rattle.giop_stream.specs.Checkpoint.{counts_of};
+ghost use Rattle.giop_stream.specs.Holding.{AreOf, Holds};
+ghost use Rattle.giop_run.specs.Running.{way_of};
 ghost use Rattle.giop_run.specs.Console.{Dumped, exit_status, run_of};
-ghost use Rattle.giop_run.specs.Files.{ReadsBy, RequestsOf, Refused, NoRequests, NoStream, stream_of};
+ghost use Rattle.giop_run.specs.Files.{GoesOn, RequestsOf, Refused, NoCheckpoint, NoRequests, NoStream, ending_of, stream_of, way_by};
+ghost use Rattle.giop_run.specs.Performing.{Did, Kept, Performed, task_of};
 ghost use Rattle.giop_program.specs.Words.{asked_of};
 
 use super::arguments::Arguments;
 use clap::Error;
 use clap::error::ErrorKind;
 use giop_run::{
-    Flush, Inputs, Lines, ProgramFault, Report, catalogue, dump, requests, status, unreadable,
+    Disk, Ending, Flush, Inputs, Lines, ProgramFault, Report, RunFault, Saves, catalogue, dump,
+    requests, resumed, status, unreadable,
 };
 use giop_sig::{Catalogue, Requests};
+use giop_stream::Engine;
 use std::env;
 use std::io::Read;
 
@@ -52,56 +55,113 @@ fn printed(rt: &HostRuntime, asked: Arguments) -> u8
     let Ok(mut lines) = Lines::new(rt.alloc(), rt.stdout()) else {
         return told(rt, &Err(ProgramFault::OutOfMemory));
     };
-    told(rt, &performed(rt, asked, &mut lines))
+    told(rt, &performed(rt, asked, &mut lines, &mut Disk::new(rt)))
 }
 
 /// The steps behind the words.
-pub fn performed<'a, R: Inputs + AllocGlobal, O: Flush>(
+pub fn performed<'a, R: Inputs + AllocGlobal, O: Flush, F: Saves>(
     rt: &R,
     asked: Arguments<'a>,
     out: &mut O,
+    files: &mut F,
 ) -> Result<Report, ProgramFault<'a>>
-    // A run reads what the words name: the stream, by the catalogue and the list of the files.
-    ensures dumped { let asked = asked_of asked.entry in let held = R.held rt.now in
-        IfSome (run_of result) (λ ran. (C : Table) × (l : Listed)
-        × AreOf C l × ReadsBy held asked C l
-        × Dumped (message_reading C l) ran (stream_of held (R.given rt.now) asked.stream)
-        (O.log out.old) (O.log out.new)) }
+    ensures did { Did (task_of (R.held rt.now) (R.given rt.now) (asked_of asked.entry)) result
+        (O.log out.old) (O.log out.new) (F.saved files.old) (F.saved files.new) }
+    ensures flushed { OnOk result (O.kept out.new ≡ []) }
+{
+    let save = asked.save;
+    let mut into = [0; 10_976];
+    let ran = ran(rt, asked, out, &mut into);
+    kept(files, save, ran, &into)
+}
+
+/// The steps from the words to the run.
+fn ran<'a, R: Inputs + AllocGlobal, O: Flush>(
+    rt: &R,
+    asked: Arguments<'a>,
+    out: &mut O,
+    into: &mut [u8; 10_976],
+) -> Result<Report, ProgramFault<'a>>
+    // A run reads what the words name: the stream, by the catalogue and the list of the files, from the checkpoint on.
+    ensures dumped { let task = task_of (R.held rt.now) (R.given rt.now) (asked_of asked.entry) in
+        IfSome (run_of result) (λ ran.
+        Performed task into.old into.new ran (O.log out.old) (O.log out.new)) }
     // A step before the run that fails tells the file of that step, and writes nothing.
     ensures refused { run_of result ≡ None
         → IfErr result (Refused (R.held rt.now) (asked_of asked.entry)) }
     ensures unwritten { run_of result ≡ None → O.log out.new ≡ O.log out.old }
+    ensures sound { run_of result ≢ Some (Err RunFault.Failed) }
     ensures flushed { OnOk result (O.kept out.new ≡ []) }
 {
     let catalogue = catalogue(rt, asked.signatures)?;
-    listed(rt, asked.requests, asked.stream, out, &catalogue)
+    listed(rt, asked, out, into, &catalogue)
 }
 
 /// The steps behind the signatures.
 fn listed<'a, R: Inputs + AllocGlobal, O: Flush>(
     rt: &R,
-    list: Option<&'a str>,
-    stream: Option<&'a str>,
+    asked: Arguments<'a>,
     out: &mut O,
+    into: &mut [u8; 10_976],
     catalogue: &Catalogue,
 ) -> Result<Report, ProgramFault<'a>>
-    ensures dumped { let held = R.held rt.now in IfSome (run_of result) (λ ran. (l : Listed)
-        × AreOf catalogue.now l
-        × RequestsOf held (option_map (λ n. n.now) list.entry) catalogue.now l
-        × Dumped (message_reading catalogue.now l) ran
-        (stream_of held (R.given rt.now) (option_map (λ n. n.now) stream.entry))
-        (O.log out.old) (O.log out.new)) }
-    ensures refused { let held = R.held rt.now in let asked = option_map (λ n. n.now) list.entry in
-        run_of result ≡ None → IfErr result (λ fault. NoRequests held asked fault
-        ⊎ ((l : Listed) × RequestsOf held asked catalogue.now l
-        × NoStream (option_map (λ n. n.now) stream.entry) fault)) }
+    ensures dumped { let asked = asked_of asked.entry in let held = R.held rt.now in
+        IfSome (run_of result) (λ ran. (l : Listed)
+        × AreOf catalogue.now l × RequestsOf held asked.requests catalogue.now l
+        × GoesOn held asked.resume catalogue.now l (λ p. Dumped
+        (way_by catalogue.now l asked into.old into.new) ran p
+        (stream_of held (R.given rt.now) asked.stream) (O.log out.old) (O.log out.new))) }
+    ensures refused { let held = R.held rt.now in let asked = asked_of asked.entry in
+        run_of result ≡ None → IfErr result (λ fault. NoRequests held asked.requests fault
+        ⊎ ((l : Listed) × RequestsOf held asked.requests catalogue.now l
+        × (NoCheckpoint held asked.resume (counts_of catalogue.now l) fault
+        ⊎ NoStream asked.stream fault))) }
     ensures unwritten { run_of result ≡ None → O.log out.new ≡ O.log out.old }
+    ensures sound { run_of result ≢ Some (Err RunFault.Failed) }
     ensures flushed { OnOk result (O.kept out.new ≡ []) }
 {
-    let requests = requests(rt, list, catalogue)?;
-    match stream {
-        None => dumped(rt.standard_input(), out, catalogue, &requests),
-        Some(name) => opened(rt, name, out, catalogue, &requests),
+    let requests = requests(rt, asked.requests, catalogue)?;
+    begun(rt, asked, out, into, catalogue, &requests)
+}
+
+/// The steps behind the request list.
+fn begun<'a, R: Inputs + AllocGlobal, O: Flush>(
+    rt: &R,
+    asked: Arguments<'a>,
+    out: &mut O,
+    into: &mut [u8; 10_976],
+    catalogue: &Catalogue,
+    requests: &Requests,
+) -> Result<Report, ProgramFault<'a>>
+    requires of { AreOf catalogue.now requests.now }
+    ensures dumped { let asked = asked_of asked.entry in let held = R.held rt.now in
+        IfSome (run_of result) (λ ran.
+        GoesOn held asked.resume catalogue.now requests.now (λ p. Dumped
+        (way_by catalogue.now requests.now asked into.old into.new) ran p
+        (stream_of held (R.given rt.now) asked.stream) (O.log out.old) (O.log out.new))) }
+    ensures refused { let held = R.held rt.now in let asked = asked_of asked.entry in
+        run_of result ≡ None → IfErr result (λ fault.
+        NoCheckpoint held asked.resume (counts_of catalogue.now requests.now) fault
+        ⊎ NoStream asked.stream fault) }
+    ensures unwritten { run_of result ≡ None → O.log out.new ≡ O.log out.old }
+    ensures sound { run_of result ≢ Some (Err RunFault.Failed) }
+    ensures flushed { OnOk result (O.kept out.new ≡ []) }
+{
+    let engine = resumed(rt, asked.resume, catalogue, requests)?;
+    let ending = ending_for(asked.save);
+    match asked.stream {
+        None => dumped(rt.standard_input(), out, engine, ending, into),
+        Some(name) => opened(rt, name, out, engine, ending, into),
+    }
+}
+
+/// How a run ends: by a save where a file for it is named.
+fn ending_for(save: Option<&str>) -> Ending
+    ensures { result ≡ ending_of (option_map (λ name. name.now) save.entry) }
+{
+    match save {
+        None => Ending::Finish,
+        Some(_) => Ending::Save,
     }
 }
 
@@ -110,18 +170,21 @@ fn opened<'a, R: Inputs, O: Flush>(
     rt: &R,
     name: &'a str,
     out: &mut O,
-    catalogue: &Catalogue,
-    requests: &Requests,
+    engine: Engine,
+    ending: Ending,
+    into: &mut [u8; 10_976],
 ) -> Result<Report, ProgramFault<'a>>
-    requires of { AreOf catalogue.now requests.now }
-    ensures dumped { IfSome (run_of result) (λ ran. Dumped (message_reading catalogue.now requests.now)
-        ran (R.held rt.now name.entry.now) (O.log out.old) (O.log out.new)) }
+    requires sound { engine.failed ≡ false }
+    ensures dumped { IfSome (run_of result) (λ ran. (p : List ℕ) → Holds engine.entry p
+        → Dumped (way_of engine.entry ending into.old into.new) ran p
+        (R.held rt.now name.entry.now) (O.log out.old) (O.log out.new)) }
     ensures refused { run_of result ≡ None → IfErr result (NoStream (Some name.entry.now)) }
     ensures unwritten { run_of result ≡ None → O.log out.new ≡ O.log out.old }
+    ensures sound { run_of result ≢ Some (Err RunFault.Failed) }
     ensures flushed { OnOk result (O.kept out.new ≡ []) }
 {
     match rt.open(name) {
-        Ok(file) => dumped(file, out, catalogue, requests),
+        Ok(file) => dumped(file, out, engine, ending, into),
         Err(error) => Err(unreadable(name, &error)),
     }
 }
@@ -130,18 +193,42 @@ fn opened<'a, R: Inputs, O: Flush>(
 fn dumped<'a, R: Read + Drop, O: Flush>(
     reader: R,
     out: &mut O,
-    catalogue: &Catalogue,
-    requests: &Requests,
+    engine: Engine,
+    ending: Ending,
+    into: &mut [u8; 10_976],
 ) -> Result<Report, ProgramFault<'a>>
-    requires of { AreOf catalogue.now requests.now }
-    ensures dumped { IfSome (run_of result) (λ ran. Dumped (message_reading catalogue.now requests.now)
-        ran (R.remaining reader) (O.log out.old) (O.log out.new)) }
+    requires sound { engine.failed ≡ false }
+    ensures dumped { IfSome (run_of result) (λ ran. (p : List ℕ) → Holds engine.entry p
+        → Dumped (way_of engine.entry ending into.old into.new) ran p
+        (R.remaining reader) (O.log out.old) (O.log out.new)) }
     ensures reached { run_of result ≢ None }
+    ensures sound { run_of result ≢ Some (Err RunFault.Failed) }
     ensures flushed { OnOk result (O.kept out.new ≡ []) }
 {
-    match dump(reader, out, catalogue, requests) {
+    match dump(reader, out, engine, ending, into) {
         Ok(report) => Ok(report),
         Err(fault) => Err(ProgramFault::Run(fault)),
+    }
+}
+
+/// Saves the checkpoint of a run that came to its end in the file that was asked for.
+fn kept<'a, F: Saves>(
+    files: &mut F,
+    save: Option<&'a str>,
+    ran: Result<Report, ProgramFault<'a>>,
+    into: &[u8; 10_976],
+) -> Result<Report, ProgramFault<'a>>
+    ensures { Kept (option_map (λ n. n.now) save.entry) ran.entry result into.now
+        (F.saved files.old) (F.saved files.new) }
+{
+    let report = ran?;
+    let Some(name) = save else {
+        return Ok(report);
+    };
+    let octets = &into[..report.saved.min(into.len())];
+    match files.save(name, octets) {
+        Ok(()) => Ok(report),
+        Err(_) => Err(ProgramFault::Unwritable { name }),
     }
 }
 

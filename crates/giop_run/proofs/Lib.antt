@@ -2,3 +2,4 @@ mod TextLemmas
 mod ReadLemmas
 mod FlushLemmas
 mod TurnLemmas
+mod ResumeLemmas

@@ -1,18 +1,21 @@
 -- Turn after turn, to the end of a run.
-use Rattle.std.proofs.Common.{◌≡◌, ℕ, ◌+◌, ◌^◌, ◌<◌, ◌≤◌, List, [], ◌++◌, refl, sym, subst, ap, ◌∙◌, append-nil, append_assoc, arith, Bool, Result, Ok, Err, true, false, inl, inr, Option}
+use Rattle.std.proofs.Common.{◌≡◌, ℕ, ◌+◌, ◌^◌, ◌<◌, ◌≤◌, List, [], ◌++◌, drop, refl, sym, subst, ap, ◌∙◌, append-nil, append_assoc, arith, Bool, Result, Ok, Err, true, false, inl, inr, Option}
 use Rattle.std.proofs.lemmas.List.Elements.{All-nil, All-append}
 use Rattle.giop_print.specs.Output.{OutLog, counted}
 use Rattle.giop_message.specs.Reading.{Reading}
 use Rattle.giop_stream.specs.Stream.{closing}
+use Rattle.giop_stream.specs.Engine.{state_of}
 use Rattle.giop_stream.specs.Holding.{added, Holds, reading_of}
 use Rattle.giop_stream.specs.Remembering.{EngineMemory}
-use Rattle.giop_print.proofs.Writing.{wrote-append, wrote-front, front-append}
+use Rattle.giop_stream.specs.Checkpoint.{Saves}
+use Rattle.giop_print.proofs.Writing.{wrote-append, wrote-front, front-append, wrote-nil}
 use Rattle.giop_run.specs.SourceLog.{SourceLog}
-use Rattle.giop_run.specs.Running.{Given, IsOver, Ran}
+use Rattle.giop_run.specs.Running.{Given, IsOver, ReadsSpent, Ran, Way, way_of, reads_by, end_text}
 use Rattle.giop_run.specs.Console.{Dumped}
 use Rattle.giop_run.specs.Flushing.{Flushed, FlushFailed}
 use Rattle.giop_run.specs.Turns.{Took, Fed, OneRead, Turned, Completed, Closed, Going}
 use Rattle.giop_stream.specs.declared.status.Totals.{Totals}
+use Rattle.giop_run.specs.declared.running.Ending.TheVariants as endings
 use Rattle.giop_run.specs.declared.running.Report.{Report}
 use Rattle.giop_run.specs.declared.fault.RunFault.{RunFault}
 use Rattle.giop_run.specs.declared.fault.RunFault.TheVariants as fault
@@ -35,8 +38,9 @@ turned_on R (Err fault.Failed) p s e a b x y n k l f = absurd f
 turned_by : (Q R : Reading) (r : Result Bool RunFault) (p s : List ℕ) (e : EngineMemory) (a b : SourceLog) (x y : OutLog) → Q ≡ R → Turned Q r p s e a b x y → Turned R r p s e a b x y
 turned_by Q R r p s e a b x y q t = subst (λ z. Turned z r p s e a b x y) q t
 
-closed_by : (Q R : Reading) (r : Result Report RunFault) (p : List ℕ) (x y : OutLog) → Q ≡ R → Closed Q r p x y → Closed R r p x y
-closed_by Q R r p x y q t = subst (λ z. Closed z r p x y) q t
+-- an engine that reads by what a run reads by closed it
+closed_by : (w : Way) (d : EngineMemory) (r : Result Report RunFault) (p : List ℕ) (x y : OutLog) → (d.table ≡ w.table) × (d.listed ≡ w.listed) → Closed (way_of d w.ending w.before w.after) r p x y → Closed w r p x y
+closed_by w d r p x y (t, l) q = rw (t, l) at q
 
 -- nothing was read
 pub took-none : (R : Reading) (p : List ℕ) (e : EngineMemory) (x : OutLog) → reading_of e ≡ R → Holds e p → Took R p [] e x x
@@ -59,20 +63,35 @@ going_flushed R p s e k a b x y z kept g f =
       ends = g.ends;
     }
 
--- the close of a stream, of which the finish or the flush may fail
-pub closed_flushed : (R : Reading) (t : Totals) (p : List ℕ) (x y z : OutLog) (kept : List ℕ) → Completed R (Ok t) p x y → Flushed y z kept → Closed R (Ok (record { totals = t; saved = 0 })) p x z
-closed_flushed R t p x y z kept (w, e) f =
-    record { written = wrote_flushed x y z (closing R p) kept w f; totals = e; saved = refl }
+-- the finish of a stream, where it or the flush may fail
+pub closed_flushed : (e : EngineMemory) (t : Totals) (p room : List ℕ) (x y z : OutLog) (kept : List ℕ) → Completed (reading_of e) (Ok t) p x y → Flushed y z kept → Closed (way_of e endings.Finish room room) (Ok (record { totals = t; saved = 0 })) p x z
+closed_flushed e t p room x y z kept (w, f) q =
+    record {
+      written = wrote_flushed x y z (closing (reading_of e) p) kept w q;
+      ended = record { totals = f; saved = refl; room = refl };
+    }
 
-pub closed_cut : (R : Reading) (t : Totals) (p : List ℕ) (x y z : OutLog) → Completed R (Ok t) p x y → FlushFailed y z → Closed R (Err fault.Out) p x z
-closed_cut R t p x y z (w, e) f =
-    rw append-nil at (wrote-front x y z (closing R p) [] w (flush_front y z [] f))
+pub closed_cut : (e : EngineMemory) (t : Totals) (p room : List ℕ) (x y z : OutLog) → Completed (reading_of e) (Ok t) p x y → FlushFailed y z → Closed (way_of e endings.Finish room room) (Err fault.Out) p x z
+closed_cut e t p room x y z (w, f) q =
+    rw append-nil at (wrote-front x y z (closing (reading_of e) p) [] w (flush_front y z [] q))
 
-pub closed_unfinished : (R : Reading) (r : RunFault) (p : List ℕ) (x y : OutLog) → Completed R (Err r) p x y → Closed R (Err r) p x y
-closed_unfinished R fault.Out p x y f = f
-closed_unfinished R fault.Read p x y f = absurd f
-closed_unfinished R fault.Turns p x y f = absurd f
-closed_unfinished R fault.Failed p x y f = absurd f
+pub closed_unfinished : (e : EngineMemory) (r : RunFault) (p room : List ℕ) (x y : OutLog) → Completed (reading_of e) (Err r) p x y → Closed (way_of e endings.Finish room room) (Err r) p x y
+closed_unfinished e fault.Out p room x y f = f
+closed_unfinished e fault.Read p room x y f = absurd f
+closed_unfinished e fault.Turns p room x y f = absurd f
+closed_unfinished e fault.Failed p room x y f = absurd f
+
+-- a checkpoint of a stream, where its flush may fail
+pub closed_saved : (e : EngineMemory) (n : ℕ) (p before after : List ℕ) (x y : OutLog) (kept : List ℕ) → Holds e p → Flushed x y kept → Saves n after e.table e.listed p → drop n after ≡ drop n before → Closed (way_of e endings.Save before after) (Ok (record { totals = e.stream.totals; saved = n })) p x y
+unfolding state_of
+closed_saved e n p before after x y kept h f s d =
+    record {
+      written = wrote_flushed x x y [] kept (wrote-nil x) f;
+      ended = record { totals = h.shows.totals; saved = s; room = d };
+    }
+
+pub closed_unsaved : (e : EngineMemory) (p before after : List ℕ) (x y : OutLog) → FlushFailed x y → Closed (way_of e endings.Save before after) (Err fault.Out) p x y
+closed_unsaved e p before after x y f = flush_front x y [] f
 
 -- all turns
 
@@ -149,25 +168,25 @@ going_more R adds p s t e d k a b c x y z g u =
 -- the last turn
 
 -- a turn failed
-failed_on : (R : Reading) → AddsUp R → (r : RunFault) (p s t : List ℕ) (e d : EngineMemory) (k : ℕ) (a b c : SourceLog) (x y z : OutLog) → Going R p s e k a b x y → Turned R (Err r) (p ++ s) t d b c y z → k < 2 ^ 40 → Ran R (Err r) p (s ++ t) a c x z
-failed_on R adds fault.Read p s t e d k a b c x y z g (u, failures, written) h =
+failed_on : (w : Way) → AddsUp (reads_by w) → (r : RunFault) (p s t : List ℕ) (e d : EngineMemory) (k : ℕ) (a b c : SourceLog) (x y z : OutLog) → Going (reads_by w) p s e k a b x y → Turned (reads_by w) (Err r) (p ++ s) t d b c y z → k < 2 ^ 40 → Ran w (Err r) p (s ++ t) a c x z
+failed_on w adds fault.Read p s t e d k a b c x y z g (u, failures, written) h =
     record {
-      given = given_more R p s t e k a b c x y g u h;
+      given = given_more (reads_by w) p s t e k a b c x y g u h;
       failures = failures ∙ ap counted g.failures;
-      written = rw (adds p s t) (wrote-append x y z (added R p s) (added R (p ++ s) t) g.took.written written);
+      written = rw (adds p s t) (wrote-append x y z (added (reads_by w) p s) (added (reads_by w) (p ++ s) t) g.took.written written);
     }
-failed_on R adds fault.Out p s t e d k a b c x y z g (u, failures, front) h =
+failed_on w adds fault.Out p s t e d k a b c x y z g (u, failures, front) h =
     record {
-      given = given_more R p s t e k a b c x y g u h;
+      given = given_more (reads_by w) p s t e k a b c x y g u h;
       failures = failures ∙ g.failures;
-      written = rw (adds p s t) (front-append x z (added R p s ++ added R (p ++ s) t) (closing R (p ++ (s ++ t))) (wrote-front x y z (added R p s) (added R (p ++ s) t) g.took.written front));
+      written = rw (adds p s t) (front-append x z (added (reads_by w) p s ++ added (reads_by w) (p ++ s) t) (end_text w.ending (reads_by w) (p ++ (s ++ t))) (wrote-front x y z (added (reads_by w) p s) (added (reads_by w) (p ++ s) t) g.took.written front));
     }
-failed_on R adds fault.Turns p s t e d k a b c x y z g u h = absurd u
-failed_on R adds fault.Failed p s t e d k a b c x y z g u h = absurd u
+failed_on w adds fault.Turns p s t e d k a b c x y z g u h = absurd u
+failed_on w adds fault.Failed p s t e d k a b c x y z g u h = absurd u
 
-pub ran_err : (R : Reading) → AddsUp R → (r : RunFault) (p s t : List ℕ) (e d : EngineMemory) (k : ℕ) (a b c : SourceLog) (x y z : OutLog) → Going R p s e k a b x y → Turned (reading_of e) (Err r) (p ++ s) t d b c y z → k < 2 ^ 40 → Ran R (Err r) p (s ++ t) a c x z
-ran_err R adds r p s t e d k a b c x y z g u h =
-    failed_on R adds r p s t e d k a b c x y z g (turned_by (reading_of e) R (Err r) (p ++ s) t d b c y z g.took.reads u) h
+pub ran_err : (w : Way) → AddsUp (reads_by w) → (r : RunFault) (p s t : List ℕ) (e d : EngineMemory) (k : ℕ) (a b c : SourceLog) (x y z : OutLog) → Going (reads_by w) p s e k a b x y → Turned (reading_of e) (Err r) (p ++ s) t d b c y z → k < 2 ^ 40 → Ran w (Err r) p (s ++ t) a c x z
+ran_err w adds r p s t e d k a b c x y z g u h =
+    failed_on w adds r p s t e d k a b c x y z g (turned_by (reading_of e) (reads_by w) (Err r) (p ++ s) t d b c y z g.took.reads u) h
 
 -- the source gave what went in
 given_all : (R : Reading) (p s : List ℕ) (e : EngineMemory) (k : ℕ) (a b : SourceLog) (x y : OutLog) → Going R p s e k a b x y → k ≤ 2 ^ 40 → Given p s a b
@@ -187,7 +206,7 @@ given_all R p s e k a b x y g h =
     }
 
 -- no turn is left
-pub ran_turns : (R : Reading) (p s : List ℕ) (e : EngineMemory) (k : ℕ) (a b : SourceLog) (x y : OutLog) → Going R p s e k a b x y → k ≡ 2 ^ 40 → Ran R (Err fault.Turns) p s a b x y
+pub ran_turns : (R : Reading) (p s : List ℕ) (e : EngineMemory) (k : ℕ) (a b : SourceLog) (x y : OutLog) → Going R p s e k a b x y → k ≡ 2 ^ 40 → ReadsSpent R p s a b x y
 ran_turns R p s e k a b x y g h =
     record {
       given = given_all R p s e k a b x y g (omega arith);
@@ -199,12 +218,12 @@ ran_turns R p s e k a b x y g h =
     }
 
 -- the flush before a turn failed
-pub ran_flush : (R : Reading) (p s : List ℕ) (e : EngineMemory) (k : ℕ) (a b : SourceLog) (x y z : OutLog) → Going R p s e k a b x y → FlushFailed y z → k ≤ 2 ^ 40 → Ran R (Err fault.Out) p s a b x z
-ran_flush R p s e k a b x y z g f h =
+pub ran_flush : (w : Way) (p s : List ℕ) (e : EngineMemory) (k : ℕ) (a b : SourceLog) (x y z : OutLog) → Going (reads_by w) p s e k a b x y → FlushFailed y z → k ≤ 2 ^ 40 → Ran w (Err fault.Out) p s a b x z
+ran_flush w p s e k a b x y z g f h =
     record {
-      given = given_all R p s e k a b x y g h;
+      given = given_all (reads_by w) p s e k a b x y g h;
       failures = g.failures;
-      written = wrote-front x y z (added R p s) (closing R (p ++ s)) g.took.written (flush_front y z (closing R (p ++ s)) f);
+      written = wrote-front x y z (added (reads_by w) p s) (end_text w.ending (reads_by w) (p ++ s)) g.took.written (flush_front y z (end_text w.ending (reads_by w) (p ++ s)) f);
     }
 
 over_more : (p s t : List ℕ) (a b c : SourceLog) → b.ends ≡ a.ends → IsOver ((p ++ s) ++ t) b c → IsOver (p ++ (s ++ t)) a c
@@ -212,68 +231,63 @@ over_more p s t a b c e (inl q) = inl (record { answered = q.answered ∙ ap cou
 over_more p s t a b c e (inr q) = inr (rw append_assoc at q)
 
 -- the stream is over after a turn
-over_on : (R : Reading) → AddsUp R → (r : Result Report RunFault) (p s t : List ℕ) (e d : EngineMemory) (k : ℕ) (a b c : SourceLog) (x y z w : OutLog) → Going R p s e k a b x y → Turned R (Ok false) (p ++ s) t d b c y z → k < 2 ^ 40
-    → Closed R r ((p ++ s) ++ t) z w → Ran R r p (s ++ t) a c x w
-over_on R adds (Ok v) p s t e d k a b c x y z w g (u, failures, over, took) h q =
-    let all = wrote-append x y z (added R p s) (added R (p ++ s) t) g.took.written took.written in
+over_on : (w : Way) → AddsUp (reads_by w) → (r : Result Report RunFault) (p s t : List ℕ) (e d : EngineMemory) (k : ℕ) (a b c : SourceLog) (x y z o : OutLog) → Going (reads_by w) p s e k a b x y → Turned (reads_by w) (Ok false) (p ++ s) t d b c y z → k < 2 ^ 40
+    → Closed w r ((p ++ s) ++ t) z o → Ran w r p (s ++ t) a c x o
+over_on w adds (Ok v) p s t e d k a b c x y z o g (u, failures, over, took) h q =
+    let all = wrote-append x y z (added (reads_by w) p s) (added (reads_by w) (p ++ s) t) g.took.written took.written in
     let assoc = append_assoc p s t in
     record {
-      given = given_more R p s t e k a b c x y g u h;
+      given = given_more (reads_by w) p s t e k a b c x y g u h;
       over = over_more p s t a b c g.ends over;
       failures = failures ∙ g.failures;
-      written = rw (adds p s t, ← assoc) (wrote-append x z w (added R p s ++ added R (p ++ s) t) (closing R ((p ++ s) ++ t)) all q.written);
-      totals = rw (← assoc) q.totals;
-      saved = q.saved;
+      written = rw (adds p s t, ← assoc) (wrote-append x z o (added (reads_by w) p s ++ added (reads_by w) (p ++ s) t) (end_text w.ending (reads_by w) ((p ++ s) ++ t)) all q.written);
+      ended = rw (← assoc) q.ended;
     }
-over_on R adds (Err fault.Out) p s t e d k a b c x y z w g (u, failures, over, took) h q =
-    let all = wrote-append x y z (added R p s) (added R (p ++ s) t) g.took.written took.written in
+over_on w adds (Err fault.Out) p s t e d k a b c x y z o g (u, failures, over, took) h q =
+    let all = wrote-append x y z (added (reads_by w) p s) (added (reads_by w) (p ++ s) t) g.took.written took.written in
     let assoc = append_assoc p s t in
     record {
-      given = given_more R p s t e k a b c x y g u h;
+      given = given_more (reads_by w) p s t e k a b c x y g u h;
       failures = failures ∙ g.failures;
-      written = rw (adds p s t, ← assoc) (wrote-front x z w (added R p s ++ added R (p ++ s) t) (closing R ((p ++ s) ++ t)) all q);
+      written = rw (adds p s t, ← assoc) (wrote-front x z o (added (reads_by w) p s ++ added (reads_by w) (p ++ s) t) (end_text w.ending (reads_by w) ((p ++ s) ++ t)) all q);
     }
-over_on R adds (Err fault.Read) p s t e d k a b c x y z w g u h q = absurd q
-over_on R adds (Err fault.Turns) p s t e d k a b c x y z w g u h q = absurd q
-over_on R adds (Err fault.Failed) p s t e d k a b c x y z w g u h q = absurd q
+over_on w adds (Err fault.Read) p s t e d k a b c x y z o g u h q = absurd q
+over_on w adds (Err fault.Turns) p s t e d k a b c x y z o g u h q = absurd q
+over_on w adds (Err fault.Failed) p s t e d k a b c x y z o g u h q = absurd q
 
-pub ran_over : (R : Reading) → AddsUp R → (r : Result Report RunFault) (p s t : List ℕ) (e d : EngineMemory) (k : ℕ) (a b c : SourceLog) (x y z w : OutLog) → Going R p s e k a b x y → Turned (reading_of e) (Ok false) (p ++ s) t d b c y z → k < 2 ^ 40
-    → Closed (reading_of d) r ((p ++ s) ++ t) z w → Ran R r p (s ++ t) a c x w
-ran_over R adds r p s t e d k a b c x y z w g u h q =
-    let v = turned_by (reading_of e) R (Ok false) (p ++ s) t d b c y z g.took.reads u in
-    over_on R adds r p s t e d k a b c x y z w g v h (closed_by (reading_of d) R r ((p ++ s) ++ t) z w v.3.reads q)
+pub ran_over : (w : Way) → AddsUp (reads_by w) → (r : Result Report RunFault) (p s t : List ℕ) (e d : EngineMemory) (k : ℕ) (a b c : SourceLog) (x y z o : OutLog) → Going (reads_by w) p s e k a b x y → Turned (reading_of e) (Ok false) (p ++ s) t d b c y z → k < 2 ^ 40
+    → (d.table ≡ w.table) × (d.listed ≡ w.listed) → Closed (way_of d w.ending w.before w.after) r ((p ++ s) ++ t) z o → Ran w r p (s ++ t) a c x o
+ran_over w adds r p s t e d k a b c x y z o g u h same q =
+    let v = turned_by (reading_of e) (reads_by w) (Ok false) (p ++ s) t d b c y z g.took.reads u in
+    over_on w adds r p s t e d k a b c x y z o g v h (closed_by w d r ((p ++ s) ++ t) z o same q)
 
 -- the stream was over before the first read
-stopped_on : (R : Reading) (r : Result Report RunFault) (p : List ℕ) (e : EngineMemory) (a : SourceLog) (x y z : OutLog) → Fed R (Ok false) p [] e x y → Closed R r (p ++ []) y z → Ran R r p [] a a x z
-stopped_on R (Ok v) p e a x y z f q =
+stopped_on : (w : Way) (r : Result Report RunFault) (p : List ℕ) (e : EngineMemory) (a : SourceLog) (x y z : OutLog) → Fed (reads_by w) (Ok false) p [] e x y → Closed w r (p ++ []) y z → Ran w r p [] a a x z
+stopped_on w (Ok v) p e a x y z f q =
     record {
       given = given_none p a;
       over = inr f.1;
       failures = refl;
-      written = wrote-append x y z (added R p []) (closing R (p ++ [])) f.0.written q.written;
-      totals = q.totals;
-      saved = q.saved;
+      written = wrote-append x y z (added (reads_by w) p []) (end_text w.ending (reads_by w) (p ++ [])) f.0.written q.written;
+      ended = q.ended;
     }
-stopped_on R (Err fault.Out) p e a x y z f q =
-    record { given = given_none p a; failures = refl; written = wrote-front x y z (added R p []) (closing R (p ++ [])) f.0.written q }
-stopped_on R (Err fault.Read) p e a x y z f q = absurd q
-stopped_on R (Err fault.Turns) p e a x y z f q = absurd q
-stopped_on R (Err fault.Failed) p e a x y z f q = absurd q
+stopped_on w (Err fault.Out) p e a x y z f q =
+    record { given = given_none p a; failures = refl; written = wrote-front x y z (added (reads_by w) p []) (end_text w.ending (reads_by w) (p ++ [])) f.0.written q }
+stopped_on w (Err fault.Read) p e a x y z f q = absurd q
+stopped_on w (Err fault.Turns) p e a x y z f q = absurd q
+stopped_on w (Err fault.Failed) p e a x y z f q = absurd q
 
-pub ran_stopped : (R : Reading) (r : Result Report RunFault) (p : List ℕ) (e : EngineMemory) (a : SourceLog) (x y z : OutLog) → Fed R (Ok false) p [] e x y → Closed (reading_of e) r (p ++ []) y z → Ran R r p [] a a x z
-ran_stopped R r p e a x y z f q = stopped_on R r p e a x y z f (closed_by (reading_of e) R r (p ++ []) y z f.0.reads q)
+pub ran_stopped : (w : Way) (r : Result Report RunFault) (p : List ℕ) (e : EngineMemory) (a : SourceLog) (x y z : OutLog) → Fed (reads_by w) (Ok false) p [] e x y → (e.table ≡ w.table) × (e.listed ≡ w.listed) → Closed (way_of e w.ending w.before w.after) r (p ++ []) y z → Ran w r p [] a a x z
+ran_stopped w r p e a x y z f same q = stopped_on w r p e a x y z f (closed_by w e r (p ++ []) y z same q)
 
 -- the empty piece failed
-pub ran_first : (R : Reading) (r : RunFault) (p : List ℕ) (e : EngineMemory) (a : SourceLog) (x y : OutLog) → Fed R (Err r) p [] e x y → Ran R (Err r) p [] a a x y
-ran_first R fault.Out p e a x y f =
-    record { given = given_none p a; failures = refl; written = front-append x y (added R p []) (closing R (p ++ [])) f }
-ran_first R fault.Read p e a x y f = absurd f
-ran_first R fault.Turns p e a x y f = absurd f
-ran_first R fault.Failed p e a x y f = absurd f
+pub ran_first : (w : Way) (r : RunFault) (p : List ℕ) (e : EngineMemory) (a : SourceLog) (x y : OutLog) → Fed (reads_by w) (Err r) p [] e x y → Ran w (Err r) p [] a a x y
+ran_first w fault.Out p e a x y f =
+    record { given = given_none p a; failures = refl; written = front-append x y (added (reads_by w) p []) (end_text w.ending (reads_by w) (p ++ [])) f }
+ran_first w fault.Read p e a x y f = absurd f
+ran_first w fault.Turns p e a x y f = absurd f
+ran_first w fault.Failed p e a x y f = absurd f
 
-pub ran_by : (Q R : Reading) (r : Result Report RunFault) (p s : List ℕ) (a b : SourceLog) (x y : OutLog) → Q ≡ R → Ran Q r p s a b x y → Ran R r p s a b x y
-ran_by Q R r p s a b x y q t = subst (λ z. Ran z r p s a b x y) q t
-
--- a run from an empty stream, by what the source tells that it has left
-pub dumped_by : (R : Reading) (r : Result Report RunFault) (s : List ℕ) (a b : SourceLog) (x y : OutLog) (told : Option (List ℕ)) → a.left ≡ told → Ran R r [] s a b x y → Dumped R r told x y
-dumped_by R r s a b x y told l ran = record { octets = s; before = a; after = b; reader = l; did = ran }
+-- a run, by what the source tells that it has left
+pub dumped_by : (w : Way) (r : Result Report RunFault) (p s : List ℕ) (a b : SourceLog) (x y : OutLog) (told : Option (List ℕ)) → a.left ≡ told → Ran w r p s a b x y → Dumped w r p told x y
+dumped_by w r p s a b x y told l ran = record { octets = s; before = a; after = b; reader = l; did = ran }

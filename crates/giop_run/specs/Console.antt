@@ -1,28 +1,30 @@
 -- What the program did with a reader and an out, and the status that says so (meaning).
-use Rattle.std.specs.Prelude.{◌≡◌, ℕ, ◌==◌, List, [], Option, Some, None, Result, Ok, Err, if◌then◌else◌}
+use Rattle.std.specs.Prelude.{◌≡◌, ℕ, ◌==◌, List, Option, Some, None, Result, Ok, Err, if◌then◌else◌}
 use Rattle.giop_print.specs.Output.{OutLog}
-use Rattle.giop_message.specs.Reading.{Reading}
 use Rattle.giop_run.specs.SourceLog.{SourceLog}
-use Rattle.giop_run.specs.Running.{Ran}
+use Rattle.giop_run.specs.Running.{Way, Ran}
 use Rattle.giop_run.specs.declared.running.Report.{Report}
 use Rattle.giop_run.specs.declared.fault.RunFault.{RunFault}
 use Rattle.giop_run.specs.declared.fault.ProgramFault.{ProgramFault}
 use Rattle.giop_run.specs.declared.fault.ProgramFault.TheVariants as faults
 
--- a run from the stream of no octets did this with a reader, where that tells its octets, and an out; R reads a message
-pub record Dumped (R : Reading) (ran : Result Report RunFault) (told : Option (List ℕ)) (x y : OutLog) : Type 0 where
+-- a run of an engine that held p did this with a reader, where that tells its octets, and an out
+pub record Dumped (w : Way) (ran : Result Report RunFault) (p : List ℕ) (told : Option (List ℕ)) (x y : OutLog) : Type 0 where
   pub octets : List ℕ
   pub before : SourceLog
   pub after : SourceLog
   pub reader : before.left ≡ told
-  pub did : Ran R ran [] octets before after x y
+  pub did : Ran w ran p octets before after x y
 
--- the status of what failed: no words, a file refused, a file or a run that failed, no memory
+-- the status of what failed: no words, a file refused, a file that can't be read or written or a run that failed, no
+-- memory
 abbrev pub fault_status : ProgramFault → ℕ
 fault_status faults.Words = 2
 fault_status (faults.Signatures name fault) = 3
 fault_status (faults.Requests name fault) = 3
+fault_status (faults.Checkpoint name fault) = 3
 fault_status (faults.Unreadable name) = 4
+fault_status (faults.Unwritable name) = 4
 fault_status (faults.Run fault) = 4
 fault_status faults.OutOfMemory = 5
 
@@ -32,7 +34,9 @@ run_fault (faults.Run fault) = Some fault
 run_fault faults.Words = None
 run_fault (faults.Signatures name fault) = None
 run_fault (faults.Requests name fault) = None
+run_fault (faults.Checkpoint name fault) = None
 run_fault (faults.Unreadable name) = None
+run_fault (faults.Unwritable name) = None
 run_fault faults.OutOfMemory = None
 
 -- the answer of a run that failed

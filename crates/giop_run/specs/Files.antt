@@ -7,9 +7,15 @@ use Rattle.giop_sig.specs.Grammar.{Declaration}
 use Rattle.giop_sig.specs.Scopes.{table}
 use Rattle.giop_sig.specs.Table.{Table, operation_number}
 use Rattle.giop_sig.specs.FileReading.{text_too_long, IsFirstRefusal}
-use Rattle.giop_sig.specs.Validity.{AreValid, Spells}
+use Rattle.giop_sig.specs.Validity.{AreValid, Spells as Declared}
 use Rattle.giop_sig.specs.RequestList.{Entry, Lists, IsOf, IsRefusedAs}
 use Rattle.giop_message.specs.Signatures.{Kept as Listed}
+use Rattle.giop_checkpoint.specs.declared.fixed.Counts.{Counts}
+use Rattle.giop_checkpoint.specs.Refusals.{IsOurs}
+use Rattle.giop_stream.specs.Checkpoint.{counts_of, IsRefused, Spells}
+use Rattle.giop_run.specs.Running.{Way}
+use Rattle.giop_run.specs.declared.running.Ending.{Ending}
+use Rattle.giop_run.specs.declared.running.Ending.TheVariants as endings
 use Rattle.giop_run.specs.declared.fault.ProgramFault.{ProgramFault}
 use Rattle.giop_run.specs.declared.fault.ProgramFault.TheVariants as faults
 
@@ -21,17 +27,20 @@ Folder = List ℕ → Option (List ℕ)
 abbrev pub IsFront : ℕ → Option (List ℕ) → List ℕ → Type 0
 IsFront most held text = IfSome held (λ octets. text ≡ take (counted most) octets)
 
--- the greatest numbers of octets of a signature file and of a request list
+-- the greatest numbers of octets of a signature file, of a request list and of a checkpoint
 abbrev pub signatures_most : ℕ
 signatures_most = 1048576
 
 abbrev pub requests_most : ℕ
 requests_most = 16777216
 
+abbrev pub checkpoint_most : ℕ
+checkpoint_most = 10976
+
 -- a text spells valid declarations, of which this is the table
 pub record Declares (text : List ℕ) (C : Table) : Type 0 where
   pub declarations : List Declaration
-  pub spelled : Spells text declarations
+  pub spelled : Declared text declarations
   pub valid : AreValid declarations
   pub is : C ≡ table declarations
 
@@ -53,6 +62,13 @@ RequestsOf held None C kept = kept ≡ []
 RequestsOf held (Some name) C kept =
     (text : List ℕ) × IsFront requests_most (held name) text × Requests text C kept
 
+-- Of each stream that the octets of the checkpoint's file are a checkpoint of this is so; without a file of no octets.
+abbrev pub GoesOn : Folder → Option (List ℕ) → Table → Listed → (List ℕ → Type 0) → Type 0
+GoesOn held None C kept Is = Is []
+GoesOn held (Some name) C kept Is =
+    (octets : List ℕ) × IsFront checkpoint_most (held name) octets
+    × IsOurs (counts_of C kept) octets × ((p : List ℕ) → Spells octets C kept p → Is p)
+
 -- what the stream gives: that of the file, or without one of standard input
 abbrev pub stream_of : Folder → Option (List ℕ) → Option (List ℕ) → Option (List ℕ)
 stream_of held given None = given
@@ -69,6 +85,8 @@ NoCatalogue held asked (faults.Unreadable name) = asked ≡ Some name.now
 NoCatalogue held asked faults.OutOfMemory = Unit {0}
 NoCatalogue held asked faults.Words = ⊥
 NoCatalogue held asked (faults.Requests name why) = ⊥
+NoCatalogue held asked (faults.Checkpoint name why) = ⊥
+NoCatalogue held asked (faults.Unwritable name) = ⊥
 NoCatalogue held asked (faults.Run why) = ⊥
 
 -- why there is no list: no memory, or the request file can't be read or is refused, by its name
@@ -81,7 +99,23 @@ NoRequests held asked (faults.Unreadable name) = asked ≡ Some name.now
 NoRequests held asked faults.OutOfMemory = Unit {0}
 NoRequests held asked faults.Words = ⊥
 NoRequests held asked (faults.Signatures name why) = ⊥
+NoRequests held asked (faults.Checkpoint name why) = ⊥
+NoRequests held asked (faults.Unwritable name) = ⊥
 NoRequests held asked (faults.Run why) = ⊥
+
+-- why no checkpoint is gone on from: no memory, or its file can't be read or is refused, by its name
+abbrev pub NoCheckpoint : Folder → Option (List ℕ) → Counts → ProgramFault → Type 0
+NoCheckpoint held asked counts (faults.Checkpoint name why) =
+    (asked ≡ Some name.now)
+    × ((octets : List ℕ) × IsFront checkpoint_most (held name.now) octets
+    × IsRefused counts octets why)
+NoCheckpoint held asked counts (faults.Unreadable name) = asked ≡ Some name.now
+NoCheckpoint held asked counts faults.OutOfMemory = Unit {0}
+NoCheckpoint held asked counts faults.Words = ⊥
+NoCheckpoint held asked counts (faults.Signatures name why) = ⊥
+NoCheckpoint held asked counts (faults.Requests name why) = ⊥
+NoCheckpoint held asked counts (faults.Unwritable name) = ⊥
+NoCheckpoint held asked counts (faults.Run why) = ⊥
 
 -- why the stream isn't opened: no memory, or its file can't be, by its name
 abbrev pub NoStream : Option (List ℕ) → ProgramFault → Type 0
@@ -90,13 +124,27 @@ NoStream asked faults.OutOfMemory = Unit {0}
 NoStream asked faults.Words = ⊥
 NoStream asked (faults.Signatures name why) = ⊥
 NoStream asked (faults.Requests name why) = ⊥
+NoStream asked (faults.Checkpoint name why) = ⊥
+NoStream asked (faults.Unwritable name) = ⊥
 NoStream asked (faults.Run why) = ⊥
 
 -- the texts of the names that the words give
 pub record Asked : Type 0 where
   pub signatures : Option (List ℕ)
   pub requests : Option (List ℕ)
+  pub resume : Option (List ℕ)
+  pub save : Option (List ℕ)
   pub stream : Option (List ℕ)
+
+-- how a run ends: by a save where a file for it is asked for
+abbrev pub ending_of : Option (List ℕ) → Ending
+ending_of None = endings.Finish
+ending_of (Some name) = endings.Save
+
+-- what it reads by and how it ends, with the octets for a checkpoint before it and after it
+abbrev pub way_by : Table → Listed → Asked → List ℕ → List ℕ → Way
+way_by C kept asked before after =
+    record { table = C; listed = kept; ending = ending_of asked.save; before = before; after = after }
 
 -- what a run reads by: the catalogue and the list of the files
 pub record ReadsBy (held : Folder) (asked : Asked) (C : Table) (kept : Listed) : Type 0 where
@@ -108,4 +156,5 @@ abbrev pub Refused : Folder → Asked → ProgramFault → Type 0
 Refused held asked fault =
     NoCatalogue held asked.signatures fault
     ⊎ ((C : Table) × CatalogueOf held asked.signatures C × NoRequests held asked.requests fault)
-    ⊎ ((C : Table) × (kept : Listed) × ReadsBy held asked C kept × NoStream asked.stream fault)
+    ⊎ ((C : Table) × (kept : Listed) × ReadsBy held asked C kept
+    × (NoCheckpoint held asked.resume (counts_of C kept) fault ⊎ NoStream asked.stream fault))

@@ -7,3 +7,5 @@ pub mod Running
 pub mod Turns
 pub mod Console
 pub mod Files
+pub mod Saving
+pub mod Performing

@@ -1,16 +1,62 @@
--- What a run did (meaning): p is the stream that its engine held, s are the octets that its source gave; R reads a message.
-use Rattle.std.specs.Prelude.{◌≡◌, ℕ, ◌+◌, ◌^◌, ◌≤◌, ◌<◌, List, [], ◌++◌, length, IsSome, Result, Ok, Err, ◌⊎◌}
+-- What a run did (meaning): p is the stream that its engine held, s are the octets that its source gave, w its way.
+use Rattle.std.specs.Prelude.{◌≡◌, ℕ, ◌+◌, ◌^◌, ◌≤◌, ◌<◌, List, [], ◌++◌, length, drop, IsSome, Result, Ok, Err, ◌⊎◌}
 use Rattle.std.specs.Io.KnownBytes.{Consumes, IsAtEnd}
 use Rattle.giop_cdr.specs.Numbers.{AreOctets}
 use Rattle.giop_print.specs.Output.{OutLog, counted, Wrote, WroteFront}
+use Rattle.giop_sig.specs.Table.{Table}
 use Rattle.giop_message.specs.Reading.{Reading}
+use Rattle.giop_message.specs.Signatures.{Kept as Listed}
+use Rattle.giop_message.specs.MessageReading.{message_reading}
 use Rattle.giop_stream.specs.Framing.{cut}
-use Rattle.giop_stream.specs.Stream.{closing, final}
+use Rattle.giop_stream.specs.Stream.{closing, final, tally}
 use Rattle.giop_stream.specs.Holding.{added}
+use Rattle.giop_stream.specs.Remembering.{EngineMemory}
+use Rattle.giop_stream.specs.Checkpoint.{Saves}
 use Rattle.giop_run.specs.SourceLog.{SourceLog}
+use Rattle.giop_run.specs.declared.running.Ending.{Ending}
+use Rattle.giop_run.specs.declared.running.Ending.TheVariants as endings
 use Rattle.giop_run.specs.declared.running.Report.{Report}
 use Rattle.giop_run.specs.declared.fault.RunFault.{RunFault}
 use Rattle.giop_run.specs.declared.fault.RunFault.TheVariants as fault
+
+-- what a run reads by and how it ends, with the octets for a checkpoint before it and after it
+pub record Way : Type 0 where
+  pub table : Table
+  pub listed : Listed
+  pub ending : Ending
+  pub before : List ℕ
+  pub after : List ℕ
+
+-- the way of a run of this engine
+abbrev pub way_of : EngineMemory → Ending → List ℕ → List ℕ → Way
+way_of e ending before after =
+    record { table = e.table; listed = e.listed; ending = ending; before = before; after = after }
+
+-- how it reads a message
+abbrev pub reads_by : Way → Reading
+reads_by w = message_reading w.table w.listed
+
+-- what an ending writes behind the lines of the stream p: its closing, or nothing where the stream goes on later
+abbrev pub end_text : Ending → Reading → List ℕ → List ℕ
+end_text endings.Finish R p = closing R p
+end_text endings.Save R p = []
+
+-- the finish of the stream p: a truncated end is counted, and nothing is saved
+pub record IsFinish (w : Way) (report : Report) (p : List ℕ) : Type 0 where
+  pub totals : report.totals ≡ final (reads_by w) p
+  pub saved : report.saved ≡ 0
+  pub room : w.after ≡ w.before
+
+-- the stream p was saved: the first octets of those for a checkpoint are its checkpoint, and the others are as they were
+pub record IsSave (w : Way) (report : Report) (p : List ℕ) : Type 0 where
+  pub totals : report.totals ≡ tally (reads_by w) p
+  pub saved : Saves report.saved w.after w.table w.listed p
+  pub room : drop report.saved w.after ≡ drop report.saved w.before
+
+-- what an ending says of the stream p, and has saved of it
+abbrev pub EndsAs : Ending → Way → Report → List ℕ → Type 0
+EndsAs endings.Finish w report p = IsFinish w report p
+EndsAs endings.Save w report p = IsSave w report p
 
 -- the stream p has a fault, so that no octet after it is read
 abbrev pub IsStopped : List ℕ → Type 0
@@ -41,14 +87,13 @@ pub record IsEnded (before after : SourceLog) : Type 0 where
 abbrev pub IsOver : List ℕ → SourceLog → SourceLog → Type 0
 IsOver p before after = IsEnded before after ⊎ IsStopped p
 
--- the stream came to its end: its lines and its closing are written, and the report has its totals
-pub record Finished (R : Reading) (report : Report) (p s : List ℕ) (before after : SourceLog) (x y : OutLog) : Type 0 where
+-- the source came to its end: the lines are written, and what the ending does is done
+pub record Finished (w : Way) (report : Report) (p s : List ℕ) (before after : SourceLog) (x y : OutLog) : Type 0 where
   pub given : Given p s before after
   pub over : IsOver (p ++ s) before after
   pub failures : after.failures ≡ before.failures
-  pub written : Wrote x y (added R p s ++ closing R (p ++ s))
-  pub totals : report.totals ≡ final R (p ++ s)
-  pub saved : report.saved ≡ 0
+  pub written : Wrote x y (added (reads_by w) p s ++ end_text w.ending (reads_by w) (p ++ s))
+  pub ended : EndsAs w.ending w report (p ++ s)
 
 -- a read failed: the lines of what was read are written, and no closing
 pub record ReadStopped (R : Reading) (p s : List ℕ) (before after : SourceLog) (x y : OutLog) : Type 0 where
@@ -66,18 +111,18 @@ pub record ReadsSpent (R : Reading) (p s : List ℕ) (before after : SourceLog) 
   pub written : Wrote x y (added R p s)
 
 -- a put failed: a front of what was due is written
-pub record WriteStopped (R : Reading) (p s : List ℕ) (before after : SourceLog) (x y : OutLog) : Type 0 where
+pub record WriteStopped (w : Way) (p s : List ℕ) (before after : SourceLog) (x y : OutLog) : Type 0 where
   pub given : Given p s before after
   pub failures : after.failures ≡ before.failures
-  pub written : WroteFront x y (added R p s ++ closing R (p ++ s))
+  pub written : WroteFront x y (added (reads_by w) p s ++ end_text w.ending (reads_by w) (p ++ s))
 
 -- what a run did, by its answer; on an engine that holds a stream it is never Failed
-abbrev pub Ran : Reading → Result Report RunFault → List ℕ → List ℕ → SourceLog → SourceLog → OutLog → OutLog → Type 0
-Ran R (Ok report) p s before after x y = Finished R report p s before after x y
-Ran R (Err fault.Read) p s before after x y = ReadStopped R p s before after x y
-Ran R (Err fault.Turns) p s before after x y = ReadsSpent R p s before after x y
-Ran R (Err fault.Out) p s before after x y = WriteStopped R p s before after x y
-Ran R (Err fault.Failed) p s before after x y = ⊥
+abbrev pub Ran : Way → Result Report RunFault → List ℕ → List ℕ → SourceLog → SourceLog → OutLog → OutLog → Type 0
+Ran w (Ok report) p s before after x y = Finished w report p s before after x y
+Ran w (Err fault.Read) p s before after x y = ReadStopped (reads_by w) p s before after x y
+Ran w (Err fault.Turns) p s before after x y = ReadsSpent (reads_by w) p s before after x y
+Ran w (Err fault.Out) p s before after x y = WriteStopped w p s before after x y
+Ran w (Err fault.Failed) p s before after x y = ⊥
 
 -- what a run did with a failed engine: it read nothing and wrote nothing
 pub record Refused (result : Result Report RunFault) (before after : SourceLog) (x y : OutLog) : Type 0 where

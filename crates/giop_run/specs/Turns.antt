@@ -9,7 +9,7 @@ use Rattle.giop_stream.specs.Stream.{closing, final}
 use Rattle.giop_stream.specs.Holding.{added, Holds, reading_of}
 use Rattle.giop_stream.specs.Remembering.{EngineMemory}
 use Rattle.giop_run.specs.SourceLog.{SourceLog}
-use Rattle.giop_run.specs.Running.{IsStopped, IsOver}
+use Rattle.giop_run.specs.Running.{IsStopped, IsOver, Way, reads_by, end_text, EndsAs}
 use Rattle.giop_stream.specs.declared.status.Totals.{Totals}
 use Rattle.giop_run.specs.declared.running.Report.{Report}
 use Rattle.giop_run.specs.declared.fault.RunFault.{RunFault}
@@ -54,11 +54,10 @@ Turned R (Err fault.Out) p s e before after x y =
 Turned R (Err fault.Turns) p s e before after x y = ⊥
 Turned R (Err fault.Failed) p s e before after x y = ⊥
 
--- the closing of p was written, and the report has its totals
-pub record Ended (R : Reading) (report : Report) (p : List ℕ) (x y : OutLog) : Type 0 where
-  pub written : Wrote x y (closing R p)
-  pub totals : report.totals ≡ final R p
-  pub saved : report.saved ≡ 0
+-- what the ending writes behind the lines of p was written, and what it does is done
+pub record Ended (w : Way) (report : Report) (p : List ℕ) (x y : OutLog) : Type 0 where
+  pub written : Wrote x y (end_text w.ending (reads_by w) p)
+  pub ended : EndsAs w.ending w report p
 
 -- what the finish of an engine that held p did
 abbrev pub Completed : Reading → Result Totals RunFault → List ℕ → OutLog → OutLog → Type 0
@@ -68,13 +67,13 @@ Completed R (Err fault.Read) p x y = ⊥
 Completed R (Err fault.Turns) p x y = ⊥
 Completed R (Err fault.Failed) p x y = ⊥
 
--- what the finish of an engine that held p and the flush behind it did
-abbrev pub Closed : Reading → Result Report RunFault → List ℕ → OutLog → OutLog → Type 0
-Closed R (Ok report) p x y = Ended R report p x y
-Closed R (Err fault.Out) p x y = WroteFront x y (closing R p)
-Closed R (Err fault.Read) p x y = ⊥
-Closed R (Err fault.Turns) p x y = ⊥
-Closed R (Err fault.Failed) p x y = ⊥
+-- what the end of a run did, of which the engine held p
+abbrev pub Closed : Way → Result Report RunFault → List ℕ → OutLog → OutLog → Type 0
+Closed w (Ok report) p x y = Ended w report p x y
+Closed w (Err fault.Out) p x y = WroteFront x y (end_text w.ending (reads_by w) p)
+Closed w (Err fault.Read) p x y = ⊥
+Closed w (Err fault.Turns) p x y = ⊥
+Closed w (Err fault.Failed) p x y = ⊥
 
 -- k turns, after all of which the stream goes on, did this to a stream p that the engine held
 pub record Going (R : Reading) (p s : List ℕ) (e : EngineMemory) (k : ℕ) (before after : SourceLog) (x y : OutLog) : Type 0 where

@@ -1,33 +1,33 @@
 //! What the program does with a reader and an out, and its status.
 
-ghost use Rattle.std.specs.Prelude.{◌≡◌, [], OnOk};
-ghost use Rattle.giop_message.specs.MessageReading.{message_reading};
-ghost use Rattle.giop_stream.specs.Holding.{AreOf};
+ghost use Rattle.std.specs.Prelude.{◌≡◌, List, ℕ, [], true, Err, OnOk, OnErr};
+ghost use Rattle.giop_stream.specs.Holding.{Holds};
+ghost use Rattle.giop_run.specs.Running.{way_of};
 ghost use Rattle.giop_run.specs.Console.{Dumped, exit_status};
 
 use super::fault::{ProgramFault, RunFault};
 use super::flush::{Flush, Flushed};
 use super::reading::Reading;
-use super::running::{Report, run_by};
-use giop_sig::{Catalogue, Requests};
+use super::running::{Ending, Report, run_by};
 use giop_stream::Engine;
 use std::io::Read;
 
-/// Dumps what the reader gives, and flushes the lines before each read and at the end.
+/// Dumps what the reader gives to an engine, and flushes the lines before each read and at the end.
 pub fn dump<R: Read + Drop, O: Flush>(
     reader: R,
     out: &mut O,
-    catalogue: &Catalogue,
-    requests: &Requests,
+    engine: Engine,
+    ending: Ending,
+    into: &mut [u8; 10_976],
 ) -> Result<Report, RunFault>
-    requires of { AreOf catalogue.now requests.now }
-    ensures dumped { Dumped (message_reading catalogue.now requests.now) result
-        (R.remaining reader) (O.log out.old) (O.log out.new) }
+    ensures dumped { (p : List ℕ) → Holds engine.entry p
+        → Dumped (way_of engine.entry ending into.old into.new) result p (R.remaining reader) (O.log out.old) (O.log out.new) }
+    ensures kept { OnErr result (into.new ≡ into.old) }
+    ensures sound { result ≡ Err RunFault.Failed → engine.entry.failed ≡ true }
     ensures flushed { OnOk result (O.kept out.new ≡ []) }
 {
     let mut source = Reading::new(reader);
-    let engine = Engine::new(catalogue, requests);
-    run_by::<Reading<R>, O, Flushed>(&mut source, out, engine)
+    run_by::<Reading<R>, O, Flushed>(&mut source, out, engine, ending, into)
 }
 
 /// The status that the program ends with: 0, or 1 where a fault was counted, or that of what failed.

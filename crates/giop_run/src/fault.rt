@@ -4,6 +4,7 @@ ghost use Rattle.std.specs.Prelude.{◌≡◌, ◌≢◌};
 ghost use Rattle.std.specs.IoError.{error_kind};
 ghost use Rattle.giop_run.specs.Console.{fault_status};
 
+use giop_checkpoint::LoadFault;
 use giop_sig::{ListFault, ListFaultKind, SigFault, SigFaultKind};
 use std::io;
 use std::io::ErrorKind;
@@ -43,9 +44,15 @@ pub enum ProgramFault<'a> {
     /// The request list is refused.
     #[error("{name}:{}: {fault}", .fault.line)]
     Requests { name: &'a str, fault: ListFault },
+    /// The checkpoint is refused.
+    #[error("{name}: checkpoint refused: {fault}")]
+    Checkpoint { name: &'a str, fault: LoadFault },
     /// A file can't be opened, or one that is read whole can't be read.
     #[error("{name}: cannot read")]
     Unreadable { name: &'a str },
+    /// The file for a checkpoint can't be written. What it held it holds.
+    #[error("{name}: cannot write")]
+    Unwritable { name: &'a str },
     /// The run failed.
     #[error("{0}")]
     Run(RunFault),
@@ -98,8 +105,12 @@ impl<'a> ProgramFault<'a> {
     {
         match self {
             ProgramFault::Words => 2,
-            ProgramFault::Signatures { .. } | ProgramFault::Requests { .. } => 3,
-            ProgramFault::Unreadable { .. } | ProgramFault::Run(_) => 4,
+            ProgramFault::Signatures { .. }
+            | ProgramFault::Requests { .. }
+            | ProgramFault::Checkpoint { .. } => 3,
+            ProgramFault::Unreadable { .. }
+            | ProgramFault::Unwritable { .. }
+            | ProgramFault::Run(_) => 4,
             ProgramFault::OutOfMemory => 5,
         }
     }

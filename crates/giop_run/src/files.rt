@@ -46,7 +46,7 @@ pub fn unreadable<'a>(name: &'a str, error: &io::Error) -> ProgramFault<'a>
 }
 
 /// What a file has, up to the first octet past the limit.
-fn contents<'a, R: Inputs + AllocGlobal>(
+pub(crate) fn contents<'a, R: Inputs + AllocGlobal>(
     rt: &R,
     name: &'a str,
     most: u64,

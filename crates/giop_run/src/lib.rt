@@ -9,7 +9,9 @@ mod inputs;
 mod lines;
 mod piecewise;
 mod reading;
+mod resuming;
 mod running;
+mod saving;
 mod source;
 
 pub use console::{dump, status};
@@ -20,5 +22,7 @@ pub use inputs::Inputs;
 pub use lines::Lines;
 pub use piecewise::Piecewise;
 pub use reading::Reading;
+pub use resuming::resumed;
 pub use running::{Ending, Report, run};
+pub use saving::{Disk, Saves};
 pub use source::Source;

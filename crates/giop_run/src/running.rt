@@ -1,12 +1,13 @@
 //! A run: octets from a source go through an engine to an out, up to the stream's end.
 
-ghost use Rattle.std.specs.Prelude.{◌≡◌, ◌+◌, ◌^◌, ◌≤◌, Err, true, false, List, [], ℕ, MatchResult, OnOk, IfErr};
+ghost use Rattle.std.specs.Prelude.{◌≡◌, ◌+◌, ◌^◌, ◌≤◌, Err, true, false, List, [], ℕ, drop, MatchResult, IfOk, OnOk, IfErr, OnErr};
 ghost use Rattle.giop_print.specs.Output.{counted};
 ghost use Rattle.giop_cdr.specs.Numbers.{AreOctets};
 ghost use Rattle.giop_stream.specs.Holding.{Holds, reading_of};
 ghost use Rattle.giop_run.specs.SourceLog.{Gave, ReadFailed};
 ghost use Rattle.giop_run.specs.Flushing.{Flushes};
-ghost use Rattle.giop_run.specs.Running.{Ran, Refused};
+ghost use Rattle.giop_stream.specs.Checkpoint.{Saves};
+ghost use Rattle.giop_run.specs.Running.{Ran, Refused, way_of};
 ghost use Rattle.giop_run.specs.Turns.{Fed, Turned, Completed, Closed};
 
 use super::fault::{RunFault, SourceFault};
@@ -26,6 +27,8 @@ const ROOM: usize = 4096;
 pub enum Ending {
     /// It writes the closing lines.
     Finish,
+    /// It saves a checkpoint, from which the stream goes on later.
+    Save,
 }
 
 /// What a run did.
@@ -37,7 +40,8 @@ pub struct Report {
     pub saved: usize,
 }
 
-/// Reads the source to its end or to a stream fault, writes the lines of what it gave, and ends the stream.
+/// Reads the source to its end or to a stream fault, writes the lines of what it gave, and ends the stream, or puts its
+/// checkpoint at the front of `into`.
 ///
 /// A stream that has a fault already is ended with no read. After a fault of the run what was written stays: the lines
 /// of all that was read, or after a failed put a front of them.
@@ -46,17 +50,18 @@ pub fn run<S: Source, O: Out>(
     out: &mut O,
     engine: Engine,
     ending: Ending,
+    into: &mut [u8; 10_976],
 ) -> Result<Report, RunFault>
     ensures ran { (p : List ℕ) → Holds engine.entry p → (s : List ℕ)
-        × Ran (reading_of engine.entry) result p s (S.log source.old) (S.log source.new) (O.log out.old) (O.log out.new) }
+        × Ran (way_of engine.entry ending into.old into.new) result p s (S.log source.old) (S.log source.new) (O.log out.old) (O.log out.new) }
     ensures failed { engine.entry.failed ≡ true
         → Refused result (S.log source.old) (S.log source.new) (O.log out.old) (O.log out.new) }
     // Of every engine, also of one that holds no stream.
     ensures sound { result ≡ Err RunFault.Failed → engine.entry.failed ≡ true }
     ensures reads { (S.log source.new).reads ≤ (S.log source.old).reads + 2 ^ 40 }
+    ensures kept { OnErr result (into.new ≡ into.old) }
 {
-    let Ending::Finish = ending;
-    run_by::<S, O, Nothing>(source, out, engine)
+    run_by::<S, O, Nothing>(source, out, engine, ending, into)
 }
 
 /// A run that does `F` to its out before each read, so that a live stream shows its lines as they come, and at the end.
@@ -65,25 +70,28 @@ pub(crate) fn run_by<S: Source, O: Out, F: Between<O>>(
     source: &mut S,
     out: &mut O,
     engine: Engine,
+    ending: Ending,
+    into: &mut [u8; 10_976],
 ) -> Result<Report, RunFault>
     ensures ran { (p : List ℕ) → Holds engine.entry p → (s : List ℕ)
-        × Ran (reading_of engine.entry) result p s (S.log source.old) (S.log source.new) (O.log out.old) (O.log out.new) }
+        × Ran (way_of engine.entry ending into.old into.new) result p s (S.log source.old) (S.log source.new) (O.log out.old) (O.log out.new) }
     ensures failed { engine.entry.failed ≡ true
         → Refused result (S.log source.old) (S.log source.new) (O.log out.old) (O.log out.new) }
     // Of every engine, also of one that holds no stream.
     ensures sound { result ≡ Err RunFault.Failed → engine.entry.failed ≡ true }
     ensures reads { (S.log source.new).reads ≤ (S.log source.old).reads + 2 ^ 40 }
+    ensures kept { OnErr result (into.new ≡ into.old) }
     ensures flushed { OnOk result (F.left out.new ≡ []) }
 {
     let mut engine = engine;
     if !feed(&mut engine, &[], out)? {
-        return close::<O, F>(engine, out);
+        return close::<O, F>(engine, out, ending, into);
     }
     let mut buffer = [0; ROOM];
     for _turn in 0..TURNS {
         flush::<O, F>(out)?;
         if !turn(source, out, &mut engine, &mut buffer)? {
-            return close::<O, F>(engine, out);
+            return close::<O, F>(engine, out, ending, into);
         }
     }
     flush::<O, F>(out)?;
@@ -111,6 +119,7 @@ fn turn<S: Source, O: Out>(
     ensures turned { (p : List ℕ) → Holds engine.old p → (s : List ℕ)
         × Turned (reading_of engine.old) result p s engine.new (S.log source.old) (S.log source.new) (O.log out.old) (O.log out.new) }
     ensures leaves { engine.old.failed ≡ false → OnOk result (engine.new.failed ≡ false) }
+    ensures same { (engine.new.table ≡ engine.old.table) × (engine.new.listed ≡ engine.old.listed) }
     ensures sound { result ≡ Err RunFault.Failed → engine.old.failed ≡ true }
     ensures reads { (S.log source.new).reads ≡ counted (S.log source.old).reads }
 {
@@ -141,6 +150,7 @@ fn feed<O: Out>(engine: &mut Engine, piece: &[u8], out: &mut O) -> Result<bool, 
     ensures failed { engine.old.failed ≡ true
         → (result ≡ Err RunFault.Failed) × (O.log out.new ≡ O.log out.old) }
     ensures leaves { OnOk result (engine.new.failed ≡ false) }
+    ensures same { (engine.new.table ≡ engine.old.table) × (engine.new.listed ≡ engine.old.listed) }
     ensures sound { result ≡ Err RunFault.Failed → engine.old.failed ≡ true }
 {
     match engine.feed(piece, out) {
@@ -151,18 +161,68 @@ fn feed<O: Out>(engine: &mut Engine, piece: &[u8], out: &mut O) -> Result<bool, 
     }
 }
 
-/// Ends the stream, flushes the out, and reports the totals.
-fn close<O: Out, F: Between<O>>(engine: Engine, out: &mut O) -> Result<Report, RunFault>
+/// Ends a run as it is to end.
+fn close<O: Out, F: Between<O>>(
+    engine: Engine,
+    out: &mut O,
+    ending: Ending,
+    into: &mut [u8; 10_976],
+) -> Result<Report, RunFault>
     ensures closed { (p : List ℕ) → Holds engine.entry p
-        → Closed (reading_of engine.entry) result p (O.log out.old) (O.log out.new) }
-    ensures failed { engine.entry.failed ≡ true
-        → (result ≡ Err RunFault.Failed) × (O.log out.new ≡ O.log out.old) }
+        → Closed (way_of engine.entry ending into.old into.new) result p (O.log out.old) (O.log out.new) }
+    ensures sound { result ≡ Err RunFault.Failed → engine.entry.failed ≡ true }
+    ensures kept { OnErr result (into.new ≡ into.old) }
+    ensures flushed { OnOk result (F.left out.new ≡ []) }
+{
+    match ending {
+        Ending::Finish => finished::<O, F>(engine, out),
+        Ending::Save => saved::<O, F>(&engine, out, into),
+    }
+}
+
+/// Ends the stream, flushes the out, and reports the totals.
+fn finished<O: Out, F: Between<O>>(engine: Engine, out: &mut O) -> Result<Report, RunFault>
+    ensures closed { (p room : List ℕ) → Holds engine.entry p
+        → Closed (way_of engine.entry Ending.Finish room room) result p (O.log out.old) (O.log out.new) }
     ensures sound { result ≡ Err RunFault.Failed → engine.entry.failed ≡ true }
     ensures flushed { OnOk result (F.left out.new ≡ []) }
 {
     let totals = finish(engine, out)?;
     flush::<O, F>(out)?;
     Ok(Report { totals, saved: 0 })
+}
+
+/// Flushes the out, and saves the stream's checkpoint.
+fn saved<O: Out, F: Between<O>>(
+    engine: &Engine,
+    out: &mut O,
+    into: &mut [u8; 10_976],
+) -> Result<Report, RunFault>
+    ensures closed { (p : List ℕ) → Holds engine.now p
+        → Closed (way_of engine.now Ending.Save into.old into.new) result p (O.log out.old) (O.log out.new) }
+    ensures sound { result ≡ Err RunFault.Failed → engine.now.failed ≡ true }
+    ensures kept { OnErr result (into.new ≡ into.old) }
+    ensures flushed { OnOk result (F.left out.new ≡ []) }
+{
+    flush::<O, F>(out)?;
+    let saved = save(engine, into)?;
+    let totals = engine.totals();
+    Ok(Report { totals, saved })
+}
+
+/// Saves the stream's checkpoint: how many octets it has.
+fn save(engine: &Engine, into: &mut [u8; 10_976]) -> Result<usize, RunFault>
+    ensures saves { (p : List ℕ) → Holds engine.now p
+        → IfOk result (λ n. Saves n into.new engine.now.table engine.now.listed p) }
+    ensures behind { IfOk result (λ n. drop n into.new ≡ drop n into.old) }
+    ensures cause { IfErr result (λ fault. fault ≡ RunFault.Failed) }
+    ensures failed { OnErr result (engine.now.failed ≡ true) }
+    ensures kept { OnErr result (into.new ≡ into.old) }
+{
+    match engine.save(into) {
+        Ok(octets) => Ok(octets),
+        Err(_) => Err(RunFault::Failed),
+    }
 }
 
 /// Ends the stream.

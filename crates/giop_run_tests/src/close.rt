@@ -1,10 +1,11 @@
-//! What the tests have in common: the types by which streams are read, and a CloseConnection.
+//! What the tests have in common: the types by which streams are read, octets of hexadecimal text, and a
+//! CloseConnection.
 
 ghost use Rattle.std.specs.Prelude.{IfOk};
 ghost use Rattle.giop_stream.specs.Holding.{AreOf};
 
 use giop_sig::{Catalogue, Requests};
-use std::alloc::Global;
+use std::alloc::{AllocError, Global};
 use std::test::Fail;
 
 /// The built-in types, and the list of no request.
@@ -14,6 +15,21 @@ pub fn built_in(alloc: Global) -> Result<(Catalogue, Requests), Fail>
     let catalogue = Catalogue::builtin(alloc)?;
     let requests = Requests::parse(alloc, b"", &catalogue)?;
     Ok((catalogue, requests))
+}
+
+/// The octets of hexadecimal text, in which spaces stand anywhere.
+pub fn octets(alloc: Global, text: &str) -> Result<Vec<u8>, AllocError> {
+    let mut octets = Vec::new(alloc);
+    let mut high = None;
+    for digit in text.chars().filter(|c| *c != ' ') {
+        let digit = digit.to_digit(16).unwrap_or(0);
+        match high.take() {
+            None => high = Some(digit),
+            // A digit is below 16: the remainders tell that to the check.
+            Some(first) => octets.push((first % 16 * 16 + digit % 16) as u8)?,
+        }
+    }
+    Ok(octets)
 }
 
 /// A CloseConnection alone.

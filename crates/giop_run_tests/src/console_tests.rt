@@ -4,8 +4,9 @@ ghost use Rattle.giop_stream.specs.Holding.{AreOf};
 
 use super::close::{CLOSE, CLOSED, COMPLETED, NOTHING, REFUSED, WRONG, built_in};
 use super::fakes::{FailingReader, FailingWriter};
-use giop_run::{Lines, ProgramFault, Report, RunFault, dump, status};
+use giop_run::{Ending, Lines, ProgramFault, Report, RunFault, dump, status};
 use giop_sig::{Catalogue, Requests};
+use giop_stream::Engine;
 use std::cell::{Cell, RefCell};
 use std::io;
 use std::io::{ErrorKind, Read};
@@ -54,7 +55,14 @@ fn is_watched(
 {
     let mut lines = Lines::new(rt.alloc(), FailingWriter::new(held, 100))?;
     let reader = WatchingReader { reads: 0, held };
-    Ok(dump(reader, &mut lines, catalogue, requests).is_ok())
+    Ok(dump(
+        reader,
+        &mut lines,
+        Engine::new(catalogue, requests),
+        Ending::Finish,
+        &mut [0; 10_976],
+    )
+    .is_ok())
 }
 
 fn watches(
@@ -87,7 +95,13 @@ fn dumps(
     requires of { AreOf catalogue.now requests.now }
 {
     let mut lines = Lines::new(rt.alloc(), Vec::new(rt.alloc()))?;
-    let dumped = dump(stream, &mut lines, catalogue, requests);
+    let dumped = dump(
+        stream,
+        &mut lines,
+        Engine::new(catalogue, requests),
+        Ending::Finish,
+        &mut [0; 10_976],
+    );
     assert!(rt; lines.writer().as_slice() == want);
     Ok(status_of(dumped))
 }
@@ -123,7 +137,13 @@ fn dump_by_octets(
     requires of { AreOf catalogue.now requests.now }
 {
     let mut lines = Lines::new(rt.alloc(), writer)?;
-    Ok(dump(reader, &mut lines, catalogue, requests))
+    Ok(dump(
+        reader,
+        &mut lines,
+        Engine::new(catalogue, requests),
+        Ending::Finish,
+        &mut [0; 10_976],
+    ))
 }
 
 /// What differs where a write fails. Three writes of at most 16 octets flush the first two lines, and three more the

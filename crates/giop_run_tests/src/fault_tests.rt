@@ -2,6 +2,7 @@
 
 use giop_run::{ProgramFault, RunFault, unreadable};
 use giop_sig::{ListFault, ListFaultKind, SigFault, SigFaultKind};
+use giop_stream::LoadFault;
 use std::io;
 use std::io::ErrorKind;
 use std::process::Abort;
@@ -69,4 +70,22 @@ fn words_that_are_no_text_are_told(rt: HostRuntime) -> Result<(), Fail> {
 fn a_file_that_cannot_be_read_is_told(rt: HostRuntime) -> Result<(), Fail> {
     cannot_read(&rt, ErrorKind::NotFound, "a: cannot read", 4)?;
     cannot_read(&rt, ErrorKind::OutOfMemory, "out of memory", 5)
+}
+
+#[test]
+fn a_refused_checkpoint_is_told_by_its_word(rt: HostRuntime) -> Result<(), Fail> {
+    let refused = |fault| ProgramFault::Checkpoint {
+        name: "a.check",
+        fault,
+    };
+    let magic = refused(LoadFault::Magic);
+    let state = refused(LoadFault::State);
+    says(&rt, magic, "a.check: checkpoint refused: magic", 3)?;
+    says(&rt, state, "a.check: checkpoint refused: state", 3)
+}
+
+#[test]
+fn a_file_that_cannot_be_written_is_told(rt: HostRuntime) -> Result<(), Fail> {
+    let fault = ProgramFault::Unwritable { name: "a" };
+    says(&rt, fault, "a: cannot write", 4)
 }

@@ -16,4 +16,6 @@ mod program_tests;
 #[cfg(test)]
 mod run_tests;
 #[cfg(test)]
+mod save_tests;
+#[cfg(test)]
 mod words_tests;

@@ -1,11 +1,15 @@
 //! The program's steps on files: its lines, what it says, and its status.
 
+ghost use Rattle.std.specs.Prelude.{None};
+
+use super::close::octets;
 use giop_program::{Arguments, performed};
-use giop_run::{Lines, ProgramFault, Report, status};
+use giop_run::{Disk, Lines, ProgramFault, Report, Saves, status};
 use std::alloc::{AllocError, Global};
-use std::fs;
+use std::io::ErrorKind;
 use std::process::Abort;
 use std::test::Fail;
+use std::{fs, io};
 
 /// The texts of files: the name in a line, and the text up to a line of `=`.
 static FILES: &str = "\
@@ -37,13 +41,32 @@ set.giop 47494f50 0100 00 00 00000024 00000000 00000007 01 000000 00000002 6b31 
     00000004 73657400 00000000 fffffffb
 ask.giop 47494f50 0100 00 01 00000011 00000000 00000001 00000000 0000002a 09
 wrong.giop 47494f51
+set1.giop 47494f50 0100 00 00 00000024 00000000 00000007
+set2.giop 01 000000 00000002 6b31 0000 00000004 73657400 00000000
+set3.giop fffffffb
+long.check 47494f50 44554d50 00000001 00000000 00000000 00000000 00000000 00000000 0000000000000000 \
+    0000000000000000 0000000000000000 000000ff 00000000 00000000 00000000 0000000000000000 \
+    00000000 00000000 00000000 00000000 00
+magic.check 47494f50 44554d51 00000009 00000000 00000000 00000000 00000000 00000000 0000000000000000 \
+    0000000000000000 0000000000000000 000000ff 00000000 00000000 00000000 0000000000000000 \
+    00000000 00000000 00000000 00000000
+version.check 47494f50 44554d50 00000009 00000001 00000000 00000000 00000000 00000000 0000000000000000 \
+    0000000000000000 0000000000000000 000000ff 00000000 00000000 00000000 0000000000000000 \
+    00000000 00000000 00000000 00000000
+state.check 47494f50 44554d50 00000001 00000000 00000000 00000000 00000000 00000000 0001000000000002 \
+    0000000000000000 0000000000000000 000000ff 00000000 00000000 00000000 0000000000000000 \
+    00000000 00000000 00000000 00000000
+limit.check 47494f50 44554d50 00000001 00000000 00000000 00000000 00000000 00000000 0001000000000000 \
+    0000000000000000 0000000000000000 000000ff 00000000 00000000 00000000 0000000000000000 \
+    00000000 00000000 00000000 00000000
 ";
 
-/// Cases: the signature file, the request list and the stream that are asked for; the status, and what is printed
-/// behind the program's name; the lines, up to a line of `=`. Files that can't be opened are missing, and a directory
-/// can be opened and not read. The first step that fails decides.
+/// Cases: the signature file, the request list, the checkpoint to go on from, the file to save and the stream that are
+/// asked for; the status, and what is printed behind the program's name; the lines, up to a line of `=`. Files that can't
+/// be opened are missing, and a directory can be opened and not read. The first step that fails decides. What a case
+/// saves the later ones go on from.
 static CASES: &str = "\
-lab.sig _ set.giop
+lab.sig _ _ _ set.giop
 0
 m1 start 1.0 big Request size 36
 m1 header.service_contexts count 0
@@ -57,7 +80,7 @@ m1 body.v long -5
 m1 end
 total messages 1 faults 0 octets 48
 =
-lab.sig lab.req ask.giop
+lab.sig lab.req _ _ ask.giop
 0
 m1 start 1.0 big Reply size 17
 m1 header.service_contexts count 0
@@ -68,7 +91,7 @@ m1 body.b octet 9
 m1 end
 total messages 1 faults 0 octets 29
 =
-lab.sig _ ask.giop
+lab.sig _ _ _ ask.giop
 0
 m1 start 1.0 big Reply size 17
 m1 header.service_contexts count 0
@@ -78,47 +101,130 @@ m1 rest @0 0000002a09
 m1 end
 total messages 1 faults 0 octets 29
 =
-_ empty.txt empty.txt
+_ empty.txt _ _ empty.txt
 0
 total messages 0 faults 0 octets 0
 =
-_ _ wrong.giop
+_ _ _ _ wrong.giop
 1
 stream fault magic at 4
 total messages 0 faults 1 octets 4
 =
-wrong.sig lab.req set.giop
+wrong.sig lab.req _ _ set.giop
 3 wrong.sig:3: unknown-type
 =
-empty.txt lab.req set.giop
+empty.txt lab.req _ _ set.giop
 3 empty.txt:1: syntax
 =
-lab.sig wrong.req set.giop
+lab.sig wrong.req _ _ set.giop
 3 wrong.req:2: syntax
 =
-missing.sig lab.req set.giop
+missing.sig lab.req _ _ set.giop
 4 missing.sig: cannot read
 =
-lab.sig missing.req set.giop
+lab.sig missing.req _ _ set.giop
 4 missing.req: cannot read
 =
-lab.sig lab.req missing.giop
+lab.sig lab.req _ _ missing.giop
 4 missing.giop: cannot read
 =
-. lab.req set.giop
+. lab.req _ _ set.giop
 4 .: cannot read
 =
-lab.sig lab.req .
+lab.sig lab.req _ _ .
 4 read failed
 =
-wrong.sig wrong.req missing.giop
+wrong.sig wrong.req _ _ missing.giop
 3 wrong.sig:3: unknown-type
 =
-missing.sig wrong.req missing.giop
+missing.sig wrong.req _ _ missing.giop
 4 missing.sig: cannot read
 =
-lab.sig wrong.req missing.giop
+lab.sig wrong.req _ _ missing.giop
 3 wrong.req:2: syntax
+=
+lab.sig _ _ part.check set1.giop
+0
+m1 start 1.0 big Request size 36
+m1 header.service_contexts count 0
+m1 header.request_id ulong 7
+=
+lab.sig _ part.check part.check set2.giop
+0
+m1 header.response_expected boolean true
+m1 header.object_key octets @0 6b31
+m1 header.operation string @0 \"set\"
+m1 call 7 set
+m1 header.requesting_principal octets @0
+=
+lab.sig _ _ part.check .
+4 read failed
+=
+wrong.sig _ _ part.check set.giop
+3 wrong.sig:3: unknown-type
+=
+lab.sig _ part.check _ set3.giop
+0
+m1 body.v long -5
+m1 end
+total messages 1 faults 0 octets 48
+=
+_ _ part.check _ set3.giop
+3 part.check: checkpoint refused: catalogue
+=
+lab.sig lab.req part.check _ set3.giop
+3 part.check: checkpoint refused: catalogue
+=
+_ _ empty.txt _ empty.txt
+3 empty.txt: checkpoint refused: length
+=
+_ _ long.check _ empty.txt
+3 long.check: checkpoint refused: length
+=
+_ _ magic.check _ empty.txt
+3 magic.check: checkpoint refused: magic
+=
+_ _ version.check _ empty.txt
+3 version.check: checkpoint refused: version
+=
+_ _ state.check _ empty.txt
+3 state.check: checkpoint refused: state
+=
+_ _ state.check part.check missing.giop
+3 state.check: checkpoint refused: state
+=
+_ _ limit.check _ empty.txt
+0
+total messages 0 faults 0 octets 281474976710656
+=
+_ _ limit.check _ set.giop
+1
+stream fault stream-limit at 281474976710657
+total messages 0 faults 1 octets 281474976710657
+=
+_ _ _ stop.check wrong.giop
+1
+stream fault magic at 4
+=
+_ _ stop.check _ set.giop
+1
+total messages 0 faults 1 octets 4
+=
+_ _ missing.check _ missing.giop
+4 missing.check: cannot read
+=
+_ wrong.req missing.check _ missing.giop
+3 wrong.req:2: syntax
+=
+_ _ . _ set.giop
+4 .: cannot read
+=
+_ _ _ . wrong.giop
+4 .: cannot write
+stream fault magic at 4
+=
+_ _ _ none/part.check empty.txt
+4 none/part.check: cannot write
 =
 ";
 
@@ -136,6 +242,8 @@ fn asked(line: &str) -> Arguments {
     Arguments {
         signatures: file_of(words.next()),
         requests: file_of(words.next()),
+        resume: file_of(words.next()),
+        save: file_of(words.next()),
         stream: file_of(words.next()),
     }
 }
@@ -164,7 +272,7 @@ fn is_performed(rt: &HostRuntime, case: &str) -> Result<bool, Fail> {
     let told = parts.next().unwrap_or("");
     let want = parts.next().unwrap_or("");
     let mut lines = Lines::new(rt.alloc(), Vec::new(rt.alloc()))?;
-    let ended = performed(rt, asked, &mut lines);
+    let ended = performed(rt, asked, &mut lines, &mut Disk::new(rt));
     let is_written = lines.writer().as_slice() == want.as_bytes();
     Ok(is_told(rt.alloc(), &ended, told)? && is_written)
 }
@@ -176,21 +284,6 @@ fn perform(rt: &HostRuntime, abort: &impl Abort) -> Result<(), Fail> {
         assert!(abort; is_as_told, "{case}");
     }
     Ok(())
-}
-
-/// The octets of hexadecimal text, in which spaces stand anywhere.
-fn octets(alloc: Global, text: &str) -> Result<Vec<u8>, AllocError> {
-    let mut octets = Vec::new(alloc);
-    let mut high = None;
-    for digit in text.chars().filter(|c| *c != ' ') {
-        let digit = digit.to_digit(16).unwrap_or(0);
-        match high.take() {
-            None => high = Some(digit),
-            // A digit is below 16: the remainders tell that to the check.
-            Some(first) => octets.push((first % 16 * 16 + digit % 16) as u8)?,
-        }
-    }
-    Ok(octets)
 }
 
 /// Writes a stream.
@@ -213,8 +306,14 @@ fn write_files(rt: &HostRuntime) -> Result<(), Fail> {
     Ok(())
 }
 
-/// Removes them.
+/// The files that the cases save.
+const SAVED: [&str; 2] = ["part.check", "stop.check"];
+
+/// Removes them all.
 fn remove_files(rt: &HostRuntime) -> Result<(), Fail> {
+    for name in SAVED {
+        fs::remove_file(rt, name)?;
+    }
     for file in FILES.split_terminator("=\n") {
         fs::remove_file(rt, file.split('\n').next().unwrap_or(""))?;
     }
@@ -229,4 +328,44 @@ fn the_first_step_that_fails_decides(rt: HostRuntime) -> Result<(), Fail> {
     write_files(&rt)?;
     perform(&rt, &rt)?;
     remove_files(&rt)
+}
+
+/// Files that can't be written.
+#[derive(Drop)]
+struct Unwritable {
+    tries: usize,
+}
+
+impl Saves for Unwritable {
+    ghost saved = { λ _. None };
+
+    fn save(&mut self, _name: &str, octets: &[u8]) -> io::Result<()> {
+        self.tries = self.tries.saturating_add(octets.len());
+        Err(io::Error::from(ErrorKind::StorageFull))
+    }
+}
+
+/// Performs the steps on an empty stream, and says how many octets were to be saved.
+fn tries_to_save(rt: &HostRuntime, save: Option<&str>) -> Result<(bool, usize), Fail> {
+    fs::write(rt, "nothing.giop", b"".as_slice())?;
+    let asked = Arguments {
+        signatures: None,
+        requests: None,
+        resume: None,
+        save,
+        stream: Some("nothing.giop"),
+    };
+    let mut files = Unwritable { tries: 0 };
+    let mut lines = Lines::new(rt.alloc(), Vec::new(rt.alloc()))?;
+    let ended = performed(rt, asked, &mut lines, &mut files);
+    fs::remove_file(rt, "nothing.giop")?;
+    Ok((ended.is_ok(), files.tries))
+}
+
+#[test]
+fn a_save_that_fails_is_told(rt: HostRuntime) -> Result<(), Fail> {
+    let finished = tries_to_save(&rt, None)?;
+    let saved = tries_to_save(&rt, Some("part.check"))?;
+    assert!(rt; finished == (true, 0) && saved == (false, 96));
+    Ok(())
 }

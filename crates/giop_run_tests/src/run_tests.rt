@@ -17,7 +17,13 @@ fn reads(rt: &impl Abort, engine: Engine, stream: &[u8], want: &[u8]) {
     let mut room = [0; 512];
     let mut sheet = Sheet::new(&mut room);
     let mut source = Reading::new(stream);
-    let ran = run(&mut source, &mut sheet, engine, Ending::Finish);
+    let ran = run(
+        &mut source,
+        &mut sheet,
+        engine,
+        Ending::Finish,
+        &mut [0; 10_976],
+    );
     assert!(rt; ran.is_ok() && sheet.held() == want);
 }
 
@@ -67,7 +73,13 @@ fn fails_at_a_read(rt: &impl Abort, engine: Engine, fails_at: usize) {
     let mut sheet = Sheet::new(&mut room);
     let reads = Cell::new(0);
     let mut source = Reading::new(FailingReader::new(CLOSE, &reads, fails_at));
-    let ran = run(&mut source, &mut sheet, engine, Ending::Finish);
+    let ran = run(
+        &mut source,
+        &mut sheet,
+        engine,
+        Ending::Finish,
+        &mut [0; 10_976],
+    );
     let differs = read_differs(ran, reads.get(), sheet.held(), fails_at);
     assert!(rt; differs.is_empty(), "read {fails_at}: {differs}");
 }
@@ -120,7 +132,13 @@ fn tries_again(rt: &impl Abort, engine: Engine, interrupts: usize) {
     let mut sheet = Sheet::new(&mut room);
     let reads = Cell::new(0);
     let mut source = Reading::new(InterruptedReader::new(CLOSE, &reads, interrupts));
-    let ran = run(&mut source, &mut sheet, engine, Ending::Finish);
+    let ran = run(
+        &mut source,
+        &mut sheet,
+        engine,
+        Ending::Finish,
+        &mut [0; 10_976],
+    );
     let differs = interrupt_differs(ran, reads.get(), sheet.held(), interrupts);
     assert!(rt; differs.is_empty(), "{interrupts} interrupted: {differs}");
 }
@@ -157,7 +175,13 @@ fn fails_at_a_put(rt: &(impl Abort + AllocGlobal), engine: Engine, fails_at: usi
     let held = RefCell::new(Vec::new(rt.alloc()));
     let mut out = Written::new(FailingWriter::new(&held, fails_at));
     let mut source = Piecewise::new(CLOSE, 12);
-    let ran = run(&mut source, &mut out, engine, Ending::Finish);
+    let ran = run(
+        &mut source,
+        &mut out,
+        engine,
+        Ending::Finish,
+        &mut [0; 10_976],
+    );
     let held = held.into_inner();
     let differs = put_differs(ran, &held);
     assert!(rt; differs.is_empty(), "write {fails_at}: {differs}");
@@ -221,7 +245,13 @@ fn reads_nothing(rt: &impl Abort, engine: Engine) {
     let mut sheet = Sheet::new(&mut wide);
     let reads = Cell::new(0);
     let mut source = Reading::new(FailingReader::new(CLOSE, &reads, 100));
-    let ran = run(&mut source, &mut sheet, engine, Ending::Finish);
+    let ran = run(
+        &mut source,
+        &mut sheet,
+        engine,
+        Ending::Finish,
+        &mut [0; 10_976],
+    );
     let untouched = reads.get() == 0 && sheet.held().is_empty();
     assert!(rt; ran == Err(RunFault::Failed) && untouched);
 }

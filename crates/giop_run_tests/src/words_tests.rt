@@ -6,29 +6,34 @@ use std::alloc::{AllocError, Global};
 use std::process::Abort;
 use std::test::Fail;
 
-/// Words behind the program's name, and behind `>` the signature file, the request list and the stream that they ask
-/// for, or why nothing is read.
+/// Words behind the program's name, and behind `>` the signature file, the request list, the checkpoint to go on from, the
+/// file to save and the stream that they ask for, or why nothing is read.
 static WORDS: &str = "\
-> _ _ _
-one.giop > _ _ one.giop
-- > _ _ -
--- --help > _ _ --help
---signatures a.sig > a.sig _ _
---signatures=a.sig > a.sig _ _
---signatures - > - _ _
---requests a.req > _ a.req _
-one.giop --requests=a.req --signatures a.sig > a.sig a.req one.giop
+> _ _ _ _ _
+one.giop > _ _ _ _ one.giop
+- > _ _ _ _ -
+-- --help > _ _ _ _ --help
+--signatures a.sig > a.sig _ _ _ _
+--signatures=a.sig > a.sig _ _ _ _
+--signatures - > - _ _ _ _
+--requests a.req > _ a.req _ _ _
+one.giop --requests=a.req --signatures a.sig > a.sig a.req _ _ one.giop
 --help > help
 -h > help
 --version > version
 -V > version
 one two > unknown
---resume x > unknown
---save=x > unknown
+--resume x > _ _ x _ _
+--save=x > _ _ _ x _
+--resume c --save c b.giop > _ _ c c b.giop
+--load x > unknown
 --signatures > value
 --requests > value
 --requests --signatures a > value
+--save > value
+--resume --save c > value
 --signatures a --signatures b > conflict
+--save a --save b > conflict
 --requests=a --requests=a > conflict
 ";
 
@@ -58,6 +63,8 @@ fn files_of(text: &str) -> Arguments {
     Arguments {
         signatures: file_of(words.next()),
         requests: file_of(words.next()),
+        resume: file_of(words.next()),
+        save: file_of(words.next()),
         stream: file_of(words.next()),
     }
 }

@@ -1,5 +1,5 @@
 -- Each way out of a run, by the turns before it.
-use Rattle.std.proofs.Common.{◌+◌, [], ◌++◌, arith}
+use Rattle.std.proofs.Common.{◌+◌, [], ◌++◌, ◌∙◌, refl, arith}
 use Rattle.std.proofs.lemmas.Result.{err_from_is_err_and}
 use Rattle.giop_run.proofs.TextLemmas.{adds_up}
 use Rattle.giop_run.proofs.ReadLemmas.{one_more_read}
@@ -16,13 +16,15 @@ pub returns-then-not-branch-clause-ran : goal.returns-then-not-branch-clause-ran
 returns-then-not-branch-clause-ran g c =
     λ p h.
     let f = rw c.if-not-branch.true at (c.in_ok-feed.ensures.fed p h) in
-    ([], ran_stopped _ c.close.result p _ _ _ _ _ f (c.close.ensures.closed (p ++ []) f.0.holds))
+    ([], ran_stopped _ c.close.result p _ _ _ _ _ f c.in_ok-feed.ensures.same (c.close.ensures.closed (p ++ []) f.0.holds))
 
 pub loop-turn-init : goal.loop-turn-init
 loop-turn-init g c =
     record {
       going = λ p h. ([], going_start _ p _ _ _ _ (rw c.if-not-branch.false at (c.in_ok-feed.ensures.fed p h)));
       sound = c.in_ok-feed.ensures.leaves;
+      same = c.in_ok-feed.ensures.same;
+      kept = refl;
       reads = omega arith;
     }
 
@@ -49,7 +51,9 @@ returns-then-not-branch-2-clause-ran g c =
     let f = going_flushed _ p s.0 _ c.loop-turn._turn _ _ _ _ _ _ s.1 c.in_ok-flush.ensures.flushed in
     let t = c.in_ok-turn.ensures.turned (p ++ s.0) f.took.holds in
     let u = rw c.if-not-branch-2.true at t.1 in
-    (s.0 ++ t.0, ran_over _ (adds_up c.args.engine) c.close-then-not-branch-2.result p s.0 t.0 _ _ c.loop-turn._turn _ _ _ _ _ _ _ f u (omega (arith, c.loop-turn-test.true)) (c.close-then-not-branch-2.ensures.closed ((p ++ s.0) ++ t.0) u.3.holds))
+    let same = c.in_ok-turn.ensures.same in
+    let kept = c.loop-turn.invariant.same in
+    (s.0 ++ t.0, ran_over _ (adds_up c.args.engine) c.close-then-not-branch-2.result p s.0 t.0 _ _ c.loop-turn._turn _ _ _ _ _ _ _ f u (omega (arith, c.loop-turn-test.true)) (same.0 ∙ kept.0, same.1 ∙ kept.1) (rw c.loop-turn.invariant.kept at (c.close-then-not-branch-2.ensures.closed ((p ++ s.0) ++ t.0) u.3.holds)))
 
 pub returns-in_err-turn-clause-reads : goal.returns-in_err-turn-clause-reads
 returns-in_err-turn-clause-reads g c =
@@ -68,6 +72,8 @@ loop-turn-preserved g c =
           let t = c.in_ok-turn.ensures.turned (p ++ s.0) f.took.holds in
           (s.0 ++ t.0, going_more _ (adds_up c.args.engine) p s.0 t.0 _ _ c.loop-turn._turn _ _ _ _ _ _ f (rw c.if-not-branch-2.false at t.1));
       sound = c.in_ok-turn.ensures.leaves c.loop-turn.invariant.sound;
+      same = (c.in_ok-turn.ensures.same.0 ∙ c.loop-turn.invariant.same.0, c.in_ok-turn.ensures.same.1 ∙ c.loop-turn.invariant.same.1);
+      kept = c.loop-turn.invariant.kept;
       reads = one_more_read _ _ _ _ (c.loop-turn._turn + 1) c.loop-turn.invariant.reads c.in_ok-turn.ensures.reads (omega arith);
     }
 

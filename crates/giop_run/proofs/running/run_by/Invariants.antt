@@ -10,5 +10,7 @@ invariant-loop-turn g l =
       going : (p : List ℕ) → Holds l.fn.engine p
           → (s : List ℕ) × Going (reading_of l.fn.engine) p s l.engine l._turn (g.S.Source.log l.fn.source) (g.S.Source.log l.source) (g.O.Out.log l.fn.out) (g.O.Out.log l.out);
       sound : l.engine.failed ≡ false;
+      same : (l.engine.table ≡ l.fn.engine.table) × (l.engine.listed ≡ l.fn.engine.listed);
+      kept : l.into ≡ l.fn.into;
       reads : (g.S.Source.log l.source).reads ≤ (g.S.Source.log l.fn.source).reads + l._turn;
     }

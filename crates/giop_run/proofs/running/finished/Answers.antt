@@ -1,20 +1,20 @@
--- What the finish and the flush behind it say of the close.
+-- What the finish and the flush behind it say of the end.
 use Rattle.std.proofs.lemmas.Result.{err_from_is_err_and}
 use Rattle.giop_run.proofs.TurnLemmas.{closed_flushed, closed_cut, closed_unfinished}
-use Rattle.giop_run.proofs.running.close.Goals as goal
+use Rattle.giop_run.proofs.running.finished.Goals as goal
 
 pub returns-in_err-totals-clause-closed : goal.returns-in_err-totals-clause-closed
 returns-in_err-totals-clause-closed g c =
-    λ p h.
+    λ p room h.
     let r = err_from_is_err_and c.from_residual.result c.from_residual.ensures.1 in
-    rw (r.1, r.2) (closed_unfinished _ c.in_err-totals.field-0.0 p _ _ (c.in_err-totals.ensures.finished p h))
+    rw (r.1, r.2) (closed_unfinished c.args.engine c.in_err-totals.field-0.0 p room _ _ (c.in_err-totals.ensures.finished p h))
 
 pub returns-in_err-flush-clause-closed : goal.returns-in_err-flush-clause-closed
 returns-in_err-flush-clause-closed g c =
-    λ p h.
+    λ p room h.
     let r = err_from_is_err_and c.from_residual-in_err-flush.result c.from_residual-in_err-flush.ensures.1 in
-    rw (r.1, r.2, c.in_err-flush.ensures.cause) (closed_cut _ c.in_ok-totals.totals p _ _ _ (c.in_ok-totals.ensures.finished p h) c.in_err-flush.ensures.flushed)
+    rw (r.1, r.2, c.in_err-flush.ensures.cause) (closed_cut c.args.engine c.in_ok-totals.totals p room _ _ _ (c.in_ok-totals.ensures.finished p h) c.in_err-flush.ensures.flushed)
 
 pub returns-clause-closed : goal.returns-clause-closed
 returns-clause-closed g c =
-    λ p h. closed_flushed _ c.in_ok-totals.totals p _ _ _ _ (c.in_ok-totals.ensures.finished p h) c.in_ok-flush.ensures.flushed
+    λ p room h. closed_flushed c.args.engine c.in_ok-totals.totals p room _ _ _ _ (c.in_ok-totals.ensures.finished p h) c.in_ok-flush.ensures.flushed

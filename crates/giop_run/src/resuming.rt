@@ -1,0 +1,66 @@
+//! The engine that a run begins with: a new one, or one that goes on from the checkpoint of a file.
+
+ghost use Rattle.std.specs.Prelude.{◌≡◌, List, ℕ, [], false, None, IfOk, IfErr, IfSome, option_map};
+ghost use Rattle.giop_checkpoint.specs.Refusals.{IsOurs};
+ghost use Rattle.giop_stream.specs.Checkpoint.{counts_of, IsRefused, Spells};
+ghost use Rattle.giop_stream.specs.Holding.{AreOf, Holds};
+ghost use Rattle.giop_run.specs.Console.{run_fault};
+ghost use Rattle.giop_run.specs.Files.{NoCheckpoint, GoesOn, checkpoint_most, IsFront};
+
+use super::fault::ProgramFault;
+use super::files::contents;
+use super::inputs::Inputs;
+use giop_checkpoint::LoadFault;
+use giop_sig::{Catalogue, Requests};
+use giop_stream::Engine;
+
+/// The greatest number of octets of a checkpoint. Longer ones are refused by their reader.
+const CHECKPOINT_MOST: u64 = 10_976;
+
+/// The engine of a checkpoint's octets.
+fn loaded<'a, 'c>(
+    name: &'a str,
+    octets: &[u8],
+    catalogue: &'c Catalogue,
+    requests: &'c Requests,
+) -> Result<Engine<'c>, ProgramFault<'a>>
+    requires of { AreOf catalogue.now requests.now }
+    ensures again { IfOk result (λ e. (p : List ℕ)
+        → Spells octets.now catalogue.now requests.now p → Holds e p) }
+    ensures ours { IfOk result (λ e. IsOurs (counts_of catalogue.now requests.now) octets.now) }
+    ensures err { IfErr result (λ fault. (why : LoadFault)
+        × (fault ≡ ProgramFault.Checkpoint name.entry why)
+        × IsRefused (counts_of catalogue.now requests.now) octets.now why) }
+    ensures sound { IfOk result (λ e. e.failed ≡ false) }
+    ensures table { IfOk result (λ e. e.table ≡ catalogue.now) }
+    ensures listed { IfOk result (λ e. e.listed ≡ requests.now) }
+{
+    match Engine::load(catalogue, requests, octets) {
+        Ok(engine) => Ok(engine),
+        Err(fault) => Err(ProgramFault::Checkpoint { name, fault }),
+    }
+}
+
+/// The engine that goes on from the checkpoint of a file, or without one a new engine.
+pub fn resumed<'a, 'c, R: Inputs + AllocGlobal>(
+    rt: &R,
+    name: Option<&'a str>,
+    catalogue: &'c Catalogue,
+    requests: &'c Requests,
+) -> Result<Engine<'c>, ProgramFault<'a>>
+    requires of { AreOf catalogue.now requests.now }
+    ensures ok { let asked = option_map (λ n. n.now) name.entry in
+        IfOk result (λ e. GoesOn (R.held rt.now) asked catalogue.now requests.now (Holds e)) }
+    ensures err { let asked = option_map (λ n. n.now) name.entry in IfErr result
+        (NoCheckpoint (R.held rt.now) asked (counts_of catalogue.now requests.now)) }
+    ensures file { IfErr result (λ fault. run_fault fault ≡ None) }
+    ensures sound { IfOk result (λ e. e.failed ≡ false) }
+    ensures table { IfOk result (λ e. e.table ≡ catalogue.now) }
+    ensures listed { IfOk result (λ e. e.listed ≡ requests.now) }
+{
+    let Some(name) = name else {
+        return Ok(Engine::new(catalogue, requests));
+    };
+    let octets = contents(rt, name, CHECKPOINT_MOST)?;
+    loaded(name, &octets, catalogue, requests)
+}

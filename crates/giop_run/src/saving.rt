@@ -1,0 +1,105 @@
+//! Where checkpoints are saved: files by their names.
+
+ghost use Rattle.std.specs.Prelude.{List, Option, None};
+ghost use Rattle.giop_run.specs.Saving.{Saved, SavesOne};
+
+use std::fs::{File, Permissions};
+use std::io::{ErrorKind, Write};
+use std::{fs, io};
+
+/// Files that octets are saved in.
+pub trait Saves {
+    /// The files that were saved, where that is told.
+    ghost saved: { Self → Option (List Saved) };
+
+    /// Saves octets in the file of a name. An `Err` leaves that file as it was.
+    fn save(&mut self, name: &str, octets: &[u8]) -> io::Result<()>
+        ensures { SavesOne result (saved self.old) (saved self.new) name.now octets.now };
+}
+
+/// The system's files, which tell nothing.
+#[derive(Drop)]
+pub struct Disk<'a> {
+    rt: &'a HostRuntime,
+}
+
+impl<'a> Disk<'a> {
+    /// The files of the system.
+    pub fn new(rt: &'a HostRuntime) -> Disk<'a> {
+        Disk { rt }
+    }
+}
+
+impl Saves for Disk<'_> {
+    ghost saved = { λ _. None };
+
+    fn save(&mut self, name: &str, octets: &[u8]) -> io::Result<()> {
+        match fs::metadata(self.rt, name) {
+            Ok(found) if found.is_file() => replaced(
+                self.rt,
+                name,
+                octets,
+                Some(found.permissions()),
+            ),
+            // A device or a pipe has no old octets, and keeps its name.
+            Ok(_) => fs::write(self.rt, name, octets),
+            Err(_) => replaced(self.rt, name, octets, None),
+        }
+    }
+}
+
+/// How many octets the name of a file may have for the system, with the zero behind it.
+const NAME_ROOM: usize = 4096;
+
+/// What stands behind a file's name in the name of the file that takes its place.
+const SUFFIX: [u8; 14] = *b".giopdump-part";
+
+/// Writes the octets beside the file, and then gives them its name.
+fn replaced(
+    rt: &HostRuntime,
+    name: &str,
+    octets: &[u8],
+    permissions: Option<Permissions>,
+) -> io::Result<()> {
+    let mut room = [0; NAME_ROOM];
+    let Some(beside) = beside(name, &mut room) else {
+        return Err(io::Error::from(ErrorKind::InvalidInput));
+    };
+    // One that is left of a save that was broken off.
+    let _ = fs::remove_file(rt, beside);
+    let renamed = match written(rt, beside, octets, permissions) {
+        Ok(()) => fs::rename(rt, beside, name),
+        Err(error) => Err(error),
+    };
+    if renamed.is_err() {
+        let _ = fs::remove_file(rt, beside);
+    }
+    renamed
+}
+
+/// Writes a new file.
+fn written(
+    rt: &HostRuntime,
+    name: &str,
+    octets: &[u8],
+    permissions: Option<Permissions>,
+) -> io::Result<()> {
+    let mut file = File::create_new(rt, name)?;
+    if let Some(permissions) = permissions {
+        file.set_permissions(permissions)?;
+    }
+    file.write_all(octets)?;
+    file.sync_all()
+}
+
+/// The name of the file beside one.
+fn beside<'r>(name: &str, room: &'r mut [u8; NAME_ROOM]) -> Option<&'r str> {
+    let octets = name.as_bytes();
+    if octets.len() > NAME_ROOM - SUFFIX.len() {
+        return None;
+    }
+    let end = octets.len() + SUFFIX.len();
+    room[..octets.len()].copy_from_slice(octets);
+    room[octets.len()..end].copy_from_slice(&SUFFIX);
+    str::from_utf8(&room[..end]).ok()
+}
