@@ -1,5 +1,6 @@
 //! What differs between the lines and the status that a row tells, and those of a dump.
 
+use giop_stream::LoadFault;
 use std::fmt;
 
 /// The first thing that differs.
@@ -22,6 +23,11 @@ pub enum Difference<'w, 'g> {
         wanted: usize,
         got: usize,
     },
+    /// Why the checkpoint behind so many octets is refused.
+    Refused {
+        at: usize,
+        why: LoadFault,
+    },
     /// The hash of the fixed parts of the checkpoints.
     FixedParts {
         wanted: u32,
@@ -42,6 +48,12 @@ impl fmt::Display for Difference<'_, '_> {
             }
             Difference::Length { at, wanted, got } => {
                 write!(f, "length behind {at}\n  wanted: {wanted}\n  got: {got}")
+            }
+            Difference::Refused { at, why } => {
+                write!(
+                    f,
+                    "checkpoint behind {at}\n  wanted: an engine\n  got: {why}"
+                )
             }
             Difference::FixedParts { wanted, got } => {
                 write!(f, "fixed parts\n  wanted: {wanted:08x}\n  got: {got:08x}")

@@ -13,7 +13,7 @@
 //! stream has stopped before its end, and `*` and a number for how many octets, one behind the other, the word stands.
 //!
 //! `checkpoints` has the FNV-1a hash, of 32 bits, of the fixed parts of the checkpoints behind 0, 1, 2, .. octets, and then
-//! how many octets each of these has, with `*` and a number as above.
+//! how many octets each of these has, with `*` and a number as above. Each is loaded, and what was loaded goes on.
 //!
 //! Written is a line for each row, and at the end how many there were and how many differ. Of a row that differs there
 //! is the way in which it was dumped, and the first line that differs. The status is 0 where there are rows and none
@@ -24,6 +24,7 @@ mod checkpoints;
 mod difference;
 mod early;
 mod faulty;
+mod loading;
 mod row;
 mod saving;
 mod tally;

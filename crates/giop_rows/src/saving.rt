@@ -1,4 +1,4 @@
-//! A row, saved behind each of its octets.
+//! A row, saved and loaded behind each of its octets.
 
 ghost use Rattle.giop_stream.specs.Holding.{AreOf};
 
@@ -12,12 +12,12 @@ use giop_stream::Engine;
 use std::io;
 
 /// The way in which it is dumped.
-const WAY: &str = "saved behind each octet";
+const WAY: &str = "saved and loaded behind each octet";
 
 /// The octets of a checkpoint's fixed part.
 const FIXED: usize = 96;
 
-/// Saves a row behind each of its octets, where it tells of its checkpoints.
+/// Saves a row behind each of its octets, where it tells of its checkpoints, and loads what was saved.
 pub fn is_saved(
     rt: &HostRuntime,
     catalogue: &Catalogue,
@@ -38,7 +38,7 @@ pub fn is_saved(
     }
 }
 
-/// Saves a row behind each of its octets, up to the first checkpoint that differs, which is told.
+/// Saves and loads a row behind each of its octets, up to the first checkpoint that differs, which is told.
 fn is_saved_as_told(
     rt: &HostRuntime,
     catalogue: &Catalogue,
@@ -60,8 +60,8 @@ fn is_saved_as_told(
     }
 }
 
-/// The engine that is fed a stream octet by octet, and saved in front of each and at the end; or the first checkpoint that
-/// differs in its length, or is too long, or how their fixed parts differ.
+/// The engine that is fed a stream octet by octet, and saved and loaded in front of each and at the end; or the first
+/// checkpoint that differs in its length, or is too long, or is refused, or how their fixed parts differ.
 fn saved<'a>(
     catalogue: &'a Catalogue,
     requests: &'a Requests,
@@ -82,6 +82,10 @@ fn saved<'a>(
             return Err(Difference::Length { at, wanted, got });
         }
         hash = hashed(hash, fixed_part(&octets));
+        engine = match Engine::load(catalogue, requests, front(&octets, got)) {
+            Ok(engine) => engine,
+            Err(why) => return Err(Difference::Refused { at, why }),
+        };
         let _fed = engine.feed(octet(stream, at), sheet);
     }
     if hash == told.hash {
@@ -98,6 +102,11 @@ fn most(depth: u8) -> usize {
     FIXED + 17 * (256 + 16 * usize::from(depth))
 }
 
+/// So many octets, from the front.
+pub fn front(octets: &[u8], length: usize) -> &[u8] {
+    octets.split_at(length.min(octets.len())).0
+}
+
 /// The fixed part of a checkpoint.
 fn fixed_part(octets: &[u8; 10_976]) -> &[u8] {
     &octets[..FIXED]
@@ -110,7 +119,7 @@ fn octet(stream: &[u8], at: usize) -> &[u8] {
 }
 
 /// The status of the program where the stream of an engine ends.
-fn ended(engine: Engine, sheet: &mut Sheet) -> u8 {
+pub fn ended(engine: Engine, sheet: &mut Sheet) -> u8 {
     match engine.finish(sheet) {
         Ok(totals) if totals.faults == 0 => 0,
         Ok(_) => 1,

@@ -5,6 +5,7 @@ ghost use Rattle.giop_stream.specs.Holding.{AreOf};
 use super::difference::{Difference, compare, compare_front};
 use super::early::Early;
 use super::faulty::Narrow;
+use super::loading::is_loaded;
 use super::row::Row;
 use super::saving::is_saved;
 use super::way::Way;
@@ -33,7 +34,8 @@ pub fn is_dumped_each_way(
         is_dumped_cut(rt, catalogue, requests, row, stream)?
             && is_dumped_early(rt, catalogue, requests, row, stream)?
             && is_dumped_over_failing(rt, catalogue, requests, row, stream)?
-            && is_saved(rt, catalogue, requests, row, stream)?,
+            && is_saved(rt, catalogue, requests, row, stream)?
+            && is_loaded(rt, catalogue, requests, row, stream)?,
     )
 }
 

@@ -1,11 +1,11 @@
-//! Checkpoints that are kept as octets: what is saved of a stream is one of them, and each later version is to load them.
+//! Checkpoints that are kept as octets: they are what is saved of a stream, and each later version is to load them.
 
 ghost use Rattle.giop_stream.specs.Holding.{AreOf};
 
 use super::known::declared;
 use giop_print::Sheet;
 use giop_sig::{Catalogue, Requests};
-use giop_stream::Engine;
+use giop_stream::{Engine, LoadFault};
 use std::test::Fail;
 
 /// No types of one's own.
@@ -155,6 +155,102 @@ fn a_kept_checkpoint_is_saved_of_its_stream(rt: HostRuntime) -> Result<(), Fail>
             let differs = saved_differs(&known.0, &known.1, kept);
             assert!(rt; differs.is_empty(), "{}: {differs}", kept.name);
         }
+    }
+    Ok(())
+}
+
+/// Whether the checkpoint is loaded, and the engine goes on.
+fn is_loaded(catalogue: &Catalogue, requests: &Requests, kept: &Kept) -> bool
+    requires { AreOf catalogue.now requests.now }
+{
+    let (mut checkpoint, mut behind) = ([0; 1024], [0; 1024]);
+    let checkpoint = octets_of(kept.checkpoint, &mut checkpoint);
+    let behind = octets_of(kept.behind, &mut behind);
+    match Engine::load(catalogue, requests, checkpoint) {
+        Ok(engine) => goes_on(engine, behind, kept.lines),
+        Err(_) => false,
+    }
+}
+
+#[test]
+fn a_kept_checkpoint_is_loaded(rt: HostRuntime) -> Result<(), Fail> {
+    for kept in KEPT {
+        let known = declared(rt.alloc(), kept.types)?;
+        assert!(rt; is_loaded(&known.0, &known.1, kept), "{}", kept.name);
+    }
+    Ok(())
+}
+
+/// What comes of a checkpoint of which one octet is another.
+enum Outcome {
+    /// It is refused.
+    Refused(LoadFault),
+    /// An engine was fed the octets behind, and came to its end.
+    Ended,
+    /// An engine was stopped by its out.
+    Stopped,
+}
+
+/// Loads a checkpoint, and feeds the octets behind to the engine.
+fn fed_damaged(
+    catalogue: &Catalogue,
+    requests: &Requests,
+    checkpoint: &[u8],
+    behind: &[u8],
+) -> Outcome
+    requires { AreOf catalogue.now requests.now }
+{
+    let mut room = [0; 16_384];
+    let mut sheet = Sheet::new(&mut room);
+    match Engine::load(catalogue, requests, checkpoint) {
+        Err(why) => Outcome::Refused(why),
+        Ok(mut engine) => {
+            let is_fed = engine.feed(behind, &mut sheet).is_ok();
+            if engine.finish(&mut sheet).is_ok() && is_fed {
+                Outcome::Ended
+            } else {
+                Outcome::Stopped
+            }
+        }
+    }
+}
+
+/// Whether this may come of a checkpoint of which the octet at this place is complemented.
+fn is_right(at: usize, outcome: Outcome) -> bool {
+    match outcome {
+        Outcome::Refused(why) if at < 8 => why == LoadFault::Magic,
+        Outcome::Refused(why) if at < 12 => why == LoadFault::Version,
+        Outcome::Refused(why) if at < 28 => why == LoadFault::Catalogue,
+        Outcome::Refused(_) => true,
+        Outcome::Ended => at >= 28,
+        Outcome::Stopped => false,
+    }
+}
+
+/// The first octet of a checkpoint of whose complement comes what may not.
+fn first_wrong(catalogue: &Catalogue, requests: &Requests, kept: &Kept) -> Option<usize>
+    requires { AreOf catalogue.now requests.now }
+{
+    let (mut checkpoint, mut behind) = ([0; 1024], [0; 1024]);
+    let behind = octets_of(kept.behind, &mut behind);
+    let length = octets_of(kept.checkpoint, &mut checkpoint).len();
+    for at in 0..length.min(1024) {
+        let mut damaged = checkpoint;
+        damaged[at] = !damaged[at];
+        let (octets, _) = damaged.split_at(length.min(1024));
+        if !is_right(at, fed_damaged(catalogue, requests, octets, behind)) {
+            return Some(at);
+        }
+    }
+    None
+}
+
+#[test]
+fn a_damaged_checkpoint_is_refused_or_goes_on(rt: HostRuntime) -> Result<(), Fail> {
+    for kept in KEPT {
+        let known = declared(rt.alloc(), kept.types)?;
+        let wrong = first_wrong(&known.0, &known.1, kept);
+        assert!(rt; wrong.is_none(), "{}: octet {wrong:?}", kept.name);
     }
     Ok(())
 }

@@ -1,13 +1,12 @@
 //! What an engine that was loaded writes of the octets behind, and which octets are no checkpoint.
 
-ghost use Rattle.std.specs.Prelude.{IfOk};
 ghost use Rattle.giop_stream.specs.Holding.{AreOf};
 
+use super::known::declared;
 use giop_print::Sheet;
 use giop_sig::{Catalogue, Requests};
 use giop_stream::{Engine, LoadFault, Status, StreamFault};
 use hex::FromHex;
-use std::alloc::Global;
 use std::test::Fail;
 
 /// The operations of the stream, and those of another.
@@ -114,15 +113,6 @@ fn differs(known: &(Catalogue, Requests), stream: &[u8], at: usize, text: &[u8])
         return "the lines";
     }
     if sheet.held() == text { "" } else { "the text" }
-}
-
-/// These types, and no requests.
-fn declared(alloc: Global, types: &[u8]) -> Result<(Catalogue, Requests), Fail>
-    ensures { IfOk result (λ known. AreOf known.0 known.1) }
-{
-    let catalogue = Catalogue::parse(alloc, types)?;
-    let requests = Requests::parse(alloc, b"", &catalogue)?;
-    Ok((catalogue, requests))
 }
 
 /// Why these octets are refused.

@@ -1,0 +1,80 @@
+//! A row, cut in two at each of its octets, and saved and loaded there.
+
+ghost use Rattle.giop_stream.specs.Holding.{AreOf};
+
+use super::row::Row;
+use super::saving::{ended, front};
+use super::trying::is_as_told;
+use giop_print::Sheet;
+use giop_sig::{Catalogue, Requests};
+use giop_stream::Engine;
+use std::{fmt, io};
+
+/// The status of the program that refuses a checkpoint.
+const REFUSED: u8 = 3;
+
+/// The way in which a row is saved and loaded behind so many octets.
+#[derive(Clone, Copy)]
+struct Loaded(usize);
+
+impl fmt::Display for Loaded {
+    fn fmt<W: fmt::Write>(&self, f: &mut fmt::Formatter<W>) -> fmt::Result {
+        write!(f, "saved and loaded at {}", self.0)
+    }
+}
+
+/// Cuts a row in two at each of its octets, and saves and loads it there.
+pub fn is_loaded(
+    rt: &HostRuntime,
+    catalogue: &Catalogue,
+    requests: &Requests,
+    row: &Row,
+    stream: &[u8],
+) -> io::Result<bool>
+    requires of { AreOf catalogue.now requests.now }
+{
+    for at in 0..stream.len() + 1 {
+        if !is_loaded_at(rt, catalogue, requests, row, stream, at)? {
+            return Ok(false);
+        }
+    }
+    Ok(true)
+}
+
+fn is_loaded_at(
+    rt: &HostRuntime,
+    catalogue: &Catalogue,
+    requests: &Requests,
+    row: &Row,
+    stream: &[u8],
+    at: usize,
+) -> io::Result<bool>
+    requires of { AreOf catalogue.now requests.now }
+{
+    let mut room = [0; 16_384];
+    let mut sheet = Sheet::new(&mut room);
+    let status = resumed(catalogue, requests, stream, at, &mut sheet);
+    is_as_told(rt, row, &Loaded(at), sheet.held(), status)
+}
+
+/// Feeds so many octets to an engine, and the others to one that is loaded from its checkpoint: the status of the program.
+fn resumed(
+    catalogue: &Catalogue,
+    requests: &Requests,
+    stream: &[u8],
+    at: usize,
+    sheet: &mut Sheet,
+) -> u8
+    requires of { AreOf catalogue.now requests.now }
+{
+    let (first, rest) = stream.split_at(at.min(stream.len()));
+    let mut engine = Engine::new(catalogue, requests);
+    let _fed = engine.feed(first, sheet);
+    let mut octets = [0; 10_976];
+    let saved = engine.save(&mut octets).unwrap_or(0);
+    let Ok(mut engine) = Engine::load(catalogue, requests, front(&octets, saved)) else {
+        return REFUSED;
+    };
+    let _fed = engine.feed(rest, sheet);
+    ended(engine, sheet)
+}
