@@ -14,7 +14,6 @@ mod Faulting
 mod Parts
 mod Followings
 mod Sections
-mod Readings
 mod Runs
 mod Rests
 mod Results
