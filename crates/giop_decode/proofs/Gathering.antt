@@ -1,70 +1,109 @@
--- Octets that only add to the piece of a content, taken together.
-use Rattle.std.proofs.Common.{◌≡◌, ℕ, suc, ◌+◌, ◌-◌, ◌%◌, ◌<◌, false, List, [], ◌∷◌, ◌++◌, length, Some, refl, sym, ◌∙◌, ap, subst, append_assoc, arith, length-append}
+-- Octets that only add to what is held, taken together.
+use Rattle.std.proofs.Common.{◌≡◌, ℕ, suc, ◌+◌, ◌-◌, ◌%◌, ◌<◌, false, List, [], ◌∷◌, ◌++◌, length, Some, refl, sym, ◌∙◌, ap, subst, append-nil, append_assoc, arith, length-append}
+use Rattle.giop_cdr.specs.Numbers.{num}
 use Rattle.giop_sig.specs.declared.types.TypeId.{TypeId}
 use Rattle.giop_decode.specs.declared.decoder.Decoder.{Decoder}
+use Rattle.giop_decode.specs.declared.leaf.Leaf.{Leaf as Innermost}
 use Rattle.giop_decode.specs.declared.leaf.Leaf.TheVariants as innermost
 use Rattle.giop_decode.specs.declared.progress.Progress.TheVariants as progress
-use Rattle.giop_decode.specs.Holding.{Fits}
+use Rattle.giop_decode.specs.Holding.{Fits, IsHere, Minds, standing_in}
+use Rattle.giop_decode.specs.Reading.{headed, read}
 use Rattle.giop_decode.specs.Runs.{dues, AllGathered}
-use Rattle.giop_decode.specs.Spine.{lines_of}
+use Rattle.giop_decode.specs.Spine.{plain, lines_of}
+use Rattle.giop_decode.specs.Steps.{after, head_width, AreHeld}
 use Rattle.giop_decode.specs.Turns.{IsClean, is_inside}
 use Rattle.giop_decode.proofs.Advancing.{same_some}
+use Rattle.giop_decode.proofs.Hearing.{minds_by, recalls_by}
 use Rattle.giop_decode.proofs.PieceLaws.{content_held}
-use Rattle.giop_decode.proofs.Runs.{dues_both, takes_one, takes_both}
+use Rattle.giop_decode.proofs.Runs.{dues_both, dues_none, takes_one, takes_both}
 use Rattle.giop_decode.proofs.Taking.{takes_to, due_is}
 use Rattle.giop_decode.proofs.Waiting.{held_in, Holds, step_held, held_comes, held_here, held_fits, held_minds}
 use Rattle.giop_sig.specs.Table.{Table}
 use Rattle.giop_sig.specs.Trees.{tree}
 
--- a decoder in no encapsulation, whose piece has these octets more
-pub record HasMore (d new : Decoder) (octets : List ℕ) : Type 0 where
+-- a decoder that stands as many octets further on in the same innermost part, and may hold others
+pub record IsFurther (d new : Decoder) (count : ℕ) : Type 0 where
   pub order : new.order ≡ d.order
   pub root : new.root ≡ d.root
   pub message : new.message ≡ d.message
-  pub at : new.at ≡ (d.at + length octets) % 8
+  pub at : new.at ≡ (d.at + count) % 8
   pub outer : new.outer ≡ d.outer
   pub inside : new.inside ≡ d.inside
-  pub free : is_inside d.outer.items ≡ false
   pub leaf : new.leaf ≡ d.leaf
-  pub carry : new.carry ≡ d.carry
-  pub piece : new.piece.items ≡ d.piece.items ++ octets
   pub memory : new.memory ≡ d.memory
 
-module _ (C : Table) (of : TypeId) (total offset : ℕ) where
-  one_holds : (d new : Decoder) (b : ℕ) → HasMore d new (b ∷ []) → length d.piece.items + 1 < 32 →
-      length d.piece.items + 1 < total - offset → (here : ℕ) → Holds C d new (innermost.Content of total offset) here b
-  one_holds d new b more room some here path =
-      rw more.piece (content_held (tree C of.0) path total offset here d.piece.items b room some)
+module _ (C : Table) (d new : Decoder) where
+  still_here : (here : ℕ) → IsFurther d new 0 → d.at < 8 → IsHere d here → IsHere new here
+  still_here here on small h = (omega (arith, on.at, h.0, small), rw on.outer h.1)
 
-  pub one_fits : (d new : Decoder) (b : ℕ) → HasMore d new (b ∷ []) → Fits C d →
-      d.leaf ≡ Some (innermost.Content of total offset) → length d.piece.items + 1 < 32 →
-      length d.piece.items + 1 < total - offset → Fits C new
-  one_fits d new b more f e room some =
-      let leaf = innermost.Content of total offset in
-      let it : f.leaf ≡ leaf = same_some f.leaf leaf (sym f.goes_on ∙ e) in
-      let clean : IsClean leaf d.carry d.piece.items = subst (λ l. IsClean l d.carry d.piece.items) it f.clean in
-      held_fits C d new leaf b more.free f e (more.leaf ∙ e) more.outer more.inside more.at (more.carry ∙ clean) (one_holds d new b more room some f.here)
+  -- no octet
+  pub none_gathered : IsFurther d new 0 → new.carry ≡ d.carry → new.piece.items ≡ d.piece.items → Fits C d → Fits C new × AllGathered C d new []
+  none_gathered on carry piece f = (
+    record {
+      leaf = f.leaf;
+      goes_on = on.leaf ∙ f.goes_on;
+      root = f.root;
+      known_root = f.known_root;
+      link = rw on.outer f.link;
+      fit = f.fit;
+      here = f.here;
+      stands = still_here f.here on f.at f.stands;
+      fits = rw (on.outer, carry, piece) f.fits;
+      ahead = rw on.outer f.ahead;
+      inside = rw (on.inside, on.outer) f.inside;
+      known_outer = rw on.outer f.known_outer;
+      known = f.known;
+      clean = rw (carry, piece) f.clean;
+      at = omega (arith, on.at);
+    },
+    λ T order at message root s r.
+        let same : standing_in C d d.leaf r.lines (at + length s) ≡ standing_in C new new.leaf r.lines (at + length s) =
+        ap (λ l. standing_in C d l r.lines (at + length s)) f.goes_on
+        ∙ (sym (rw (on.outer, carry, piece) refl)
+        ∙ ap (λ l. standing_in C new l r.lines (at + length s)) (sym (on.leaf ∙ f.goes_on))) in
+        let minds : Minds root new (read (plain order) [] T at s) =
+        minds_by root new (read (plain order) [] T at s) (λ asked. rw on.memory (recalls_by root d (read (plain order) [] T at s) asked r.minds)) in
+        record {
+          takes = record {
+            answers = refl;
+            reads = λ unfaulty. rw (append-nil s) (record {
+              lines = r.lines;
+              is = r.is ∙ same;
+              minds = minds;
+              same_order = on.order ∙ r.same_order;
+              same_message = on.message ∙ r.same_message;
+              same_root = on.root ∙ r.same_root;
+              offset = still_here (at + length s) on f.at r.offset;
+            });
+            minds = rw (append-nil s) minds;
+          };
+          quiet = dues_none order T at s;
+        },
+  )
 
-  pub one_gathered : (d new : Decoder) (b : ℕ) → HasMore d new (b ∷ []) → Fits C d →
-      d.leaf ≡ Some (innermost.Content of total offset) → length d.piece.items + 1 < 32 →
-      length d.piece.items + 1 < total - offset → AllGathered C d new (b ∷ [])
-  one_gathered d new b more f e room some T order at message root s r =
-      let leaf = innermost.Content of total offset in
-      let holds = one_holds d new b more room some in
-      let e' = more.leaf ∙ e in
-      record {
-        takes = takes_one C T order at message root new s b progress.More
-            (takes_to C T order at message root d new s b progress.More f more.order more.root more.message (λ here h. held_here C d new leaf b more.free here more.outer more.at h)
-            (λ here h. held_comes C d new leaf b more.free here f.known_outer e e' more.outer (holds here))
-            (λ here front h old. held_minds C d new leaf b more.free here front f.known_outer e e' more.outer more.memory (holds here) old) r);
-        quiet = due_is C T order at message root d s b f r
-            ∙ ap lines_of (step_held C d new leaf b more.free (at + length s) f.known_outer e e' more.outer (holds (at + length s)));
-      }
+module _ (C : Table) (d new : Decoder) (leaf : Innermost) (b : ℕ) where
+  -- one octet that is held, in no encapsulation
+  one_gathered : is_inside d.outer.items ≡ false → IsFurther d new 1 → Fits C d → d.leaf ≡ Some leaf → IsClean leaf new.carry new.piece.items →
+      ((here : ℕ) → here % 8 ≡ d.at → Holds C d new leaf here b) → Fits C new × AllGathered C d new (b ∷ [])
+  one_gathered free on f e clean holds = (
+    held_fits C d new leaf b free f e (on.leaf ∙ e) on.outer on.inside on.at clean (holds f.here f.stands.0),
+    λ T order at message root s r.
+        let e' = on.leaf ∙ e in
+        let known = f.known_outer in
+        record {
+          takes = takes_one C T order at message root new s b progress.More
+              (takes_to C T order at message root d new s b progress.More f on.order on.root on.message
+              (λ here h. held_here C d new leaf b free here on.outer on.at h)
+              (λ here h. held_comes C d new leaf b free here known e e' on.outer (holds here h.0))
+              (λ here front h old. held_minds C d new leaf b free here front known e e' on.outer on.memory (holds here h.0) old) r);
+          quiet = due_is C T order at message root d s b f r
+              ∙ ap lines_of (step_held C d new leaf b free (at + length s) known e e' on.outer (holds (at + length s) r.offset.0));
+        },
+  )
 
   -- one octet and then the others
-  pub then_gathered : (d mid new : Decoder) (b : ℕ) (bs : List ℕ) → AllGathered C d mid (b ∷ []) →
-      AllGathered C mid new bs → AllGathered C d new (b ∷ bs)
-  then_gathered d mid new b bs g h T order at message root s r =
+  then_gathered : (mid : Decoder) (bs : List ℕ) → AllGathered C d mid (b ∷ []) → AllGathered C mid new bs → AllGathered C d new (b ∷ bs)
+  then_gathered mid bs g h T order at message root s r =
       let one = g T order at message root s r in
       let others = h T order at message root (s ++ b ∷ []) (one.takes.reads (λ fault. fault)) in
       record {
@@ -72,38 +111,63 @@ module _ (C : Table) (of : TypeId) (total offset : ℕ) where
         quiet = dues_both order T at s (b ∷ []) bs ∙ (ap (λ z. z ++ dues order T at (s ++ b ∷ []) bs) one.quiet ∙ others.quiet);
       }
 
-  pub gathered : (d new : Decoder) (b : ℕ) (bs : List ℕ) → HasMore d new (b ∷ bs) → Fits C d →
-      d.leaf ≡ Some (innermost.Content of total offset) → length d.piece.items + suc (length bs) < 32 →
-      length d.piece.items + suc (length bs) < total - offset → Fits C new × AllGathered C d new (b ∷ bs)
-  gathered d new b [] more f e room some =
-      (one_fits d new b more f e room some, one_gathered d new b more f e room some)
-  gathered d new b (b' ∷ bs) more f e room some =
-      let mid = held_in d d.carry (record { items = d.piece.items ++ b ∷ [] }) ((d.at + 1) % 8) in
-      let first : HasMore d mid (b ∷ []) =
-      record { order = refl; root = refl; message = refl; at = refl; outer = refl; inside = refl; free = more.free; leaf = refl; carry = refl; piece = refl; memory = refl } in
-      let one_room : length d.piece.items + 1 < 32 = omega (arith, room) in
-      let one_some : length d.piece.items + 1 < total - offset = omega (arith, some) in
-      let l = length-append d.piece.items (b ∷ []) in
-      let others : HasMore mid new (b' ∷ bs) =
-      record {
-        order = more.order;
-        root = more.root;
-        message = more.message;
-        at = omega (arith, more.at);
-        outer = more.outer;
-        inside = more.inside;
-        free = more.free;
-        leaf = more.leaf;
-        carry = more.carry;
-        piece = more.piece ∙ sym (append_assoc d.piece.items (b ∷ []) (b' ∷ bs));
-        memory = more.memory;
-      } in
-      let rest = gathered mid new b' bs others (one_fits d mid b first f e one_room one_some) e (omega (arith, l, room)) (omega (arith, l, some)) in
-      (rest.0, then_gathered d mid new b (b' ∷ bs) (one_gathered d mid b first f e one_room one_some) rest.1)
+-- the decoder behind the first of several octets
+abbrev next_in : Decoder → List ℕ → List ℕ → Decoder
+next_in d carry piece = held_in d carry (record { items = piece }) ((d.at + 1) % 8)
 
-  -- at least one octet
-  pub gathered_some : (d new : Decoder) (octets : List ℕ) → 0 < length octets → HasMore d new octets → Fits C d →
-      d.leaf ≡ Some (innermost.Content of total offset) → length d.piece.items + length octets < 32 →
-      length d.piece.items + length octets < total - offset → Fits C new × AllGathered C d new octets
-  gathered_some d new [] h more f e room some = absurd (omega arith)
-  gathered_some d new (b ∷ bs) h more f e room some = gathered d new b bs more f e room some
+next_on : (d : Decoder) (carry piece : List ℕ) → IsFurther d (next_in d carry piece) 1
+next_on d carry piece = record { order = refl; root = refl; message = refl; at = refl; outer = refl; inside = refl; leaf = refl; memory = refl }
+
+others_on : (d new : Decoder) (carry piece : List ℕ) (count : ℕ) → IsFurther d new (suc count) → IsFurther (next_in d carry piece) new count
+others_on d new carry piece count on = record {
+  order = on.order;
+  root = on.root;
+  message = on.message;
+  at = omega (arith, on.at);
+  outer = on.outer;
+  inside = on.inside;
+  leaf = on.leaf;
+  memory = on.memory;
+}
+
+-- ---- of a content
+
+module _ (C : Table) (of : TypeId) (total offset : ℕ) where
+  content_one : (d new : Decoder) (b : ℕ) → is_inside d.outer.items ≡ false → IsFurther d new 1 → new.carry ≡ d.carry → new.piece.items ≡ d.piece.items ++ b ∷ [] → Fits C d →
+      d.leaf ≡ Some (innermost.Content of total offset) → length d.piece.items + 1 < 32 → length d.piece.items + 1 < total - offset →
+      Fits C new × AllGathered C d new (b ∷ [])
+  content_one d new b free on carry piece f e room some =
+      let leaf = innermost.Content of total offset in
+      let it : f.leaf ≡ leaf = same_some f.leaf leaf (sym f.goes_on ∙ e) in
+      let clean : IsClean leaf d.carry d.piece.items = subst (λ l. IsClean l d.carry d.piece.items) it f.clean in
+      one_gathered C d new leaf b free on f e (carry ∙ clean) (λ here h path. rw piece (content_held (tree C of.0) path total offset here d.piece.items b room some))
+
+  pub content_gathered : (d new : Decoder) (octets : List ℕ) → is_inside d.outer.items ≡ false → IsFurther d new (length octets) → new.carry ≡ d.carry → new.piece.items ≡ d.piece.items ++ octets →
+      Fits C d → d.leaf ≡ Some (innermost.Content of total offset) → (0 < length octets → length d.piece.items + length octets < 32) →
+      (0 < length octets → length d.piece.items + length octets < total - offset) → Fits C new × AllGathered C d new octets
+  content_gathered d new [] free on carry piece f e room some = none_gathered C d new on carry (piece ∙ append-nil d.piece.items) f
+  content_gathered d new (b ∷ bs) free on carry piece f e room some =
+      let held = d.piece.items ++ b ∷ [] in
+      let l = length-append d.piece.items (b ∷ []) in
+      let room' = room (omega arith) in
+      let some' = some (omega arith) in
+      let one = content_one d (next_in d d.carry held) b free (next_on d d.carry held) refl refl f e (omega (arith, room')) (omega (arith, some')) in
+      let others = content_gathered (next_in d d.carry held) new bs free (others_on d new d.carry held (length bs) on) carry
+      (piece ∙ sym (append_assoc d.piece.items (b ∷ []) bs)) one.0 e (λ more. omega (arith, l, room')) (λ more. omega (arith, l, some')) in
+      (others.0, then_gathered C d new (innermost.Content of total offset) b (next_in d d.carry held) bs one.1 others.1)
+
+-- ---- of a number, or of the padding in front of it
+
+pub number_gathered : (C : Table) (of : TypeId) (d new : Decoder) (octets : List ℕ) → is_inside d.outer.items ≡ false → IsFurther d new (length octets) → new.piece.items ≡ d.piece.items →
+    Fits C d → d.leaf ≡ Some (innermost.Number of) → AreHeld (head_width (tree C of.0)) d.at d.carry octets new.carry → Fits C new × AllGathered C d new octets
+number_gathered C of d new [] free on piece f e held = none_gathered C d new on held piece f
+number_gathered C of d new (b ∷ bs) free on piece f e held =
+    let leaf = innermost.Number of in
+    let mid = next_in d held.0 d.piece.items in
+    let it : f.leaf ≡ leaf = same_some f.leaf leaf (sym f.goes_on ∙ e) in
+    let clean : IsClean leaf d.carry d.piece.items = subst (λ l. IsClean l d.carry d.piece.items) it f.clean in
+    let one = one_gathered C d mid leaf b free (next_on d held.0 d.piece.items) f e clean
+    (λ here h path. ap (headed (tree C of.0) (λ xs at rest. after (plain d.order) path (tree C of.0) (num d.order xs) at rest))
+    (held.1 0 here (omega (arith, h)))) in
+    let others = number_gathered C of mid new bs free (others_on d new held.0 d.piece.items (length bs) on) piece one.0 e held.2 in
+    (others.0, then_gathered C d new leaf b mid bs one.1 others.1)

@@ -2,6 +2,8 @@
 -- proved in the file that it names. No other file of this crate's proofs can be cited from outside.
 use Rattle.std.specs.List.{AllByRecursion as Each}
 use Rattle.std.proofs.Common.{◌≡◌, ℕ, suc, ◌+◌, ◌<◌, Bool, false, List, [], ◌∷◌, ◌++◌, length, Option}
+use Rattle.giop_cdr.specs.declared.order.Order.{Order}
+use Rattle.giop_print.specs.declared.path.Root.{Root}
 use Rattle.giop_sig.specs.Fits.{IsFit}
 use Rattle.giop_sig.specs.Types.{Scalar, Ty, part_of, width}
 use Rattle.giop_decode.specs.Spine.{Coding, Seg, Switch, Line, Place, Part, Leaf, Read, Done, Short, with_front, within, lines_of}
@@ -11,6 +13,8 @@ use Rattle.giop_decode.specs.Begins.{start_outer, start_leaf}
 use Rattle.giop_decode.specs.Steps.{Now, Quiet, advance, part_at, resumed, step}
 use Rattle.giop_decode.specs.Fits.{HasParts, Sound}
 use Rattle.giop_decode.specs.Heard.{Heard, heard, in_content, in_string, is_member, is_text}
+use Rattle.giop_decode.specs.Runs.{dues}
+use Rattle.giop_decode.specs.Spelling.{lines_text}
 use Rattle.giop_decode.proofs.Law as law
 use Rattle.giop_decode.proofs.Enclosing as enclosing
 use Rattle.giop_decode.proofs.Now as now
@@ -18,6 +22,7 @@ use Rattle.giop_decode.proofs.Around as around
 use Rattle.giop_decode.proofs.Sound as sound
 use Rattle.giop_decode.proofs.Resuming as resuming
 use Rattle.giop_decode.proofs.Hearing as hearing
+use Rattle.giop_decode.proofs.Runs as runs
 
 -- The laws of `reading_laws`: one octet more is one step;
 pub read_goes : (coding : Coding) (path : List Seg) (T : Ty) (at : ℕ) (s : List ℕ) (b : ℕ) →
@@ -105,3 +110,14 @@ length_one_more s b = law.length_one_more s b
 
 pub each_append : {A : Type 0} (P : A → Type 0) (xs ys : List A) → Each P xs → Each P ys → Each P (xs ++ ys)
 each_append P xs ys h k = now.each_append P xs ys h k
+
+-- The text of the lines that octets more give: of none, and of two lists one after the other.
+
+pub text_none : (message : ℕ) (root : Root) (order : Order) (T : Ty) (at : ℕ) (s : List ℕ) →
+    lines_text message root (dues order T at s []) ≡ []
+text_none message root order T at s = runs.text_none message root order T at s
+
+pub text_both : (message : ℕ) (root : Root) (order : Order) (T : Ty) (at : ℕ) (s xs ys : List ℕ) →
+    lines_text message root (dues order T at s (xs ++ ys))
+    ≡ lines_text message root (dues order T at s xs) ++ lines_text message root (dues order T at (s ++ xs) ys)
+text_both message root order T at s xs ys = runs.text_both message root order T at s xs ys

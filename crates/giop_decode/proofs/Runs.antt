@@ -47,15 +47,16 @@ dues_both order T at s xs ys =
     ∙ (ap (λ z. z ++ second) (dues_begin order T at s xs) ∙ append_assoc front first second)) in
     ap (drop (length front)) e ∙ drop-append_seam front (first ++ second)
 
+pub dues_none : (order : Order) (T : Ty) (at : ℕ) (s : List ℕ) → dues order T at s [] ≡ []
+dues_none order T at s =
+    let front = lines_of (read (plain order) [] T at s) in
+    ap (λ z. drop (length front) (lines_of (read (plain order) [] T at z))) (append-nil s)
+    ∙ (ap (drop (length front)) (sym (append-nil front)) ∙ drop-append_seam front [])
+
 pub text_none : (message : ℕ) (root : Root) (order : Order) (T : Ty) (at : ℕ) (s : List ℕ) →
     lines_text message root (dues order T at s []) ≡ []
 unfolding lines_text
-text_none message root order T at s =
-    let front = lines_of (read (plain order) [] T at s) in
-    let none : dues order T at s [] ≡ [] =
-    ap (λ z. drop (length front) (lines_of (read (plain order) [] T at z))) (append-nil s)
-    ∙ (ap (drop (length front)) (sym (append-nil front)) ∙ drop-append_seam front []) in
-    ap (lines_text message root) none
+text_none message root order T at s = ap (lines_text message root) (dues_none order T at s)
 
 pub text_both : (message : ℕ) (root : Root) (order : Order) (T : Ty) (at : ℕ) (s xs ys : List ℕ) →
     lines_text message root (dues order T at s (xs ++ ys))

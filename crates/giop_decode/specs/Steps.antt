@@ -1,5 +1,5 @@
 -- One octet more, on the parts that a reading has begun and not ended (steps).
-use Rattle.std.specs.Prelude.{◌≡◌, ℕ, suc, ◌+◌, ◌-◌, cond, ltb, List, [], ◌∷◌, ◌++◌, length}
+use Rattle.std.specs.Prelude.{◌≡◌, ℕ, suc, ◌+◌, ◌-◌, ◌%◌, cond, ltb, List, [], ◌∷◌, ◌++◌, length}
 use Rattle.giop_cdr.specs.Alignment.{padding}
 use Rattle.giop_cdr.specs.Numbers.{num}
 use Rattle.giop_decode.specs.declared.progress.Kind.{Kind}
@@ -20,6 +20,14 @@ unfoldable pub number_step : ℕ → ℕ → ℕ → List ℕ → ℕ → Grab
 number_step origin n at [] b =
     cond (ltb 0 (padding (at - origin) n)) (Waiting [] (at + 1)) (block_step n at [] b)
 number_step origin n at (x ∷ carry) b = block_step n at (x ∷ carry) b
+
+-- Octets that leave a number incomplete, one after another: what is held behind them, where the first is at this
+-- offset modulo 8.
+abbrev pub AreHeld : ℕ → ℕ → List ℕ → List ℕ → List ℕ → Type 0
+AreHeld n at held [] new = new ≡ held
+AreHeld n at held (b ∷ more) new = (next : List ℕ)
+    × ((origin here : ℕ) → (here - origin) % 8 ≡ at → number_step origin n here held b ≡ Waiting next (here + 1))
+    × AreHeld n ((at + 1) % 8) next more new
 
 -- the width of the number that begins a type
 abbrev pub head_width : Ty → ℕ

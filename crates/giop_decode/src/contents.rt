@@ -38,9 +38,9 @@ pub(crate) fn hold_content(left: u32, octet: u8, piece: &mut ArrayVec<u8, 32>) -
 /// stand there together, and answers how many there were.
 pub(crate) fn gather_content(left: u32, octets: &[u8], piece: &mut ArrayVec<u8, 32>) -> usize
     ensures within { result ≤ length octets.now }
-    ensures none { result ≡ 0 → piece.new ≡ piece.old }
-    ensures some { 0 < result → (piece.new.items ≡ piece.old.items ++ take result octets.now)
-        × (length piece.old.items + result < 32) × (length piece.old.items + result < left) }
+    ensures items { piece.new.items ≡ piece.old.items ++ take result octets.now }
+    ensures room { 0 < result → length piece.old.items + result < 32 }
+    ensures some { 0 < result → length piece.old.items + result < left }
 {
     let room = (left as usize).min(32).saturating_sub(piece.len() + 1);
     let count = room.min(octets.len());

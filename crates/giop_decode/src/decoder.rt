@@ -273,7 +273,7 @@ impl Decoder {
     /// Does one step: what the innermost part gives to say is said and heard, and then the parts around it go on. It is
     /// kept out of line, so that the few instructions of `hold` stand in the loops over octets.
     #[inline(never)]
-    fn advance<O: Out>(
+    pub(crate) fn advance<O: Out>(
         &mut self,
         catalogue: &Catalogue,
         octet: u8,

@@ -1,12 +1,12 @@
 //! The number that begins an innermost part, and what follows it.
 
-ghost use Rattle.std.specs.Prelude.{◌≡◌, ℕ, ◌+◌, ◌-◌, ◌%◌, ◌<◌, List, [], length, IsTrue, false};
+ghost use Rattle.std.specs.Prelude.{◌≡◌, ℕ, ◌+◌, ◌-◌, ◌%◌, ◌<◌, ◌≤◌, List, [], ◌++◌, length, take, IsTrue, false};
 ghost use Rattle.giop_cdr.specs.Alignment.{IsAlignment, padding};
 ghost use Rattle.giop_cdr.specs.Numbers.{num};
 ghost use Rattle.giop_decode.specs.Spine.{Coding, Seg};
 ghost use Rattle.giop_decode.specs.Pieces.{over};
 ghost use Rattle.giop_decode.specs.Recalling.{Voices};
-ghost use Rattle.giop_decode.specs.Steps.{after, head_width, number_step};
+ghost use Rattle.giop_decode.specs.Steps.{after, head_width, number_step, AreHeld};
 ghost use Rattle.giop_decode.specs.Fits.{HasHead};
 ghost use Rattle.giop_decode.specs.Turns.{Turns, TurnsIn, CanSpeak, IsNumberOf, over_by, grab_of};
 ghost use Rattle.giop_sig.specs.Types.{Ty, Text, Octets, Sequence, switch_of, shape_in, IsUnion};
@@ -67,6 +67,40 @@ pub(crate) fn hold_number(carry: &mut Carry, at: u8, width: u8, octet: u8) -> bo
         return true;
     }
     false
+}
+
+/// Takes octets of the padding before a number, and octets that leave the number incomplete, all that stand there
+/// together, and answers how many there were.
+#[inline]
+pub(crate) fn gather_number(carry: &mut Carry, at: u8, width: u8, octets: &[u8]) -> usize
+    requires width { IsAlignment width }
+    requires room { length carry.old < width }
+    requires small { at < 8 }
+    ensures within { result ≤ length octets.now }
+    ensures holds { AreHeld width at carry.old (take result octets.now) carry.new }
+{
+    if !carry.is_empty() {
+        return hold_some(carry, width, octets);
+    }
+    let padding = usize::from(pad(u64::from(at), width)).min(octets.len());
+    padding + hold_some(carry, width, &octets[padding..])
+}
+
+/// Holds octets that leave the number incomplete, all that stand there together, and answers how many there were.
+#[inline]
+fn hold_some(carry: &mut Carry, width: u8, octets: &[u8]) -> usize
+    requires width { IsAlignment width }
+    requires room { length carry.old < width }
+    ensures within { result ≤ length octets.now }
+    ensures held { carry.new ≡ carry.old ++ take result octets.now }
+    ensures room { length carry.old + result < width }
+{
+    let room = usize::from(width) - carry.len() - 1;
+    let count = room.min(octets.len());
+    for octet in &octets[..count] {
+        carry.push(*octet);
+    }
+    count
 }
 
 /// Takes an octet of a number or of the padding before it, and answers whether the number is whole.

@@ -1,15 +1,15 @@
 //! Octets taken together: a run of them, up to the one behind which its caller has something to do.
 
-ghost use Rattle.std.specs.Prelude.{◌≡◌, ℕ, ◌<◌, ◌≤◌, List, length, take, IfOk};
+ghost use Rattle.std.specs.Prelude.{◌≡◌, ℕ, ◌+◌, ◌%◌, ◌^◌, ◌<◌, ◌≤◌, List, length, take, IfOk};
 ghost use Rattle.giop_cdr.specs.declared.order.Order.{Order as ByteOrder};
 ghost use Rattle.giop_decode.specs.Holding.{Fits, GoesOn, IsDone, Reads};
 ghost use Rattle.giop_decode.specs.Runs.{TakesRun, WritesRun, AllGathered};
-ghost use Rattle.giop_sig.specs.Table.{Table};
 ghost use Rattle.giop_print.specs.declared.path.Root.{Root as PathRoot};
 ghost use Rattle.giop_sig.specs.Types.{Ty};
 
 use crate::contents::gather_content;
 use crate::decoder::Decoder;
+use crate::heads::{gather_number, width};
 use crate::leaf::Leaf;
 use crate::progress::Progress;
 use giop_print::{Out, OutFault};
@@ -51,7 +51,7 @@ impl Decoder {
         Ok((taken, Progress::More))
     }
 
-    /// Takes some of the octets, of which there is one: those that only add to a piece together, and one more.
+    /// Takes some of the octets, of which there is one: those that only add to what is held together, and one more.
     #[inline(always)]
     fn take_some<O: Out>(
         &mut self,
@@ -73,40 +73,51 @@ impl Decoder {
         ensures fits { IfOk result (λ taken. GoesOn taken.1 → Fits catalogue.now self.new) }
         ensures done { IfOk result (λ taken. taken.1 ≡ Progress.Done → IsDone self.new) }
     {
-        let gathered = self.gather(octets);
+        let gathered = self.gather(catalogue, octets);
         if gathered == octets.len() {
             return Ok((gathered, Progress::More));
         }
-        let progress = self.take(catalogue, octets[gathered], out)?;
+        let progress = self.advance(catalogue, octets[gathered], out)?;
         Ok((gathered + 1, progress))
     }
 
-    /// Takes the octets that only add to the piece of a content, all that stand there together, and answers how many
-    /// there were.
+    /// Takes the octets that only add to what is held, all that stand there together, and answers how many there were.
     #[inline(always)]
-    fn gather(&mut self, octets: &[u8]) -> usize
+    fn gather(&mut self, catalogue: &Catalogue, octets: &[u8]) -> usize
+        requires { Fits catalogue.now self.old }
         ensures within { result ≤ length octets.now }
-        ensures fits { (C : Table) → Fits C self.old → Fits C self.new }
-        ensures gathers { (C : Table) → Fits C self.old →
-            AllGathered C self.old self.new (take result octets.now) }
+        ensures fits { Fits catalogue.now self.new }
+        ensures gathers { AllGathered catalogue.now self.old self.new (take result octets.now) }
     {
         let Some(leaf) = self.leaf else {
-            return 0;
+            unreachable!();
         };
         if self.inside {
             return 0;
         }
         match leaf {
-            Leaf::Number(_) => 0,
+            Leaf::Number(of) => {
+                let width = width(catalogue, of);
+                let count = gather_number(&mut self.carry, self.at, width, octets);
+                self.at = further(self.at, count);
+                count
+            }
             Leaf::Opening { .. } => 0,
             Leaf::Content { total, offset, .. } => {
                 let left = total.saturating_sub(offset);
                 let count = gather_content(left, octets, &mut self.piece);
-                if count > 0 {
-                    self.at = ((usize::from(self.at) + count) % 8) as u8;
-                }
+                self.at = further(self.at, count);
                 count
             }
         }
     }
+}
+
+/// The offset behind so many octets more, modulo 8.
+#[inline]
+fn further(at: u8, count: usize) -> u8
+    requires { count < 2 ^ 63 }
+    ensures { result ≡ (at + count) % 8 }
+{
+    ((usize::from(at) + count) % 8) as u8
 }

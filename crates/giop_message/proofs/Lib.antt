@@ -15,7 +15,6 @@ mod Faulting
 mod Parts
 mod Followings
 mod Sections
-mod Readings
 mod Runs
 mod Rests
 mod Results

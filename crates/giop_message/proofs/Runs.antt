@@ -22,7 +22,7 @@ use Rattle.giop_decode.specs.Heard.{nothing, heard_of, is_header_root, names_ope
 use Rattle.giop_decode.specs.Holding as decoders
 use Rattle.giop_decode.specs.Runs.{dues, Answers, AreAnswered, BreaksOff}
 use Rattle.giop_decode.specs.Spelling.{lines_text}
-use Rattle.giop_message.proofs.Readings as readings
+use Rattle.giop_decode.proofs.ReadingLaws as readings
 use Rattle.giop_message.specs.declared.message.Message.{Message as Struct_of}
 use Rattle.giop_message.specs.declared.part.Section.{Section}
 use Rattle.giop_message.specs.declared.part.Section.TheVariants as sections
