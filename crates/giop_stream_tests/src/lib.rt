@@ -10,4 +10,6 @@ mod loaded;
 #[cfg(test)]
 mod own_out;
 #[cfg(test)]
+mod pieces;
+#[cfg(test)]
 mod saved;
