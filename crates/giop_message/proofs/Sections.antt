@@ -14,7 +14,7 @@ use Rattle.giop_decode.specs.declared.progress.Progress.TheVariants as progress
 use Rattle.giop_decode.specs.Spine
 use Rattle.giop_decode.specs.Spine.{plain, Line, Read, Done, Short, Fault, lines_of}
 use Rattle.giop_decode.specs.Fits.{Sound}
-use Rattle.giop_decode.specs.Steps.{Now, OneAt}
+use Rattle.giop_decode.specs.Steps.{OneAt}
 use Rattle.giop_decode.specs.Heard.{Heard, nothing, hear, heard, heard_of, hushed, in_string, ends_text, is_member, is_header_root, ends_operation, names_operation}
 use Rattle.giop_decode.specs.Holding as decoders
 use Rattle.giop_decode.specs.Runs.{Answers}
