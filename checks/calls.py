@@ -12,7 +12,8 @@ from failing import Case, Differences, Ended, cases, run
 
 ERRORS = (errno.EIO, errno.ENOSPC, errno.EAGAIN)
 ON = 2**63
-INTERRUPTIONS = 100
+# The kit tries a write again at most 64 times more than it has octets.
+INTERRUPTIONS = 50
 FAILED = {
     "open": (b"cannot read\n", b"cannot write\n"),
     "read": (b"cannot read\n", b"giopdump: read failed\n"),
