@@ -36,7 +36,7 @@ pub fn reading_laws()
     ensures sound { (d : ℕ) (coding : Coding) (path : List Seg) (T : Ty) (at : ℕ) (s : List ℕ) →
         IsFit d T →
         Sound T (at + length s) (read coding path T at s) }
-    // and a step from any parts that fit leaves parts that fit.
+    // and a step from any parts that fit, of which no encapsulation has ended, leaves such parts.
     ensures kept { (d : ℕ) (coding : Coding) (path : List Seg) (T : Ty) (outer : List Place)
         (leaf : Leaf) (at b : ℕ) → IsFit d T →
         FitsIn T outer leaf → Surrounds at outer → Sound T (at + 1) (step coding path outer leaf at b) }
