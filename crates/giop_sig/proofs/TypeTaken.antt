@@ -25,7 +25,7 @@ use Rattle.giop_sig.specs.Trees.{grow, tree}
 use Rattle.giop_sig.specs.Builtin.{builtin_types}
 use Rattle.giop_sig.specs.RequestList.{flat}
 use Rattle.giop_sig.specs.Grammar.{TypeExpr, Base, Text, Reference, Named, SequenceOf, base_word, spell_between, spell_most, spell_type}
-use Rattle.giop_sig.specs.Scopes.{Names, Scope, Placed, named, base_number, with_node, sequence_node}
+use Rattle.giop_sig.specs.Scopes.{Scope, Placed, named, base_number, with_node, sequence_node}
 use Rattle.giop_sig.specs.Validity.{OfBound, OfType}
 use Rattle.giop_sig.specs.ScopeViews.{IsKnown, IsKnownType, IsDeclaredName, IsScope}
 use Rattle.giop_sig.specs.Outcomes.{refused}
@@ -241,12 +241,12 @@ sequence_took at element s text w rest x takes t same e =
     (sequence_made at s text w rest i.0 r.0 y.0 b.0 p.0 t same i.1 (takes i.0 y.0 y.1) (most_takes (y.0).2 b.0 b.1) r.1 p.1)
 
 -- a name that was found is a type's
-found_known : (types : List Node) (names : Names) (w : List ℕ) (k : ℕ) (v : Bool) (e : List ℕ × Option ℕ) → bytes_eq w e.0 ≡ v → IsDeclaredName types e → (flat (lookup (bytes_eq w) names) ≡ Some k → IsKnown types k)
+found_known : (types : List Node) (names : List (List ℕ × Option ℕ)) (w : List ℕ) (k : ℕ) (v : Bool) (e : List ℕ × Option ℕ) → bytes_eq w e.0 ≡ v → IsDeclaredName types e → (flat (lookup (bytes_eq w) names) ≡ Some k → IsKnown types k)
     → flat (cond v (Some e.1) (lookup (bytes_eq w) names)) ≡ Some k → IsKnown types k
 found_known types names w k true e same is rest h = subst (IsKnownType types) h is.type
 found_known types names w k false e same is rest h = rest h
 
-pub named_known : (types : List Node) (names : Names) (w : List ℕ) (k : ℕ) → AllByRecursion (IsDeclaredName types) names → named names w ≡ Some k → IsKnown types k
+named_known : (types : List Node) (names : List (List ℕ × Option ℕ)) (w : List ℕ) (k : ℕ) → AllByRecursion (IsDeclaredName types) names → flat (lookup (bytes_eq w) names) ≡ Some k → IsKnown types k
 named_known types [] w k all h = absurd cc
 named_known types (e ∷ es) w k all h = found_known types es w k (bytes_eq w e.0) e refl all.0 (named_known types es w k all.1) h
 
@@ -257,7 +257,7 @@ found_by s text w rest x (Some n) o free t e = subst (TakenType s text) (ok_is (
   expr = Named w;
   took = record { free = free; front = t };
   grows = grows_none s;
-  sound = λ is. record { scope = is; known = named_known s.table.types s.names w n is.names o };
+  sound = λ is. record { scope = is; known = named_known s.table.types s.names.known w n is.names o };
 })
 
 named_by : (s : Scope) (text w rest : List ℕ) (x : TypeRead) (a b : Bool) → is_reserved w ≡ a → Takes text (word w) rest → cond a (Err (misplaced text)) (cond b (Err (refused kinds.Limit text)) (found_type s text rest (named s.names w))) ≡ Ok x → TakenType s text x
