@@ -41,6 +41,7 @@ takes_by (nodes.members (p ∷ ps)) e = tt
 takes_by (nodes.union switch cases otherwise) e = tt
 takes_by (nodes.sequence bound element) e = tt
 takes_by (nodes.array count element) e = tt
+takes_by (nodes.encapsulation held) e = tt
 
 scalar_test : Node → Bool
 scalar_test (nodes.prim p) = true
@@ -57,6 +58,7 @@ scalar_by (nodes.members parts) e = absurd cc
 scalar_by (nodes.union switch cases otherwise) e = absurd cc
 scalar_by (nodes.sequence bound element) e = absurd cc
 scalar_by (nodes.array count element) e = absurd cc
+scalar_by (nodes.encapsulation held) e = absurd cc
 
 inner_test : List Node → ℕ → ℕ → Bool
 inner_test types n i = ltb i n && takes_test (node_in types i)
@@ -110,6 +112,7 @@ node_test types n (nodes.union switch cases selecteds.Refused) = (ltb switch n &
 node_test types n (nodes.union switch cases otherwise) = false
 node_test types n (nodes.sequence bound element) = inner_test types n element
 node_test types n (nodes.array count element) = ltb 0 count && inner_test types n element
+node_test types n (nodes.encapsulation held) = inner_test types n held
 
 node_by : (types : List Node) (n : ℕ) (node : Node) → node_test types n node ≡ true → IsFormed types n node
 unfolding node_test
@@ -127,6 +130,7 @@ node_by types n (nodes.union switch cases (selecteds.Case i)) e = absurd cc
 node_by types n (nodes.union switch cases selecteds.Nothing) e = absurd cc
 node_by types n (nodes.sequence bound element) e = inner_by types n element e
 node_by types n (nodes.array count element) e = let k = both (ltb 0 count) (inner_test types n element) e in (ltb-true 0 count k.0, inner_by types n element k.1)
+node_by types n (nodes.encapsulation held) e = inner_by types n held e
 
 table_test : List Node → ℕ → List Node → Bool
 table_test types n [] = true

@@ -34,6 +34,7 @@ part_formed types n (nodes.union switch cases otherwise) i formed has =
     subst (λ o. IsInner types n (type_of o)) (sym there.1) is.inner
 part_formed types n (nodes.sequence bound element) i formed has = formed
 part_formed types n (nodes.array count element) i formed has = formed.1
+part_formed types n (nodes.encapsulation held) i formed has = formed
 
 -- the names of parts are short
 pub name_short : (types : List Node) (n : ℕ) (node : Node) (i : ℕ) → IsFormed types n node → HasMember (shape_of node) i → length (name_of (part_at node i)) ≤ 64
@@ -51,6 +52,7 @@ name_short types n (nodes.union switch cases otherwise) i formed has =
     subst (λ o. length (name_of o) ≤ 64) (sym there.1) is.short
 name_short types n (nodes.sequence bound element) i formed has = absurd has
 name_short types n (nodes.array count element) i formed has = absurd has
+name_short types n (nodes.encapsulation held) i formed has = absurd has
 
 pub switch_formed : (types : List Node) (n : ℕ) (node : Node) → IsFormed types n node → IsUnion (shape_of node) → IsSwitch types n (switch_at node)
 switch_formed types n (nodes.prim p) formed is = absurd is
@@ -61,6 +63,7 @@ switch_formed types n (nodes.members parts) formed is = absurd is
 switch_formed types n (nodes.union switch cases otherwise) formed is = formed.0
 switch_formed types n (nodes.sequence bound element) formed is = absurd is
 switch_formed types n (nodes.array count element) formed is = absurd is
+switch_formed types n (nodes.encapsulation held) formed is = absurd is
 
 -- the names of an enum are short
 names_short : (names : List (List ℕ)) (n : ℕ) → AllByRecursion (λ name. length name ≤ 64) names → IfSome (slice_get names n) (λ name. length name ≤ 64)
@@ -77,6 +80,7 @@ enum_name_short types i (nodes.members parts) n formed = tt
 enum_name_short types i (nodes.union switch cases otherwise) n formed = tt
 enum_name_short types i (nodes.sequence bound element) n formed = tt
 enum_name_short types i (nodes.array count element) n formed = tt
+enum_name_short types i (nodes.encapsulation held) n formed = tt
 
 -- an entry that is formed can be counted
 pub sized : (types : List Node) (n : ℕ) (e : Entry) → IsFormed types n (node_view e) → IsSized e
@@ -88,6 +92,7 @@ sized types n (entries.Members parts) formed = omega (arith, formed.0, length-ma
 sized types n (entries.Union switch cases otherwise) formed = omega (arith, formed.1, length-map cases.items case_view)
 sized types n (entries.Sequence bound element) formed = tt
 sized types n (entries.Array count element) formed = tt
+sized types n (entries.Encapsulation held) formed = tt
 
 -- ---- two tables that agree below a number
 
@@ -115,6 +120,7 @@ formed_moved types others n (nodes.union switch cases otherwise) same formed = (
 )
 formed_moved types others n (nodes.sequence bound element) same formed = inner_moved types others n element same formed
 formed_moved types others n (nodes.array count element) same formed = (formed.0, inner_moved types others n element same formed.1)
+formed_moved types others n (nodes.encapsulation held) same formed = inner_moved types others n held same formed
 
 -- what can stand at a number can still stand there once types are added behind
 pub formed_stays : (types more : List Node) (n : ℕ) (node : Node) → n ≤ length types → IsFormed types n node → IsFormed (types ++ more) n node

@@ -32,6 +32,7 @@ selected_below types n (nodes.union switch cases otherwise) number i formed e =
     case_of_below (length cases) (case_with number cases) otherwise i (λ k at. (position-Some (λ c. list_any (λ label. same_number label number) c.labels) cases k no_case at).0) formed.3 e
 selected_below types n (nodes.sequence bound element) number i formed e = absurd cc
 selected_below types n (nodes.array count element) number i formed e = absurd cc
+selected_below types n (nodes.encapsulation held) number i formed e = absurd cc
 
 taken_below : (types : List Node) (n switch : ℕ) (cases : List Case) (otherwise : Selected) (o : Option Number) (i : ℕ) → IsFormed types n (nodes.union switch cases otherwise)
     → selected_by (selected (nodes.union switch cases otherwise)) o ≡ selecteds.Case i → i < length cases
@@ -58,6 +59,7 @@ grown_solid types n (nodes.union switch cases otherwise) formed takes inner = (
 )
 grown_solid types n (nodes.sequence bound element) formed takes inner = inner element formed
 grown_solid types n (nodes.array count element) formed takes inner = (formed.0, inner element formed.1)
+grown_solid types n (nodes.encapsulation held) formed takes inner = inner held formed
 
 solid_below : (types : List Node) (fuel i : ℕ) → AreTypes types → i < fuel → i < length types → TakesOctet (node_in types i) → IsSolid (type_in types i)
 solid_below types zero i are lt known takes = absurd (omega arith)
@@ -112,6 +114,7 @@ takes_or_empty (nodes.members (p ∷ ps)) = inl tt
 takes_or_empty (nodes.union switch cases otherwise) = inl tt
 takes_or_empty (nodes.sequence bound element) = inl tt
 takes_or_empty (nodes.array count element) = inl tt
+takes_or_empty (nodes.encapsulation held) = inl tt
 
 -- each type of a table can stand at the root of a message
 pub root_at : (types : List Node) (i : ℕ) → AreTypes types → i < length types → IsRoot (type_in types i)

@@ -7,7 +7,7 @@ use Rattle.std.proofs.lemmas.List.{length-append, get_or_append_left}
 use Rattle.std.proofs.Math.Seq.{get_or-append_seam}
 use Rattle.std.proofs.lemmas.List.Elements.{recursion_from_All}
 use Rattle.giop_cdr.specs.declared.prim.Primitive.TheVariants.{Octet}
-use Rattle.giop_sig.specs.Types.{Cases, Ty, Single, Struct, Union, Sequence, Array, taken_by, switch_of, IsUnion}
+use Rattle.giop_sig.specs.Types.{Cases, Ty, Single, Struct, Union, Sequence, Array, Encapsulation, taken_by, switch_of, IsUnion}
 use Rattle.giop_sig.specs.Table.{Node, Part, Case, node_in, shape_of, switch_at, IsFormed, IsPart, IsScalarNode, case_part, name_of, selected}
 use Rattle.giop_sig.specs.Table as nodes
 use Rattle.giop_sig.specs.Trees.{grow, grown_part, octet_type, scalar_of, selected_by, tree_in, trees_after, trees_of, type_in, AreTypes}
@@ -50,6 +50,7 @@ grow_same types n f g (nodes.union switch cases otherwise) same formed =
     (fun_ext (λ i. part_same types n f g (case_part (slice_get cases i)) same (case_read (IsPart types n) cases i (recursion_from_All (λ (c : Case). IsPart types n c.part) cases formed.2))))
 grow_same types n f g (nodes.sequence bound element) same formed = ap (Sequence bound) (same element formed.below)
 grow_same types n f g (nodes.array count element) same formed = ap (Array count) (same element formed.1.below)
+grow_same types n f g (nodes.encapsulation held) same formed = ap Encapsulation (same held formed.below)
 
 -- what is done stays
 kept : (done : List Ty) (ns : List Node) (i : ℕ) → i < length done → tree_in (trees_after done ns) i ≡ tree_in done i
@@ -91,6 +92,7 @@ single_of f (nodes.members parts) is = absurd is
 single_of f (nodes.union switch cases otherwise) is = absurd is
 single_of f (nodes.sequence bound element) is = absurd is
 single_of f (nodes.array count element) is = absurd is
+single_of f (nodes.encapsulation held) is = absurd is
 
 -- the type of one number that a union's discriminator has
 pub single_at : (types : List Node) (i : ℕ) → AreTypes types → i < length types → IsScalarNode (node_in types i) → type_in types i ≡ Single (scalar_of (type_in types i))
@@ -107,6 +109,7 @@ switch_grown types n (nodes.members parts) formed are le is = absurd is
 switch_grown types n (nodes.union switch cases otherwise) formed are le is = single_at types switch are (let b = formed.0.below in omega arith) formed.0.scalar
 switch_grown types n (nodes.sequence bound element) formed are le is = absurd is
 switch_grown types n (nodes.array count element) formed are le is = absurd is
+switch_grown types n (nodes.encapsulation held) formed are le is = absurd is
 
 -- ---- a table that grows
 

@@ -39,6 +39,8 @@ pub data Node : Type 0 where
   union : ℕ → List Case → Selected → Node
   sequence : Option ℕ → ℕ → Node
   array : ℕ → ℕ → Node
+  -- octets with a byte order of their own, that hold a value of a type
+  encapsulation : ℕ → Node
 
 -- the node of a type
 abbrev pub node_in : List Node → ℕ → Node
@@ -53,6 +55,7 @@ shape_of (members parts) = shapes.Members (length parts)
 shape_of (union switch cases otherwise) = shapes.Union (length cases)
 shape_of (sequence bound element) = shapes.Sequence bound
 shape_of (array count element) = shapes.Array count
+shape_of (encapsulation held) = shapes.Encapsulation
 
 abbrev pub no_case : Case
 no_case = record { labels = []; part = record { name = []; type = 0 } }
@@ -64,12 +67,13 @@ case_part (Some c) = Some c.part
 abbrev pub element_part : ℕ → Part
 element_part element = record { name = []; type = element }
 
--- the part at a place; an element stands at any place and has no name
+-- the part at a place; an element, and what an encapsulation holds, stands at any place and has no name
 abbrev pub part_at : Node → ℕ → Option Part
 part_at (members parts) i = slice_get parts i
 part_at (union switch cases otherwise) i = case_part (slice_get cases i)
 part_at (sequence bound element) i = Some (element_part element)
 part_at (array count element) i = Some (element_part element)
+part_at (encapsulation held) i = Some (element_part held)
 part_at node i = None
 
 abbrev pub type_of : Option Part → ℕ
@@ -225,3 +229,4 @@ IsFormed types n (members parts) = (length parts ≤ 256) × All (IsPart types n
 IsFormed types n (union switch cases otherwise) = IsSwitch types n switch × (length cases ≤ 256) × All (λ c. IsPart types n c.part) cases × IsCaseBelow (length cases) otherwise
 IsFormed types n (sequence bound element) = IsInner types n element
 IsFormed types n (array count element) = (0 < count) × IsInner types n element
+IsFormed types n (encapsulation held) = IsInner types n held

@@ -4,7 +4,7 @@ use Rattle.giop_cdr.specs.declared.prim.Primitive.TheVariants as prims
 use Rattle.giop_cdr.specs.declared.number.Number.{Number}
 use Rattle.giop_sig.specs.declared.types.Selected.{Selected}
 use Rattle.giop_sig.specs.declared.types.Selected.TheVariants.{Nothing}
-use Rattle.giop_sig.specs.Types.{Cases, Scalar, Plain, Enum, taken_by, Ty, Single, Text, Octets, Struct, Union, Sequence, Array, depth}
+use Rattle.giop_sig.specs.Types.{Cases, Scalar, Plain, Enum, taken_by, Ty, Single, Text, Octets, Struct, Union, Sequence, Array, Encapsulation, depth}
 use Rattle.giop_sig.specs.Table.{Part, Case, Node, Table, IsFormed, case_part, name_of, part_at, type_of, selected}
 use Rattle.giop_sig.specs.Table as nodes
 
@@ -42,6 +42,7 @@ grow tree (nodes.union switch cases otherwise) =
     (λ i. name_of (case_part (slice_get cases i))) (λ i. grown_part tree (case_part (slice_get cases i)))
 grow tree (nodes.sequence bound element) = Sequence bound (tree element)
 grow tree (nodes.array count element) = Array count (tree element)
+grow tree (nodes.encapsulation held) = Encapsulation (tree held)
 
 -- ---- the trees, from the front of the table
 

@@ -5,7 +5,7 @@ use Rattle.giop_sig.specs.declared.entries.CaseEntry.{CaseEntry}
 use Rattle.giop_sig.specs.declared.entries.Entry.{Entry}
 use Rattle.giop_sig.specs.declared.entries.Entry.TheVariants as entries
 use Rattle.giop_sig.specs.declared.entries.Placed.{Placed}
-use Rattle.giop_sig.specs.Table.{Node, Part, Case, prim, enumeration, text, octets, members, union, sequence, array}
+use Rattle.giop_sig.specs.Table.{Node, Part, Case, prim, enumeration, text, octets, members, union, sequence, array, encapsulation}
 use Rattle.giop_sig.specs.Trees.{AreTypes, trees_of, depths, depth_of}
 
 abbrev pub part_view : PartEntry → Part
@@ -23,6 +23,7 @@ node_view (entries.Members parts) = members (map part_view parts.items)
 node_view (entries.Union switch cases otherwise) = union switch.0 (map case_view cases.items) otherwise
 node_view (entries.Sequence bound element) = sequence bound element.0
 node_view (entries.Array count element) = array count element.0
+node_view (entries.Encapsulation held) = encapsulation held.0
 
 -- an entry whose parts or names are few enough to be counted in a shape
 abbrev pub IsSized : Entry → Type 0

@@ -114,7 +114,8 @@ impl Catalogue {
         self.types.entry(t).shape()
     }
 
-    /// The type of the part at a place: of a member or a case by its place from 0, of an element for any place.
+    /// The type of the part at a place: of a member or a case by its place from 0, of an element and
+    /// of what an encapsulation holds for any place.
     pub fn part(&self, t: TypeId, place: u32) -> TypeId
         requires known { t.0 < length self.now.types }
         requires place { HasPlace (shape_in (tree self.now t.0)) place }

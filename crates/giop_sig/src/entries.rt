@@ -45,6 +45,8 @@ pub(crate) enum Entry {
     Sequence(Option<u32>, TypeId),
     /// An array of so many elements.
     Array(u32, TypeId),
+    /// Octets with a byte order of their own that hold a value.
+    Encapsulation(TypeId),
 }
 
 impl Entry {
@@ -64,10 +66,11 @@ impl Entry {
             Entry::Union(_, cases, _) => Shape::Union(cases.len() as u32),
             Entry::Sequence(bound, _) => Shape::Sequence(*bound),
             Entry::Array(count, _) => Shape::Array(*count),
+            Entry::Encapsulation(_) => Shape::Encapsulation,
         }
     }
 
-    /// The type of the part at a place, of an element for any place.
+    /// The type of the part at a place, of an element and of what an encapsulation holds for any place.
     pub(crate) fn part(&self, place: u32) -> TypeId
         requires { HasPlace (shape_of (node_view self.now)) place }
         ensures { result.0 ≡ type_of (part_at (node_view self.now) place) }
@@ -77,6 +80,7 @@ impl Entry {
             Entry::Union(_, cases, _) => cases[place as usize].part.type_id,
             Entry::Sequence(_, element) => *element,
             Entry::Array(_, element) => *element,
+            Entry::Encapsulation(held) => *held,
             _ => unreachable!(),
         }
     }
@@ -248,7 +252,7 @@ impl Types {
             Shape::Union(count) => 1 + self.deepest_part(entry, count).max(1),
             Shape::Sequence(_) => 1 + self.depth_at(entry.part(0)),
             Shape::Array(_) => 1 + self.depth_at(entry.part(0)),
-            Shape::Encapsulation => unreachable!(),
+            Shape::Encapsulation => 1 + self.depth_at(entry.part(0)),
             Shape::Tagged => unreachable!(),
         }
     }
