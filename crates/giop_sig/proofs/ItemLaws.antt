@@ -15,7 +15,7 @@ use Rattle.giop_tokens.specs.Names.{too_long}
 use Rattle.giop_tokens.proofs.ReaderLaws.{mark_again, mark_if_again, identifier_again, identifier_long}
 use Rattle.giop_sig.specs.Table.{Node, Part}
 use Rattle.giop_sig.specs.Table as nodes
-use Rattle.giop_sig.specs.Grammar.{TypeExpr, Base, Text, Reference, Named, SequenceOf, Item, spell_length, spell_type, spell_item, spell_items}
+use Rattle.giop_sig.specs.Grammar.{TypeExpr, Base, Text, Reference, Named, SequenceOf, EncapsulationOf, Item, spell_length, spell_type, spell_item, spell_items}
 use Rattle.giop_sig.specs.Scopes.{Names, Scope, part, item_part, place, place_length, place_item, place_items}
 use Rattle.giop_sig.specs.Validity.{Kind, IsFree, is_among, OfNewName, OfItem, OfItems, OfDeclared}
 use Rattle.giop_sig.specs.Outcomes.{refused}
@@ -127,6 +127,7 @@ type_apart (Text o) more = refl
 type_apart Reference more = refl
 type_apart (Named w) more = refl
 type_apart (SequenceOf e o) more = refl
+type_apart (EncapsulationOf e) more = refl
 
 abbrev made_member : List (List ℕ) → List Part → Scope → Item → List ℕ → Members
 made_member seen parts s i rest = record { scope = (place_item s i).0; seen = seen ++ i.name ∷ []; parts = parts ++ item_part i (place_item s i) ∷ []; rest = rest; closed = false }

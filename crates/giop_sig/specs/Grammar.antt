@@ -20,6 +20,8 @@ pub data TypeExpr : Type 0 where
   -- an enum, struct or union by its name
   Named : List ℕ → TypeExpr
   SequenceOf : TypeExpr → Option ℕ → TypeExpr
+  -- a value of a type, in octets of its own
+  EncapsulationOf : TypeExpr → TypeExpr
 
 abbrev pub base_word : Primitive → List ℕ
 base_word prims.Octet = codes "octet"
@@ -54,6 +56,7 @@ spell_type (Text bound) more = word (codes "string") ∷ spell_bound bound more
 spell_type Reference more = word (codes "Object") ∷ more
 spell_type (Named w) more = word w ∷ more
 spell_type (SequenceOf e bound) more = word (codes "sequence") ∷ mark marks.OpenAngle ∷ spell_type e (spell_most bound (mark marks.CloseAngle ∷ more))
+spell_type (EncapsulationOf e) more = word (codes "encapsulation") ∷ mark marks.OpenAngle ∷ spell_type e (mark marks.CloseAngle ∷ more)
 
 -- ---- items: members, cases and parameters
 

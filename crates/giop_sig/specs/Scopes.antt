@@ -15,7 +15,7 @@ use Rattle.giop_sig.specs.Table.{Part, Case, Node, Table, node_at, with_type, wi
 use Rattle.giop_sig.specs.Table as nodes
 use Rattle.giop_sig.specs.Builtin.{builtin_table}
 use Rattle.giop_sig.specs.RequestList.{flat}
-use Rattle.giop_sig.specs.Grammar.{TypeExpr, Base, Text, Reference, Named, SequenceOf, Item, Value, Plain, Below, Truth, Enumerator, Label, Default, Of, UnionCase, Param, Declaration, Enumeration, Structure, Choice, Raise, Call, SignatureFile}
+use Rattle.giop_sig.specs.Grammar.{TypeExpr, Base, Text, Reference, Named, SequenceOf, EncapsulationOf, Item, Value, Plain, Below, Truth, Enumerator, Label, Default, Of, UnionCase, Param, Declaration, Enumeration, Structure, Choice, Raise, Call, SignatureFile}
 
 -- What the words of a file mean as types: the file's version, and the names of enums, structs and unions, each with its
 -- type's number, and of exceptions, with none.
@@ -79,6 +79,9 @@ place_text s (Some n) = with_node s (nodes.text (Some n))
 abbrev pub place_sequence : Option ℕ → Placed → Placed
 place_sequence bound p = with_node p.0 (sequence_node bound p.1)
 
+abbrev pub place_encapsulation : Placed → Placed
+place_encapsulation p = with_node p.0 (nodes.encapsulation p.1)
+
 -- the types that an expression adds, and its own number
 unfoldable pub place : Scope → TypeExpr → Placed
 place s (Base p) = (s, base_number p)
@@ -86,6 +89,7 @@ place s (Text bound) = place_text s bound
 place s Reference = (s, 17)
 place s (Named w) = (s, number_or (named s.names w))
 place s (SequenceOf e bound) = place_sequence bound (place s e)
+place s (EncapsulationOf e) = place_encapsulation (place s e)
 
 -- ---- items
 

@@ -14,8 +14,8 @@ use Rattle.giop_tokens.specs.Tokens.{AreTokens}
 use Rattle.giop_sig.specs.Table.{Node, node_at, operation_in, exception_in}
 use Rattle.giop_sig.specs.Table as nodes
 use Rattle.giop_sig.specs.Trees.{depth_of}
-use Rattle.giop_sig.specs.Grammar.{TypeExpr, Base, Text, Reference, Named, SequenceOf, Item, Value, Plain, Below, Truth, Enumerator, Label, Default, Of, UnionCase, Param, Declaration, Enumeration, Structure, Choice, Raise, Call, SignatureFile, is_version, spell_file}
-use Rattle.giop_sig.specs.Scopes.{Names, Scope, Placed, first_scope, named, place, label_number, labels_of, declare, scope_after}
+use Rattle.giop_sig.specs.Grammar.{TypeExpr, Base, Text, Reference, Named, SequenceOf, EncapsulationOf, Item, Value, Plain, Below, Truth, Enumerator, Label, Default, Of, UnionCase, Param, Declaration, Enumeration, Structure, Choice, Raise, Call, SignatureFile, is_version, spell_file}
+use Rattle.giop_sig.specs.Scopes.{Names, has_encapsulations, Scope, Placed, first_scope, named, place, label_number, labels_of, declare, scope_after}
 
 abbrev pub Kind : Type 0
 Kind = SigFaultKind
@@ -60,12 +60,18 @@ OfSome k xs = Unit {0}
 
 -- ---- types and items
 
+-- the word of an encapsulation stands in files of its version
+abbrev pub OfVersion : Kind → Names → Type 0
+OfVersion kinds.Syntax names = has_encapsulations names ≡ true
+OfVersion k names = Unit {0}
+
 unfoldable pub OfType : Kind → Names → TypeExpr → Type 0
 OfType k names (Base p) = Unit {0}
 OfType k names (Text bound) = OfBound k bound
 OfType k names Reference = Unit {0}
 OfType k names (Named w) = OfTypeName k names w
 OfType k names (SequenceOf e bound) = OfType k names e × OfBound k bound
+OfType k names (EncapsulationOf e) = OfVersion k names × OfType k names e
 
 abbrev pub OfItem : Kind → Names → ℕ → List (List ℕ) → Item → Type 0
 OfItem k names most seen i = OfType k names i.type × OfNewName k most seen i.name × OfBound k i.length
