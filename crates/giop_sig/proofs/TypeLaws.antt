@@ -15,6 +15,7 @@ use Rattle.giop_tokens.specs.Reading.{◌>>=◌}
 use Rattle.giop_tokens.specs.Readers.{mark_at}
 use Rattle.giop_tokens.specs.Names.{is_reserved}
 use Rattle.giop_tokens.proofs.ReaderLaws.{word_again, number_again, mark_again, mark_if_again}
+use Rattle.giop_sig.specs.declared.numbers.TheConstants.{IOR}
 use Rattle.giop_sig.specs.Types.{depth}
 use Rattle.giop_sig.specs.Table.{Node}
 use Rattle.giop_sig.specs.Table as nodes
@@ -285,7 +286,7 @@ nested_by left s e whole tail more (Ok x) h is t on =
     subst (λ (y : TypeRead). TypeOut (suc left) s whole more (h y)) (sym g.is) (type_by (suc left) s whole more (h (placed s e g.rest)) (on g.rest g.tokens g.keeps))
 nested_by left s e whole tail more (Err x) h is t on = record { out = inner_by left s e whole x is t.out }
 
-reference_reads : (s : Scope) (rest : List ℕ) (more : List Token) → AreTokens rest more → Out (placed s Reference) (λ k. OfType k s.names Reference) (place s Reference).0.table.types more (Ok (s, 17, rest))
+reference_reads : (s : Scope) (rest : List ℕ) (more : List Token) → AreTokens rest more → Out (placed s Reference) (λ k. OfType k s.names Reference) (place s Reference).0.table.types more (Ok (s, IOR, rest))
 unfolding OfType place
 reference_reads s rest more m = good rest m (λ k. tt)
 

@@ -111,6 +111,7 @@ discriminates (nodes.union switch cases otherwise) e = absurd cc
 discriminates (nodes.sequence bound element) e = absurd cc
 discriminates (nodes.array count element) e = absurd cc
 discriminates (nodes.encapsulation held) e = absurd cc
+discriminates (nodes.tagged special tag inner other) e = absurd cc
 
 no_discriminator : (node : Node) → can_switch node ≡ false → IsDiscriminator node → ⊥
 no_discriminator (nodes.prim prims.Octet) e is = is
@@ -132,6 +133,7 @@ no_discriminator (nodes.union switch cases otherwise) e is = is
 no_discriminator (nodes.sequence bound element) e is = is
 no_discriminator (nodes.array count element) e is = is
 no_discriminator (nodes.encapsulation held) e is = is
+no_discriminator (nodes.tagged special tag inner other) e is = is
 
 switch_keeps : (node : Node) → IsDiscriminator node → (k : Kind) → OfSwitch k node
 switch_keeps node is kinds.Token = tt

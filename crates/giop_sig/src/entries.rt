@@ -1,5 +1,5 @@
 //! The types of a catalogue as they are kept: an entry for each, with its depth.
-ghost use Rattle.std.specs.Prelude.{◌≡◌, ℕ, ◌<◌, ◌≤◌, ◌++◌, ◌∷◌, [], length, map, IfOk, OnOk, OnErr, IfSome, max};
+ghost use Rattle.std.specs.Prelude.{◌≡◌, ℕ, ◌<◌, ◌≤◌, ◌++◌, ◌∷◌, [], length, map, Some, IfOk, OnOk, OnErr, IfSome, max};
 ghost use Rattle.std.specs.Option.{option_map};
 ghost use Rattle.std.specs.List.{list_any};
 ghost use Rattle.giop_sig.specs.Types.{depth, most, HasPlace, HasMember, IsUnion};
@@ -26,6 +26,47 @@ pub(crate) struct CaseEntry {
     pub(crate) part: PartEntry,
 }
 
+/// A tagged type: a number, and what stands behind it.
+#[derive(Drop)]
+pub(crate) struct TagEntry {
+    /// The number behind which the encapsulation stands.
+    pub(crate) special: u32,
+    /// The number.
+    pub(crate) tag: PartEntry,
+    /// The encapsulation.
+    pub(crate) inner: PartEntry,
+    /// What stands behind each other number.
+    pub(crate) other: PartEntry,
+}
+
+impl TagEntry {
+    ghost use Rattle.giop_sig.specs.Views.{tag_view};
+
+    /// The part at a place: the number, the encapsulation, or what stands behind each other number.
+    fn part(&self, place: u32) -> &PartEntry
+        requires { place < 3 }
+        ensures { part_at (tag_view self.now) place ≡ Some (part_view result.now) }
+    {
+        match place {
+            0 => &self.tag,
+            1 => &self.inner,
+            2 => &self.other,
+            _ => unreachable!(),
+        }
+    }
+
+    /// What stands behind a number: the encapsulation, or the octets.
+    fn select(&self, number: Number) -> Selected
+        ensures { result ≡ selected (tag_view self.now) number }
+    {
+        if Number::Unsigned(u64::from(self.special)) == number {
+            Selected::Case(1)
+        } else {
+            Selected::Case(2)
+        }
+    }
+}
+
 /// A type, by the numbers of its parts.
 #[derive(Drop)]
 pub(crate) enum Entry {
@@ -47,6 +88,8 @@ pub(crate) enum Entry {
     Array(u32, TypeId),
     /// Octets with a byte order of their own that hold a value.
     Encapsulation(TypeId),
+    /// A number, and an encapsulation or octets behind it.
+    Tagged(TagEntry),
 }
 
 impl Entry {
@@ -67,6 +110,7 @@ impl Entry {
             Entry::Sequence(bound, _) => Shape::Sequence(*bound),
             Entry::Array(count, _) => Shape::Array(*count),
             Entry::Encapsulation(_) => Shape::Encapsulation,
+            Entry::Tagged(_) => Shape::Tagged,
         }
     }
 
@@ -81,11 +125,12 @@ impl Entry {
             Entry::Sequence(_, element) => *element,
             Entry::Array(_, element) => *element,
             Entry::Encapsulation(held) => *held,
+            Entry::Tagged(tagged) => tagged.part(place).type_id,
             _ => unreachable!(),
         }
     }
 
-    /// The name of the member or case at a place.
+    /// The name of the member or case at a place, or of a tagged type's part.
     pub(crate) fn part_name(&self, place: u32) -> &[u8]
         requires { HasMember (shape_of (node_view self.now)) place }
         ensures { result.now ≡ name_of (part_at (node_view self.now) place) }
@@ -93,6 +138,7 @@ impl Entry {
         match self {
             Entry::Members(parts) => &parts[place as usize].name,
             Entry::Union(_, cases, _) => &cases[place as usize].part.name,
+            Entry::Tagged(tagged) => &tagged.part(place).name,
             _ => unreachable!(),
         }
     }
@@ -110,18 +156,19 @@ impl Entry {
         }
     }
 
-    /// The type of a union's discriminator.
+    /// The type of a union's discriminator, or of a tagged type's number.
     pub(crate) fn switch_type(&self) -> TypeId
         requires { IsUnion (shape_of (node_view self.now)) }
         ensures { result.0 ≡ switch_at (node_view self.now) }
     {
         match self {
             Entry::Union(switch, _, _) => *switch,
+            Entry::Tagged(tagged) => tagged.tag.type_id,
             _ => unreachable!(),
         }
     }
 
-    /// What a discriminator's value selects.
+    /// What the value of a discriminator, or of a tagged type's number, selects.
     pub(crate) fn select(&self, number: Number) -> Selected
         requires { IsSized self.now }
         ensures { result ≡ selected (node_view self.now) number }
@@ -131,6 +178,7 @@ impl Entry {
                 Some(place) => Selected::Case(place),
                 None => *otherwise,
             },
+            Entry::Tagged(tagged) => tagged.select(number),
             _ => Selected::Nothing,
         }
     }
@@ -253,7 +301,7 @@ impl Types {
             Shape::Sequence(_) => 1 + self.depth_at(entry.part(0)),
             Shape::Array(_) => 1 + self.depth_at(entry.part(0)),
             Shape::Encapsulation => 1 + self.depth_at(entry.part(0)),
-            Shape::Tagged => unreachable!(),
+            Shape::Tagged => 1 + self.deepest_part(entry, 3).max(1),
         }
     }
 

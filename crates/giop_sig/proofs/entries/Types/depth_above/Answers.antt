@@ -36,3 +36,8 @@ returns-in-Array-clause-depth c =
 pub returns-in-Encapsulation-clause-depth : goal.returns-in-Encapsulation-clause-depth
 returns-in-Encapsulation-clause-depth c =
     ap (λ n. 1 + n) (c.depth_at-in-Encapsulation.ensures.depth ∙ ap (λ i. depth (type_in c.args.self.now i)) c.part-in-Encapsulation.ensures) ∙ sym (depth_at_shape c.args.self.now (node_view c.args.entry.now) _ c.in-Encapsulation.ensures)
+
+pub returns-in-Tagged-clause-depth : goal.returns-in-Tagged-clause-depth
+returns-in-Tagged-clause-depth c =
+    let shape = depth_at_shape c.args.self.now (node_view c.args.entry.now) _ c.in-Tagged.ensures in
+    omega (arith, shape, c.max-in-Tagged.ensures, c.deepest_part-in-Tagged.ensures.depth)
