@@ -193,12 +193,6 @@ pub held_member : (name : List ℕ) (C : Table) (here : ℕ) (outer : List Frame
     false ≡ is_member name (path_in [] (places C here outer))
 held_member name C here outer d order one inside = rw (only C here outer d one, inside) refl
 
-pub member_known : (C : Table) (outer : List Frame) (d : Frame) (shape : Shape) → length outer ≡ 1 → AreKnown C outer → (slice_index_or outer 0 d).inside ≡ None → shape ≡ shape_in (tree C (slice_index_or outer 0 d).of.0) →
-    ((i : ℕ) → HasPlace shape i → HasMember shape i) → HasMember (shape_in (tree C (slice_index_or outer 0 d).of.0)) (slice_index_or outer 0 d).index
-member_known C [] d shape h known part is k = absurd (omega arith)
-member_known C (f ∷ []) d shape h known part is k = rw (← is) (k f.index (rw is (rw part at known.0.within).0))
-member_known C (f ∷ g ∷ outer) d shape h known part is k = absurd (omega arith)
-
 -- a discriminator is no member
 pub switch_member : (name : List ℕ) (path : List Seg) (tag : Option (List ℕ)) → is_member name (path ++ Switch tag ∷ []) ≡ false
 switch_member name [] tag = refl

@@ -99,11 +99,6 @@ takes_both C T order at message root d s xs ys p h t =
 pub take_more : (xs : List ℕ) (i : ℕ) → i < length xs → take (i + 1) xs ≡ take i xs ++ get_or xs i 0 ∷ []
 take_more xs i h = rw add-one (take-suc xs i 0 h)
 
-pub one_further : (s octets : List ℕ) (i : ℕ) → i < length octets →
-    (s ++ take i octets) ++ get_or octets i 0 ∷ [] ≡ s ++ take (i + 1) octets
-one_further s octets i h =
-    append_assoc s (take i octets) (get_or octets i 0 ∷ []) ∙ ap (λ xs. s ++ xs) (sym (take_more octets i h))
-
 pub text_more : (message : ℕ) (root : Root) (order : Order) (T : Ty) (at : ℕ) (s octets : List ℕ) (i : ℕ) →
     i < length octets → lines_text message root (dues order T at s (take (i + 1) octets))
     ≡ lines_text message root (dues order T at s (take i octets))

@@ -355,11 +355,6 @@ counted_more i now old d y h below is =
       same = length-set now i y ∙ h.same;
     }
 
-pub counted_all : (now old : List Frame) (i : ℕ) → IsCounted i now old → length old ≤ i → now ≡ ticked old
-counted_all now old i h l =
-    let k : length now ≤ i = omega (arith, h.same) in
-    sym (take_all i now k) ∙ (h.front ∙ ap ticked (take_all i old l))
-
 pub ahead_get : (frames : List Frame) (i : ℕ) (d : Frame) → AreAhead frames → i < length frames → IsAhead (get_or frames i d)
 ahead_get [] i d h below = absurd (omega arith)
 ahead_get (f ∷ frames) zero d h below = h.0

@@ -121,10 +121,6 @@ module _ (S : Signatures) (number : ℕ) (header s : List ℕ) (section : Sectio
   abbrev Here : ℕ
   Here = A + length octets
 
-  -- its reading, that with the octet, and what the octet adds to it
-  abbrev Before : Read
-  Before = read (plain (order header)) [] T A octets
-
   abbrev pub Next : Read
   Next = read (plain (order header)) [] T A (octets ++ b ∷ [])
 

@@ -11,7 +11,7 @@ use Rattle.giop_stream.specs.declared.slots.Slots.{Slots}
 use Rattle.giop_stream.specs.declared.current.Current.{Current}
 use Rattle.giop_stream.specs.Framing.{Message}
 use Rattle.giop_stream.specs.Kinds.{is_short, is_followed}
-use Rattle.giop_stream.specs.Events.{Open, Event, Closes, Imposed, title, opener_of, has_named, own, about, at_end}
+use Rattle.giop_stream.specs.Events.{Open, Event, Closes, Imposed, title, opener_of, has_named, own, about, at_end, now_of, end_acts}
 use Rattle.giop_stream.specs.Plays.{Scene, plays, one_play, no_play}
 use Rattle.giop_stream.specs.Keeping.{play_to}
 use Rattle.giop_stream.specs.Whose.{IsAt, opener_title, whose}
@@ -50,10 +50,6 @@ last_by false true true xs ys e = absurd cc
 last_by false true false xs ys e = refl
 last_by false false more xs ys e = refl
 
-not_first : (o f more : Bool) → (o || (f && more)) ≡ false → o ≡ false
-not_first true f more e = absurd cc
-not_first false f more e = refl
-
 long_by : (n : ℕ) (o : Bool) → (nat_lt n 4 && (o || true)) ≡ false → 4 ≤ n
 long_by n o e = ltb-false n 4 (go (nat_lt n 4) o e)
   where
@@ -68,7 +64,7 @@ module _ (C : Table) (l : Listed) (s : Slots) (c : Scene) (m : Message) (now : C
 
   pub ends_short : true ≡ is_short now.header
       → plays (message_reading C l) c (at_end c.live m) ≡ one_play (message_reading C l) c now.place (title m) (Imposed Short)
-  unfolding at_end is_short
+  unfolding end_acts is_short
   ends_short e = let b = header_at is_short true e in rw b (plays_own (message_reading C l) c m (Imposed Short) ∙ rw h.current.place refl)
 
   pub own_short : true ≡ is_short now.header → length m.payload ≡ size m.header → whose c.live m ≡ Some (title m)
@@ -80,23 +76,23 @@ module _ (C : Table) (l : Listed) (s : Slots) (c : Scene) (m : Message) (now : C
       whose_early c.live m less
 
   pub ends_followed : false ≡ is_short now.header → true ≡ is_followed now.header → plays (message_reading C l) c (at_end c.live m) ≡ no_play c
-  unfolding at_end is_short is_followed
+  unfolding end_acts is_short is_followed
   ends_followed e k =
       let short = header_at is_short false e in
       let follows = header_at is_followed true k in
       rw (
         short,
         followed_by (is_opener m.header) (is_fragment m.header) (has_more m.header)
-            (about m (opener_of c.live m) Closes) (own m Closes) follows,
+            (about (now_of m) (opener_of c.live m) Closes) (own (now_of m) Closes) follows,
       ) (plays_none (message_reading C l) c)
 
   ends_last : false ≡ is_short now.header → false ≡ is_followed now.header
-      → at_end c.live m ≡ (if is_fragment m.header then about m (opener_of c.live m) Closes else own m Closes)
-  unfolding at_end is_short is_followed
+      → at_end c.live m ≡ (if is_fragment m.header then about (now_of m) (opener_of c.live m) Closes else own (now_of m) Closes)
+  unfolding end_acts is_short is_followed
   ends_last e k =
       let short = header_at is_short false e in
       let last = header_at is_followed false k in
-      rw short (last_by (is_opener m.header) (is_fragment m.header) (has_more m.header) (about m (opener_of c.live m) Closes) (own m Closes) last)
+      rw short (last_by (is_opener m.header) (is_fragment m.header) (has_more m.header) (about (now_of m) (opener_of c.live m) Closes) (own (now_of m) Closes) last)
 
   long_enough : false ≡ is_short now.header → is_fragment m.header ≡ true → length m.payload ≡ size m.header → 4 ≤ length m.payload
   unfolding is_short
@@ -105,7 +101,7 @@ module _ (C : Table) (l : Listed) (s : Slots) (c : Scene) (m : Message) (now : C
       let long : 4 ≤ size m.header = long_by (size m.header) (is_opener m.header) (rw f at short) in
       omega (arith, long, last)
 
-  about_does : (r : Option Open) → plays (message_reading C l) c (about m r Closes) ≡ play_to C l now.place c (opener_title r) Closes
+  about_does : (r : Option Open) → plays (message_reading C l) c (about (now_of m) r Closes) ≡ play_to C l now.place c (opener_title r) Closes
   about_does None = plays_nobody (message_reading C l) c m Closes
   about_does (Some o) = plays_about (message_reading C l) c m o Closes ∙ rw h.current.place refl
 

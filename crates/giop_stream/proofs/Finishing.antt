@@ -7,11 +7,10 @@ use Rattle.giop_stream.specs.Framing.{Message, Cut, cut, read_of}
 use Rattle.giop_message.specs.Reading.{Reading, IsCausal, IsEnding, IsInTurn}
 use Rattle.giop_stream.specs.Text.{truncated_line}
 use Rattle.giop_stream.specs.Stream.{is_inside}
-use Rattle.giop_stream.specs.Events.{Open, title, has_named, events, open_after, joined}
+use Rattle.giop_stream.specs.Events.{Open, title, has_named, events, open_after, joined, now_of}
 use Rattle.giop_stream.specs.Stream.{is_over, unfinished}
 use Rattle.giop_stream.specs.State.{Kept, octets_of, is_open, slots_of}
 use Rattle.giop_stream.specs.Machine.{left_by, left_open}
-use Rattle.giop_stream.specs.Octet.{now_of}
 use Rattle.giop_stream.specs.Engine.{own_for, own_in, state_of}
 use Rattle.giop_stream.specs.Step.{left_own, left_over}
 use Rattle.giop_stream.proofs.LastLines.{octets_known}
@@ -40,7 +39,7 @@ or_none false = refl
 own_left : (over : ℕ → Bool) (xs : Kept) (live : List Open) (current : Option Message)
     → ((i : ℕ) → over i ≡ true → xs i ≡ None) → ((i : ℕ) → over i ≡ false → (ys : List ℕ) × (xs i ≡ Some ys))
     → left_own (own_in xs live current) ≡ alive over (tail_now live current)
-unfolding own_for now_of has_named alive tail_now tail_of
+unfolding own_for has_named alive tail_now tail_of
 own_left over xs live None h k = refl
 own_left over xs live (Some m) h k = go (is_fragment m.header) refl
   where

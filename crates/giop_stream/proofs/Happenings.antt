@@ -1,17 +1,17 @@
 -- The events of a stream with one octet more, and the open messages after them.
-use Rattle.std.proofs.Common.{inl, inr, ◌⊎◌, ◌≡◌, ℕ, ◌-◌, ◌<◌, ◌≤◌, Bool, true, false, not, List, [], ◌∷◌, ◌++◌, length, get_or, refl, sym, ap, ◌∙◌, append_assoc, Option, Some, None, arith}
+use Rattle.std.proofs.Common.{inl, inr, ◌⊎◌, ◌≡◌, ℕ, ◌<◌, ◌≤◌, Bool, true, false, not, List, [], ◌∷◌, ◌++◌, length, refl, sym, ap, ◌∙◌, append_assoc, Option, Some, None, arith}
 use Rattle.std.specs.List.{find, AllByRecursion as Each}
-use Rattle.std.specs.Prelude.{nat_lt, nat_le, ◌==◌, if◌then◌else◌, flat_map, ◌&&◌, ◌||◌}
-use Rattle.std.proofs.lemmas.Bool.{and_parts, ltb-true, ltb-false, leb-false, lt-leb, le-ltb, cases_lt, ne_eqb, eqb-true}
+use Rattle.std.specs.Prelude.{nat_lt, nat_le, ◌==◌, if◌then◌else◌, flat_map, ◌&&◌}
+use Rattle.std.proofs.lemmas.Bool.{and_parts, lt-ltb, ltb-true, ltb-false, leb-false, lt-leb, le-ltb, cases_lt, ne_eqb, eqb-true}
 use Rattle.std.proofs.lemmas.List.{append-nil, length_push}
 use Rattle.std.proofs.lemmas.List.Concat.{flat_map-append}
 use Rattle.giop_stream.specs.declared.fault.ImposedFault.{ImposedFault}
-use Rattle.giop_stream.specs.declared.fault.ImposedFault.TheVariants.{Short, NoOpen, IdOpen, TooManyOpen, FragmentOrder}
+use Rattle.giop_stream.specs.declared.fault.ImposedFault.TheVariants.{NoOpen, FragmentOrder}
 use Rattle.giop_stream.specs.Headers.{fronts}
-use Rattle.giop_message.specs.Headers.{order, has_more, size, is_fragment, is_opener, is_cancel}
+use Rattle.giop_message.specs.Headers.{has_more, size, is_fragment, is_opener}
 use Rattle.giop_stream.specs.Framing.{Message, with_payload}
-use Rattle.giop_stream.specs.Kinds.{may_be_cancelled, refused}
-use Rattle.giop_stream.specs.Events.{Happening, Begins, Takes, Opens, Continues, Cancelled, Imposed, Closes, Title, Event, Open, title, place, own, about, id, opener_of, has_named, goes_past, imposed, at_header, at_octet, opens_by, opens, most_open, same_order, continues_by, continues, cancels_by, cancels, at_id, at_end, happens, events_of, changed, opened, events_from}
+use Rattle.giop_stream.specs.Events.{Happening, Begins, Takes, Opens, Continues, Cancelled, Imposed, Closes, Title, Event, Open, title, place, own, about, id, opener_of, has_named, goes_past, at_header, at_octet, continues, at_id, at_end, happens, events_of, changed, opened, events_from, now_of, header_acts, octet_acts, id_acts, end_acts, acts, Now}
+use Rattle.giop_stream.proofs.Walking.{IsJoined, either, of_header, of_later}
 use Rattle.giop_stream.proofs.Lists.{fronts_push, by_growth, each_append, each_filter}
 
 pub opened_append : (live : List Open) (es more : List Event) → opened live (es ++ more) ≡ opened (opened live es) more
@@ -59,15 +59,16 @@ pub still_imposed : (fault : ImposedFault) (live : List Open) (whom : Title) →
 unfolding changed
 still_imposed fault live whom = refl
 
-quiet_about : (live : List Open) (m : Message) (o : Option Open) (what : Happening)
-    → ((whom : Title) → changed live whom what ≡ live) → opened live (about m o what) ≡ live
+quiet_about : (live : List Open) (now : Now) (o : Option Open) (what : Happening)
+    → ((whom : Title) → changed live whom what ≡ live) → opened live (about now o what) ≡ live
 unfolding about opened
-quiet_about live m None what h = refl
-quiet_about live m (Some o) what h = h o.opener
+quiet_about live now None what h = refl
+quiet_about live now (Some o) what h = h o.opener
 
-pub quiet_own : (live : List Open) (m : Message) (what : Happening) → ((whom : Title) → changed live whom what ≡ live) → opened live (own m what) ≡ live
+pub quiet_own : (live : List Open) (now : Now) (what : Happening)
+    → ((whom : Title) → changed live whom what ≡ live) → opened live (own now what) ≡ live
 unfolding own opened
-quiet_own live m what h = h (title m)
+quiet_own live now what h = h now.whom
 
 pub quiet_both : (live : List Open) (es more : List Event) → opened live es ≡ live → opened live more ≡ live → opened live (es ++ more) ≡ live
 quiet_both live es more h k = rw (opened_append live es more, h) k
@@ -81,38 +82,31 @@ pub quiet_none : (live : List Open) → opened live [] ≡ live
 unfolding opened
 quiet_none live = refl
 
-pub quiet_header : (live : List Open) (m : Message) → opened live (at_header m) ≡ live
-unfolding at_header
-quiet_header live m = quiet_both live (own m Begins) _ (quiet_own live m Begins (still_begins live)) (go (refused m.header))
-  where
-    go : (w : Option ImposedFault) → opened live (imposed m w) ≡ live
-    go None = quiet_none live
-    go (Some fault) = quiet_own live m (Imposed fault) (still_imposed fault live)
+pub quiet_header : (live : List Open) (now : Now) → opened live (header_acts now) ≡ live
+quiet_header live now =
+    of_header (λ es. opened live es ≡ live) (record { none = quiet_none live; both = quiet_both live }) now
+    (quiet_own live now Begins (still_begins live)) (λ fault. quiet_own live now (Imposed fault) (still_imposed fault live))
 
-pub quiet_octet : (live : List Open) (m : Message) → opened live (at_octet live m) ≡ live
-unfolding at_octet
-quiet_octet live m =
-    let x = get_or m.payload (length m.payload - 1) 0 in
-    quiet_if live (goes_past m) (about m (opener_of live m) (Takes x)) (own m (Takes x))
-    (λ e. quiet_about live m (opener_of live m) (Takes x) (still_takes x live)) (λ e. quiet_own live m (Takes x) (still_takes x live))
+pub quiet_octet : (live : List Open) (now : Now) (o : Option Open) → opened live (octet_acts now o) ≡ live
+unfolding octet_acts
+quiet_octet live now o =
+    quiet_if live (is_fragment now.whom.header && nat_lt 4 now.come) _ _
+    (λ e. quiet_about live now o (Takes now.octet) (still_takes now.octet live))
+    (λ e. quiet_own live now (Takes now.octet) (still_takes now.octet live))
 
-pub quiet_continues : (live : List Open) (m : Message) → opened live (continues live m) ≡ live
-unfolding continues
-quiet_continues live m = go (opener_of live m)
-  where
-    go : (o : Option Open) → opened live (continues_by m o) ≡ live
-    go None = quiet_own live m (Imposed NoOpen) (still_imposed NoOpen live)
-    go (Some o) =
-        quiet_both live _ _ (quiet_own live m (Continues o.opener.number) (still_continues o.opener.number live))
-        (quiet_if live _ _ _ (λ e. quiet_none live)
-        (λ e. quiet_about live m (Some o) (Imposed FragmentOrder) (still_imposed FragmentOrder live)))
+pub quiet_continues : (live : List Open) (now : Now) (o : Option Open) → opened live (continues now o) ≡ live
+quiet_continues live now None = quiet_own live now (Imposed NoOpen) (still_imposed NoOpen live)
+quiet_continues live now (Some o) =
+    quiet_both live _ _ (quiet_own live now (Continues o.opener.number) (still_continues o.opener.number live))
+    (quiet_if live _ _ _ (λ e. quiet_none live)
+    (λ e. quiet_about live now (Some o) (Imposed FragmentOrder) (still_imposed FragmentOrder live)))
 
 -- Before the last octet of a message, and before its id or in a Fragment, nothing changes.
 pub four : (live : List Open) (m : Message) → (length m.payload == 4) ≡ true
     → ((length m.payload < 4) ⊎ (is_fragment m.header ≡ true)) → opened live (at_id live m) ≡ live
-unfolding at_id
+unfolding id_acts
 four live m e (inl k) = absurd (omega (arith, eqb-true (length m.payload) 4 e))
-four live m e (inr k) = rw (at_id, k) (quiet_continues live m)
+four live m e (inr k) = rw (id_acts, k) (quiet_continues live (now_of m) (opener_of live m))
 
 pub quiet_one : (live : List Open) (m : Message) → length m.payload < size m.header
     → ((length m.payload < 4) ⊎ (is_fragment m.header ≡ true)) → opened live (happens live m) ≡ live
@@ -122,7 +116,7 @@ quiet_one live m h k =
     let no_third : third ≡ [] = rw (ne_eqb (length m.payload) (size m.header) (λ e. omega arith)) refl in
     quiet_both live (if length m.payload == 0 then at_header m else at_octet live m)
     ((if length m.payload == 4 then at_id live m else []) ++ third)
-    (quiet_if live (length m.payload == 0) _ _ (λ e. quiet_header live m) (λ e. quiet_octet live m))
+    (quiet_if live (length m.payload == 0) _ _ (λ e. quiet_header live (now_of m)) (λ e. quiet_octet live (now_of m) (opener_of live m)))
     (quiet_both live (if length m.payload == 4 then at_id live m else []) third
     (quiet_if live (length m.payload == 4) _ _ (λ e. four live m e k) (λ e. quiet_none live))
     (ap (opened live) no_third ∙ quiet_none live))
@@ -144,9 +138,9 @@ quiet live m =
 
 -- What an octet does is the same by the messages that were open before its message and by those that are open now.
 free : (live other : List Open) (m : Message) → 4 < length m.payload → is_fragment m.header ≡ false → happens live m ≡ happens other m
-unfolding happens at_octet at_end goes_past
+unfolding happens octet_acts end_acts goes_past
 free live other m h k =
-    rw (happens, at_octet, goes_past, at_end, k, ne_eqb (length m.payload) 0 (λ e. omega arith), ne_eqb (length m.payload) 4 (λ e. omega arith)) refl
+    rw (happens, acts, octet_acts, goes_past, end_acts, k, ne_eqb (length m.payload) 0 (λ e. omega arith), ne_eqb (length m.payload) 4 (λ e. omega arith)) refl
 
 pub happens_same : (live : List Open) (m : Message) (xs : List ℕ) (x : ℕ) → length xs < size m.header
     → happens live (with_payload m (xs ++ x ∷ [])) ≡ happens (opened live (events_of live (with_payload m xs)))
@@ -166,22 +160,22 @@ happens_same live m xs x h = go (is_fragment m.header) refl
     ]
 
 -- What holds of the events about the message itself and about each open message holds of all.
-own_each : (P : Event → Type 0) (m : Message) (what : Happening)
-    → ((what : Happening) → P (record { place = place m; whom = title m; what = what })) → Each P (own m what)
+own_each : (P : Event → Type 0) (now : Now) (what : Happening)
+    → ((what : Happening) → P (record { place = now.place; whom = now.whom; what = what })) → Each P (own now what)
 unfolding own
-own_each P m what h = (h what, tt)
+own_each P now what h = (h what, tt)
 
 ForSome : (Open → Type 0) → Option Open → Type 0
 ForSome Q None = Unit {0}
 ForSome Q (Some o) = Q o
 
-About : (Event → Type 0) → Message → Open → Type 0
-About P m o = (what : Happening) → P (record { place = place m; whom = o.opener; what = what })
+About : (Event → Type 0) → Now → Open → Type 0
+About P now o = (what : Happening) → P (record { place = now.place; whom = o.opener; what = what })
 
-about_each : (P : Event → Type 0) (m : Message) (o : Option Open) (what : Happening) → ForSome (About P m) o → Each P (about m o what)
+about_each : (P : Event → Type 0) (now : Now) (o : Option Open) (what : Happening) → ForSome (About P now) o → Each P (about now o what)
 unfolding about ForSome About
-about_each P m None what h = tt
-about_each P m (Some o) what h = (h what, tt)
+about_each P now None what h = tt
+about_each P now (Some o) what h = (h what, tt)
 
 found_by : (Q : Open → Type 0) (b : Bool) (o : Open) (rest : Option Open) → Q o → ForSome Q rest → ForSome Q (if b then Some o else rest)
 unfolding ForSome
@@ -193,118 +187,70 @@ unfolding ForSome
 found Q test [] h = tt
 found Q test (o ∷ live) h = found_by Q (test o) o (find test live) h.0 (found Q test live h.1)
 
-if_each : (P : Event → Type 0) (b : Bool) (es more : List Event) → Each P es → Each P more → Each P (if b then es else more)
-if_each P true es more h k = h
-if_each P false es more h k = k
+module _ (P : Event → Type 0) (live : List Open) (now : Now) (id : ℕ) (other : Option Open)
+    (h : (what : Happening) → P (record { place = now.place; whom = now.whom; what = what }))
+    (k : ForSome (About P now) other) where
+  mine : (what : Happening) → Each P (own now what)
+  mine what = own_each P now what h
 
-module _ (P : Event → Type 0) (live : List Open) (m : Message)
-    (h : (what : Happening) → P (record { place = place m; whom = title m; what = what }))
-    (k : ForSome (About P m) (opener_of live m)) where
-  mine : (what : Happening) → Each P (own m what)
-  mine what = own_each P m what h
+  joined : IsJoined (Each P)
+  joined = record { none = tt; both = each_append P }
 
-  header_each : Each P (at_header m)
-  unfolding at_header
-  header_each = each_append P (own m Begins) _ (mine Begins) (go (refused m.header))
-    where
-      go : (w : Option ImposedFault) → Each P (imposed m w)
-      go None = tt
-      go (Some fault) = mine (Imposed fault)
-
-  octet_each : Each P (at_octet live m)
-  unfolding at_octet
+  octet_each : Each P (octet_acts now other)
+  unfolding octet_acts
   octet_each =
-      let x = get_or m.payload (length m.payload - 1) 0 in
-      if_each P (goes_past m) (about m (opener_of live m) (Takes x)) (own m (Takes x)) (about_each P m (opener_of live m) (Takes x) k) (mine (Takes x))
+      either (Each P) (is_fragment now.whom.header && nat_lt 4 now.come) _ _ (about_each P now other (Takes now.octet) k)
+      (mine (Takes now.octet))
 
-  opens_each : Each P (opens live m)
-  unfolding opens
-  opens_each = go (opener_of live m)
-    where
-      go : (o : Option Open) → Each P (opens_by live m o)
-      go None = if_each P (nat_le most_open (length live)) _ _ (mine (Imposed TooManyOpen)) (mine (Opens (id m)))
-      go (Some other) = mine (Imposed IdOpen)
-
-  continues_each : Each P (continues live m)
-  unfolding continues
-  continues_each = go (opener_of live m) k
-    where
-      go : (o : Option Open) → ForSome (About P m) o → Each P (continues_by m o)
-      go None h = mine (Imposed NoOpen)
-      go (Some o) h =
-          each_append P (own m (Continues o.opener.number)) _ (mine (Continues o.opener.number))
-          (if_each P (same_order (order m.header) (order o.opener.header)) [] (about m (Some o) (Imposed FragmentOrder)) tt
-          (about_each P m (Some o) (Imposed FragmentOrder) h))
-
-  cancels_each : Each P (cancels live m)
-  unfolding cancels
-  cancels_each = go (opener_of live m) k
-    where
-      go : (o : Option Open) → ForSome (About P m) o → Each P (cancels_by m o)
-      go None h = tt
-      go (Some o) h =
-          if_each P (may_be_cancelled o.opener.header) (about m (Some o) (Cancelled m.number)) [] (about_each P m (Some o) (Cancelled m.number) h) tt
-
-  id_each : Each P (at_id live m)
-  unfolding at_id
-  id_each =
-      if_each P (is_fragment m.header) _ _ continues_each (if_each P (is_opener m.header) _ _ opens_each (if_each P (is_cancel m.header) _ _ cancels_each tt))
-
-  end_each : Each P (at_end live m)
-  unfolding at_end
-  end_each =
-      if_each P (nat_lt (size m.header) 4 && (is_opener m.header || is_fragment m.header)) _ _ (mine (Imposed Short))
-      (if_each P (is_opener m.header) _ _ tt
-      (if_each P (is_fragment m.header) _ _ (if_each P (has_more m.header) [] (about m (opener_of live m) Closes) tt
-      (about_each P m (opener_of live m) Closes k)) (mine Closes)))
-
-  parts_each : Each P (happens live m)
-  unfolding happens
+  parts_each : Each P (acts live now id other)
+  unfolding acts
   parts_each =
-      each_append P (if length m.payload == 0 then at_header m else at_octet live m) _ (if_each P (length m.payload == 0) _ _ header_each octet_each)
-      (each_append P (if length m.payload == 4 then at_id live m else []) _
-      (if_each P (length m.payload == 4) _ _ id_each tt) (if_each P (length m.payload == size m.header) _ _ end_each tt))
+      each_append P (if now.come == 0 then header_acts now else octet_acts now other) _
+      (either (Each P) (now.come == 0) _ _ (of_header (Each P) joined now (mine Begins) (λ fault. mine (Imposed fault))) octet_each)
+      (of_later (Each P) joined live now id other
+      (record { mine = λ what later. mine what; theirs = λ what later. about_each P now other what k }))
 
 pub happens_each : (P : Event → Type 0) (live : List Open) (m : Message) → ((what : Happening) → P (record { place = place m; whom = title m; what = what }))
     → Each (λ o. (what : Happening) → P (record { place = place m; whom = o.opener; what = what })) live → Each P (happens live m)
-unfolding opener_of About
-happens_each P live m h k = parts_each P live m h (found (About P m) (λ o. o.id == id m) live k)
+unfolding happens opener_of About
+happens_each P live m h k =
+    parts_each P live (now_of m) (id m) (opener_of live m) h (found (About P (now_of m)) (λ o. o.id == id m) live k)
 
 -- In a Fragment past its id no event is about the Fragment.
-past_end : (P : Event → Type 0) (live : List Open) (m : Message) → is_fragment m.header ≡ true
-    → nat_lt (size m.header) 4 ≡ false → ForSome (About P m) (opener_of live m) → Each P (at_end live m)
-unfolding at_end
-past_end P live m f h k =
-    rw (at_end, f, h) (if_each P (is_opener m.header) [] _ tt
-    (if_each P (has_more m.header) [] (about m (opener_of live m) Closes) tt (about_each P m (opener_of live m) Closes k)))
+module _ (P : Event → Type 0) (live : List Open) (now : Now) (id : ℕ) (other : Option Open)
+    (f : is_fragment now.whom.header ≡ true) (past : 4 < now.come) (long : now.come ≤ size now.whom.header)
+    (k : ForSome (About P now) other) where
+  past_end : Each P (end_acts now other)
+  unfolding end_acts
+  past_end =
+      rw (end_acts, f, le-ltb (size now.whom.header) 4 (omega (arith, past, long))) (either (Each P) (is_opener now.whom.header) [] _ tt
+      (either (Each P) (has_more now.whom.header) [] (about now other Closes) tt (about_each P now other Closes k)))
 
-past_octet : (P : Event → Type 0) (live : List Open) (m : Message) → goes_past m ≡ true → ForSome (About P m) (opener_of live m) → Each P (at_octet live m)
-unfolding at_octet
-past_octet P live m past k = rw (at_octet, past) (about_each P m (opener_of live m) (Takes (get_or m.payload (length m.payload - 1) 0)) k)
+  past_octet : Each P (octet_acts now other)
+  unfolding octet_acts
+  past_octet = rw (octet_acts, f, lt-ltb 4 now.come past) (about_each P now other (Takes now.octet) k)
 
-past_each : (P : Event → Type 0) (live : List Open) (m : Message) → goes_past m ≡ true → is_fragment m.header ≡ true
-    → 4 < length m.payload → length m.payload ≤ size m.header → ForSome (About P m) (opener_of live m) → Each P (happens live m)
-unfolding happens
-past_each P live m past f h j k =
-    let short : nat_lt (size m.header) 4 ≡ false = le-ltb (size m.header) 4 (omega arith) in
-    rw (happens, ne_eqb (length m.payload) 0 (λ e. omega arith), ne_eqb (length m.payload) 4 (λ e. omega arith))
-    (each_append P (at_octet live m) _ (past_octet P live m past k)
-    (if_each P (length m.payload == size m.header) (at_end live m) [] (past_end P live m f short k) tt))
+  past_each : Each P (acts live now id other)
+  unfolding acts
+  past_each =
+      rw (acts, ne_eqb now.come 0 (λ e. omega (arith, e, past)), ne_eqb now.come 4 (λ e. omega (arith, e, past)))
+      (each_append P (octet_acts now other) _ past_octet
+      (either (Each P) (now.come == size now.whom.header) (end_acts now other) [] past_end tt))
 
 pub happens_agree : (P : Event → Type 0) (live : List Open) (m : Message) → length m.payload ≤ size m.header
     → (goes_past m ≡ false → (what : Happening) → P (record { place = place m; whom = title m; what = what }))
     → Each (λ o. (what : Happening) → P (record { place = place m; whom = o.opener; what = what })) live → Each P (happens live m)
-unfolding opener_of About goes_past
+unfolding happens opener_of About goes_past
 happens_agree P live m long h k = go (goes_past m) refl
   where
-    one : ForSome (About P m) (opener_of live m)
-    one = found (About P m) (λ o. o.id == id m) live k
+    one : ForSome (About P (now_of m)) (opener_of live m)
+    one = found (About P (now_of m)) (λ o. o.id == id m) live k
 
     go : (b : Bool) → goes_past m ≡ b → Each P (happens live m)
-    go false e = parts_each P live m (h e) one
+    go false e = parts_each P live (now_of m) (id m) (opener_of live m) (h e) one
     go true e =
         let both = and_parts (is_fragment m.header) (nat_lt 4 (length m.payload)) e in
-        past_each P live m e both.0 (ltb-true 4 (length m.payload) both.1) long one
+        past_each P live (now_of m) (id m) (opener_of live m) both.0 (ltb-true 4 (length m.payload) both.1) long one
 
 -- a message before its id is complete
 pub not_past : (m : Message) → has_named m ≡ false → goes_past m ≡ false

@@ -9,7 +9,7 @@ use Rattle.giop_stream.specs.declared.fault.ImposedFault.TheVariants.{Short, IdO
 use Rattle.giop_message.specs.Headers.{has_more, size, is_fragment, is_opener, is_cancel}
 use Rattle.giop_stream.specs.Framing.{Message}
 use Rattle.giop_stream.specs.Kinds.{may_be_cancelled}
-use Rattle.giop_stream.specs.Events.{Happening, Opens, Cancelled, Imposed, Closes, Title, Event, Open, title, own, about, id, opener_of, at_header, at_octet, opens_by, opens, most_open, continues, cancels_by, cancels, at_id, at_end, happens, changed, opened, Rising}
+use Rattle.giop_stream.specs.Events.{Happening, Opens, Cancelled, Imposed, Closes, Title, Event, Open, title, own, about, id, opener_of, at_header, at_octet, opens, most_open, continues, cancels, at_id, at_end, happens, changed, opened, Rising, now_of, id_acts, end_acts}
 use Rattle.giop_stream.proofs.Lists.{each_append, each_filter}
 use Rattle.giop_stream.proofs.Happenings.{opened_append, quiet_if, quiet_header, quiet_octet, quiet_continues, four}
 
@@ -35,11 +35,11 @@ module _ (Q : List Open → Type 0) (now : List Open) (m : Message) (k : IsKept 
   abbrev Plain : Happening → Type 0
   Plain what = (live : List Open) (whom : Title) → Q live → Q (changed live whom what)
 
-  plain_own : (live : List Open) (what : Happening) → Plain what → Q live → Q (opened live (own m what))
+  plain_own : (live : List Open) (what : Happening) → Plain what → Q live → Q (opened live (own (now_of m) what))
   unfolding opened own
   plain_own live what h q = h live (title m) q
 
-  plain_about : (live : List Open) (o : Option Open) (what : Happening) → Plain what → Q live → Q (opened live (about m o what))
+  plain_about : (live : List Open) (o : Option Open) (what : Happening) → Plain what → Q live → Q (opened live (about (now_of m) o what))
   unfolding opened about
   plain_about live None what h q = q
   plain_about live (Some o) what h q = h live o.opener q
@@ -66,47 +66,42 @@ module _ (Q : List Open → Type 0) (now : List Open) (m : Message) (k : IsKept 
   kept_none live q = q
 
   kept_end : (before live : List Open) → Q live → Q (opened live (at_end before m))
-  unfolding at_end
+  unfolding end_acts
   kept_end before live q =
-      kept_if live (nat_lt (size m.header) 4 && (is_opener m.header || is_fragment m.header)) (own m (Imposed Short)) _
+      kept_if live (nat_lt (size m.header) 4 && (is_opener m.header || is_fragment m.header)) (own (now_of m) (Imposed Short)) _
       (λ e. plain_own live (Imposed Short) (plain_imposed Short) q)
       (λ e. kept_if live (is_opener m.header) [] _ (λ e. kept_none live q)
-      (λ e. kept_if live (is_fragment m.header) _ (own m Closes)
-      (λ e. kept_if live (has_more m.header) [] (about m (opener_of before m) Closes) (λ e. kept_none live q)
+      (λ e. kept_if live (is_fragment m.header) _ (own (now_of m) Closes)
+      (λ e. kept_if live (has_more m.header) [] (about (now_of m) (opener_of before m) Closes) (λ e. kept_none live q)
       (λ e. plain_about live (opener_of before m) Closes plain_closes q))
       (λ e. plain_own live Closes plain_closes q)))
 
-  now_open : CanOpen now m → Q now → Q (opened now (own m (Opens (id m))))
+  now_open : CanOpen now m → Q now → Q (opened now (own (now_of m) (Opens (id m))))
   unfolding own opened changed opened_by
   now_open can q = k.more can q
 
-  kept_opens : length m.payload ≡ 4 → is_opener m.header ≡ true → Q now → Q (opened now (opens now m))
-  unfolding opens
-  kept_opens four o q = go (opener_of now m) refl
-    where
-      go : (w : Option Open) → opener_of now m ≡ w → Q (opened now (opens_by now m w))
-      go (Some other) e = plain_own now (Imposed IdOpen) (plain_imposed IdOpen) q
-      go None e =
-          kept_if now (nat_le most_open (length now)) (own m (Imposed TooManyOpen)) (own m (Opens (id m)))
-          (λ full. plain_own now (Imposed TooManyOpen) (plain_imposed TooManyOpen) q)
-          (λ room. now_open (record { named = four; opener = o; none = e; room = leb-false most_open (length now) room }) q)
+  kept_opens : length m.payload ≡ 4 → is_opener m.header ≡ true → Q now → (w : Option Open) → opener_of now m ≡ w
+      → Q (opened now (opens now (now_of m) (id m) w))
+  kept_opens four o q (Some other) e = plain_own now (Imposed IdOpen) (plain_imposed IdOpen) q
+  kept_opens four o q None e =
+      kept_if now (nat_le most_open (length now)) (own (now_of m) (Imposed TooManyOpen)) (own (now_of m) (Opens (id m)))
+      (λ full. plain_own now (Imposed TooManyOpen) (plain_imposed TooManyOpen) q)
+      (λ room. now_open (record { named = four; opener = o; none = e; room = leb-false most_open (length now) room }) q)
 
-  kept_cancels : Q now → Q (opened now (cancels now m))
-  unfolding cancels
-  kept_cancels q = go (opener_of now m)
-    where
-      go : (o : Option Open) → Q (opened now (cancels_by m o))
-      go None = kept_none now q
-      go (Some o) =
-          kept_if now (may_be_cancelled o.opener.header) (about m (Some o) (Cancelled m.number)) []
-          (λ e. plain_about now (Some o) (Cancelled m.number) (plain_cancelled m.number) q) (λ e. kept_none now q)
+  kept_cancels : Q now → (o : Option Open) → Q (opened now (cancels (now_of m) o))
+  kept_cancels q None = kept_none now q
+  kept_cancels q (Some o) =
+      kept_if now (may_be_cancelled o.opener.header) (about (now_of m) (Some o) (Cancelled m.number)) []
+      (λ e. plain_about now (Some o) (Cancelled m.number) (plain_cancelled m.number) q) (λ e. kept_none now q)
 
   pub kept_id : length m.payload ≡ 4 → Q now → Q (opened now (at_id now m))
-  unfolding at_id
+  unfolding id_acts
   kept_id four q =
-      kept_if now (is_fragment m.header) (continues now m) _ (λ e. subst Q (sym (quiet_continues now m)) q)
-      (λ e. kept_if now (is_opener m.header) (opens now m) _ (λ o. kept_opens four o q)
-      (λ e. kept_if now (is_cancel m.header) (cancels now m) [] (λ e. kept_cancels q) (λ e. kept_none now q)))
+      let other = opener_of now m in
+      kept_if now (is_fragment m.header) (continues (now_of m) other) _
+      (λ e. subst Q (sym (quiet_continues now (now_of m) other)) q)
+      (λ e. kept_if now (is_opener m.header) (opens now (now_of m) (id m) other) _ (λ o. kept_opens four o q other refl)
+      (λ e. kept_if now (is_cancel m.header) (cancels (now_of m) other) [] (λ e. kept_cancels q other) (λ e. kept_none now q)))
 
   kept_parts : Q now → Q (opened now (happens now m))
   unfolding happens
@@ -115,8 +110,8 @@ module _ (Q : List Open → Type 0) (now : List Open) (m : Message) (k : IsKept 
       let second = if length m.payload == 4 then at_id now m else [] in
       let third = if length m.payload == size m.header then at_end now m else [] in
       let still : opened now first ≡ now =
-      quiet_if now (length m.payload == 0) (at_header m) (at_octet now m) (λ e. quiet_header now m)
-      (λ e. quiet_octet now m) in
+      quiet_if now (length m.payload == 0) (at_header m) (at_octet now m) (λ e. quiet_header now (now_of m))
+      (λ e. quiet_octet now (now_of m) (opener_of now m)) in
       let mid : Q (opened now second) =
       kept_if now (length m.payload == 4) (at_id now m) [] (λ e. kept_id (eqb-true (length m.payload) 4 e) q)
       (λ e. kept_none now q) in

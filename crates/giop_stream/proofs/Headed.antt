@@ -1,5 +1,5 @@
 -- What the code does at a header's last octet: the message begins, and ends there where it has no payload.
-use Rattle.std.proofs.Common.{◌≡◌, ℕ, ◌+◌, ◌<◌, ◌≤◌, Bool, true, false, List, [], ◌∷◌, ◌++◌, length, refl, sym, ap, ◌∙◌, Option, Some, None, arith}
+use Rattle.std.proofs.Common.{◌≡◌, ℕ, ◌<◌, ◌≤◌, Bool, true, false, List, [], ◌∷◌, ◌++◌, length, refl, sym, ap, ◌∙◌, Option, Some, None, arith}
 use Rattle.std.specs.Prelude.{◌==◌, if◌then◌else◌}
 use Rattle.std.proofs.lemmas.Bool.{eq-eqb, ne_eqb}
 use Rattle.giop_sig.specs.Table.{Table}
@@ -13,7 +13,7 @@ use Rattle.giop_stream.specs.declared.current.Current.{Current}
 use Rattle.giop_stream.specs.Framing.{Message}
 use Rattle.giop_stream.specs.Text.{line_text, start_line}
 use Rattle.giop_stream.specs.Kinds.{refused}
-use Rattle.giop_stream.specs.Events.{Title, Open, Event, Imposed, title, at_header, happens, opened}
+use Rattle.giop_stream.specs.Events.{Title, Open, Event, Imposed, title, now_of, at_header, happens, opened}
 use Rattle.giop_stream.specs.Lines.{Line}
 use Rattle.giop_stream.specs.Stream.{fault_count}
 use Rattle.giop_stream.specs.Plays.{Scene, Play, plays, one_play, no_play, then_play, line_play, starts, IsNotOpen}
@@ -45,7 +45,7 @@ module _ (R : Reading) (c : Scene) (m : Message) where
   ended = plays R begun.scene (end_events begun.scene.live m)
 
   pub begun_live : begun.scene.live ≡ c.live
-  begun_live = plays_live R c (at_header m) ∙ quiet_header c.live m
+  begun_live = plays_live R c (at_header m) ∙ quiet_header c.live (now_of m)
 
   parts : length m.payload ≡ 0 → happens c.live m ≡ at_header m ++ end_events c.live m
   unfolding happens end_events

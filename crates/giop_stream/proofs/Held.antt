@@ -14,13 +14,13 @@ use Rattle.giop_checkpoint.specs.declared.fault.StreamFault.{StreamFault}
 use Rattle.giop_stream.specs.declared.slots.Payload.{Payload}
 use Rattle.giop_stream.specs.declared.slots.Payload.TheVariants as payload
 use Rattle.giop_stream.specs.Framing.{Message, Cut, cut, fault_of}
-use Rattle.giop_stream.specs.Events.{Title, Open, Rising, title, id, opener_of, has_named}
+use Rattle.giop_stream.specs.Events.{Title, Open, Rising, title, id, opener_of, has_named, Now, now_of}
 use Rattle.giop_stream.specs.Stream.{tally}
 use Rattle.giop_stream.specs.State.{Slot, Kept, is_open, slots_of}
 use Rattle.giop_stream.specs.Plays.{Scene, stage}
 use Rattle.giop_stream.specs.Keeping.{IsKept, IsWhose}
 use Rattle.giop_stream.specs.Whose.{Knows, opener_title, whose, whose_in}
-use Rattle.giop_stream.specs.Octet.{Now, now_of, header_of, come_of}
+use Rattle.giop_stream.specs.Octet.{header_of, come_of}
 use Rattle.giop_stream.specs.Engine.{State, Own, unless, left_of, is_named, owner_for, state_of}
 use Rattle.giop_stream.specs.Remembering.{Memory}
 use Rattle.giop_stream.specs.Showing.{IsOwn, IsOwner, IsTurn, Shows, come_in, comes_itself}
@@ -156,11 +156,11 @@ module _ (C : Table) (l : Listed) (s : State) (c : Scene) (own : Option Kept_mes
   -- of a Fragment whose request id is complete
   module _ (m : Message) (e : Tells s c (Some m)) (named : has_named m ≡ true) (t : comes_itself s ≡ false) where
     other_own : s.own ≡ None
-    unfolding now_of has_named
+    unfolding has_named
     other_own = e.own ∙ own_named c.known c.live (now_of m) named
 
     other_number : s.owner ≡ option_map (λ o. o.opener.number) (opener_of c.live m)
-    unfolding now_of has_named
+    unfolding has_named
     other_number = e.owner ∙ owner_named c.known c.live (now_of m) (opener_of c.live m) named
 
     other_turn : (of : Payload) (r : Option Open) → opener_of c.live m ≡ r → IsWhose C l of own c (opener_title r) → IsTurn of s
@@ -191,7 +191,7 @@ module _ (C : Table) (l : Listed) (s : State) (c : Scene) (own : Option Kept_mes
   -- of the current message itself
   module _ (m : Message) (e : Tells s c (Some m)) (unnamed : has_named m ≡ false) (t : comes_itself s ≡ true) where
     unnamed_too : is_named (now_of m) ≡ false
-    unfolding now_of has_named
+    unfolding has_named
     unnamed_too = unnamed
 
     own_turn : (of : Payload) → IsWhose C l of own c (Some (title m)) → IsTurn of s
@@ -200,7 +200,6 @@ module _ (C : Table) (l : Listed) (s : State) (c : Scene) (own : Option Kept_mes
     own_turn payload.Nobody h = absurd h
 
     own_back : IsTitled m c.live → (of : Payload) → IsOwn C l own s.own → IsOwner of s → IsTurn of s → IsWhose C l of own c (Some (title m))
-    unfolding now_of
     own_back titled payload.Own k h u = go (is_open c.live m.number) refl
       where
         go : (b : Bool) → is_open c.live m.number ≡ b → Each (λ o. o.opener.number ≡ m.number → ⊥) c.live × IsKept C l own (title m) (c.known m.number)

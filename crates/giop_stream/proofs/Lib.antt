@@ -1,6 +1,7 @@
 mod Lists
 mod Counts
 mod Cutting
+mod Walking
 mod Happenings
 mod HappeningsKeep
 mod Telling

@@ -9,12 +9,11 @@ use Rattle.giop_message.specs.Signatures.{Kept as Listed}
 use Rattle.giop_stream.specs.declared.slots.Payload.{Payload}
 use Rattle.giop_stream.specs.declared.slots.Payload.TheVariants as payload
 use Rattle.giop_stream.specs.Framing.{Message}
-use Rattle.giop_stream.specs.Events.{Title, Open, title, id, opener_of, has_named}
+use Rattle.giop_stream.specs.Events.{Title, Open, title, id, opener_of, has_named, Now, now_of}
 use Rattle.giop_stream.specs.State.{Kept, is_open, slots_of}
 use Rattle.giop_stream.specs.Plays.{Scene}
 use Rattle.giop_stream.specs.Keeping.{IsKept, IsWhose}
 use Rattle.giop_stream.specs.Whose.{opener_title, whose, whose_in}
-use Rattle.giop_stream.specs.Octet.{Now, now_of}
 use Rattle.giop_stream.specs.Engine.{State, Own, is_named, own_for, owner_for, own_in, owner_in}
 use Rattle.giop_stream.specs.Showing.{IsOwn, IsOwner}
 use Rattle.giop_stream.proofs.Keepers.{slots_get}
@@ -74,7 +73,7 @@ module _ (C : Table) (l : Listed) where
     of_other payload.Nobody test (Some o) e h = absurd h
 
     of_itself : (of : Payload) (m : Message) → has_named m ≡ false → IsWhose C l of own c (Some (title m)) → IsOwn C l own (own_for c.known c.live (now_of m))
-    unfolding now_of has_named
+    unfolding has_named
     of_itself payload.Own m f h = rw (own_else c.known c.live (now_of m) (not_open c.live m.number h.0) f) (own_by own (title m) (c.known m.number) h.1)
     of_itself (payload.Open k) m f h =
         let number : h.1.0.opener.number ≡ m.number = ap (λ (t : Title). t.number) h.1.2 in
@@ -87,7 +86,7 @@ module _ (C : Table) (l : Listed) where
     unfolding whose opener_of
     by_name of m true e h =
         let none : own ≡ None = of_other of (λ o. o.id == id m) (find (λ o. o.id == id m) c.live) refl (rw e at h) in
-        rw (own_named c.known c.live (now_of m) (unfold now_of has_named in e), none) tt
+        rw (own_named c.known c.live (now_of m) (unfold has_named in e), none) tt
     by_name of m false e h = of_itself of m e (rw e at h)
 
     -- of no message,
@@ -142,7 +141,7 @@ module _ (C : Table) (l : Listed) (s : State) (c : Scene) (own : Option Kept_mes
 
   owns_other : (m : Message) → Tells s c (Some m) → has_named m ≡ true → (of : Payload) (r : Option Open)
       → opener_of c.live m ≡ r → IsWhose C l of own c (opener_title r) → IsOwner of s
-  unfolding opener_of now_of has_named
+  unfolding opener_of has_named
   owns_other m e named payload.Own None f h = absurd h
   owns_other m e named (payload.Open k) None f h = absurd h
   owns_other m e named payload.Nobody r f h =
@@ -160,7 +159,7 @@ module _ (C : Table) (l : Listed) (s : State) (c : Scene) (own : Option Kept_mes
       (e.own ∙ own_named c.known c.live (now_of m) named, (_, slot_is (Some m) e k h.1.0 h.1.1, owner))
 
   owns_itself : (m : Message) → Tells s c (Some m) → has_named m ≡ false → (of : Payload) → IsWhose C l of own c (Some (title m)) → IsOwner of s
-  unfolding now_of has_named
+  unfolding has_named
   owns_itself m e unnamed payload.Own h =
       e.owner ∙ (owner_kept c.known c.live (now_of m) (opener_of c.live m) unnamed (not_open c.live m.number h.0)
       ∙ ap (option_map (λ (o : Own). o.title.number)) (sym e.own))

@@ -1,5 +1,5 @@
 -- An octet of a payload part by part, as the code does it: the message whose it is takes it, then the request id, then the end.
-use Rattle.std.proofs.Common.{inl, inr, append-nil, suc, ◌≡◌, ℕ, ◌+◌, ◌-◌, ◌<◌, ◌≤◌, Bool, true, false, List, [], ◌∷◌, ◌++◌, length, get_or, refl, sym, ap, ◌∙◌, Option, Some, None, arith}
+use Rattle.std.proofs.Common.{inl, inr, append-nil, suc, ◌≡◌, ℕ, ◌-◌, ◌<◌, ◌≤◌, Bool, true, false, List, [], ◌∷◌, ◌++◌, length, get_or, refl, sym, ap, ◌∙◌, Option, Some, None, arith}
 use Rattle.std.specs.Prelude.{◌==◌, if◌then◌else◌}
 use Rattle.std.proofs.lemmas.Bool.{ne_eqb, eqb-true, le-leb, lt-ltb, cases_lt}
 use Rattle.std.proofs.lemmas.List.{length_push, get_or_push, take-append-le}
@@ -12,7 +12,7 @@ use Rattle.giop_message.proofs.MessageLaws.{is_ordered, is_closing, is_named}
 use Rattle.giop_stream.specs.declared.slots.Slots.{Slots}
 use Rattle.giop_stream.specs.declared.current.Current.{Current}
 use Rattle.giop_stream.specs.Framing.{Message}
-use Rattle.giop_stream.specs.Events.{Takes, Title, Open, Event, title, place, opener_of, has_named, goes_past, id, at_octet, at_id, at_end, happens, opened, Rising}
+use Rattle.giop_stream.specs.Events.{Takes, Title, Open, Event, title, place, opener_of, has_named, goes_past, id, at_octet, at_id, happens, opened, Rising, now_of, id_acts, end_acts}
 use Rattle.giop_stream.specs.Plays.{Scene, Play, plays, scene_at, then_play, with_octet}
 use Rattle.giop_stream.specs.Keeping.{Keeps, event, play_to}
 use Rattle.giop_stream.specs.Runs.{run_play}
@@ -34,16 +34,16 @@ plays_live R c (e ∷ es) = plays_live R (scene_at R c e) es
 
 -- a Fragment's request id opens and closes nothing
 fragment_still : (live : List Open) (m : Message) → is_fragment m.header ≡ true → opened live (id_events live m) ≡ live
-unfolding id_events at_id opened
+unfolding id_events id_acts opened
 fragment_still live m f = go (length m.payload == 4)
   where
     go : (b : Bool) → opened live (if b then at_id live m else []) ≡ live
-    go true = rw f (quiet_continues live m)
+    go true = rw f (quiet_continues live (now_of m) (opener_of live m))
     go false = refl
 
 -- so that the end does the same after it
 plain_end : (live live' : List Open) (m : Message) → is_fragment m.header ≡ false → end_events live' m ≡ end_events live m
-unfolding end_events at_end
+unfolding end_events end_acts
 plain_end live live' m f = rw f refl
 
 end_same : (live : List Open) (m : Message) → end_events (opened live (id_events live m)) m ≡ end_events live m
@@ -87,7 +87,7 @@ module _ (R : Reading) (c : Scene) (m : Message) where
   third = plays R second.scene (end_events second.scene.live m)
 
   pub first_live : first.scene.live ≡ c.live
-  first_live = plays_live R c (at_octet c.live m) ∙ quiet_octet c.live m
+  first_live = plays_live R c (at_octet c.live m) ∙ quiet_octet c.live (now_of m) (opener_of c.live m)
 
   second_live : second.scene.live ≡ opened c.live (id_events c.live m)
   second_live = plays_live R first.scene (id_events first.scene.live m) ∙ ap (λ (live : List Open). opened live (id_events live m)) first_live

@@ -17,7 +17,7 @@ use Rattle.giop_stream.specs.Text.{start_line}
 use Rattle.giop_message.specs.Text.{said_line, rest_text}
 use Rattle.giop_stream.specs.Stream.{is_inside, is_truncated}
 use Rattle.giop_stream.specs.Kinds.{may_be_cancelled, refused}
-use Rattle.giop_stream.specs.Events.{place, own, about, id, opener_of, has_named, goes_past, at_header, at_octet, opens, continues, cancels, at_id, at_end, happens, events_of, changed, opened, events_from, events, open_after, octet, joined}
+use Rattle.giop_stream.specs.Events.{place, own, about, id, opener_of, has_named, goes_past, happens, events_of, changed, opened, events_from, events, open_after, octet, joined, header_acts, octet_acts, id_acts, end_acts}
 use Rattle.giop_stream.specs.Lines.{classes, line, tells, told, by_class, in_order, is_last_of, standing, said, stop_line, lines}
 use Rattle.giop_stream.specs.Text.{lines_text}
 use Rattle.giop_stream.specs.Stream.{text, start_count, fault_count, tally, is_over, heads, unfinished, final, closing}
@@ -56,7 +56,7 @@ record Writes (R : Reading) (p lines end : List ℕ) : Type 0 where
 
 -- names what the rows compute with
 unfoldable pub rows : ℕ
-unfolding named_reads behind named_closes small digit octets digits num hex type_word print.start_line continues_line cancelled_line fault_line stream_fault_line unfinished_line total_line fronts wrong first_wrong offence minor kind order has_more size with_first cut_from limit limited cut messages read_of start_line said_line id_text rest_text is_inside is_truncated may_be_fragmented is_opener is_fragment is_cancel may_be_cancelled refused place own about id opener_of has_named goes_past at_header at_octet opens continues cancels at_id at_end happens events_of changed opened events_from events open_after octet joined classes line tells told by_class in_order is_last_of standing said stop_line lines lines_text text start_count fault_count tally is_over heads unfinished final closing
+unfolding named_reads behind named_closes small digit octets digits num hex type_word print.start_line continues_line cancelled_line fault_line stream_fault_line unfinished_line total_line fronts wrong first_wrong offence minor kind order has_more size with_first cut_from limit limited cut messages read_of start_line said_line id_text rest_text is_inside is_truncated may_be_fragmented is_opener is_fragment is_cancel may_be_cancelled refused place own about id opener_of has_named goes_past header_acts octet_acts id_acts end_acts happens events_of changed opened events_from events open_after octet joined classes line tells told by_class in_order is_last_of standing said stop_line lines lines_text text start_count fault_count tally is_over heads unfinished final closing
 rows = 0
 
 -- ---- The rows.

@@ -15,7 +15,7 @@ use Rattle.giop_message.specs.Reading.{Reading, IsCausal, IsInTurn}
 use Rattle.giop_message.proofs.MessageLaws.{is_causal}
 use Rattle.giop_stream.specs.declared.slots.Slots.{Slots}
 use Rattle.giop_stream.specs.Framing.{Message, Cut, with_payload, limit, cut, messages, read_of}
-use Rattle.giop_stream.specs.Events.{Takes, Title, Open, Rising, happens, at_octet, changed, open_after}
+use Rattle.giop_stream.specs.Events.{Takes, Title, Open, Rising, happens, at_octet, changed, open_after, id}
 use Rattle.giop_stream.specs.Lines.{lines}
 use Rattle.giop_stream.specs.Text.{lines_text}
 use Rattle.giop_stream.specs.Stream.{start_count, fault_count, tally}

@@ -1,20 +1,20 @@
 -- How many start lines an octet has: one at a header's last octet, and none at any other.
-use Rattle.std.proofs.Common.{◌≡◌, ℕ, suc, ◌+◌, ◌-◌, ◌<◌, Bool, true, false, List, [], ◌∷◌, ◌++◌, length, refl, ap, Option, Some, None, arith, get_or, length-append}
-use Rattle.std.specs.Prelude.{nat_lt, nat_le, ◌==◌, if◌then◌else◌, flat_map, ◌||◌, ◌&&◌}
+use Rattle.std.proofs.Common.{◌≡◌, ℕ, suc, ◌+◌, ◌<◌, true, false, List, [], ◌∷◌, ◌++◌, length, refl, ap, Option, Some, None, arith, length-append}
+use Rattle.std.specs.Prelude.{nat_lt, ◌==◌, if◌then◌else◌, flat_map, ◌||◌, ◌&&◌}
 use Rattle.std.specs.List.{filter, AllByRecursion as Each}
 use Rattle.std.proofs.lemmas.Bool.{ne_eqb, eq-eqb}
 use Rattle.std.proofs.lemmas.List.Elements.{filter-append}
 use Rattle.giop_stream.specs.declared.fault.ImposedFault.{ImposedFault}
-use Rattle.giop_stream.specs.declared.fault.ImposedFault.TheVariants.{Short, NoOpen, IdOpen, TooManyOpen, FragmentOrder}
-use Rattle.giop_message.specs.Headers.{order, has_more, size, is_fragment, is_opener, is_cancel}
+use Rattle.giop_message.specs.Headers.{size, is_fragment}
 use Rattle.giop_stream.specs.Framing.{Message}
-use Rattle.giop_stream.specs.Kinds.{may_be_cancelled, refused}
-use Rattle.giop_stream.specs.Events.{Happening, Begins, Takes, Opens, Continues, Cancelled, Imposed, Closes, Event, Open, title, place, id, own, about, opener_of, goes_past, imposed, at_header, at_octet, opens_by, opens, most_open, same_order, continues_by, continues, cancels_by, cancels, at_id, at_end, happens, joined}
+use Rattle.giop_stream.specs.Kinds.{refused}
+use Rattle.giop_stream.specs.Events.{Happening, Begins, Takes, Opens, Continues, Cancelled, Imposed, Closes, Event, Open, title, place, id, own, about, opener_of, imposed, at_octet, at_id, at_end, happens, joined, now_of, header_acts, octet_acts, Now}
 use Rattle.giop_message.specs.Reading.{Saying, Value, Call, Rest, Fault, End, Reading}
 use Rattle.giop_stream.specs.Lines.{Start, Content, Started, Said, Goes_on, Ended_by, Faulted, Stopped, Line, has_class, line, tells, classes, by_class, is_last_of, standing}
 use Rattle.giop_stream.specs.Stream.{is_start, start_count}
 use Rattle.giop_stream.specs.State.{Kept}
 use Rattle.giop_stream.specs.Machine.{utters_kept, taking, utters, now_written}
+use Rattle.giop_stream.proofs.Walking.{IsLater, of_later, either}
 use Rattle.giop_stream.proofs.Lists.{each_append, each_map, filter_drops, each_weaker}
 use Rattle.giop_stream.proofs.Telling.{classes_each, standing_each}
 
@@ -66,89 +66,38 @@ utters_none R K (e ∷ es) h =
 Calm : Happening → Type 0
 Calm what = (R : Reading) (e : Event) (so_far all : List ℕ) → Each NoStart (tells R e so_far all what)
 
-quiet_own : (m : Message) (what : Happening) → Calm what → Each Quiet (own m what)
+quiet_own : (now : Now) (what : Happening) → Calm what → Each Quiet (own now what)
 unfolding own Quiet Calm
-quiet_own m what h = (λ R so_far all. h R _ so_far all, tt)
+quiet_own now what h = (λ R so_far all. h R _ so_far all, tt)
 
-quiet_about : (m : Message) (o : Option Open) (what : Happening) → Calm what → Each Quiet (about m o what)
+quiet_about : (now : Now) (o : Option Open) (what : Happening) → Calm what → Each Quiet (about now o what)
 unfolding about Quiet Calm
-quiet_about m None what h = tt
-quiet_about m (Some o) what h = (λ R so_far all. h R _ so_far all, tt)
+quiet_about now None what h = tt
+quiet_about now (Some o) what h = (λ R so_far all. h R _ so_far all, tt)
 
 calm_takes : (x : ℕ) → Calm (Takes x)
 unfolding Calm
 calm_takes x R e so_far all = takes_none R e so_far all x
 
-calm_opens : (i : ℕ) → Calm (Opens i)
-unfolding Calm tells
-calm_opens i R e so_far all = tt
-
-calm_continues : (i : ℕ) → Calm (Continues i)
+calm : (what : Happening) → IsLater what → Calm what
 unfolding Calm tells NoStart line
-calm_continues i R e so_far all = (refl, tt)
+calm Begins h = absurd h
+calm (Takes x) h = absurd h
+calm (Opens i) h = λ R e so_far all. tt
+calm (Continues i) h = λ R e so_far all. (refl, tt)
+calm (Cancelled j) h = λ R e so_far all. (refl, tt)
+calm (Imposed fault) h = λ R e so_far all. (refl, tt)
+calm Closes h = λ R e so_far all. closes_none R e so_far all
 
-calm_cancelled : (j : ℕ) → Calm (Cancelled j)
-unfolding Calm tells NoStart line
-calm_cancelled j R e so_far all = (refl, tt)
+quiet_imposed : (now : Now) (w : Option ImposedFault) → Each Quiet (imposed now w)
+quiet_imposed now None = tt
+quiet_imposed now (Some fault) = quiet_own now (Imposed fault) (calm (Imposed fault) tt)
 
-calm_imposed : (fault : ImposedFault) → Calm (Imposed fault)
-unfolding Calm tells NoStart line
-calm_imposed fault R e so_far all = (refl, tt)
-
-calm_closes : Calm Closes
-unfolding Calm
-calm_closes R e so_far all = closes_none R e so_far all
-
-quiet_if : (b : Bool) (es more : List Event) → Each Quiet es → Each Quiet more → Each Quiet (if b then es else more)
-quiet_if true es more h k = h
-quiet_if false es more h k = k
-
-quiet_imposed : (m : Message) (w : Option ImposedFault) → Each Quiet (imposed m w)
-quiet_imposed m None = tt
-quiet_imposed m (Some fault) = quiet_own m (Imposed fault) (calm_imposed fault)
-
-quiet_octet : (live : List Open) (m : Message) → Each Quiet (at_octet live m)
-unfolding at_octet
-quiet_octet live m =
-    let x = get_or m.payload (length m.payload - 1) 0 in
-    quiet_if (goes_past m) (about m (opener_of live m) (Takes x)) (own m (Takes x))
-    (quiet_about m (opener_of live m) (Takes x) (calm_takes x)) (quiet_own m (Takes x) (calm_takes x))
-
-quiet_opens : (live : List Open) (m : Message) (o : Option Open) → Each Quiet (opens_by live m o)
-quiet_opens live m None =
-    quiet_if (nat_le most_open (length live)) (own m (Imposed TooManyOpen)) (own m (Opens (id m)))
-    (quiet_own m (Imposed TooManyOpen) (calm_imposed TooManyOpen)) (quiet_own m (Opens (id m)) (calm_opens (id m)))
-quiet_opens live m (Some other) = quiet_own m (Imposed IdOpen) (calm_imposed IdOpen)
-
-quiet_continues : (m : Message) (o : Option Open) → Each Quiet (continues_by m o)
-quiet_continues m None = quiet_own m (Imposed NoOpen) (calm_imposed NoOpen)
-quiet_continues m (Some o) =
-    each_append Quiet (own m (Continues o.opener.number)) _ (quiet_own m (Continues o.opener.number) (calm_continues o.opener.number))
-    (quiet_if (same_order (order m.header) (order o.opener.header)) [] (about m (Some o) (Imposed FragmentOrder)) tt
-    (quiet_about m (Some o) (Imposed FragmentOrder) (calm_imposed FragmentOrder)))
-
-quiet_cancels : (m : Message) (o : Option Open) → Each Quiet (cancels_by m o)
-quiet_cancels m None = tt
-quiet_cancels m (Some o) =
-    quiet_if (may_be_cancelled o.opener.header) (about m (Some o) (Cancelled m.number)) []
-    (quiet_about m (Some o) (Cancelled m.number) (calm_cancelled m.number)) tt
-
-quiet_id : (live : List Open) (m : Message) → Each Quiet (at_id live m)
-unfolding at_id opens continues cancels
-quiet_id live m =
-    quiet_if (is_fragment m.header) (continues_by m (opener_of live m)) _ (quiet_continues m (opener_of live m))
-    (quiet_if (is_opener m.header) (opens_by live m (opener_of live m)) _ (quiet_opens live m (opener_of live m))
-    (quiet_if (is_cancel m.header) (cancels_by m (opener_of live m)) [] (quiet_cancels m (opener_of live m)) tt))
-
-quiet_end : (live : List Open) (m : Message) → Each Quiet (at_end live m)
-unfolding at_end
-quiet_end live m =
-    quiet_if (nat_lt (size m.header) 4 && (is_opener m.header || is_fragment m.header)) (own m (Imposed Short)) _
-    (quiet_own m (Imposed Short) (calm_imposed Short))
-    (quiet_if (is_opener m.header) [] _ tt
-    (quiet_if (is_fragment m.header) _ (own m Closes)
-    (quiet_if (has_more m.header) [] (about m (opener_of live m) Closes) tt
-    (quiet_about m (opener_of live m) Closes calm_closes)) (quiet_own m Closes calm_closes)))
+quiet_octet : (now : Now) (other : Option Open) → Each Quiet (octet_acts now other)
+unfolding octet_acts
+quiet_octet now other =
+    either (Each Quiet) (is_fragment now.whom.header && nat_lt 4 now.come) _ _
+    (quiet_about now other (Takes now.octet) (calm_takes now.octet)) (quiet_own now (Takes now.octet) (calm_takes now.octet))
 
 -- what an octet does behind its first part
 later_part : List Open → Message → List Event
@@ -157,15 +106,16 @@ later_part live m = (if length m.payload == 4 then at_id live m else []) ++ (if 
 quiet_later : (live : List Open) (m : Message) → Each Quiet (later_part live m)
 unfolding later_part
 quiet_later live m =
-    each_append Quiet (if length m.payload == 4 then at_id live m else []) (if length m.payload == size m.header then at_end live m else [])
-    (quiet_if (length m.payload == 4) (at_id live m) [] (quiet_id live m) tt)
-    (quiet_if (length m.payload == size m.header) (at_end live m) [] (quiet_end live m) tt)
+    of_later (Each Quiet) (record { none = tt; both = each_append Quiet }) live (now_of m) (id m) (opener_of live m) (record {
+      mine = λ what later. quiet_own (now_of m) what (calm what later);
+      theirs = λ what later. quiet_about (now_of m) (opener_of live m) what (calm what later);
+    })
 
 pub none_later : (R : Reading) (K : Kept) (live : List Open) (m : Message) → 0 < length m.payload → start_count (now_written R K (happens live m)) ≡ 0
 unfolding now_written by_class happens later_part
 none_later R K live m h =
     let es : List Event = at_octet live m ++ later_part live m in
-    let quiet : Each Quiet es = each_append Quiet (at_octet live m) (later_part live m) (quiet_octet live m) (quiet_later live m) in
+    let quiet : Each Quiet es = each_append Quiet (at_octet live m) (later_part live m) (quiet_octet (now_of m) (opener_of live m)) (quiet_later live m) in
     let all : Each NoStart (utters R K es) = utters_none R K es quiet in
     rw (ne_eqb (length m.payload) 0 (λ e. omega arith))
     (none_count (standing (λ i. false) (flat_map (λ class. filter (has_class class) (utters R K es)) classes))
@@ -219,14 +169,14 @@ first_of_all e header more h = start_first (record { place = e.place; number = e
 
 pub one_first : (R : Reading) (K : Kept) (live : List Open) (m : Message) (xs : List ℕ) → m.payload ≡ []
     → K m.number ≡ Some xs → start_count (now_written R K (happens live m)) ≡ 1
-unfolding now_written happens at_header own later_part
+unfolding now_written happens header_acts own later_part
 one_first R K live m xs pay known =
     let e : Event = record { place = place m; whom = title m; what = Begins } in
-    let rest : List Event = imposed m (refused m.header) ++ later_part live m in
+    let rest : List Event = imposed (now_of m) (refused m.header) ++ later_part live m in
     let more : List Line = utters R (taking K (e ∷ [])) rest in
     let none : Each NoStart more =
-    utters_none R (taking K (e ∷ [])) rest (each_append Quiet (imposed m (refused m.header)) (later_part live m)
-    (quiet_imposed m (refused m.header)) (quiet_later live m)) in
+    utters_none R (taking K (e ∷ [])) rest (each_append Quiet (imposed (now_of m) (refused m.header)) (later_part live m)
+    (quiet_imposed (now_of m) (refused m.header)) (quiet_later live m)) in
     let empty : length m.payload ≡ 0 = rw pay refl in
     let said : utters R K (e ∷ rest) ≡ line e (Started m.header) ∷ more = begun R K m e xs rest refl refl known in
     let calm : Each NoStart (standing (λ i. false || is_last_of i (line e (Started m.header))) (by_class more)) =

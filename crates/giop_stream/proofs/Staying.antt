@@ -9,7 +9,7 @@ use Rattle.giop_stream.specs.declared.fault.ImposedFault.TheVariants.{Short, IdO
 use Rattle.giop_message.specs.Headers.{size, kind, minor, has_more, may_be_fragmented, is_fragment, is_opener, is_cancel}
 use Rattle.giop_stream.specs.Framing.{Message}
 use Rattle.giop_stream.specs.Kinds.{may_be_cancelled}
-use Rattle.giop_stream.specs.Events.{Happening, Opens, Cancelled, Imposed, Closes, Title, Event, Open, id, own, about, opener_of, at_header, at_octet, opens_by, opens, most_open, continues, cancels_by, cancels, at_id, at_end, happens, changed, opened}
+use Rattle.giop_stream.specs.Events.{Happening, Opens, Cancelled, Imposed, Closes, Title, Event, Open, id, own, about, opener_of, at_header, at_octet, opens, most_open, continues, cancels, at_id, at_end, happens, changed, opened, now_of, id_acts, end_acts}
 use Rattle.giop_stream.specs.State.{is_open}
 use Rattle.giop_stream.proofs.Happenings.{opened_append, quiet_header, quiet_octet, quiet_continues, quiet_if, quiet_own, quiet_none, still_imposed}
 use Rattle.giop_stream.proofs.HappeningsKeep.{Below}
@@ -30,13 +30,13 @@ stays_if : (over : ℕ → Bool) (m : Message) (live : List Open) (b : Bool) (es
 stays_if over m live true es more h k d = h refl d
 stays_if over m live false es more h k d = k refl d
 
-stays_closes : (over : ℕ → Bool) (m : Message) (live : List Open) → Each (Dead over) (own m Closes) → Stays over m live (own m Closes)
+stays_closes : (over : ℕ → Bool) (m : Message) (live : List Open) → Each (Dead over) (own (now_of m) Closes) → Stays over m live (own (now_of m) Closes)
 unfolding own Dead is_final Stays opened changed without
 stays_closes over m live d = removed over m.number live m (d.0 refl)
 
 stays_about : (over : ℕ → Bool) (m : Message) (live : List Open) (o : Option Open) (what : Happening)
     → ((whom : Title) → changed live whom what ≡ without whom.number live) → is_final what ≡ true
-    → Each (Dead over) (about m o what) → Stays over m live (about m o what)
+    → Each (Dead over) (about (now_of m) o what) → Stays over m live (about (now_of m) o what)
 unfolding about Dead Stays opened
 stays_about over m live None what c f d = refl
 stays_about over m live (Some o) what c f d = rw (c o.opener) (removed over o.opener.number live m (d.0 f))
@@ -58,14 +58,14 @@ unfolding is_final
 final_cancelled j = refl
 
 stays_end : (over : ℕ → Bool) (before live : List Open) (m : Message) → Each (Dead over) (at_end before m) → Stays over m live (at_end before m)
-unfolding at_end
+unfolding end_acts
 stays_end over before live m =
     stays_if over m live (nat_lt (size m.header) 4 && (is_opener m.header || is_fragment m.header))
-    (own m (Imposed Short)) _ (λ e d. stays_quiet over m live (own m (Imposed Short))
-    (quiet_own live m (Imposed Short) (still_imposed Short live)))
+    (own (now_of m) (Imposed Short)) _
+    (λ e d. stays_quiet over m live _ (quiet_own live (now_of m) (Imposed Short) (still_imposed Short live)))
     (λ e. stays_if over m live (is_opener m.header) [] _ (λ k d. stays_quiet over m live [] (quiet_none live))
-    (λ k. stays_if over m live (is_fragment m.header) _ (own m Closes)
-    (λ j. stays_if over m live (has_more m.header) [] (about m (opener_of before m) Closes)
+    (λ k. stays_if over m live (is_fragment m.header) _ (own (now_of m) Closes)
+    (λ j. stays_if over m live (has_more m.header) [] (about (now_of m) (opener_of before m) Closes)
     (λ i d. stays_quiet over m live [] (quiet_none live))
     (λ i d. stays_about over m live (opener_of before m) Closes (close_removes live) final_closes d))
     (λ j d. stays_closes over m live d)))
@@ -79,7 +79,7 @@ open_last : (live : List Open) (o : Open) → is_open (live ++ o ∷ []) o.opene
 unfolding is_open
 open_last live o = any_right (λ a. a.opener.number == o.opener.number) live (o ∷ []) (rw (eq-eqb o.opener.number o.opener.number refl) refl)
 
-stays_opens : (over : ℕ → Bool) (m : Message) (live : List Open) → is_fragment m.header ≡ false → Below m.number live → Stays over m live (own m (Opens (id m)))
+stays_opens : (over : ℕ → Bool) (m : Message) (live : List Open) → is_fragment m.header ≡ false → Below m.number live → Stays over m live (own (now_of m) (Opens (id m)))
 unfolding Stays own opened changed base tail_of numbers_of
 stays_opens over m live f low =
     let o : Open = record { id = id m; opener = record { number = m.number; header = m.header } } in
@@ -87,35 +87,34 @@ stays_opens over m live f low =
     rw (f, now, not_open live m.number low, map-append (λ o. o.opener.number) live (o ∷ []))
     (ap (alive over) (append-nil (map (λ o. o.opener.number) live ++ m.number ∷ [])))
 
-stays_opening : (over : ℕ → Bool) (m : Message) (live : List Open) → Below m.number live → is_fragment m.header ≡ false → Stays over m live (opens live m)
-unfolding opens
-stays_opening over m live low f = go (opener_of live m)
+stays_opening : (over : ℕ → Bool) (m : Message) (live : List Open) → Below m.number live → is_fragment m.header ≡ false
+    → (o : Option Open) → Stays over m live (opens live (now_of m) (id m) o)
+stays_opening over m live low f (Some other) =
+    stays_quiet over m live _ (quiet_own live (now_of m) (Imposed IdOpen) (still_imposed IdOpen live))
+stays_opening over m live low f None = pick (nat_le most_open (length live))
   where
-    go : (o : Option Open) → Stays over m live (opens_by live m o)
-    go (Some other) = stays_quiet over m live (own m (Imposed IdOpen)) (quiet_own live m (Imposed IdOpen) (still_imposed IdOpen live))
-    go None = pick (nat_le most_open (length live))
-      where
-        pick : (b : Bool) → Stays over m live (if b then own m (Imposed TooManyOpen) else own m (Opens (id m)))
-        pick true = stays_quiet over m live (own m (Imposed TooManyOpen)) (quiet_own live m (Imposed TooManyOpen) (still_imposed TooManyOpen live))
-        pick false = stays_opens over m live f low
+    pick : (b : Bool) → Stays over m live (if b then own (now_of m) (Imposed TooManyOpen) else own (now_of m) (Opens (id m)))
+    pick true = stays_quiet over m live _ (quiet_own live (now_of m) (Imposed TooManyOpen) (still_imposed TooManyOpen live))
+    pick false = stays_opens over m live f low
 
-stays_cancels : (over : ℕ → Bool) (m : Message) (live : List Open) → Each (Dead over) (cancels live m) → Stays over m live (cancels live m)
-unfolding cancels
-stays_cancels over m live = go (opener_of live m)
-  where
-    go : (o : Option Open) → Each (Dead over) (cancels_by m o) → Stays over m live (cancels_by m o)
-    go None d = stays_quiet over m live [] (quiet_none live)
-    go (Some o) d =
-        stays_if over m live (may_be_cancelled o.opener.header) (about m (Some o) (Cancelled m.number)) []
-        (λ e k. stays_about over m live (Some o) (Cancelled m.number) (cancel_removes live m.number)
-        (final_cancelled m.number) k) (λ e k. stays_quiet over m live [] (quiet_none live)) d
+stays_cancels : (over : ℕ → Bool) (m : Message) (live : List Open) (o : Option Open)
+    → Each (Dead over) (cancels (now_of m) o) → Stays over m live (cancels (now_of m) o)
+stays_cancels over m live None d = stays_quiet over m live [] (quiet_none live)
+stays_cancels over m live (Some o) d =
+    stays_if over m live (may_be_cancelled o.opener.header) (about (now_of m) (Some o) (Cancelled m.number)) []
+    (λ e k. stays_about over m live (Some o) (Cancelled m.number) (cancel_removes live m.number)
+    (final_cancelled m.number) k) (λ e k. stays_quiet over m live [] (quiet_none live)) d
 
 stays_id : (over : ℕ → Bool) (m : Message) (live : List Open) → Below m.number live → Each (Dead over) (at_id live m) → Stays over m live (at_id live m)
-unfolding at_id
+unfolding id_acts
 stays_id over m live low =
-    stays_if over m live (is_fragment m.header) (continues live m) _ (λ e d. stays_quiet over m live (continues live m) (quiet_continues live m))
-    (λ f. stays_if over m live (is_opener m.header) (opens live m) _ (λ e d. stays_opening over m live low f)
-    (λ e. stays_if over m live (is_cancel m.header) (cancels live m) [] (λ k. stays_cancels over m live) (λ k d. stays_quiet over m live [] (quiet_none live))))
+    let other = opener_of live m in
+    stays_if over m live (is_fragment m.header) (continues (now_of m) other) _
+    (λ e d. stays_quiet over m live _ (quiet_continues live (now_of m) other))
+    (λ f. stays_if over m live (is_opener m.header) (opens live (now_of m) (id m) other) _
+    (λ e d. stays_opening over m live low f other)
+    (λ e. stays_if over m live (is_cancel m.header) (cancels (now_of m) other) [] (λ k. stays_cancels over m live other)
+    (λ k d. stays_quiet over m live [] (quiet_none live))))
 
 each_left : {A : Type 0} (P : A → Type 0) (xs ys : List A) → Each P (xs ++ ys) → Each P xs
 each_left P [] ys h = tt
@@ -138,8 +137,8 @@ stays_happens over m live low d =
     let second = if length m.payload == 4 then at_id live m else [] in
     let third = if length m.payload == size m.header then at_end live m else [] in
     let still : opened live first ≡ live =
-    quiet_if live (length m.payload == 0) (at_header m) (at_octet live m) (λ e. quiet_header live m)
-    (λ e. quiet_octet live m) in
+    quiet_if live (length m.payload == 0) (at_header m) (at_octet live m) (λ e. quiet_header live (now_of m))
+    (λ e. quiet_octet live (now_of m) (opener_of live m)) in
     let rest : Each (Dead over) (second ++ third) = each_right (Dead over) first (second ++ third) d in
     let two : Stays over m live second =
     stays_if over m live (length m.payload == 4) (at_id live m) []
@@ -166,7 +165,7 @@ opener_no_fragment h e =
 unfoldable pub Known : (ℕ → Bool) → List Open → Message → Type 0
 Known over live m = (is_open live m.number ≡ true) ⊎ (over m.number ≡ true)
 
-dead_own : (over : ℕ → Bool) (m : Message) (what : Happening) → is_final what ≡ true → Each (Dead over) (own m what) → over m.number ≡ true
+dead_own : (over : ℕ → Bool) (m : Message) (what : Happening) → is_final what ≡ true → Each (Dead over) (own (now_of m) what) → over m.number ≡ true
 unfolding own Dead
 dead_own over m what f d = d.0 f
 
@@ -174,39 +173,39 @@ final_imposed : (fault : ImposedFault) → is_final (Imposed fault) ≡ true
 unfolding is_final
 final_imposed fault = refl
 
-opens_known : (over : ℕ → Bool) (m : Message) (live : List Open) → Known over (opened live (own m (Opens (id m)))) m
+opens_known : (over : ℕ → Bool) (m : Message) (live : List Open) → Known over (opened live (own (now_of m) (Opens (id m)))) m
 unfolding Known opened own changed
 opens_known over m live = inl (open_last live (record { id = id m; opener = record { number = m.number; header = m.header } }))
 
-known_opens : (over : ℕ → Bool) (m : Message) (live : List Open) → Each (Dead over) (opens live m) → Known over (opened live (opens live m)) m
-unfolding opens Known
+known_opens : (over : ℕ → Bool) (m : Message) (live : List Open) → Each (Dead over) (opens live (now_of m) (id m) (opener_of live m)) → Known over (opened live (opens live (now_of m) (id m) (opener_of live m))) m
+unfolding Known
 known_opens over m live = go (opener_of live m)
   where
-    go : (o : Option Open) → Each (Dead over) (opens_by live m o)
-        → Known over (opened live (opens_by live m o)) m
+    go : (o : Option Open) → Each (Dead over) (opens live (now_of m) (id m) o)
+        → Known over (opened live (opens live (now_of m) (id m) o)) m
     go (Some other) d = inr (dead_own over m (Imposed IdOpen) (final_imposed IdOpen) d)
     go None d = pick (nat_le most_open (length live)) d
       where
-        pick : (b : Bool) → Each (Dead over) (if b then own m (Imposed TooManyOpen) else own m (Opens (id m)))
-            → Known over (opened live (if b then own m (Imposed TooManyOpen) else own m (Opens (id m)))) m
+        pick : (b : Bool) → Each (Dead over) (if b then own (now_of m) (Imposed TooManyOpen) else own (now_of m) (Opens (id m)))
+            → Known over (opened live (if b then own (now_of m) (Imposed TooManyOpen) else own (now_of m) (Opens (id m)))) m
         pick true d = inr (dead_own over m (Imposed TooManyOpen) (final_imposed TooManyOpen) d)
         pick false d = opens_known over m live
 
 opener_end : (live : List Open) (m : Message) → is_opener m.header ≡ true → 4 ≤ size m.header → at_end live m ≡ []
-unfolding at_end
-opener_end live m o h = rw (at_end, o, le-ltb (size m.header) 4 h) refl
+unfolding end_acts
+opener_end live m o h = rw (end_acts, o, le-ltb (size m.header) 4 h) refl
 
-head_end : (live : List Open) (m : Message) → is_opener m.header ≡ false → is_fragment m.header ≡ false → at_end live m ≡ own m Closes
-unfolding at_end
-head_end live m o f = rw (at_end, o, f, and_right (nat_lt (size m.header) 4) false refl) refl
+head_end : (live : List Open) (m : Message) → is_opener m.header ≡ false → is_fragment m.header ≡ false → at_end live m ≡ own (now_of m) Closes
+unfolding end_acts
+head_end live m o f = rw (end_acts, o, f, and_right (nat_lt (size m.header) 4) false refl) refl
 
-short_end : (live : List Open) (m : Message) → is_opener m.header ≡ true → size m.header < 4 → at_end live m ≡ own m (Imposed Short)
-unfolding at_end
-short_end live m o h = rw (at_end, o, lt-ltb (size m.header) 4 h) refl
+short_end : (live : List Open) (m : Message) → is_opener m.header ≡ true → size m.header < 4 → at_end live m ≡ own (now_of m) (Imposed Short)
+unfolding end_acts
+short_end live m o h = rw (end_acts, o, lt-ltb (size m.header) 4 h) refl
 
-opener_id : (live : List Open) (m : Message) → is_opener m.header ≡ true → at_id live m ≡ opens live m
-unfolding at_id
-opener_id live m o = rw (at_id, o, opener_no_fragment m.header o) refl
+opener_id : (live : List Open) (m : Message) → is_opener m.header ≡ true → at_id live m ≡ opens live (now_of m) (id m) (opener_of live m)
+unfolding id_acts
+opener_id live m o = rw (id_acts, o, opener_no_fragment m.header o) refl
 
 third_none : (live : List Open) (m : Message) → is_opener m.header ≡ true → 4 ≤ size m.header
     → (if length m.payload == size m.header then at_end live m else []) ≡ []
@@ -217,7 +216,7 @@ third_none live m o h = go (length m.payload == size m.header)
     go false = refl
 
 first_quiet : (live : List Open) (m : Message) → opened live (if length m.payload == 0 then at_header m else at_octet live m) ≡ live
-first_quiet live m = quiet_if live (length m.payload == 0) (at_header m) (at_octet live m) (λ e. quiet_header live m) (λ e. quiet_octet live m)
+first_quiet live m = quiet_if live (length m.payload == 0) (at_header m) (at_octet live m) (λ e. quiet_header live (now_of m)) (λ e. quiet_octet live (now_of m) (opener_of live m))
 
 -- the open messages after the three parts of what an octet does
 after_parts : (live : List Open) (m : Message) (second third : List Event)
@@ -251,10 +250,10 @@ opener_known over m live o long fits before d = elim (cases_lt 4 (length m.paylo
       rw (after_parts live m [] [] (second_none live m past) none) (before past)
   | inr least ↦
       let now : length m.payload ≡ 4 = omega arith in
-      let two : (if length m.payload == 4 then at_id live m else []) ≡ opens live m = rw (eq-eqb (length m.payload) 4 now) (opener_id live m o) in
+      let two : (if length m.payload == 4 then at_id live m else []) ≡ opens live (now_of m) (id m) (opener_of live m) = rw (eq-eqb (length m.payload) 4 now) (opener_id live m o) in
       let none : (if length m.payload == size m.header then at_end live m else []) ≡ [] = third_none live m o (omega arith) in
-      let dead_two = each_left (Dead over) (opens live m) [] (dead_parts over live m (opens live m) [] two none d) in
-      rw (after_parts live m (opens live m) [] two none) (known_opens over m live dead_two)
+      let dead_two = each_left (Dead over) (opens live (now_of m) (id m) (opener_of live m)) [] (dead_parts over live m (opens live (now_of m) (id m) (opener_of live m)) [] two none d) in
+      rw (after_parts live m (opens live (now_of m) (id m) (opener_of live m)) [] two none) (known_opens over m live dead_two)
 ]
 
 pub done_known : (over : ℕ → Bool) (m : Message) (live : List Open) → is_fragment m.header ≡ false
@@ -270,8 +269,8 @@ done_known over m live f full before d = go (is_opener m.header) refl
         rw (eq-eqb (length m.payload) (size m.header) full, h) at third
 
     go : (b : Bool) → is_opener m.header ≡ b → Known over (opened live (happens live m)) m
-    go false o = inr (dead_own over m Closes final_closes (last (own m Closes) (head_end live m o f)))
+    go false o = inr (dead_own over m Closes final_closes (last (own (now_of m) Closes) (head_end live m o f)))
     go true o = elim (cases_lt (size m.header) 4) [
-      | inl short ↦ inr (dead_own over m (Imposed Short) (final_imposed Short) (last (own m (Imposed Short)) (short_end live m o short)))
+      | inl short ↦ inr (dead_own over m (Imposed Short) (final_imposed Short) (last (own (now_of m) (Imposed Short)) (short_end live m o short)))
       | inr long ↦ opener_known over m live o (omega arith) (omega arith) (before o) d
     ]

@@ -102,9 +102,6 @@ pub by_class_none : by_class [] ≡ []
 unfolding by_class classes
 by_class_none = refl
 
-at_place : ℕ → List Line → List Line
-at_place n ls = filter (λ l. l.place == n) ls
-
 earlier_none : (n k : ℕ) (ls : List Line) → Each (λ l. l.place ≤ n) ls → n < k → filter (λ l. l.place == k) ls ≡ []
 earlier_none n k ls h m =
     filter_drops (λ l. l.place == k) ls (each_weaker (λ l. l.place ≤ n) (λ l. (l.place == k) ≡ false) (λ l j. ne_eqb l.place k (λ e. omega arith)) ls h)

@@ -12,12 +12,12 @@ use Rattle.giop_stream.specs.Framing.{Message}
 use Rattle.giop_message.specs.Reading.{Saying, Value, Fault, Reading, IsOrdered, due, IsClosing, IsInTurn}
 use Rattle.giop_stream.specs.Kinds.{may_be_cancelled, refused}
 use Rattle.giop_stream.specs.Plays.{IsBegun}
-use Rattle.giop_stream.specs.Events.{Happening, Begins, Takes, Opens, Continues, Cancelled, Imposed, Closes, Title, Event, Open, title, place, own, about, id, opener_of, goes_past, imposed, at_header, at_octet, opens_by, opens, most_open, same_order, continues_by, continues, cancels_by, cancels, at_id, at_end, happens, octet, joined}
+use Rattle.giop_stream.specs.Events.{Happening, Begins, Takes, Opens, Continues, Cancelled, Imposed, Closes, Title, Event, Open, title, place, own, about, id, opener_of, goes_past, imposed, at_header, at_octet, opens, most_open, same_order, continues, cancels, at_id, at_end, happens, octet, joined, now_of, header_acts, octet_acts, id_acts, end_acts, acts, Now}
 use Rattle.giop_stream.specs.Lines.{Said, line, tells, is_last_of, standing}
 use Rattle.giop_stream.specs.State.{Kept}
 use Rattle.giop_stream.specs.Machine.{utters_kept, taking, utters}
 use Rattle.giop_stream.proofs.Lists.{each_filter}
-use Rattle.giop_stream.proofs.Ordering.{rank_of, Ordered, Rises, Fine, fine_of}
+use Rattle.giop_stream.proofs.Ordering.{rank_of, Rises, Fine, fine_of}
 use Rattle.giop_stream.proofs.Spans.{Spans, spans_none, spans_wider, spans_join, spans_one, said_rank, SayingsRise, rank_said, said_each, said_rises, said_spans, turn_spans, close_spans, both_say, value_spans}
 use Rattle.giop_stream.proofs.Accepted.{named_accepted}
 
@@ -97,52 +97,64 @@ always_one : (R : Reading) (lo hi : ℕ) (e : Event) → Tells R lo hi e.what �
 unfolding Always utters
 always_one R lo hi e h K = subst (Spans lo hi) (sym (append-nil (utters_kept R e (K e.whom.number)))) (kept_spans R lo hi e (K e.whom.number) h)
 
-always_own : (R : Reading) (lo hi : ℕ) (m : Message) (what : Happening) → Tells R lo hi what → Always R lo hi (own m what)
+always_own : (R : Reading) (lo hi : ℕ) (now : Now) (what : Happening) → Tells R lo hi what → Always R lo hi (own now what)
 unfolding own
-always_own R lo hi m what h = always_one R lo hi (record { place = place m; whom = title m; what = what }) h
+always_own R lo hi now what h = always_one R lo hi (record { place = now.place; whom = now.whom; what = what }) h
 
-always_about : (R : Reading) (lo hi : ℕ) (m : Message) (o : Option Open) (what : Happening) → Tells R lo hi what → Always R lo hi (about m o what)
+always_about : (R : Reading) (lo hi : ℕ) (now : Now) (o : Option Open) (what : Happening) → Tells R lo hi what → Always R lo hi (about now o what)
 unfolding about
-always_about R lo hi m None what h = always_none R lo hi
-always_about R lo hi m (Some o) what h = always_one R lo hi (record { place = place m; whom = o.opener; what = what }) h
+always_about R lo hi now None what h = always_none R lo hi
+always_about R lo hi now (Some o) what h = always_one R lo hi (record { place = now.place; whom = o.opener; what = what }) h
 
 -- ---- The parts of an octet.
 
-always_imposed : (R : Reading) (m : Message) (fault : ImposedFault) → Always R 5 5 (own m (Imposed fault))
-always_imposed R m fault = always_own R 5 5 m (Imposed fault) (tells_imposed R fault)
+always_imposed : (R : Reading) (now : Now) (fault : ImposedFault) → Always R 5 5 (own now (Imposed fault))
+always_imposed R now fault = always_own R 5 5 now (Imposed fault) (tells_imposed R fault)
 
-always_header : (R : Reading) (m : Message) → Always R 0 5 (at_header m)
-unfolding at_header
-always_header R m = always_join R 0 0 5 5 (own m Begins) (imposed m (refused m.header)) (omega arith) (omega arith) (omega arith) (always_own R 0 0 m Begins (tells_begins R)) (go (refused m.header))
+always_header : (R : Reading) (now : Now) → Always R 0 5 (header_acts now)
+unfolding header_acts
+always_header R now =
+    always_join R 0 0 5 5 (own now Begins) (imposed now (refused now.whom.header)) (omega arith) (omega arith) (omega arith)
+    (always_own R 0 0 now Begins (tells_begins R)) (go (refused now.whom.header))
   where
-    go : (w : Option ImposedFault) → Always R 5 5 (imposed m w)
+    go : (w : Option ImposedFault) → Always R 5 5 (imposed now w)
     go None = always_none R 5 5
-    go (Some fault) = always_imposed R m fault
+    go (Some fault) = always_imposed R now fault
 
-always_opens : (R : Reading) (live : List Open) (m : Message) (o : Option Open) → Always R 3 5 (opens_by live m o)
-always_opens R live m (Some other) = always_wider R 3 5 5 5 (own m (Imposed IdOpen)) (omega arith) (omega arith) (always_imposed R m IdOpen)
-always_opens R live m None =
-    always_if R 3 5 (nat_le most_open (length live)) (own m (Imposed TooManyOpen)) (own m (Opens (id m))) (always_wider R 3 5 5 5 (own m (Imposed TooManyOpen)) (omega arith) (omega arith) (always_imposed R m TooManyOpen))
-    (always_own R 3 5 m (Opens (id m)) (tells_opens R (id m) 3 5))
+-- ---- The request id.
 
-always_continues : (R : Reading) (m : Message) (o : Option Open) → Always R 3 5 (continues_by m o)
-always_continues R m None = always_wider R 3 5 5 5 (own m (Imposed NoOpen)) (omega arith) (omega arith) (always_imposed R m NoOpen)
-always_continues R m (Some o) =
-    always_join R 3 3 5 5 (own m (Continues o.opener.number)) _ (omega arith) (omega arith) (omega arith) (always_own R 3 3 m (Continues o.opener.number) (tells_continues R o.opener.number))
-    (always_if R 5 5 (same_order (order m.header) (order o.opener.header)) [] (about m (Some o) (Imposed FragmentOrder)) (always_none R 5 5) (always_about R 5 5 m (Some o) (Imposed FragmentOrder) (tells_imposed R FragmentOrder)))
+module _ (R : Reading) (now : Now) where
+  faulted : (fault : ImposedFault) → Always R 3 5 (own now (Imposed fault))
+  faulted fault = always_wider R 3 5 5 5 (own now (Imposed fault)) (omega arith) (omega arith) (always_imposed R now fault)
 
-always_cancels : (R : Reading) (m : Message) (o : Option Open) → Always R 3 5 (cancels_by m o)
-always_cancels R m None = always_none R 3 5
-always_cancels R m (Some o) =
-    always_if R 3 5 (may_be_cancelled o.opener.header) (about m (Some o) (Cancelled m.number)) [] (always_wider R 3 5 4 4 (about m (Some o) (Cancelled m.number)) (omega arith) (omega arith) (always_about R 4 4 m (Some o) (Cancelled m.number) (tells_cancelled R m.number)))
-    (always_none R 3 5)
+  always_opens : (live : List Open) (id : ℕ) (o : Option Open) → Always R 3 5 (opens live now id o)
+  always_opens live id (Some other) = faulted IdOpen
+  always_opens live id None =
+      always_if R 3 5 (nat_le most_open (length live)) _ _ (faulted TooManyOpen) (always_own R 3 5 now (Opens id) (tells_opens R id 3 5))
 
-always_id : (R : Reading) (live : List Open) (m : Message) → Always R 3 5 (at_id live m)
-unfolding at_id opens continues cancels
-always_id R live m =
-    always_if R 3 5 (is_fragment m.header) (continues_by m (opener_of live m)) _ (always_continues R m (opener_of live m))
-    (always_if R 3 5 (is_opener m.header) (opens_by live m (opener_of live m)) _ (always_opens R live m (opener_of live m))
-    (always_if R 3 5 (is_cancel m.header) (cancels_by m (opener_of live m)) [] (always_cancels R m (opener_of live m)) (always_none R 3 5)))
+  always_continues : (o : Option Open) → Always R 3 5 (continues now o)
+  always_continues None = faulted NoOpen
+  always_continues (Some o) =
+      always_join R 3 3 5 5 (own now (Continues o.opener.number)) _ (omega arith) (omega arith) (omega arith)
+      (always_own R 3 3 now (Continues o.opener.number) (tells_continues R o.opener.number))
+      (always_if R 5 5 (same_order (order now.whom.header) (order o.opener.header)) [] _ (always_none R 5 5)
+      (always_about R 5 5 now (Some o) (Imposed FragmentOrder) (tells_imposed R FragmentOrder)))
+
+  always_cancels : (o : Option Open) → Always R 3 5 (cancels now o)
+  always_cancels None = always_none R 3 5
+  always_cancels (Some o) =
+      let gone : List Event = about now (Some o) (Cancelled now.whom.number) in
+      always_if R 3 5 (may_be_cancelled o.opener.header) gone []
+      (always_wider R 3 5 4 4 gone (omega arith) (omega arith)
+      (always_about R 4 4 now (Some o) (Cancelled now.whom.number) (tells_cancelled R now.whom.number)))
+      (always_none R 3 5)
+
+  always_id : (live : List Open) (id : ℕ) (o : Option Open) → Always R 3 5 (id_acts live now id o)
+  unfolding id_acts
+  always_id live id o =
+      always_if R 3 5 (is_fragment now.whom.header) _ _ (always_continues o)
+      (always_if R 3 5 (is_opener now.whom.header) _ _ (always_opens live id o)
+      (always_if R 3 5 (is_cancel now.whom.header) _ [] (always_cancels o) (always_none R 3 5)))
 
 -- a message that ends before its request id, which it needs
 abbrev ends_short : Message → Bool
@@ -150,17 +162,19 @@ ends_short m = nat_lt (size m.header) 4 && (is_opener m.header || is_fragment m.
 
 -- where it isn't, the joined message may close
 always_close : (R : Reading) → IsClosing R → (live : List Open) (m : Message) → ends_short m ≡ false → Always R 6 8 (at_end live m)
-unfolding at_end
+unfolding end_acts
 always_close R closing live m long =
+    let other = opener_of live m in
     rw long
     (always_if R 6 8 (is_opener m.header) [] _ (always_none R 6 8)
-    (always_if R 6 8 (is_fragment m.header) _ (own m Closes)
-    (always_if R 6 8 (has_more m.header) [] (about m (opener_of live m) Closes) (always_none R 6 8) (always_about R 6 8 m (opener_of live m) Closes (tells_closes R closing)))
-    (always_own R 6 8 m Closes (tells_closes R closing))))
+    (always_if R 6 8 (is_fragment m.header) _ (own (now_of m) Closes)
+    (always_if R 6 8 (has_more m.header) [] (about (now_of m) other Closes) (always_none R 6 8)
+    (always_about R 6 8 (now_of m) other Closes (tells_closes R closing)))
+    (always_own R 6 8 (now_of m) Closes (tells_closes R closing))))
 
 always_short : (R : Reading) (live : List Open) (m : Message) → ends_short m ≡ true → Always R 5 5 (at_end live m)
-unfolding at_end
-always_short R live m short = rw short (always_imposed R m Short)
+unfolding end_acts
+always_short R live m short = rw short (always_imposed R (now_of m) Short)
 
 always_end : (R : Reading) → IsClosing R → (live : List Open) (m : Message) → Always R 5 8 (at_end live m)
 always_end R closing live m = go (ends_short m) refl
@@ -180,7 +194,8 @@ always_later R closing live m fits = go (length m.payload == 4) refl
     go : (b : Bool) → (length m.payload == 4) ≡ b → Always R 3 8 ((if b then at_id live m else []) ++ (if length m.payload == size m.header then at_end live m else []))
     go true e =
         let four = eqb-true (length m.payload) 4 e in
-        always_join R 3 5 6 8 (at_id live m) (if length m.payload == size m.header then at_end live m else []) (omega arith) (omega arith) (omega arith) (always_id R live m)
+        always_join R 3 5 6 8 (at_id live m) (if length m.payload == size m.header then at_end live m else []) (omega arith) (omega arith) (omega arith)
+        (always_id R (now_of m) live (id m) (opener_of live m))
         (always_if R 6 8 (length m.payload == size m.header) (at_end live m) [] (always_close R closing live m (long_enough m (omega arith))) (always_none R 6 8))
     go false e =
         always_wider R 3 8 5 8 (if length m.payload == size m.header then at_end live m else []) (omega arith) (omega arith)
@@ -248,20 +263,22 @@ unfolding Always
 takes_alone R laws K at whom x = fine_of _ (always_one R 1 7 (event at whom (Takes x)) (tells_takes R laws.ordered x) K).rises
 
 -- the octet of a message, and perhaps its close
-takes_then : (R : Reading) → IsInTurn R → (K : Kept) (m : Message) (x : ℕ) (b : Bool) (es : List Event) → (es ≡ []) ⊎ (es ≡ own m Closes) → Fine (utters R K (own m (Takes x) ++ (if b then es else [])))
+takes_then : (R : Reading) → IsInTurn R → (K : Kept) (now : Now) (x : ℕ) (b : Bool) (es : List Event) → (es ≡ []) ⊎ (es ≡ own now Closes)
+    → Fine (utters R K (own now (Takes x) ++ (if b then es else [])))
 unfolding own
-takes_then R laws K m x false es h = takes_alone R laws K (place m) (title m) x
-takes_then R laws K m x true es (inl h) = rw h (takes_alone R laws K (place m) (title m) x)
-takes_then R laws K m x true es (inr h) = rw h (pair_fine_at R laws K (place m) (title m) x)
+takes_then R laws K now x false es h = takes_alone R laws K now.place now.whom x
+takes_then R laws K now x true es (inl h) = rw h (takes_alone R laws K now.place now.whom x)
+takes_then R laws K now x true es (inr h) = rw h (pair_fine_at R laws K now.place now.whom x)
 
-passes_then : (R : Reading) → IsInTurn R → (K : Kept) (m : Message) (o : Option Open) (x : ℕ) (b : Bool) (es : List Event) → (es ≡ []) ⊎ (es ≡ about m o Closes) → Fine (utters R K (about m o (Takes x) ++ (if b then es else [])))
+passes_then : (R : Reading) → IsInTurn R → (K : Kept) (now : Now) (o : Option Open) (x : ℕ) (b : Bool) (es : List Event)
+    → (es ≡ []) ⊎ (es ≡ about now o Closes) → Fine (utters R K (about now o (Takes x) ++ (if b then es else [])))
 unfolding about utters
-passes_then R laws K m None x false es h = fine_none
-passes_then R laws K m None x true es (inl h) = rw h fine_none
-passes_then R laws K m None x true es (inr h) = rw h fine_none
-passes_then R laws K m (Some o) x false es h = takes_alone R laws K (place m) o.opener x
-passes_then R laws K m (Some o) x true es (inl h) = rw h (takes_alone R laws K (place m) o.opener x)
-passes_then R laws K m (Some o) x true es (inr h) = rw h (pair_fine_at R laws K (place m) o.opener x)
+passes_then R laws K now None x false es h = fine_none
+passes_then R laws K now None x true es (inl h) = rw h fine_none
+passes_then R laws K now None x true es (inr h) = rw h fine_none
+passes_then R laws K now (Some o) x false es h = takes_alone R laws K now.place o.opener x
+passes_then R laws K now (Some o) x true es (inl h) = rw h (takes_alone R laws K now.place o.opener x)
+passes_then R laws K now (Some o) x true es (inr h) = rw h (pair_fine_at R laws K now.place o.opener x)
 
 -- the first octets of a message that begins with its request id
 named_takes : (R : Reading) → IsInTurn R → (at : ℕ) (whom : Title) (x : ℕ) (o : Option (List ℕ)) → has_name whom.header ≡ true → ((xs : List ℕ) → o ≡ Some xs → length xs < 4) → Spans 1 1 (utters_kept R (event at whom (Takes x)) o)
@@ -275,24 +292,26 @@ named_takes R laws at whom x (Some xs) k few =
 
 -- ---- All of an octet.
 
-at_end_whose : (live : List Open) (m : Message) → (nat_lt (size m.header) 4 && (is_opener m.header || is_fragment m.header)) ≡ false → is_fragment m.header ≡ false → (at_end live m ≡ []) ⊎ (at_end live m ≡ own m Closes)
-unfolding at_end
+at_end_whose : (live : List Open) (m : Message) → ends_short m ≡ false → is_fragment m.header ≡ false
+    → (at_end live m ≡ []) ⊎ (at_end live m ≡ own (now_of m) Closes)
+unfolding end_acts
 at_end_whose live m short f = go (is_opener m.header) refl
   where
-    go : (b : Bool) → is_opener m.header ≡ b → (at_end live m ≡ []) ⊎ (at_end live m ≡ own m Closes)
-    go true e = inl (rw (at_end, short, e) refl)
-    go false e = inr (rw (at_end, short, e, f) refl)
+    go : (b : Bool) → is_opener m.header ≡ b → (at_end live m ≡ []) ⊎ (at_end live m ≡ own (now_of m) Closes)
+    go true e = inl (rw (end_acts, short, e) refl)
+    go false e = inr (rw (end_acts, short, e, f) refl)
 
-at_end_past : (live : List Open) (m : Message) → (nat_lt (size m.header) 4 && (is_opener m.header || is_fragment m.header)) ≡ false → is_fragment m.header ≡ true → (at_end live m ≡ []) ⊎ (at_end live m ≡ about m (opener_of live m) Closes)
-unfolding at_end
+at_end_past : (live : List Open) (m : Message) → ends_short m ≡ false → is_fragment m.header ≡ true
+    → (at_end live m ≡ []) ⊎ (at_end live m ≡ about (now_of m) (opener_of live m) Closes)
+unfolding end_acts
 at_end_past live m short f = go (is_opener m.header) (has_more m.header) refl refl
   where
-    go : (b c : Bool) → is_opener m.header ≡ b → has_more m.header ≡ c → (at_end live m ≡ []) ⊎ (at_end live m ≡ about m (opener_of live m) Closes)
-    go true c e k = inl (rw (at_end, short, e) refl)
-    go false true e k = inl (rw (at_end, short, e, f, k) refl)
-    go false false e k = inr (rw (at_end, short, e, f, k) refl)
+    go : (b c : Bool) → is_opener m.header ≡ b → has_more m.header ≡ c → (at_end live m ≡ []) ⊎ (at_end live m ≡ about (now_of m) (opener_of live m) Closes)
+    go true c e k = inl (rw (end_acts, short, e) refl)
+    go false true e k = inl (rw (end_acts, short, e, f, k) refl)
+    go false false e k = inr (rw (end_acts, short, e, f, k) refl)
 
-own_named : (R : Reading) → IsInTurn R → (K : Kept) (m : Message) (x : ℕ) → has_name m.header ≡ true → 0 < length m.payload → length m.payload ≤ 4 → IsBegun K m → Spans 1 1 (utters R K (own m (Takes x)))
+own_named : (R : Reading) → IsInTurn R → (K : Kept) (m : Message) (x : ℕ) → has_name m.header ≡ true → 0 < length m.payload → length m.payload ≤ 4 → IsBegun K m → Spans 1 1 (utters R K (own (now_of m) (Takes x)))
 unfolding own utters
 own_named R laws K m x k some short begun =
     subst (Spans 1 1) (sym (append-nil (utters_kept R (event (place m) (title m) (Takes x)) (K m.number))))
@@ -312,11 +331,11 @@ unnamed header h = go (is_opener header) (is_fragment header) (is_cancel header)
     go false false false h = (refl, refl, refl)
 
 unnamed_id : (live : List Open) (m : Message) → has_name m.header ≡ false → at_id live m ≡ []
-unfolding at_id
-unnamed_id live m h = let parts = unnamed m.header h in rw (at_id, parts.0, parts.1, parts.2) refl
+unfolding id_acts
+unnamed_id live m h = let parts = unnamed m.header h in rw (id_acts, parts.0, parts.1, parts.2) refl
 
 -- no message with an octet behind its request id is too short for one
-not_short : (m : Message) → (has_name m.header ≡ false) ⊎ (4 ≤ size m.header) → (nat_lt (size m.header) 4 && (is_opener m.header || is_fragment m.header)) ≡ false
+not_short : (m : Message) → (has_name m.header ≡ false) ⊎ (4 ≤ size m.header) → ends_short m ≡ false
 not_short m (inl h) = let parts = unnamed m.header h in rw (parts.0, parts.1) (and_right (nat_lt (size m.header) 4) false refl)
 not_short m (inr h) = rw (le-ltb (size m.header) 4 h) refl
 
@@ -325,7 +344,7 @@ plain_octet : (R : Reading) → IsInTurn R → (K : Kept) (live : List Open) (m 
     → Fine (utters R K (happens live m))
 unfolding happens
 plain_octet R laws K live m some h fits =
-    rw (happens, ne_eqb (length m.payload) 0 (λ e. omega arith), second) (go (is_fragment m.header) refl)
+    rw (happens, acts, ne_eqb (length m.payload) 0 (λ e. omega arith), second) (go (is_fragment m.header) refl)
   where
     second : (if length m.payload == 4 then at_id live m else []) ≡ []
     second = elim h [ inl k ↦ rw (unnamed_id live m k) (both (length m.payload == 4)) | inr k ↦ rw (ne_eqb (length m.payload) 4 (λ e. omega arith)) refl ]
@@ -334,29 +353,29 @@ plain_octet R laws K live m some h fits =
         both true = refl
         both false = refl
 
-    long : (nat_lt (size m.header) 4 && (is_opener m.header || is_fragment m.header)) ≡ false
+    long : ends_short m ≡ false
     long = not_short m (elim h [ inl k ↦ inl k | inr k ↦ inr (omega arith) ])
 
     go : (b : Bool) → is_fragment m.header ≡ b → Fine (utters R K (at_octet live m ++ (if length m.payload == size m.header then at_end live m else [])))
-    go false f = unfold at_octet goes_past in
-        rw (f) (takes_then R laws K m (get_or m.payload (length m.payload - 1) 0) (length m.payload == size m.header) (at_end live m) (at_end_whose live m long f))
-    go true f = unfold at_octet goes_past in
+    go false f = unfold octet_acts goes_past in
+        rw (f) (takes_then R laws K (now_of m) (get_or m.payload (length m.payload - 1) 0) (length m.payload == size m.header) (at_end live m) (at_end_whose live m long f))
+    go true f = unfold octet_acts goes_past in
         let past : 4 < length m.payload = elim h [ inl k ↦ absurd (let no = (unnamed m.header k).1 in cc) | inr k ↦ k ] in
-        rw (f, lt-ltb 4 (length m.payload) past) (passes_then R laws K m (opener_of live m) (get_or m.payload (length m.payload - 1) 0) (length m.payload == size m.header) (at_end live m) (at_end_past live m long f))
+        rw (f, lt-ltb 4 (length m.payload) past) (passes_then R laws K (now_of m) (opener_of live m) (get_or m.payload (length m.payload - 1) 0) (length m.payload == size m.header) (at_end live m) (at_end_past live m long f))
 
 -- an octet of a request id
 named_octet : (R : Reading) → IsInTurn R → (K : Kept) (live : List Open) (m : Message) → 0 < length m.payload → has_name m.header ≡ true → length m.payload ≤ 4 → length m.payload ≤ size m.header → IsBegun K m → Fine (utters R K (happens live m))
-unfolding happens at_octet
+unfolding happens octet_acts goes_past
 named_octet R laws K live m some h short fits begun =
-    rw (happens, at_octet, ne_eqb (length m.payload) 0 (λ e. omega arith), not_past m short)
-    (fine_of _ (join_spans R K 1 1 3 8 (own m (Takes (get_or m.payload (length m.payload - 1) 0))) _ (omega arith) (omega arith) (omega arith) (own_named R laws K m (get_or m.payload (length m.payload - 1) 0) h some short begun) (always_later R laws.closing live m fits)).rises)
+    rw (happens, acts, octet_acts, ne_eqb (length m.payload) 0 (λ e. omega arith), not_past m short)
+    (fine_of _ (join_spans R K 1 1 3 8 (own (now_of m) (Takes (get_or m.payload (length m.payload - 1) 0))) _ (omega arith) (omega arith) (omega arith) (own_named R laws K m (get_or m.payload (length m.payload - 1) 0) h some short begun) (always_later R laws.closing live m fits)).rises)
 
 -- the header's last octet
 short_begins : (R : Reading) (m : Message) → ends_short m ≡ true → Always R 0 0 (at_header m)
-unfolding at_header own
+unfolding header_acts own
 short_begins R m short =
     let named : has_name m.header ≡ true = rw ((and_parts (nat_lt (size m.header) 4) (is_opener m.header || is_fragment m.header) short).1) refl in
-    rw (named_accepted m.header named) (always_own R 0 0 m Begins (tells_begins R))
+    rw (named_accepted m.header named) (always_own R 0 0 (now_of m) Begins (tells_begins R))
 
 first_rises : (R : Reading) → IsInTurn R → (K : Kept) (live : List Open) (m : Message) (b : Bool) → ends_short m ≡ b → Rises (utters R K (at_header m ++ (if length m.payload == size m.header then at_end live m else [])))
 unfolding Always
@@ -364,13 +383,13 @@ first_rises R laws K live m true short =
     (always_join R 0 0 5 8 (at_header m) (if length m.payload == size m.header then at_end live m else []) (omega arith) (omega arith) (omega arith) (short_begins R m short)
     (always_if R 5 8 (length m.payload == size m.header) (at_end live m) [] (always_end R laws.closing live m) (always_none R 5 8)) K).rises
 first_rises R laws K live m false long =
-    (always_join R 0 5 6 8 (at_header m) (if length m.payload == size m.header then at_end live m else []) (omega arith) (omega arith) (omega arith) (always_header R m)
+    (always_join R 0 5 6 8 (at_header m) (if length m.payload == size m.header then at_end live m else []) (omega arith) (omega arith) (omega arith) (always_header R (now_of m))
     (always_if R 6 8 (length m.payload == size m.header) (at_end live m) [] (always_close R laws.closing live m long) (always_none R 6 8)) K).rises
 
 first_octet : (R : Reading) → IsInTurn R → (K : Kept) (live : List Open) (m : Message) → length m.payload ≡ 0 → Fine (utters R K (happens live m))
 unfolding happens
 first_octet R laws K live m none =
-    rw (happens, eq-eqb (length m.payload) 0 none, ne_eqb (length m.payload) 4 (λ e. omega arith)) (fine_of _ (first_rises R laws K live m (ends_short m) refl))
+    rw (happens, acts, eq-eqb (length m.payload) 0 none, ne_eqb (length m.payload) 4 (λ e. omega arith)) (fine_of _ (first_rises R laws K live m (ends_short m) refl))
 
 -- The lines of an octet are in order, and those that stand have no two of one class.
 pub happens_fine : (R : Reading) → IsInTurn R → (K : Kept) (live : List Open) (m : Message) → length m.payload ≤ size m.header → (has_name m.header ≡ true → IsBegun K m) → Fine (utters R K (happens live m))
@@ -385,6 +404,3 @@ happens_fine R laws K live m fits begun = elim (cases_eq (length m.payload) 0) [
     go : (b : Bool) → has_name m.header ≡ b → 0 < length m.payload → length m.payload ≤ 4 → Fine (utters R K (happens live m))
     go true h some short = named_octet R laws K live m some h short fits (begun h)
     go false h some short = plain_octet R laws K live m some (inl h) fits
-
-pub happens_ordered : (R : Reading) → IsInTurn R → (K : Kept) (live : List Open) (m : Message) → length m.payload ≤ size m.header → (has_name m.header ≡ true → IsBegun K m) → Ordered (utters R K (happens live m))
-happens_ordered R laws K live m fits begun = (happens_fine R laws K live m fits begun).ordered

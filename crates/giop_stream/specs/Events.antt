@@ -36,23 +36,106 @@ pub record Open : Type 0 where
   pub id : ℕ
   pub opener : Title
 
--- The functions from here to `happens` speak of a message whose last octet has just come, and of the messages that were
--- open before it.
-
 abbrev pub title : Message → Title
 title m = record { number = m.number; header = m.header }
 
 unfoldable pub place : Message → ℕ
 place m = m.before + 12 + length m.payload
 
+-- an octet of a message: the last one of its header, or one of its payload
+pub record Now : Type 0 where
+  pub whom : Title
+  pub place : ℕ  -- the stream octets up to and with this one
+  pub come : ℕ  -- the payload octets up to and with this one
+  pub octet : ℕ
+
+-- a message at its last octet that came
+abbrev pub now_of : Message → Now
+now_of m = record { whom = title m; place = place m; come = length m.payload; octet = get_or m.payload (length m.payload - 1) 0 }
+
+-- The functions from here to `acts` say what an octet of a message does, where the message has this request id and `other` is
+-- the message that was open under that.
+
 -- to the message itself
-unfoldable pub own : Message → Happening → List Event
-own m what = record { place = place m; whom = title m; what = what } ∷ []
+unfoldable pub own : Now → Happening → List Event
+own now what = record { place = now.place; whom = now.whom; what = what } ∷ []
 
 -- to the open message that has its request id
-unfoldable pub about : Message → Option Open → Happening → List Event
-about m None what = []
-about m (Some o) what = record { place = place m; whom = o.opener; what = what } ∷ []
+unfoldable pub about : Now → Option Open → Happening → List Event
+about now None what = []
+about now (Some o) what = record { place = now.place; whom = o.opener; what = what } ∷ []
+
+-- ---- The header's last octet.
+
+abbrev pub imposed : Now → Option ImposedFault → List Event
+imposed now None = []
+imposed now (Some fault) = own now (Imposed fault)
+
+unfoldable pub header_acts : Now → List Event
+header_acts now = own now Begins ++ imposed now (refused now.whom.header)
+
+-- ---- An octet of the payload. Those of a Fragment after its request id belong to the message that it continues.
+
+unfoldable pub octet_acts : Now → Option Open → List Event
+octet_acts now other =
+    if is_fragment now.whom.header && nat_lt 4 now.come then about now other (Takes now.octet) else own now (Takes now.octet)
+
+-- ---- The fourth octet of the payload, which completes the request id: of an opener,
+
+-- so many messages are open at most
+abbrev pub most_open : ℕ
+most_open = 16
+
+abbrev pub opens : List Open → Now → ℕ → Option Open → List Event
+opens live now id (Some other) = own now (Imposed IdOpen)
+opens live now id None = if nat_le most_open (length live) then own now (Imposed TooManyOpen) else own now (Opens id)
+
+-- of a Fragment,
+
+abbrev pub same_order : Order → Order → Bool
+same_order Big Big = true
+same_order Big Little = false
+same_order Little Big = false
+same_order Little Little = true
+
+abbrev pub disorder : Now → Open → List Event
+disorder now o = if same_order (order now.whom.header) (order o.opener.header) then [] else about now (Some o) (Imposed FragmentOrder)
+
+abbrev pub continues : Now → Option Open → List Event
+continues now None = own now (Imposed NoOpen)
+continues now (Some o) = own now (Continues o.opener.number) ++ disorder now o
+
+-- of a CancelRequest.
+
+abbrev pub cancels : Now → Option Open → List Event
+cancels now None = []
+cancels now (Some o) = if may_be_cancelled o.opener.header then about now (Some o) (Cancelled now.whom.number) else []
+
+unfoldable pub id_acts : List Open → Now → ℕ → Option Open → List Event
+id_acts live now id other =
+    if is_fragment now.whom.header then continues now other
+    else if is_opener now.whom.header then opens live now id other
+    else if is_cancel now.whom.header then cancels now other
+    else []
+
+-- ---- The message's last octet.
+
+unfoldable pub end_acts : Now → Option Open → List Event
+end_acts now other =
+    if nat_lt (size now.whom.header) 4 && (is_opener now.whom.header || is_fragment now.whom.header) then own now (Imposed Short)
+    else if is_opener now.whom.header then []
+    else if is_fragment now.whom.header then (if has_more now.whom.header then [] else about now other Closes)
+    else own now Closes
+
+-- ---- All that one octet does.
+
+unfoldable pub acts : List Open → Now → ℕ → Option Open → List Event
+acts live now id other =
+    (if now.come == 0 then header_acts now else octet_acts now other)
+    ++ ((if now.come == 4 then id_acts live now id other else [])
+    ++ (if now.come == size now.whom.header then end_acts now other else []))
+
+-- ---- The same of a message whose last octet has just come, where these messages were open before it.
 
 unfoldable pub id : Message → ℕ
 id m = num (order m.header) (take 4 m.payload)
@@ -68,85 +151,21 @@ has_named m = is_fragment m.header && nat_le 4 (length m.payload)
 unfoldable pub goes_past : Message → Bool
 goes_past m = is_fragment m.header && nat_lt 4 (length m.payload)
 
--- ---- At the header's last octet.
+abbrev pub at_header : Message → List Event
+at_header m = header_acts (now_of m)
 
-abbrev pub imposed : Message → Option ImposedFault → List Event
-imposed m None = []
-imposed m (Some fault) = own m (Imposed fault)
+abbrev pub at_octet : List Open → Message → List Event
+at_octet live m = octet_acts (now_of m) (opener_of live m)
 
-unfoldable pub at_header : Message → List Event
-at_header m = own m Begins ++ imposed m (refused m.header)
+abbrev pub at_id : List Open → Message → List Event
+at_id live m = id_acts live (now_of m) (id m) (opener_of live m)
 
--- ---- At an octet of the payload. Those of a Fragment after its request id belong to the message that it continues.
-
-unfoldable pub at_octet : List Open → Message → List Event
-at_octet live m =
-    let x = get_or m.payload (length m.payload - 1) 0 in
-    if goes_past m then about m (opener_of live m) (Takes x) else own m (Takes x)
-
--- ---- At the fourth octet of the payload, which completes the request id: of an opener,
-
--- so many messages are open at most
-abbrev pub most_open : ℕ
-most_open = 16
-
-abbrev pub opens_by : List Open → Message → Option Open → List Event
-opens_by live m (Some other) = own m (Imposed IdOpen)
-opens_by live m None = if nat_le most_open (length live) then own m (Imposed TooManyOpen) else own m (Opens (id m))
-
-unfoldable pub opens : List Open → Message → List Event
-opens live m = opens_by live m (opener_of live m)
-
--- of a Fragment,
-
-abbrev pub same_order : Order → Order → Bool
-same_order Big Big = true
-same_order Big Little = false
-same_order Little Big = false
-same_order Little Little = true
-
-abbrev pub disorder : Message → Open → List Event
-disorder m o = if same_order (order m.header) (order o.opener.header) then [] else about m (Some o) (Imposed FragmentOrder)
-
-abbrev pub continues_by : Message → Option Open → List Event
-continues_by m None = own m (Imposed NoOpen)
-continues_by m (Some o) = own m (Continues o.opener.number) ++ disorder m o
-
-unfoldable pub continues : List Open → Message → List Event
-continues live m = continues_by m (opener_of live m)
-
--- of a CancelRequest.
-
-abbrev pub cancels_by : Message → Option Open → List Event
-cancels_by m None = []
-cancels_by m (Some o) = if may_be_cancelled o.opener.header then about m (Some o) (Cancelled m.number) else []
-
-unfoldable pub cancels : List Open → Message → List Event
-cancels live m = cancels_by m (opener_of live m)
-
-unfoldable pub at_id : List Open → Message → List Event
-at_id live m =
-    if is_fragment m.header then continues live m
-    else if is_opener m.header then opens live m
-    else if is_cancel m.header then cancels live m
-    else []
-
--- ---- At the message's last octet.
-
-unfoldable pub at_end : List Open → Message → List Event
-at_end live m =
-    if nat_lt (size m.header) 4 && (is_opener m.header || is_fragment m.header) then own m (Imposed Short)
-    else if is_opener m.header then []
-    else if is_fragment m.header then (if has_more m.header then [] else about m (opener_of live m) Closes)
-    else own m Closes
-
--- ---- All that one octet does.
+abbrev pub at_end : List Open → Message → List Event
+at_end live m = end_acts (now_of m) (opener_of live m)
 
 unfoldable pub happens : List Open → Message → List Event
-happens live m =
-    (if length m.payload == 0 then at_header m else at_octet live m)
-    ++ ((if length m.payload == 4 then at_id live m else [])
-    ++ (if length m.payload == size m.header then at_end live m else []))
+unfolding acts
+happens live m = acts live (now_of m) (id m) (opener_of live m)
 
 -- all that the octets of m do, from its header's last one on
 unfoldable pub events_of : List Open → Message → List Event

@@ -23,7 +23,7 @@ use Rattle.giop_message.specs.MessageReading.{saying_of, text_of, reading_by}
 use Rattle.giop_stream.specs.Headers.{fronts, wrong, first_wrong, offence}
 use Rattle.giop_stream.specs.Framing.{with_first, cut_from, limit, limited, cut, messages, read_of}
 use Rattle.giop_stream.specs.Kinds.{may_be_cancelled, refused}
-use Rattle.giop_stream.specs.Events.{place, own, about, id, opener_of, has_named, goes_past, at_header, at_octet, opens, continues, cancels, at_id, at_end, happens, events_of, changed, opened, events_from, events, open_after, octet, joined}
+use Rattle.giop_stream.specs.Events.{place, own, about, id, opener_of, has_named, goes_past, happens, events_of, changed, opened, events_from, events, open_after, octet, joined, header_acts, octet_acts, id_acts, end_acts}
 use Rattle.giop_stream.specs.Lines.{classes, line, tells, told, by_class, in_order, is_last_of, standing, said, stop_line, lines}
 use Rattle.giop_stream.specs.Text.{start_line, lines_text}
 use Rattle.giop_stream.specs.Stream.{text, start_count, fault_count, tally, is_inside, is_truncated, is_over, heads, unfinished, final, closing}
@@ -34,7 +34,6 @@ use Rattle.giop_stream.specs.declared.slots.Payload.TheVariants as payload
 use Rattle.giop_stream.specs.State.{octets_of, slots_of, is_open}
 use Rattle.giop_stream.specs.Remembering.{Memory}
 use Rattle.giop_stream.specs.Engine.{state_of, own_for, owner_for}
-use Rattle.giop_stream.specs.Octet.{now_of}
 use Rattle.giop_stream.specs.Showing.{come_in, comes_itself}
 use Rattle.giop_stream.specs.Checkpoint.{counts_of, fixed_of, checkpoint_octets}
 use Rattle.giop_stream_rows.specs.Worked.{digit, octets, stream, written, reading, called, table_of, builtin, puts, bigs, late, asks, kept}
@@ -48,7 +47,7 @@ one_message = 0
 
 -- what a stream is cut and written with
 a_stream : ℕ
-unfolding type_word print.start_line continues_line cancelled_line fault_line stream_fault_line unfinished_line total_line fronts wrong first_wrong offence has_more size with_first cut_from limit limited cut messages read_of start_line said_line is_inside is_truncated may_be_fragmented is_opener is_fragment is_cancel may_be_cancelled refused place own about id opener_of has_named goes_past at_header at_octet opens continues cancels at_id at_end happens events_of changed opened events_from events open_after octet joined classes line tells told by_class in_order is_last_of standing said stop_line lines lines_text text start_count fault_count tally is_over heads unfinished final closing
+unfolding type_word print.start_line continues_line cancelled_line fault_line stream_fault_line unfinished_line total_line fronts wrong first_wrong offence has_more size with_first cut_from limit limited cut messages read_of start_line said_line is_inside is_truncated may_be_fragmented is_opener is_fragment is_cancel may_be_cancelled refused place own about id opener_of has_named goes_past header_acts octet_acts id_acts end_acts happens events_of changed opened events_from events open_after octet joined classes line tells told by_class in_order is_last_of standing said stop_line lines lines_text text start_count fault_count tally is_over heads unfinished final closing
 a_stream = 0
 
 -- what the rows are told with
@@ -88,7 +87,7 @@ raised = record { text = refl; closing = refl }
 
 -- what a checkpoint is spelled with
 a_checkpoint : ℕ
-unfolding four eight magic counts_octets state_octets fixed_octets counts_of fixed_of checkpoint_octets octets_of slots_of state_of own_for owner_for is_open now_of come_in comes_itself five_octets one_in_payload bad_magic
+unfolding four eight magic counts_octets state_octets fixed_octets counts_of fixed_of checkpoint_octets octets_of slots_of state_of own_for owner_for is_open come_in comes_itself five_octets one_in_payload bad_magic
 a_checkpoint = 0
 
 -- numbers that are each below 256
