@@ -67,11 +67,11 @@ fn take(catalogue: &Catalogue, decoder: &mut Decoder, octet: u8) -> Result<(), F
 /// What is stored of a decoder: its own octets and those of its frames.
 fn stored_of(alloc: Global, decoder: &Decoder) -> Result<Vec<u8>, Fail> {
     let mut fixed = [0; 208];
-    let mut frames = [0; 384];
+    let mut frames = [0; 576];
     let count = usize::from(decoder.store(&mut fixed, &mut frames));
     let mut stored = Vec::new(alloc);
     stored.extend_from_slice(&fixed)?;
-    stored.extend_from_slice(&frames[..16 * count])?;
+    stored.extend_from_slice(&frames[..24 * count])?;
     Ok(stored)
 }
 

@@ -16,10 +16,10 @@ fn again(catalogue: &Catalogue, message: &Message) -> Option<Message>
     ensures { IfSome result (λ m. Fits catalogue.now m) }
 {
     let mut fixed = [0; 224];
-    let mut frames = [0; 384];
+    let mut frames = [0; 576];
     let count = usize::from(message.store(&mut fixed, &mut frames));
     let (number, header) = (message.number(), message.header());
-    Message::restore(catalogue, number, header, &fixed, &frames[..16 * count])
+    Message::restore(catalogue, number, header, &fixed, &frames[..24 * count])
 }
 
 /// Takes the octets behind a header in two pieces, as message 1 of a stream, and closes the message, which is stored and
@@ -213,7 +213,7 @@ fn stored_differs(
         return "the answer";
     }
     let mut fixed = [0; 224];
-    let mut all = [0; 384];
+    let mut all = [0; 576];
     let count = usize::from(message.store(&mut fixed, &mut all));
     if &fixed[..16] != own {
         return "its own octets";
@@ -221,7 +221,7 @@ fn stored_differs(
     if &fixed[16..] != part {
         return "the octets of its part";
     }
-    if &all[..16 * count] != frames {
+    if &all[..24 * count] != frames {
         return "the frames";
     }
     ""
