@@ -41,17 +41,17 @@ use Rattle.giop_stream_rows.specs.Streams.{CloseConnection, LittleRequest, Inter
 use Rattle.giop_stream_rows.specs.Checkpoints.{five_octets, one_in_payload, bad_magic, InAHeader, InAPayload, BehindAFault}
 
 -- what one message is read with
-one_message : ℕ
+unfoldable pub one_message : ℕ
 unfolding digits num twos_complement padding block number path_text hex hex_number escaped type_in trees_after builtin_types minor kind order value_said call_text rest_text said_by tell is_shown call_of calls one.tells with_front passes rest_in rest typed option_typed members_of after_exception body type_if request_body result_body reply_body is_request body_of has_body padded after_header of_header message may_lack close told_of stage_of saying_of text_of reading_by
 one_message = 0
 
 -- what a stream is cut and written with
-a_stream : ℕ
+unfoldable pub a_stream : ℕ
 unfolding type_word print.start_line continues_line cancelled_line fault_line stream_fault_line unfinished_line total_line fronts wrong first_wrong offence has_more size with_first cut_from limit limited cut messages read_of start_line said_line is_inside is_truncated may_be_fragmented is_opener is_fragment is_cancel may_be_cancelled refused place own about id opener_of has_named goes_past header_acts octet_acts id_acts end_acts happens events_of changed opened events_from events open_after octet joined classes line tells told by_class in_order is_last_of standing said stop_line lines lines_text text start_count fault_count tally is_over heads unfinished final closing
 a_stream = 0
 
 -- what the rows are told with
-told_with : ℕ
+unfoldable pub told_with : ℕ
 unfolding digit octets stream written reading called table_of builtin puts bigs late asks kept
 told_with = 0
 
@@ -86,12 +86,12 @@ raised = record { text = refl; closing = refl }
 -- ---- Checkpoints.
 
 -- what a checkpoint is spelled with
-a_checkpoint : ℕ
+unfoldable pub a_checkpoint : ℕ
 unfolding four eight magic counts_octets state_octets fixed_octets counts_of fixed_of checkpoint_octets octets_of slots_of state_of own_for owner_for is_open come_in comes_itself five_octets one_in_payload bad_magic
 a_checkpoint = 0
 
 -- numbers that are each below 256
-are_octets : (xs : List ℕ) → list_all (λ x. nat_lt x 256) xs ≡ true → AreOctets xs
+pub are_octets : (xs : List ℕ) → list_all (λ x. nat_lt x 256) xs ≡ true → AreOctets xs
 are_octets [] h k d below = absurd (omega (arith, below))
 are_octets (x ∷ xs) h zero d below = ltb-true x 256 (and_parts (nat_lt x 256) (list_all (λ y. nat_lt y 256) xs) h).0
 are_octets (x ∷ xs) h (suc k) d below =

@@ -1,2 +1,4 @@
 mod Computing
 mod Listed
+mod OnePart
+mod OpenMessages

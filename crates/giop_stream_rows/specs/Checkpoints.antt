@@ -1,7 +1,8 @@
--- Checkpoints of worked streams, octet for octet (meaning). In each no message is kept: there is no record.
-use Rattle.std.specs.Prelude.{ℕ, List, [], ◌∷◌, codes}
+-- Checkpoints of worked streams, octet for octet (meaning). In the first three no message is kept:
+-- there is no record.
+use Rattle.std.specs.Prelude.{ℕ, List, [], ◌∷◌, ◌++◌, replicate, codes}
 use Rattle.giop_stream.specs.Checkpoint.{Spells}
-use Rattle.giop_stream_rows.specs.Worked.{stream, builtin}
+use Rattle.giop_stream_rows.specs.Worked.{stream, builtin, bigs}
 
 -- the first 5 octets of a CloseConnection of 1.0
 unfoldable pub five_octets : List ℕ
@@ -50,3 +51,51 @@ BehindAFault = Spells
     builtin
     []
     bad_magic
+
+-- ---- Two open messages.
+
+-- the Requests of two operations of `bigs`, each with more to come: the first within its number,
+-- the second behind its body
+unfoldable pub two_requests : List ℕ
+two_requests = stream (codes "47494f50 0102 02 00 00000028"
+    ∷ codes "00000005 03 000000 0000 0000 00000001 41 000000 00000004 626967 00 00000000"
+    ∷ codes "00000000 01020304"
+    ∷ codes "47494f50 0102 02 00 00000024"
+    ∷ codes "00000006 03 000000 0000 0000 00000001 41 000000 00000004 6e6f70 00 00000000"
+    ∷ codes "00000000"
+    ∷ [])
+
+-- two operations, and two records; nobody's octets come next
+unfoldable pub between_messages : List ℕ
+between_messages =
+    stream (codes "47494f5044554d50 00000001 00000000 00000002 00000000 00000000 00000002"
+    ∷ codes "0000000000000064 0000000000000002 0000000000000000"
+    ∷ codes "00 00 00 ff 00000000 00000000 00000000 0000000000000000"
+    ∷ [])
+    ++ replicate 16 0
+
+-- The first is open by its id 5 and stands in its body, in front of octet 52. Of a number of type 8
+-- four octets are held; it is the one part of the struct that is the first type declared.
+unfoldable pub in_a_number : List ℕ
+in_a_number =
+    stream (codes "02 01 0000000000000001 47494f50 0102 02 00 00000028 00000005 000000000000"
+    ∷ codes "02 0000000000000034 01 00000005 0000"
+    ∷ codes "00 02 0000000000000001 04 00 00000008 00000000 00000000 04 01020304 00000000"
+    ∷ [])
+    ++ replicate 175 0
+    ++ stream (codes "00000025 00000000 00000001 00 000000"
+    ∷ codes "00000008 00000000 00000000 00 000000"
+    ∷ [])
+
+-- The second is open by its id 6 and stands in its rest, in front of octet 48. Nothing of that is
+-- held.
+unfoldable pub behind_a_body : List ℕ
+behind_a_body =
+    stream (codes "00 01 0000000000000002 47494f50 0102 02 00 00000024 00000006 000000000000"
+    ∷ codes "04 0000000000000030 01 00000006 0000"
+    ∷ [])
+    ++ replicate 208 0
+
+-- with two messages open, one of them within a number
+abbrev pub BetweenMessages : Type 0
+BetweenMessages = Spells (between_messages ++ in_a_number ++ behind_a_body) bigs [] two_requests

@@ -3,7 +3,7 @@
 
 ghost use Rattle.giop_stream_rows.specs.Worked.{AreOfTheirList};
 ghost use Rattle.giop_stream_rows.specs.Streams.{CloseConnection, LittleRequest, Interleaved, OpenTwice, Cancelled, Replied, Raised};
-ghost use Rattle.giop_stream_rows.specs.Checkpoints.{InAHeader, InAPayload, BehindAFault};
+ghost use Rattle.giop_stream_rows.specs.Checkpoints.{InAHeader, InAPayload, BehindAFault, BetweenMessages};
 
 /// The text and the closing of these streams, by the declarations and the requests of each. It has no body, and is called
 /// for its contract.
@@ -31,4 +31,6 @@ pub fn worked_checkpoints()
     ensures in_a_header { InAHeader }
     ensures in_a_payload { InAPayload }
     ensures behind_a_fault { BehindAFault }
+    // With two messages open, of which one stands within a number.
+    ensures between_messages { BetweenMessages }
 {}

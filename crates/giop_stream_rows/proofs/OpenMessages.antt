@@ -1,0 +1,400 @@
+-- A checkpoint of a stream with two open messages, computed.
+use Rattle.std.proofs.Common.{◌≡◌, ℕ, ◌<◌, ◌^◌, false, List, [], ◌∷◌, ◌++◌, length, take, drop, None, Some, arith, refl}
+use Rattle.std.proofs.lemmas.Bool.{ltb-true}
+use Rattle.giop_cdr.specs.declared.order.Order.TheVariants as orders
+use Rattle.giop_print.specs.declared.path.Root.TheVariants as roots
+use Rattle.giop_print.specs.Paths.{root_word}
+use Rattle.giop_octets.specs.Fields.{four, eight}
+use Rattle.giop_sig.specs.Builtin.{builtin_types}
+use Rattle.giop_sig.specs.Fits.{IsFit}
+use Rattle.giop_sig.specs.Table.{type_id, part_number}
+use Rattle.giop_sig.specs.Trees.{tree}
+use Rattle.giop_sig.specs.Types.{Ty, part_of}
+use Rattle.giop_sig.proofs.PartLaws.{depth_is}
+use Rattle.giop_decode.specs.declared.decoder.Decoder.{Decoder}
+use Rattle.giop_decode.specs.declared.frame.Frame.{Frame}
+use Rattle.giop_decode.specs.declared.leaf.Leaf.{Leaf as Innermost}
+use Rattle.giop_decode.specs.declared.leaf.Leaf.TheVariants as innermost
+use Rattle.giop_decode.specs.declared.memory.Buffer.TheVariants as buffers
+use Rattle.giop_decode.specs.Spine.{Leaf}
+use Rattle.giop_decode.specs.Fits.{FitsIn, HasParts}
+use Rattle.giop_decode.specs.Turns.{part_in, leaf_of, IsWithin}
+use Rattle.giop_decode.specs.Holding as decoder
+use Rattle.giop_decode.specs.Stored as decoders
+use Rattle.giop_message.specs.declared.message.Message.{Message}
+use Rattle.giop_message.specs.declared.part.Part.TheVariants as parts
+use Rattle.giop_message.specs.declared.part.Rest.{Rest}
+use Rattle.giop_message.specs.declared.part.Section.TheVariants as sections
+use Rattle.giop_message.specs.Messages.{message, told_of}
+use Rattle.giop_message.specs.MessageReading.{id_in, first_id, id_said}
+use Rattle.giop_message.specs.Signatures.{said_by}
+use Rattle.giop_message.specs.Holding.{Follows}
+use Rattle.giop_message.specs.Stored as messages
+use Rattle.giop_message.specs.Stored.{Stored}
+use Rattle.giop_checkpoint.specs.Records as records
+use Rattle.giop_checkpoint.specs.Records.{Entry, EntryHasRange}
+use Rattle.giop_checkpoint.specs.declared.record.Standing.TheVariants as standings
+use Rattle.giop_stream.specs.declared.slots.Payload.TheVariants as payload
+use Rattle.giop_stream.specs.Remembering.{Memory}
+use Rattle.giop_stream.specs.Checkpoint.{IsHeld}
+use Rattle.giop_stream_rows.specs.Worked.{bigs}
+use Rattle.giop_stream_rows.specs.Checkpoints.{two_requests, between_messages, in_a_number, behind_a_body, BetweenMessages}
+use Rattle.giop_stream_rows.proofs.OnePart.{one_deep, one_part}
+use Rattle.giop_stream_rows.proofs.Computing.{one_message, a_stream, told_with, a_checkpoint, are_octets}
+
+-- ---- The first Request, within the number of its body.
+
+-- the struct of its parameters is the first type declared
+parameters : ℕ
+parameters = length builtin_types
+
+number : Innermost
+number = innermost.Number (type_id 8)
+
+parameters_frame : Frame
+parameters_frame = record { of = type_id parameters; index = 0; count = 1; inside = None }
+
+in_body : Decoder
+in_body = record {
+  order = orders.Big;
+  root = roots.Body;
+  message = 1;
+  at = 4;
+  outer = record { items = parameters_frame ∷ [] };
+  inside = false;
+  leaf = Some number;
+  carry = 1 ∷ 2 ∷ 3 ∷ 4 ∷ [];
+  piece = record { items = [] };
+  memory = record {
+    request_id = None;
+    status = None;
+    name = record { items = [] };
+    buffer = buffers.Begun;
+  };
+  path = record { text = root_word roots.Body; segments = 0 };
+}
+
+-- a header of a Request of so many octets, with more to come
+header : ℕ → List ℕ
+header n = 71 ∷ 73 ∷ 79 ∷ 80 ∷ 1 ∷ 2 ∷ 2 ∷ 0 ∷ 0 ∷ 0 ∷ 0 ∷ n ∷ []
+
+first : Message
+first = record {
+  number = 1;
+  header = header 40;
+  id = Some 5;
+  at = 52;
+  part = parts.Typed sections.Body in_body;
+  begun = omega arith;
+}
+
+first_entry : Entry
+first_entry = record {
+  record_is = record { frames = 2; standing = standings.Open 5; number = 1; header = header 40 };
+  message = messages.own_octets first ++ decoders.fixed_octets in_body number;
+  frames = decoders.frames_octets (parameters_frame ∷ decoders.own_frame number ∷ []);
+}
+
+-- ---- The second, behind its body, which has no octets.
+
+nothing : Rest
+nothing = record { offset = 0; held = record { items = [] }; room = omega arith }
+
+second : Message
+second = record {
+  number = 2;
+  header = header 36;
+  id = Some 6;
+  at = 48;
+  part = parts.Rest nothing;
+  begun = omega arith;
+}
+
+second_entry : Entry
+second_entry = record {
+  record_is = record { frames = 0; standing = standings.Open 6; number = 2; header = header 36 };
+  message = messages.own_octets second ++ messages.rest_octets nothing;
+  frames = [];
+}
+
+-- what is held of the stream
+between : Memory
+between = record {
+  totals = record { messages = 2; faults = 0; octets = 100 };
+  stopped = None;
+  header = [];
+  come = 0;
+  slots = record {
+    slots = record {
+      items = record { number = 1; header = header 40; id = 5; message = Some first }
+          ∷ record { number = 2; header = header 36; id = 6; message = Some second } ∷ [];
+    };
+    own = None;
+    payload = payload.Nobody;
+  };
+}
+
+-- what is held is told with these,
+the_decoder : ℕ
+unfolding parameters number parameters_frame in_body header nothing builtin_types
+the_decoder = 0
+
+the_messages : ℕ
+unfolding first second first_entry second_entry between id_in first_id id_said two_requests
+the_messages = 0
+
+-- and a checkpoint with these
+its_octets : ℕ
+unfolding decoders.fixed_octets messages.own_octets messages.rest_octets four eight
+its_octets = 0
+
+its_records : ℕ
+unfolding records.kind_octets records.own_octets between_messages in_a_number behind_a_body
+its_records = 0
+
+kept_messages : ℕ
+unfolding the_decoder the_messages its_octets its_records
+kept_messages = 0
+
+-- ---- What is stored of them.
+
+first_stored : Stored first first_entry.message first_entry.frames
+unfolding kept_messages
+first_stored = record {
+  own = record { is = refl; at = ltb-true 52 (2 ^ 64) refl; id = ltb-true 5 (2 ^ 32) refl };
+  part = record {
+    leaf = number;
+    goes_on = refl;
+    fixed_are = refl;
+    frames_are = refl;
+    range = record {
+      message = ltb-true 1 (2 ^ 64) refl;
+      carry = omega arith;
+      piece = omega arith;
+      memory = record { request_id = tt; status = tt; name = omega arith };
+    };
+    leaf_range = ltb-true 8 (2 ^ 32) refl;
+    outer_range = (
+      record {
+        of = ltb-true parameters (2 ^ 32) refl;
+        index = ltb-true 0 (2 ^ 32) refl;
+        count = ltb-true 1 (2 ^ 32) refl;
+      },
+      tt,
+    );
+    few = omega arith;
+  };
+}
+
+second_stored : Stored second second_entry.message second_entry.frames
+unfolding kept_messages
+second_stored = record {
+  own = record { is = refl; at = ltb-true 48 (2 ^ 64) refl; id = ltb-true 6 (2 ^ 32) refl };
+  part = (record { is = refl; range = ltb-true 0 (2 ^ 64) refl }, refl);
+}
+
+first_held : IsHeld first first_entry
+unfolding kept_messages
+first_held = record {
+  stored = first_stored;
+  shallow = λ C h.
+      omega (arith, one_deep (tree C h.root) _ _ h.fits, depth_is C h.root h.known_root);
+}
+
+second_held : IsHeld second second_entry
+unfolding kept_messages
+second_held = record { stored = second_stored; shallow = λ C h. omega arith }
+
+first_range : EntryHasRange first_entry
+unfolding kept_messages
+first_range = record {
+  own = record {
+    frames = omega arith;
+    typed = record {
+      standing = ltb-true 5 (2 ^ 32) refl;
+      number = ltb-true 1 (2 ^ 64) refl;
+      header = refl;
+    };
+  };
+  message = refl;
+  frames = refl;
+}
+
+second_range : EntryHasRange second_entry
+unfolding kept_messages
+second_range = record {
+  own = record {
+    frames = omega arith;
+    typed = record {
+      standing = ltb-true 6 (2 ^ 32) refl;
+      number = ltb-true 2 (2 ^ 64) refl;
+      header = refl;
+    };
+  };
+  message = refl;
+  frames = refl;
+}
+
+-- ---- What they follow.
+
+-- the first Request's octets behind its header and up to its number, and the second's
+first_front : List ℕ
+first_front = take 36 (drop 12 two_requests)
+
+second_octets : List ℕ
+second_octets = drop 64 two_requests
+
+some_octets : List ℕ
+some_octets = 1 ∷ 2 ∷ 3 ∷ 4 ∷ []
+
+first_reads :
+    decoder.Reads bigs (tree bigs parameters) orders.Big 48 1 roots.Body in_body some_octets
+unfolding one_message told_with kept_messages some_octets
+first_reads = record {
+  lines = [];
+  is = refl;
+  minds = tt;
+  same_order = refl;
+  same_message = refl;
+  same_root = refl;
+  offset = (refl, (tt, tt));
+}
+
+first_follows : Follows bigs [] 1 (header 40) first (first_front ++ some_octets)
+unfolding one_message told_with kept_messages first_front some_octets
+first_follows = record {
+  same_number = refl;
+  same_header = refl;
+  id = refl;
+  at = refl;
+  stands = record {
+    T = tree bigs parameters;
+    before = told_of (message (said_by bigs []) (header 40) first_front);
+    front = first_front;
+    octets = some_octets;
+    since = refl;
+    is = refl;
+    first = tt;
+    reads = first_reads;
+  };
+}
+
+second_follows : Follows bigs [] 2 (header 36) second second_octets
+unfolding one_message told_with kept_messages second_octets
+second_follows = record {
+  same_number = refl;
+  same_header = refl;
+  id = refl;
+  at = refl;
+  stands = (told_of (message (said_by bigs []) (header 36) second_octets), refl);
+}
+
+-- ---- They fit their table.
+
+-- The parameters have one part, the number, of which four octets have come.
+
+has_one : HasParts (tree bigs parameters) 1
+unfolding one_message told_with kept_messages
+has_one = refl
+
+number_fits : IsFit 23 (part_of (tree bigs parameters) 0)
+unfolding one_message told_with kept_messages IsFit
+number_fits = tt
+
+number_begun : FitsIn (part_of (tree bigs parameters) 0) [] (leaf_of bigs number some_octets [])
+unfolding one_message told_with kept_messages some_octets
+number_begun = record { same = refl; kind = tt; room = omega arith }
+
+-- so the parameters fit, as they stand
+FitsOne : Ty → Leaf → Type 0
+FitsOne T leaf = IsFit 24 T × FitsIn T (part_in T 0 1 ∷ []) leaf × IsWithin None 0 1 T
+
+fits_one : FitsOne (tree bigs parameters) (leaf_of bigs number some_octets [])
+unfolding FitsOne
+fits_one =
+    let leaf = leaf_of bigs number some_octets [] in
+    one_part 23 (tree bigs parameters) leaf has_one number_fits number_begun
+
+known : parameters < length (bigs.types)
+unfolding told_with kept_messages
+known = ltb-true parameters (length (bigs.types)) refl
+
+is_number : 8 ≡ part_number bigs parameters 0
+unfolding told_with kept_messages
+is_number = refl
+
+below_all : 8 < length (bigs.types)
+unfolding told_with kept_messages
+below_all = ltb-true 8 (length (bigs.types)) refl
+
+first_fits : decoder.Fits bigs in_body
+unfolding FitsOne in_body parameters_frame number some_octets
+first_fits = record {
+  leaf = number;
+  goes_on = refl;
+  root = parameters;
+  known_root = known;
+  link = (refl, is_number);
+  fit = fits_one.0;
+  here = 52;
+  stands = (refl, (tt, tt));
+  fits = fits_one.1;
+  ahead = (tt, tt);
+  inside = refl;
+  known_outer = (record { known = known; within = fits_one.2 }, tt);
+  known = below_all;
+  clean = refl;
+  at = omega arith;
+}
+
+-- ---- The checkpoint.
+
+-- what the stream's octets are told with
+its_parts : ℕ
+unfolding first_front some_octets second_octets
+its_parts = 0
+
+pub two_open : BetweenMessages
+unfolding one_message a_stream told_with a_checkpoint kept_messages its_parts
+two_open = record {
+  memory = between;
+  entries = first_entry ∷ second_entry ∷ [];
+  octets_are = refl;
+  entries_are = (
+    record {
+      range = first_range;
+      standing = refl;
+      number = refl;
+      header = refl;
+      message = first_held;
+    },
+    (
+      record {
+        range = second_range;
+        standing = refl;
+        number = refl;
+        header = refl;
+        message = second_held;
+      },
+      tt,
+    ),
+  );
+  stream = are_octets two_requests refl;
+  shows = record {
+    totals = refl;
+    stopped = refl;
+    header = refl;
+    come = refl;
+    slots = (
+      record { number = refl; header = refl; id = refl; message = first_follows },
+      (record { number = refl; header = refl; id = refl; message = second_follows }, tt),
+    );
+    own = tt;
+    owner = refl;
+    turn = λ _. refl;
+  };
+  ready = record {
+    own_ready = tt;
+    each_ready = ((first_fits, omega arith), ((omega arith, omega arith), tt));
+  };
+}
