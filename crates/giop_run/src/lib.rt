@@ -7,6 +7,7 @@ mod files;
 mod flush;
 mod inputs;
 mod lines;
+mod patient;
 mod piecewise;
 mod reading;
 mod resuming;
