@@ -1,7 +1,7 @@
 """Fails each open, read, write, sync and rename of the program in turn, and all from it on, and cuts reads and writes
 short: what is written is a front of what it always is, and the status and the text on standard error say what failed. A
-file that isn't saved is what it was, and none stands beside it. A call that is interrupted is made again; where it always
-is, it has failed."""
+file that isn't saved is what it was, and none stands beside it. A call that is interrupted is made again, and a read or
+write that always is has failed."""
 
 from __future__ import annotations
 
@@ -15,8 +15,8 @@ ERRORS = (errno.EIO, errno.ENOSPC, errno.EAGAIN)
 ON = 2**63
 # The kit tries a write again at most 64 times more than it has octets.
 INTERRUPTIONS = 50
-# More than a read or write is tried. Opens and syncs, and writes of what is told, the kit tries without an end.
-ALWAYS = 2**17
+# Opens and syncs the kit tries again without an end, so they are not interrupted more often.
+OFTEN = 2**17
 FAILED = {
     "open": (b"cannot read\n", b"cannot write\n"),
     "read": (b"cannot read\n", b"giopdump: read failed\n"),
@@ -50,8 +50,9 @@ def interrupt_each(library: str, case: Case, call: str, usual: Ended, seen: Diff
             ended = run(library, case, call, at=at, last=at + times - 1, how=errno.EINTR)
             as_wanted = ended.usual() == usual.usual() and ended.touched == times
             seen.note(as_wanted, f"{case.name}: {call} {at} interrupted {times} times", ended)
-        ended = run(library, case, call, at=at, last=at + ALWAYS - 1, how=errno.EINTR)
-        seen.note(is_told(case, call, ended, usual), f"{case.name}: {call} {at} always interrupted", ended)
+        last = ON if call in ("read", "write") else at + OFTEN - 1
+        ended = run(library, case, call, at=at, last=last, how=errno.EINTR)
+        seen.note(is_told(case, call, ended, usual), f"{case.name}: {call} {at} and all behind it interrupted", ended)
 
 
 def cut_each(library: str, case: Case, call: str, usual: Ended, seen: Differences) -> None:

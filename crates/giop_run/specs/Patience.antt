@@ -1,7 +1,6 @@
--- What a patient reader or writer tells (state).
-use Rattle.std.specs.Prelude.{ℕ, List, Option}
+-- What a patient reader or writer is (state).
 use Rattle.giop_run.specs.declared.patient.Patient.{Patient}
 
--- what that one tells which it tries again: the octets that are left, or those that were written
-abbrev pub inner_bytes : {S : Type 0} → (S → Option (List ℕ)) → Patient S → Option (List ℕ)
-inner_bytes told p = told p.inner
+-- the one that it tries again
+abbrev pub patient_inner : {S : Type 0} → Patient S → S
+patient_inner p = p.inner

@@ -21,6 +21,7 @@ pub use files::{catalogue, front, requests, unreadable};
 pub use flush::Flush;
 pub use inputs::Inputs;
 pub use lines::Lines;
+pub use patient::Patient;
 pub use piecewise::Piecewise;
 pub use reading::Reading;
 pub use resuming::resumed;

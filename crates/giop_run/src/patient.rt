@@ -1,4 +1,4 @@
-//! Files that are read or written to their end, of which a call may be interrupted.
+//! Readers and writers of which a call may be interrupted.
 
 ghost use Rattle.std.specs.Prelude.{◌≡◌, ◌≢◌, IfErr};
 ghost use Rattle.std.specs.IoError.{error_kind};
@@ -9,31 +9,33 @@ use super::reading::{TRIES, retried};
 use std::io;
 use std::io::{ErrorKind, Read, Write};
 
-/// A reader or a writer that is tried again where it is interrupted, and fails where it always is: `read_to_end` and
-/// `write_all`, which never give up an interrupted call, return over it.
+/// A reader or a writer that is tried again where it is interrupted, and fails where it always is, so that a call of the
+/// standard library that reads or writes all returns: of an interrupted call it gives up none.
 #[derive(Drop)]
-pub(crate) struct Patient<S> {
+pub struct Patient<S> {
     inner: S,
 }
 
 impl<S> Patient<S> {
+    ghost use Rattle.giop_run.specs.Patience.{patient_inner};
+
     /// A patient reader or writer over one that may not be.
-    pub(crate) fn new(inner: S) -> Patient<S>
-        ensures { result.inner ≡ inner }
+    pub fn new(inner: S) -> Patient<S>
+        ensures { patient_inner result ≡ inner }
     {
         Patient { inner }
     }
 }
 
 impl<R: Read> Read for Patient<R> {
-    ghost use Rattle.giop_run.specs.Patience.{inner_bytes};
+    ghost use Rattle.giop_run.specs.Patience.{patient_inner};
 
-    ghost remaining = { inner_bytes R.remaining };
+    ghost remaining = { λ p. R.remaining (patient_inner p) };
 
     fn read(&mut self, into: &mut [u8]) -> io::Result<usize>
         ensures bound { ReadsAtMost result into.new }
-        ensures bytes { ReadConsumes (inner_bytes R.remaining self.old)
-            (inner_bytes R.remaining self.new) result into.new }
+        ensures bytes { ReadConsumes (R.remaining (patient_inner self.old))
+            (R.remaining (patient_inner self.new)) result into.new }
         ensures retried { IfErr result (λ e. error_kind e ≢ ErrorKind.Interrupted) }
     {
         retried(&mut self.inner, into)
@@ -41,14 +43,14 @@ impl<R: Read> Read for Patient<R> {
 }
 
 impl<W: Write> Write for Patient<W> {
-    ghost use Rattle.giop_run.specs.Patience.{inner_bytes};
+    ghost use Rattle.giop_run.specs.Patience.{patient_inner};
 
-    ghost contents = { inner_bytes W.contents };
+    ghost contents = { λ p. W.contents (patient_inner p) };
 
     fn write(&mut self, octets: &[u8]) -> io::Result<usize>
         ensures bound { WritesAtMost result octets.now }
-        ensures bytes { WriteAppends (inner_bytes W.contents self.old)
-            (inner_bytes W.contents self.new) result octets.now }
+        ensures bytes { WriteAppends (W.contents (patient_inner self.old))
+            (W.contents (patient_inner self.new)) result octets.now }
         ensures retried { IfErr result (λ e. error_kind e ≢ ErrorKind.Interrupted) }
     {
         for _try in 0..TRIES {

@@ -44,7 +44,7 @@ fn tries_again(rt: &(impl Abort + AllocGlobal), interrupts: usize) {
     let reads = Cell::new(0);
     let reader = InterruptedReader::new(b"abc", &reads, interrupts);
     let is_right = match front(rt.alloc(), reader, 10) {
-        Ok(octets) => interrupts < 65_536 && octets.as_slice() == b"abc",
+        Ok(octets) => interrupts < 65_536 && octets.as_slice() == b"abc".as_slice(),
         Err(_) => interrupts == 65_536 && reads.get() == 65_536,
     };
     assert!(rt; is_right, "{interrupts} interrupted");
