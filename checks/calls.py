@@ -1,6 +1,7 @@
 """Fails each open, read, write, sync and rename of the program in turn, and all from it on, and cuts reads and writes
 short: what is written is a front of what it always is, and the status and the text on standard error say what failed. A
-file that isn't saved is what it was, and none stands beside it. A read or write that is interrupted is made again."""
+file that isn't saved is what it was, and none stands beside it. A call that is interrupted is made again, and a read or
+write that always is has failed."""
 
 from __future__ import annotations
 
@@ -14,6 +15,8 @@ ERRORS = (errno.EIO, errno.ENOSPC, errno.EAGAIN)
 ON = 2**63
 # The kit tries a write again at most 64 times more than it has octets.
 INTERRUPTIONS = 50
+# Opens and syncs the kit tries again without an end, so they are not interrupted more often.
+OFTEN = 2**17
 FAILED = {
     "open": (b"cannot read\n", b"cannot write\n"),
     "read": (b"cannot read\n", b"giopdump: read failed\n"),
@@ -47,6 +50,9 @@ def interrupt_each(library: str, case: Case, call: str, usual: Ended, seen: Diff
             ended = run(library, case, call, at=at, last=at + times - 1, how=errno.EINTR)
             as_wanted = ended.usual() == usual.usual() and ended.touched == times
             seen.note(as_wanted, f"{case.name}: {call} {at} interrupted {times} times", ended)
+        last = ON if call in ("read", "write") else at + OFTEN - 1
+        ended = run(library, case, call, at=at, last=last, how=errno.EINTR)
+        seen.note(is_told(case, call, ended, usual), f"{case.name}: {call} {at} and all behind it interrupted", ended)
 
 
 def cut_each(library: str, case: Case, call: str, usual: Ended, seen: Differences) -> None:
@@ -69,8 +75,9 @@ def main(library: str) -> int:
         counted.append("/".join(str(usual.calls.get(call, 0)) for call in FAILED))
         for call in FAILED:
             fail_each(library, case, call, usual, seen)
-        for call in ("read", "write"):
+        for call in ("open", "read", "write", "sync"):
             interrupt_each(library, case, call, usual, seen)
+        for call in ("read", "write"):
             cut_each(library, case, call, usual, seen)
     print(f"opens/reads/writes/syncs/renames: {', '.join(f'{case.name} {made}' for case, made in zip(cases(), counted))}")
     print(f"{seen.runs} runs, {seen.differ} differ")

@@ -7,7 +7,8 @@
  * FAILING_HOW    the number of the error that a call gives (memory has none); 0 where a read or write is cut short
  * FAILING_CUT    the greatest number of octets of a read or write that is cut short; each is cut by a number drawn anew
  * FAILING_SEED   from which these are drawn
- * FAILING_REPORT a descriptor to which the numbers of calls, and of calls that were touched, are written at the end
+ * FAILING_REPORT a descriptor to which these are written at the end: the numbers of calls, how many of the requests for
+ *                memory came behind the first read of standard input, and how many calls were touched
  */
 #define _GNU_SOURCE
 #include <errno.h>
@@ -27,10 +28,10 @@ extern void *__libc_realloc(void *old, size_t size);
 enum call { MEMORY, OPEN, READ, WRITE, SYNC, RENAME, CALLS, NONE = CALLS };
 
 static const char *const names[CALLS] = {"memory", "open", "read", "write", "sync", "rename"};
-static unsigned long counts[CALLS], touched;
+static unsigned long counts[CALLS], late, touched;
 static enum call failing = NONE;
 static unsigned long first = 1, last = -1UL, cut, drawn = 1;
-static int how, report = -1;
+static int how, report = -1, streaming;
 
 static unsigned long number(const char *name, unsigned long otherwise)
 {
@@ -55,8 +56,8 @@ __attribute__((constructor)) static void begin(void)
 __attribute__((destructor)) static void end(void)
 {
     char text[128];
-    int length = snprintf(text, sizeof text, "%lu %lu %lu %lu %lu %lu %lu\n", counts[MEMORY], counts[OPEN], counts[READ],
-                          counts[WRITE], counts[SYNC], counts[RENAME], touched);
+    int length = snprintf(text, sizeof text, "%lu %lu %lu %lu %lu %lu %lu %lu\n", counts[MEMORY], counts[OPEN],
+                          counts[READ], counts[WRITE], counts[SYNC], counts[RENAME], late, touched);
     if (report >= 0 && syscall(SYS_write, report, text, length) != length)
         _exit(99);
 }
@@ -65,6 +66,7 @@ __attribute__((destructor)) static void end(void)
 static int is_touched(enum call call)
 {
     unsigned long at = ++counts[call];
+    late += call == MEMORY && streaming;
     if (call != failing || at < first || at > last)
         return 0;
     touched++;
@@ -100,6 +102,7 @@ int open(const char *path, int flags, ...)
 
 ssize_t read(int file, void *into, size_t size)
 {
+    streaming |= file == 0;
     if (is_touched(READ)) {
         if (how) {
             errno = how;

@@ -15,7 +15,7 @@ PROGRAM = TOP / "crates/giopdump/out/giopdump"
 EXAMPLES = TOP / "examples"
 TOUR = TOP / "crates/giopdump"
 
-CALLS = ("memory", "open", "read", "write", "sync", "rename")
+CALLS = ("memory", "open", "read", "write", "sync", "rename", "late")
 
 CHECKPOINT = "checkpoint"
 SECONDS = 10
@@ -35,8 +35,9 @@ class Case:
 
 @dataclass(frozen=True)
 class Ended:
-    """What a run wrote, its status (below 0: the signal), how many calls of each sort it made, how many of them were
-    touched, and the files where it ran. A run that came to no end has no calls."""
+    """What a run wrote, its status (below 0: the signal), how many calls of each sort it made (late: how many of its requests
+    for memory came behind its first read of standard input), how many of them were touched, and the files where it ran. A run
+    that came to no end has no calls."""
 
     lines: bytes
     said: bytes

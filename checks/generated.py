@@ -1,7 +1,7 @@
 """Streams made from the examples by seeds: messages are taken in any order, and octets of them changed, left out, put
 in and repeated. Of each the program writes the same text however its reads are cut, and in parts, each gone on from where
 the one before it was saved; and a front of it when the stream ends early. It ends with status 0 or 1, its total line is
-right, and it makes as many requests for memory as ever."""
+right, and it makes as many requests for memory as ever. From a checkpoint that is changed so it goes on, or refuses it."""
 
 from __future__ import annotations
 
@@ -12,9 +12,9 @@ import sys
 import tempfile
 import time
 from concurrent.futures import ThreadPoolExecutor
-from typing import Dict, List, Tuple
+from typing import Dict, List, Sequence, Tuple
 
-from failing import EXAMPLES, PROGRAM, SECONDS, TOUR, Case, Differences, Ended, run
+from failing import CHECKPOINT, EXAMPLES, PROGRAM, SECONDS, TOUR, Case, Differences, Ended, checkpoint_of, run
 
 MOST = 20_000
 TYPES = [
@@ -24,6 +24,10 @@ TYPES = [
 ]
 Requests = Dict[Tuple[str, ...], int]
 CLOSING = (b"stream fault truncated ", b"total ")
+REFUSALS = {
+    f"giopdump: {CHECKPOINT}: checkpoint refused: {word}\n".encode()
+    for word in ("magic", "version", "catalogue", "length", "state")
+}
 
 
 def messages() -> List[bytes]:
@@ -40,11 +44,11 @@ def messages() -> List[bytes]:
     return found
 
 
-def changed(draw: random.Random, octets: bytes) -> bytes:
-    """With some octets changed, left out, put in or repeated."""
+def changed(draw: random.Random, octets: bytes, sorts: Sequence[int] = range(6)) -> bytes:
+    """With some octets changed, left out, put in or repeated; by the sorts 3 and 4 there are as many as before."""
     at = draw.randrange(len(octets) + 1)
     end = min(len(octets), at + draw.choice((1, 1, 1, 2, 4, 8, 40)))
-    sort = draw.randrange(6)
+    sort = draw.choice(sorts)
     if sort == 0:
         return octets[:at] + octets[end:]
     if sort == 1:
@@ -110,6 +114,24 @@ def in_parts(case: Case, cuts: List[int]) -> Tuple[bytes, int]:
     return lines, status
 
 
+def harmed(seed: int, case: Case) -> Case:
+    """The rest of a stream, behind a checkpoint of which octets are changed."""
+    draw = random.Random(f"checkpoint of {seed}")
+    at = draw.randrange(len(case.stream) + 1)
+    checkpoint = checkpoint_of(case.words, case.stream[:at])
+    for _ in range(draw.choice((1, 1, 2, 5))):
+        checkpoint = changed(draw, checkpoint, draw.choice((range(6), (3, 4))))
+    return Case(case.name, (*case.words, "--resume", CHECKPOINT), case.stream[at:], checkpoint=checkpoint or b"\0")
+
+
+def is_safe(ended: Ended) -> bool:
+    """Whether a checkpoint is refused by one of the words, or gone on from up to a total line."""
+    if ended.status == 3:
+        return ended.lines == b"" and ended.said in REFUSALS
+    total = ended.lines.splitlines()[-1:]
+    return ended.status in (0, 1) and ended.said == b"" and total != [] and total[0].startswith(b"total messages ")
+
+
 def try_seed(library: str, seed: int, known: List[bytes], requests: Requests) -> List[Tuple[bool, str, Ended]]:
     """What came of the runs of a seed."""
     case = stream_of(seed, known)
@@ -127,10 +149,12 @@ def try_seed(library: str, seed: int, known: List[bytes], requests: Requests) ->
     parts = in_parts(case, cuts)
     saved = (parts == (usual.lines, usual.status), f"saved at {', '.join(map(str, cuts))}", usual)
     usually = requests[case.words]
-    return [
+    told = [
         (as_wanted and ended.calls.get("memory") == usually, f"seed {seed}, {what}", ended)
         for as_wanted, what, ended in [*tried, saved]
     ]
+    ended = run(library, harmed(seed, case))
+    return [*told, (is_safe(ended) and ended.calls.get("late") == 0, f"seed {seed}, a changed checkpoint", ended)]
 
 
 def requests_of(library: str, words: Tuple[str, ...]) -> int:
@@ -140,11 +164,12 @@ def requests_of(library: str, words: Tuple[str, ...]) -> int:
 def main(library: str, seconds: float, first: int) -> int:
     known, seen = messages(), Differences()
     requests = {words: requests_of(library, words) for words in TYPES}
-    end, seed, faulted = time.monotonic() + seconds, first, 0
+    end, seed, faulted, refused = time.monotonic() + seconds, first, 0, 0
     with ThreadPoolExecutor(os.cpu_count() or 1) as pool:
         while time.monotonic() < end:
             for tried in pool.map(lambda at: try_seed(library, at, known, requests), range(seed, seed + 200)):
                 faulted += tried[0][2].status == 1
+                refused += tried[-1][2].status == 3
                 for as_wanted, what, ended in tried:
                     seen.note(as_wanted, what, ended)
             seed += 200
@@ -153,6 +178,7 @@ def main(library: str, seconds: float, first: int) -> int:
         ended = run(library, long)
         seen.note(ended.calls.get("memory") == requests[words], "the examples 200 times over", ended)
     print(f"seeds {first} to {seed - 1}, {faulted} of them with a fault: {seen.runs} runs, {seen.differ} differ")
+    print(f"of their changed checkpoints {refused} are refused, {seed - first - refused} gone on from")
     print(f"requests for memory in each, by its files: {', '.join(map(str, requests.values()))}")
     return seen.status()
 

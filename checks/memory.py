@@ -1,13 +1,53 @@
 """Refuses each of the program's requests for memory in turn, and all from it on: it writes what it always does, or says
-that there is no memory and writes no line."""
+that there is no memory and writes no line. None is made once the first octets of standard input are read."""
 
 from __future__ import annotations
 
 import sys
+import tempfile
+from pathlib import Path
+from typing import List, Tuple
 
-from failing import Case, Differences, Ended, cases, run
+from failing import CHECKPOINT, TOP, Case, Differences, Ended, cases, checkpoint_of, run
 
 NO_MEMORY = (b"", b"giopdump: out of memory\n", 5)
+
+# Rows of giop_rows: one of a union in its own types, one of a reply by a request list, and two Requests in fragments.
+ROWS = (
+    "a union, a struct with an array, and a bounded sequence",
+    "results of the operation that the list has",
+    "two fragmented Requests, one inside the other",
+)
+
+
+def row(name: str) -> Tuple[str, str, bytes]:
+    """The signature file, the request list and the octets of a row of giop_rows."""
+    for rows in (TOP / "crates/giop_rows/stdin").read_text().split("\n=\n"):
+        files, *others = rows.split("\n\n")
+        for other in others:
+            if other.startswith(f"{name}\n"):
+                signatures, requests = files.split("requests\n") if "requests\n" in files else (files[:-8], "")
+                lines = other.partition("\nlines\n")[0].splitlines()[2:]
+                digits = "".join(line for line in lines if not line.startswith(("early ", "checkpoints ")))
+                return signatures, requests, bytes.fromhex(digits)
+    raise LookupError(name)
+
+
+def worked(folder: Path) -> List[Case]:
+    """The rows, whole and in two parts, with their files in this folder."""
+    made = []
+    for number, name in enumerate(ROWS):
+        signatures, requests, octets = row(name)
+        files = (folder / f"{number}.sig", folder / f"{number}.req")
+        for file, text in zip(files, (signatures, requests)):
+            file.write_text(text)
+        words = ("--signatures", str(files[0]), "--requests", str(files[1]))
+        front = octets[: 2 * len(octets) // 3]
+        kept = checkpoint_of(words, front)
+        made.append(Case(name, words, octets))
+        made.append(Case(f"{name}, its front", (*words, "--save", CHECKPOINT), front))
+        made.append(Case(f"{name}, its rest", (*words, "--resume", CHECKPOINT), octets[len(front) :], 0, kept))
+    return made
 
 
 def has_no_memory(case: Case, ended: Ended) -> bool:
@@ -19,6 +59,7 @@ def refuse_each(library: str, case: Case, seen: Differences) -> int:
     """How many requests the case makes."""
     usual = run(library, case)
     seen.note_usual(case, usual)
+    seen.note(usual.calls.get("late") == 0, f"{case.name}: a request behind the first read of standard input", usual)
     requests = usual.calls.get("memory", 0)
     for at in range(1, requests + 1):
         for last, which in ((at, "alone"), (2**63, "and all behind it")):
@@ -30,8 +71,9 @@ def refuse_each(library: str, case: Case, seen: Differences) -> int:
 
 def main(library: str) -> int:
     seen = Differences()
-    tried = cases() + [Case("help", ("--help",))]
-    requests = [refuse_each(library, case, seen) for case in tried]
+    with tempfile.TemporaryDirectory() as folder:
+        tried = cases() + worked(Path(folder)) + [Case("help", ("--help",))]
+        requests = [refuse_each(library, case, seen) for case in tried]
     made = ", ".join(f"{case.name} {made}" for case, made in zip(tried, requests))
     print(f"requests for memory: {made}")
     print(f"{2 * sum(requests)} runs in which they were refused, {seen.differ} differ")

@@ -16,8 +16,8 @@ use super::arguments::Arguments;
 use clap::Error;
 use clap::error::ErrorKind;
 use giop_run::{
-    Disk, Ending, Flush, Inputs, Lines, ProgramFault, Report, RunFault, Saves, catalogue, dump,
-    requests, resumed, status, unreadable,
+    Disk, Ending, Flush, Inputs, Lines, Patient, ProgramFault, Report, RunFault, Saves, catalogue,
+    dump, requests, resumed, status, unreadable,
 };
 use giop_sig::{Catalogue, Requests};
 use giop_stream::Engine;
@@ -52,7 +52,7 @@ pub fn program(rt: &HostRuntime) -> u8
 fn printed(rt: &HostRuntime, asked: Arguments) -> u8
     ensures { result ≤ 5 }
 {
-    let Ok(mut lines) = Lines::new(rt.alloc(), rt.stdout()) else {
+    let Ok(mut lines) = Lines::new(rt.alloc(), Patient::new(rt.stdout())) else {
         return told(rt, &Err(ProgramFault::OutOfMemory));
     };
     told(rt, &performed(rt, asked, &mut lines, &mut Disk::new(rt)))

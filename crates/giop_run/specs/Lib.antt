@@ -2,6 +2,7 @@ pub mod SourceLog
 pub mod Flushing
 pub mod Piecewise
 pub mod Reading
+pub mod Patience
 pub mod Buffered
 pub mod Running
 pub mod Turns

@@ -10,6 +10,7 @@ ghost use Rattle.giop_run.specs.Files.{signatures_most, IsFront, Declares, Reque
 
 use super::fault::ProgramFault;
 use super::inputs::Inputs;
+use super::patient::Patient;
 use super::source::one_more;
 use giop_sig::{Catalogue, ListFault, Requests, SigFault};
 use std::alloc::Global;
@@ -27,7 +28,7 @@ pub fn front<R: Read + Drop>(alloc: Global, reader: R, most: u64) -> io::Result<
     ensures { IfOk result (λ octets. IsFront most (R.remaining reader) octets.items) }
 {
     let mut octets = Vec::new(alloc);
-    let mut limited = reader.take(one_more(most));
+    let mut limited = Patient::new(reader).take(one_more(most));
     limited.read_to_end(&mut octets)?;
     Ok(octets)
 }

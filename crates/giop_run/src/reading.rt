@@ -10,8 +10,8 @@ use super::source::{Source, one_more};
 use std::io;
 use std::io::{ErrorKind, Read};
 
-/// How often a read is tried before it has failed: 2^16.
-const TRIES: u32 = 1 << 16;
+/// How often a read or a write is tried before it has failed: 2^16.
+pub(crate) const TRIES: u32 = 1 << 16;
 
 /// A reader, whose octets are told where the reader tells them.
 #[derive(Drop)]
@@ -62,7 +62,7 @@ impl<R: Read> Source for Reading<R> {
 }
 
 /// One read. It is tried again where it is interrupted, and gives up where it always is.
-fn retried<R: Read>(reader: &mut R, into: &mut [u8]) -> io::Result<usize>
+pub(crate) fn retried<R: Read>(reader: &mut R, into: &mut [u8]) -> io::Result<usize>
     ensures within { ReadsAtMost result into.new }
     ensures octets { ReadConsumes (R.remaining reader.old) (R.remaining reader.new)
         result into.new }

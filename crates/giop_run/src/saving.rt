@@ -3,6 +3,7 @@
 ghost use Rattle.std.specs.Prelude.{List, Option, None};
 ghost use Rattle.giop_run.specs.Saving.{Saved, SavesOne};
 
+use super::patient::Patient;
 use std::fs::{File, Permissions};
 use std::io::{ErrorKind, Write};
 use std::{fs, io};
@@ -42,7 +43,7 @@ impl Saves for Disk<'_> {
                 Some(found.permissions()),
             ),
             // A device or a pipe has no old octets, and keeps its name.
-            Ok(_) => fs::write(self.rt, name, octets),
+            Ok(_) => Patient::new(File::create(self.rt, name)?).write_all(octets),
             Err(_) => replaced(self.rt, name, octets, None),
         }
     }
@@ -84,11 +85,11 @@ fn written(
     octets: &[u8],
     permissions: Option<Permissions>,
 ) -> io::Result<()> {
-    let mut file = File::create_new(rt, name)?;
+    let file = File::create_new(rt, name)?;
     if let Some(permissions) = permissions {
         file.set_permissions(permissions)?;
     }
-    file.write_all(octets)?;
+    Patient::new(&file).write_all(octets)?;
     file.sync_all()
 }
 
