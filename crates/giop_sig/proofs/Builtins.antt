@@ -10,9 +10,10 @@ use Rattle.giop_cdr.specs.declared.prim.Primitive.TheVariants.{Octet}
 use Rattle.giop_sig.specs.declared.types.Selected.TheVariants as selecteds
 use Rattle.giop_sig.specs.declared.types.Fixed.{Fixed}
 use Rattle.giop_sig.specs.declared.types.Fixed.TheVariants as fixeds
+use Rattle.giop_sig.specs.declared.numbers.TheConstants.{REQUEST_1_2, BUILTIN_LEN}
 use Rattle.giop_sig.specs.Types.{depth}
 use Rattle.giop_sig.specs.Fits.{IsFit}
-use Rattle.giop_sig.specs.Table.{Node, Part, Case, Table, node_in, IsFormed, IsInner, IsPart, TakesOctet, IsScalarNode}
+use Rattle.giop_sig.specs.Table.{Node, Part, Case, Table, node_in, IsFormed, IsInner, IsPart, IsSwitch, TakesOctet, IsScalarNode}
 use Rattle.giop_sig.specs.Table as nodes
 use Rattle.giop_sig.specs.Trees.{grow, trees_after, type_in, tree, depth_of, AreTypes}
 use Rattle.giop_sig.specs.Builtin.{builtin_types}
@@ -41,6 +42,8 @@ takes_by (nodes.members (p ∷ ps)) e = tt
 takes_by (nodes.union switch cases otherwise) e = tt
 takes_by (nodes.sequence bound element) e = tt
 takes_by (nodes.array count element) e = tt
+takes_by (nodes.encapsulation held) e = tt
+takes_by (nodes.tagged special tag inner other) e = tt
 
 scalar_test : Node → Bool
 scalar_test (nodes.prim p) = true
@@ -57,6 +60,15 @@ scalar_by (nodes.members parts) e = absurd cc
 scalar_by (nodes.union switch cases otherwise) e = absurd cc
 scalar_by (nodes.sequence bound element) e = absurd cc
 scalar_by (nodes.array count element) e = absurd cc
+scalar_by (nodes.encapsulation held) e = absurd cc
+scalar_by (nodes.tagged special tag inner other) e = absurd cc
+
+switch_test : List Node → ℕ → ℕ → Bool
+switch_test types n i = ltb i n && scalar_test (node_in types i)
+
+switch_by : (types : List Node) (n i : ℕ) → switch_test types n i ≡ true → IsSwitch types n i
+unfolding switch_test
+switch_by types n i e = let k = both (ltb i n) (scalar_test (node_in types i)) e in record { below = ltb-true i n k.0; scalar = scalar_by (node_in types i) k.1 }
 
 inner_test : List Node → ℕ → ℕ → Bool
 inner_test types n i = ltb i n && takes_test (node_in types i)
@@ -106,10 +118,12 @@ node_test types n (nodes.enumeration names) = leb (length names) 1024 && names_t
 node_test types n (nodes.text bound) = true
 node_test types n (nodes.octets bound) = true
 node_test types n (nodes.members parts) = leb (length parts) 256 && parts_test types n parts
-node_test types n (nodes.union switch cases selecteds.Refused) = (ltb switch n && scalar_test (node_in types switch)) && (leb (length cases) 256 && cases_test types n cases)
+node_test types n (nodes.union switch cases selecteds.Refused) = switch_test types n switch && (leb (length cases) 256 && cases_test types n cases)
 node_test types n (nodes.union switch cases otherwise) = false
 node_test types n (nodes.sequence bound element) = inner_test types n element
 node_test types n (nodes.array count element) = ltb 0 count && inner_test types n element
+node_test types n (nodes.encapsulation held) = inner_test types n held
+node_test types n (nodes.tagged special tag inner other) = switch_test types n tag.type && parts_test types n (tag ∷ inner ∷ other ∷ [])
 
 node_by : (types : List Node) (n : ℕ) (node : Node) → node_test types n node ≡ true → IsFormed types n node
 unfolding node_test
@@ -119,14 +133,18 @@ node_by types n (nodes.text bound) e = tt
 node_by types n (nodes.octets bound) e = tt
 node_by types n (nodes.members parts) e = let k = both (leb (length parts) 256) (parts_test types n parts) e in (leb-true (length parts) 256 k.0, All-from_recursion (IsPart types n) parts (parts_by types n parts k.1))
 node_by types n (nodes.union switch cases selecteds.Refused) e =
-    let k = both (ltb switch n && scalar_test (node_in types switch)) (leb (length cases) 256 && cases_test types n cases) e in
-    let s = both (ltb switch n) (scalar_test (node_in types switch)) k.0 in
+    let k = both (switch_test types n switch) (leb (length cases) 256 && cases_test types n cases) e in
     let c = both (leb (length cases) 256) (cases_test types n cases) k.1 in
-    (record { below = ltb-true switch n s.0; scalar = scalar_by (node_in types switch) s.1 }, leb-true (length cases) 256 c.0, All-from_recursion (λ (x : Case). IsPart types n x.part) cases (cases_by types n cases c.1), tt)
+    (switch_by types n switch k.0, leb-true (length cases) 256 c.0, All-from_recursion (λ (x : Case). IsPart types n x.part) cases (cases_by types n cases c.1), tt)
 node_by types n (nodes.union switch cases (selecteds.Case i)) e = absurd cc
 node_by types n (nodes.union switch cases selecteds.Nothing) e = absurd cc
 node_by types n (nodes.sequence bound element) e = inner_by types n element e
 node_by types n (nodes.array count element) e = let k = both (ltb 0 count) (inner_test types n element) e in (ltb-true 0 count k.0, inner_by types n element k.1)
+node_by types n (nodes.encapsulation held) e = inner_by types n held e
+node_by types n (nodes.tagged special tag inner other) e =
+    let k = both (switch_test types n tag.type) (parts_test types n (tag ∷ inner ∷ other ∷ [])) e in
+    let p = parts_by types n (tag ∷ inner ∷ other ∷ []) k.1 in
+    (switch_by types n tag.type k.0, p.0, p.1.0, p.1.1.0)
 
 table_test : List Node → ℕ → List Node → Bool
 table_test types n [] = true
@@ -139,12 +157,12 @@ table_by types n (x ∷ xs) zero k e lt at = let b = both (node_test types n x) 
 table_by types n (x ∷ xs) (suc i) k e lt at = let b = both (node_test types n x) (table_test types (suc n) xs) e in table_by types (suc n) xs i k b.1 (omega arith) (omega arith)
 
 -- the deepest built-in type is the header of a 1.2 request
-pub builtin_depth : depth_of builtin_types ≡ 7
+pub builtin_depth : depth_of builtin_types ≡ 9
 unfolding depth_of trees_after depth builtin_types
 builtin_depth = refl
 
 builtin_test : table_test builtin_types 0 builtin_types ≡ true
-unfolding table_test node_test names_test cases_test parts_test part_test inner_test scalar_test takes_test builtin_types
+unfolding table_test node_test names_test cases_test parts_test part_test switch_test inner_test scalar_test takes_test builtin_types
 builtin_test = refl
 
 -- the built-in types are a table
@@ -166,26 +184,26 @@ all_take_by [] i e lt = absurd (omega arith)
 all_take_by (x ∷ xs) zero e lt = let k = both (takes_test x) (all_take_test xs) e in takes_by x k.0
 all_take_by (x ∷ xs) (suc i) e lt = let k = both (takes_test x) (all_take_test xs) e in all_take_by xs i k.1 (omega arith)
 
-builtin_takes : (i : ℕ) → i < 37 → TakesOctet (node_in builtin_types i)
+builtin_takes : (i : ℕ) → i < BUILTIN_LEN → TakesOctet (node_in builtin_types i)
 unfolding all_take_test takes_test builtin_types
 builtin_takes i lt = all_take_by builtin_types i refl lt
 
 -- ---- the table from its front
 
 -- the built-in types up to the next one
-pub next_builtin : (n : ℕ) → n < 37 → take (n + 1) builtin_types ≡ take n builtin_types ++ node_in builtin_types n ∷ []
+pub next_builtin : (n : ℕ) → n < BUILTIN_LEN → take (n + 1) builtin_types ≡ take n builtin_types ++ node_in builtin_types n ∷ []
 unfolding builtin_types
 next_builtin n lt = take_more builtin_types n (nodes.prim Octet) lt
 
 -- the next built-in type can be added
-pub builtin_formed : (n : ℕ) (types : List Node) (node : Node) → n < 37 → types ≡ take n builtin_types → node ≡ node_in builtin_types n → IsFormed types (length types) node
+pub builtin_formed : (n : ℕ) (types : List Node) (node : Node) → n < BUILTIN_LEN → types ≡ take n builtin_types → node ≡ node_in builtin_types n → IsFormed types (length types) node
 unfolding builtin_types
 builtin_formed n types node lt front is =
     let len : length types ≡ n = ap length front ∙ omega (arith, length-take n builtin_types) in
     let same : SameNodes builtin_types types n = λ i below. sym (ap (λ ts. node_in ts i) front ∙ get_or-take n builtin_types i (nodes.prim Octet) below) in
     subst (λ m. IsFormed types m node) (sym len) (formed_moved builtin_types types n node same (subst (IsFormed builtin_types n) (sym is) (builtin_are.formed n lt)))
 
-pub builtin_shallow : (n : ℕ) (types : List Node) (node : Node) → n < 37 → types ≡ take n builtin_types → node ≡ node_in builtin_types n → depth (grow (type_in types) node) ≤ 24
+pub builtin_shallow : (n : ℕ) (types : List Node) (node : Node) → n < BUILTIN_LEN → types ≡ take n builtin_types → node ≡ node_in builtin_types n → depth (grow (type_in types) node) ≤ 24
 unfolding builtin_types
 builtin_shallow n types node lt front is =
     let len : length types ≡ n = ap length front ∙ omega (arith, length-take n builtin_types) in
@@ -199,15 +217,15 @@ builtin_shallow n types node lt front is =
 
 -- ---- in every catalogue
 
-pub builtin_known : (t : Table) (i : ℕ) → IsTable t → i < 37 → i < length t.types
+pub builtin_known : (t : Table) (i : ℕ) → IsTable t → i < BUILTIN_LEN → i < length t.types
 unfolding builtin_types
 builtin_known t i laws lt = let b = laws.begins in omega (arith, ap length b.1, length-append builtin_types b.0)
 
-pub builtin_tree : (t : Table) (i : ℕ) → IsTable t → i < 37 → tree t i ≡ type_in builtin_types i
+pub builtin_tree : (t : Table) (i : ℕ) → IsTable t → i < BUILTIN_LEN → tree t i ≡ type_in builtin_types i
 unfolding builtin_types
 builtin_tree t i laws lt = let b = laws.begins in ap (λ types. type_in types i) b.1 ∙ tree_stays builtin_types b.0 i lt
 
-pub builtin_fit : (t : Table) (i : ℕ) → IsTable t → i < 37 → IsFit 24 (tree t i)
+pub builtin_fit : (t : Table) (i : ℕ) → IsTable t → i < BUILTIN_LEN → IsFit 24 (tree t i)
 unfolding builtin_types
 builtin_fit t i laws lt = subst (IsFit 24) (sym (builtin_tree t i laws lt)) (fit_at builtin_types i builtin_are lt (builtin_takes i lt))
 
@@ -215,7 +233,7 @@ builtin_fit t i laws lt = subst (IsFit 24) (sym (builtin_tree t i laws lt)) (fit
 
 cell_test : Option ℕ → Bool
 cell_test None = true
-cell_test (Some n) = ltb n 37
+cell_test (Some n) = ltb n BUILTIN_LEN
 
 row_test : List (Option ℕ) → Bool
 row_test [] = true
@@ -225,28 +243,28 @@ rows_test : List (List (Option ℕ)) → Bool
 rows_test [] = true
 rows_test (r ∷ rs) = row_test r && rows_test rs
 
-cell_by : (c : Option ℕ) → cell_test c ≡ true → IfSome c (λ n. n < 37)
+cell_by : (c : Option ℕ) → cell_test c ≡ true → IfSome c (λ n. n < BUILTIN_LEN)
 unfolding cell_test
 cell_by None e = tt
-cell_by (Some n) e = ltb-true n 37 e
+cell_by (Some n) e = ltb-true n BUILTIN_LEN e
 
-row_by : (cs : List (Option ℕ)) (i : ℕ) → row_test cs ≡ true → IfSome (cell_of (slice_get cs i)) (λ n. n < 37)
+row_by : (cs : List (Option ℕ)) (i : ℕ) → row_test cs ≡ true → IfSome (cell_of (slice_get cs i)) (λ n. n < BUILTIN_LEN)
 unfolding row_test
 row_by [] i e = tt
 row_by (c ∷ cs) zero e = let k = both (cell_test c) (row_test cs) e in cell_by c k.0
 row_by (c ∷ cs) (suc i) e = let k = both (cell_test c) (row_test cs) e in row_by cs i k.1
 
-rows_by : (rs : List (List (Option ℕ))) (i minor : ℕ) → rows_test rs ≡ true → IfSome (cell_in (slice_get rs i) minor) (λ n. n < 37)
+rows_by : (rs : List (List (Option ℕ))) (i minor : ℕ) → rows_test rs ≡ true → IfSome (cell_in (slice_get rs i) minor) (λ n. n < BUILTIN_LEN)
 unfolding rows_test
 rows_by [] i minor e = tt
 rows_by (r ∷ rs) zero minor e = let k = both (row_test r) (rows_test rs) e in row_by r minor k.0
 rows_by (r ∷ rs) (suc i) minor e = let k = both (row_test r) (rows_test rs) e in rows_by rs i minor k.1
 
-pub header_built_in : (minor kind : ℕ) → IfSome (header_number minor kind) (λ n. n < 37)
+pub header_built_in : (minor kind : ℕ) → IfSome (header_number minor kind) (λ n. n < BUILTIN_LEN)
 unfolding rows_test row_test cell_test
 header_built_in minor kind = rows_by header_rows kind minor refl
 
-pub header_tree : (t : Table) (o : Option ℕ) → IsTable t → IfSome o (λ n. n < 37) → option_map (tree t) o ≡ option_map (type_in builtin_types) o
+pub header_tree : (t : Table) (o : Option ℕ) → IsTable t → IfSome o (λ n. n < BUILTIN_LEN) → option_map (tree t) o ≡ option_map (type_in builtin_types) o
 unfolding builtin_types
 header_tree t None laws lt = refl
 header_tree t (Some n) laws lt = ap Some (builtin_tree t n laws lt)
@@ -256,11 +274,11 @@ pub some_numbered : {X Y : Type 0} (P : Y → Type 0) (f : X → Y) (r : Option 
 some_numbered P f None o e h = tt
 some_numbered P f (Some x) o e h = subst (λ o. IfSome o P) (sym e) h
 
-pub some_known : (t : Table) (o : Option ℕ) → IsTable t → IfSome o (λ n. n < 37) → IfSome o (λ n. n < length t.types)
+pub some_known : (t : Table) (o : Option ℕ) → IsTable t → IfSome o (λ n. n < BUILTIN_LEN) → IfSome o (λ n. n < length t.types)
 some_known t None laws lt = tt
 some_known t (Some n) laws lt = builtin_known t n laws lt
 
-pub some_fit : (t : Table) (o : Option ℕ) → IsTable t → IfSome o (λ n. n < 37) → IfSome o (λ n. IsFit 24 (tree t n))
+pub some_fit : (t : Table) (o : Option ℕ) → IsTable t → IfSome o (λ n. n < BUILTIN_LEN) → IfSome o (λ n. IsFit 24 (tree t n))
 some_fit t None laws lt = tt
 some_fit t (Some n) laws lt = builtin_fit t n laws lt
 
@@ -274,13 +292,13 @@ pub header_found : {X : Type 0} (t : Table) (f : X → ℕ) (r : Option X) (mino
 header_found t f r minor kind laws e = map_twice f (tree t) r ∙ ap (option_map (tree t)) e ∙ header_tree t (header_number minor kind) laws (header_built_in minor kind)
 
 -- no catalogue is less deep than its built-in types
-pub least_depth : (t : Table) → IsTable t → 7 ≤ depth_of t.types
+pub least_depth : (t : Table) → IsTable t → 9 ≤ depth_of t.types
 unfolding type_in trees_after depth builtin_types
 least_depth t laws =
-    let request : depth (type_in builtin_types 29) ≡ 7 = refl in
-    omega (arith, request, ap depth (builtin_tree t 29 laws (lit< tt)), depth_within t.types 29 (builtin_known t 29 laws (lit< tt)))
+    let request : depth (type_in builtin_types REQUEST_1_2) ≡ 9 = refl in
+    omega (arith, request, ap depth (builtin_tree t REQUEST_1_2 laws (lit< tt)), depth_within t.types REQUEST_1_2 (builtin_known t REQUEST_1_2 laws (lit< tt)))
 
-pub fixed_built_in : (f : Fixed) → fixed_number f < 37
+pub fixed_built_in : (f : Fixed) → fixed_number f < BUILTIN_LEN
 fixed_built_in fixeds.ExceptionId = lit< tt
 fixed_built_in fixeds.SystemException = lit< tt
 fixed_built_in fixeds.Forward = lit< tt

@@ -19,6 +19,8 @@ depth_by (shapes.Members count) f = 1 + most count f
 depth_by (shapes.Union count) f = 1 + max 1 (most count f)
 depth_by (shapes.Sequence bound) f = 1 + f 0
 depth_by (shapes.Array count) f = 1 + f 0
+depth_by shapes.Encapsulation f = 1 + f 0
+depth_by shapes.Tagged f = 1 + max 1 (most 3 f)
 depth_by s f = 1
 
 pub depth_grown : (tree : ℕ → Ty) (node : Node) → depth (grow tree node) ≡ depth_by (shape_of node) (λ i. depth (tree (type_of (part_at node i))))
@@ -31,6 +33,8 @@ depth_grown tree (nodes.members parts) = ap (λ n. 1 + n) (most_same (length par
 depth_grown tree (nodes.union switch cases otherwise) = ap (λ n. 1 + max 1 n) (most_same (length cases) _ _ (λ i lt. ap depth (sym (part_grown tree (nodes.union switch cases otherwise) i lt))))
 depth_grown tree (nodes.sequence bound element) = refl
 depth_grown tree (nodes.array count element) = refl
+depth_grown tree (nodes.encapsulation held) = refl
+depth_grown tree (nodes.tagged special tag inner other) = ap (λ n. 1 + max 1 n) (most_same 3 _ _ (λ i lt. ap depth (sym (part_grown tree (nodes.tagged special tag inner other) i lt))))
 
 -- the depth of a node's tree, at its shape
 pub depth_at_shape : (types : List Node) (node : Node) (s : Shape) → s ≡ shape_of node → depth (grow (type_in types) node) ≡ depth_by s (part_depth types node)

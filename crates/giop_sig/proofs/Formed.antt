@@ -11,12 +11,19 @@ use Rattle.giop_sig.specs.Types.{HasPlace, HasMember, IsUnion}
 use Rattle.giop_sig.specs.Table.{Node, Part, Case, node_in, part_at, type_of, name_of, name_at, switch_at, shape_of, case_part, IsFormed, IsPart, IsInner, IsSwitch, TakesOctet, IsScalarNode}
 use Rattle.giop_sig.specs.Table as nodes
 use Rattle.giop_sig.specs.Views.{node_view, part_view, case_view, IsSized}
-use Rattle.giop_sig.proofs.TreeLaws.{OnPart, part_read, case_read}
+use Rattle.giop_sig.proofs.TreeLaws.{OnPart, case_read}
 use Rattle.giop_sig.proofs.Nodes.{part_there}
 
 on_some : (P : Part → Type 0) (o : Option Part) (p : Part) → o ≡ Some p → OnPart P o → P p
 on_some P None p e h = absurd cc
 on_some P (Some q) p e h = let same : q ≡ p = cc in subst P same h
+
+-- the part that is read in a place
+part_in : (types : List Node) (n : ℕ) (ps : List Part) (i : ℕ) → AllByRecursion (IsPart types n) ps → i < length ps
+    → IsPart types n (record { name = name_of (slice_get ps i); type = type_of (slice_get ps i) })
+part_in types n [] i all lt = absurd (omega arith)
+part_in types n (p ∷ ps) zero all lt = record { inner = all.0.inner; short = all.0.short }
+part_in types n (p ∷ ps) (suc i) all lt = part_in types n ps i all.1 (omega arith)
 
 -- the part in a place is one that the whole can have
 pub part_formed : (types : List Node) (n : ℕ) (node : Node) (i : ℕ) → IsFormed types n node → HasPlace (shape_of node) i → IsInner types n (type_of (part_at node i))
@@ -24,16 +31,15 @@ part_formed types n (nodes.prim p) i formed has = absurd has
 part_formed types n (nodes.enumeration names) i formed has = absurd has
 part_formed types n (nodes.text bound) i formed has = absurd has
 part_formed types n (nodes.octets bound) i formed has = absurd has
-part_formed types n (nodes.members parts) i formed has =
-    let there = part_there (nodes.members parts) i has in
-    let is = on_some (IsPart types n) (slice_get parts i) there.0 there.1 (part_read (IsPart types n) parts i (recursion_from_All (IsPart types n) parts formed.1)) in
-    subst (λ o. IsInner types n (type_of o)) (sym there.1) is.inner
+part_formed types n (nodes.members parts) i formed has = (part_in types n parts i (recursion_from_All (IsPart types n) parts formed.1) has).inner
 part_formed types n (nodes.union switch cases otherwise) i formed has =
     let there = part_there (nodes.union switch cases otherwise) i has in
     let is = on_some (IsPart types n) (case_part (slice_get cases i)) there.0 there.1 (case_read (IsPart types n) cases i (recursion_from_All (λ (c : Case). IsPart types n c.part) cases formed.2)) in
     subst (λ o. IsInner types n (type_of o)) (sym there.1) is.inner
 part_formed types n (nodes.sequence bound element) i formed has = formed
 part_formed types n (nodes.array count element) i formed has = formed.1
+part_formed types n (nodes.encapsulation held) i formed has = formed
+part_formed types n (nodes.tagged special tag inner other) i formed has = (part_in types n (tag ∷ inner ∷ other ∷ []) i (formed.1, (formed.2, (formed.3, tt))) has).inner
 
 -- the names of parts are short
 pub name_short : (types : List Node) (n : ℕ) (node : Node) (i : ℕ) → IsFormed types n node → HasMember (shape_of node) i → length (name_of (part_at node i)) ≤ 64
@@ -41,16 +47,15 @@ name_short types n (nodes.prim p) i formed has = absurd has
 name_short types n (nodes.enumeration names) i formed has = absurd has
 name_short types n (nodes.text bound) i formed has = absurd has
 name_short types n (nodes.octets bound) i formed has = absurd has
-name_short types n (nodes.members parts) i formed has =
-    let there = part_there (nodes.members parts) i has in
-    let is = on_some (IsPart types n) (slice_get parts i) there.0 there.1 (part_read (IsPart types n) parts i (recursion_from_All (IsPart types n) parts formed.1)) in
-    subst (λ o. length (name_of o) ≤ 64) (sym there.1) is.short
+name_short types n (nodes.members parts) i formed has = (part_in types n parts i (recursion_from_All (IsPart types n) parts formed.1) has).short
 name_short types n (nodes.union switch cases otherwise) i formed has =
     let there = part_there (nodes.union switch cases otherwise) i has in
     let is = on_some (IsPart types n) (case_part (slice_get cases i)) there.0 there.1 (case_read (IsPart types n) cases i (recursion_from_All (λ (c : Case). IsPart types n c.part) cases formed.2)) in
     subst (λ o. length (name_of o) ≤ 64) (sym there.1) is.short
 name_short types n (nodes.sequence bound element) i formed has = absurd has
 name_short types n (nodes.array count element) i formed has = absurd has
+name_short types n (nodes.encapsulation held) i formed has = absurd has
+name_short types n (nodes.tagged special tag inner other) i formed has = (part_in types n (tag ∷ inner ∷ other ∷ []) i (formed.1, (formed.2, (formed.3, tt))) has).short
 
 pub switch_formed : (types : List Node) (n : ℕ) (node : Node) → IsFormed types n node → IsUnion (shape_of node) → IsSwitch types n (switch_at node)
 switch_formed types n (nodes.prim p) formed is = absurd is
@@ -61,6 +66,8 @@ switch_formed types n (nodes.members parts) formed is = absurd is
 switch_formed types n (nodes.union switch cases otherwise) formed is = formed.0
 switch_formed types n (nodes.sequence bound element) formed is = absurd is
 switch_formed types n (nodes.array count element) formed is = absurd is
+switch_formed types n (nodes.encapsulation held) formed is = absurd is
+switch_formed types n (nodes.tagged special tag inner other) formed is = formed.0
 
 -- the names of an enum are short
 names_short : (names : List (List ℕ)) (n : ℕ) → AllByRecursion (λ name. length name ≤ 64) names → IfSome (slice_get names n) (λ name. length name ≤ 64)
@@ -77,6 +84,8 @@ enum_name_short types i (nodes.members parts) n formed = tt
 enum_name_short types i (nodes.union switch cases otherwise) n formed = tt
 enum_name_short types i (nodes.sequence bound element) n formed = tt
 enum_name_short types i (nodes.array count element) n formed = tt
+enum_name_short types i (nodes.encapsulation held) n formed = tt
+enum_name_short types i (nodes.tagged special tag inner other) n formed = tt
 
 -- an entry that is formed can be counted
 pub sized : (types : List Node) (n : ℕ) (e : Entry) → IsFormed types n (node_view e) → IsSized e
@@ -88,6 +97,8 @@ sized types n (entries.Members parts) formed = omega (arith, formed.0, length-ma
 sized types n (entries.Union switch cases otherwise) formed = omega (arith, formed.1, length-map cases.items case_view)
 sized types n (entries.Sequence bound element) formed = tt
 sized types n (entries.Array count element) formed = tt
+sized types n (entries.Encapsulation held) formed = tt
+sized types n (entries.Tagged t) formed = tt
 
 -- ---- two tables that agree below a number
 
@@ -100,6 +111,9 @@ inner_moved types others n i same is = record { below = is.below; takes = subst 
 part_moved : (types others : List Node) (n : ℕ) (p : Part) → SameNodes types others n → IsPart types n p → IsPart others n p
 part_moved types others n p same is = record { inner = inner_moved types others n p.type same is.inner; short = is.short }
 
+switch_moved : (types others : List Node) (n i : ℕ) → SameNodes types others n → IsSwitch types n i → IsSwitch others n i
+switch_moved types others n i same is = record { below = is.below; scalar = subst IsScalarNode (same i is.below) is.scalar }
+
 -- what can stand at a number depends on the nodes below it alone
 pub formed_moved : (types others : List Node) (n : ℕ) (node : Node) → SameNodes types others n → IsFormed types n node → IsFormed others n node
 formed_moved types others n (nodes.prim p) same formed = tt
@@ -108,13 +122,20 @@ formed_moved types others n (nodes.text bound) same formed = tt
 formed_moved types others n (nodes.octets bound) same formed = tt
 formed_moved types others n (nodes.members parts) same formed = (formed.0, λ k d lt. part_moved types others n (get_or parts k d) same (formed.1 k d lt))
 formed_moved types others n (nodes.union switch cases otherwise) same formed = (
-  record { below = formed.0.below; scalar = subst IsScalarNode (same switch formed.0.below) formed.0.scalar },
+  switch_moved types others n switch same formed.0,
   formed.1,
   λ k d lt. part_moved types others n (get_or cases k d).part same (formed.2 k d lt),
   formed.3,
 )
 formed_moved types others n (nodes.sequence bound element) same formed = inner_moved types others n element same formed
 formed_moved types others n (nodes.array count element) same formed = (formed.0, inner_moved types others n element same formed.1)
+formed_moved types others n (nodes.encapsulation held) same formed = inner_moved types others n held same formed
+formed_moved types others n (nodes.tagged special tag inner other) same formed = (
+  switch_moved types others n tag.type same formed.0,
+  part_moved types others n tag same formed.1,
+  part_moved types others n inner same formed.2,
+  part_moved types others n other same formed.3,
+)
 
 -- what can stand at a number can still stand there once types are added behind
 pub formed_stays : (types more : List Node) (n : ℕ) (node : Node) → n ≤ length types → IsFormed types n node → IsFormed (types ++ more) n node

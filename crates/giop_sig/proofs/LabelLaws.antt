@@ -193,6 +193,8 @@ values_again (nodes.members parts) v w n above also e f = absurd cc
 values_again (nodes.union switch cases otherwise) v w n above also e f = absurd cc
 values_again (nodes.sequence bound element) v w n above also e f = absurd cc
 values_again (nodes.array count element) v w n above also e f = absurd cc
+values_again (nodes.encapsulation held) v w n above also e f = absurd cc
+values_again (nodes.tagged special tag inner other) v w n above also e f = absurd cc
 
 -- ---- labels and what is kept of them
 

@@ -17,6 +17,8 @@ shape_grown tree (nodes.members parts) = refl
 shape_grown tree (nodes.union switch cases otherwise) = refl
 shape_grown tree (nodes.sequence bound element) = refl
 shape_grown tree (nodes.array count element) = refl
+shape_grown tree (nodes.encapsulation held) = refl
+shape_grown tree (nodes.tagged special tag inner other) = refl
 
 pub has_shape : (T : Ty) → HasShape T (shape_in T)
 has_shape (Single (Plain p)) = refl
@@ -50,6 +52,8 @@ part_there (nodes.members parts) i has = read_below parts i has
 part_there (nodes.union switch cases otherwise) i has = case_below cases i has
 part_there (nodes.sequence bound element) i has = (nodes.element_part element, refl)
 part_there (nodes.array count element) i has = (nodes.element_part element, refl)
+part_there (nodes.encapsulation held) i has = (nodes.element_part held, refl)
+part_there (nodes.tagged special tag inner other) i has = read_below (tag ∷ inner ∷ other ∷ []) i has
 
 pub part_grown : (tree : ℕ → Ty) (node : Node) (i : ℕ) → HasPlace (shape_of node) i → tree (type_of (part_at node i)) ≡ part_of (grow tree node) i
 part_grown tree (nodes.prim p) i has = absurd has
@@ -60,6 +64,8 @@ part_grown tree (nodes.members parts) i has = let p = read_below parts i has in 
 part_grown tree (nodes.union switch cases otherwise) i has = let p = case_below cases i has in rw (p.1) refl
 part_grown tree (nodes.sequence bound element) i has = refl
 part_grown tree (nodes.array count element) i has = refl
+part_grown tree (nodes.encapsulation held) i has = refl
+part_grown tree (nodes.tagged special tag inner other) i has = let p = read_below (tag ∷ inner ∷ other ∷ []) i has in rw (p.1) refl
 
 pub name_grown : (tree : ℕ → Ty) (node : Node) (i : ℕ) → HasMember (shape_of node) i → name_of (part_at node i) ≡ name_in (grow tree node) i
 name_grown tree (nodes.prim p) i has = absurd has
@@ -70,6 +76,8 @@ name_grown tree (nodes.members parts) i has = refl
 name_grown tree (nodes.union switch cases otherwise) i has = refl
 name_grown tree (nodes.sequence bound element) i has = absurd has
 name_grown tree (nodes.array count element) i has = absurd has
+name_grown tree (nodes.encapsulation held) i has = absurd has
+name_grown tree (nodes.tagged special tag inner other) i has = refl
 
 ltb_suc_by : (v : Bool) (a b : ℕ) → nat_lt a b ≡ v → nat_lt (suc a) (suc b) ≡ v
 ltb_suc_by true a b e = lt-ltb (suc a) (suc b) (let h = ltb-true a b e in omega arith)
@@ -89,6 +97,8 @@ enum_name_grown tree (nodes.members parts) n = refl
 enum_name_grown tree (nodes.union switch cases otherwise) n = refl
 enum_name_grown tree (nodes.sequence bound element) n = refl
 enum_name_grown tree (nodes.array count element) n = refl
+enum_name_grown tree (nodes.encapsulation held) n = refl
+enum_name_grown tree (nodes.tagged special tag inner other) n = refl
 
 -- a value that the octets spell selects as their whole number does
 pub select_grown : (tree : ℕ → Ty) (node : Node) (number : Number) (n : ℕ) → taken_in (switch_of (grow tree node)) n ≡ Some number → selected node number ≡ select_in (grow tree node) n
@@ -100,3 +110,5 @@ select_grown tree (nodes.members parts) number n e = refl
 select_grown tree (nodes.union switch cases otherwise) number n e = ap (selected_by (selected (nodes.union switch cases otherwise))) (sym e)
 select_grown tree (nodes.sequence bound element) number n e = refl
 select_grown tree (nodes.array count element) number n e = refl
+select_grown tree (nodes.encapsulation held) number n e = refl
+select_grown tree (nodes.tagged special tag inner other) number n e = ap (selected_by (selected (nodes.tagged special tag inner other))) (sym e)

@@ -1,12 +1,13 @@
 -- Types of a table take some octet, but for the empty struct, and a reader has room for them.
-use Rattle.std.proofs.Common.{◌≡◌, ℕ, zero, suc, ◌<◌, ◌≤◌, max, List, [], ◌∷◌, length, Option, Some, None, refl, sym, ap, subst, ◌∙◌, ◌⊎◌, inl, inr, arith}
+use Rattle.std.proofs.Common.{◌≡◌, ℕ, zero, suc, ◌<◌, ◌≤◌, max, Bool, true, false, cond, List, [], ◌∷◌, length, Option, Some, None, refl, sym, ap, subst, ◌∙◌, ◌⊎◌, inl, inr, arith}
 use Rattle.std.specs.List.{list_any}
 use Rattle.std.proofs.lemmas.List.Quantifiers.{position-Some}
 use Rattle.std.proofs.lemmas.Bool.{cases_lt}
 use Rattle.giop_cdr.specs.declared.number.Number.{Number}
+use Rattle.giop_cdr.specs.declared.number.Number.TheVariants as numbers
 use Rattle.giop_sig.specs.declared.types.Selected.{Selected}
 use Rattle.giop_sig.specs.declared.types.Selected.TheVariants as selecteds
-use Rattle.giop_sig.specs.Types.{places_of, taken_by, Ty, Single, Text, Octets, Struct, Union, Sequence, Array, depth, most, HasMember, Encapsulation}
+use Rattle.giop_sig.specs.Types.{places_of, taken_by, Ty, Single, Text, Octets, Struct, Union, Sequence, Array, depth, most, HasMember, HasPlace, part_of, Encapsulation}
 use Rattle.giop_sig.specs.Fits.{IsSolid, IsFit, IsEmptyStruct, IsRoot}
 use Rattle.giop_sig.specs.Table.{Node, Part, Case, node_in, shape_of, part_at, type_of, selected, case_with, case_or, same_number, no_case, IsFormed, IsInner, IsCaseBelow, TakesOctet}
 use Rattle.giop_sig.specs.Table as nodes
@@ -22,6 +23,10 @@ case_of_below : (count : ℕ) (found : Option ℕ) (otherwise : Selected) (i : �
 case_of_below count (Some k) otherwise i found below e = let same : k ≡ i = cc in let lt = found k refl in omega arith
 case_of_below count None otherwise i found below e = subst (IsCaseBelow count) e below
 
+tag_below : (v : Bool) (i : ℕ) → cond v (selecteds.Case 1) (selecteds.Case 2) ≡ selecteds.Case i → i < 3
+tag_below true i e = let same : 1 ≡ i = cc in omega arith
+tag_below false i e = let same : 2 ≡ i = cc in omega arith
+
 pub selected_below : (types : List Node) (n : ℕ) (node : Node) (number : Number) (i : ℕ) → IsFormed types n node → selected node number ≡ selecteds.Case i → HasMember (shape_of node) i
 selected_below types n (nodes.prim p) number i formed e = absurd cc
 selected_below types n (nodes.enumeration names) number i formed e = absurd cc
@@ -32,32 +37,44 @@ selected_below types n (nodes.union switch cases otherwise) number i formed e =
     case_of_below (length cases) (case_with number cases) otherwise i (λ k at. (position-Some (λ c. list_any (λ label. same_number label number) c.labels) cases k no_case at).0) formed.3 e
 selected_below types n (nodes.sequence bound element) number i formed e = absurd cc
 selected_below types n (nodes.array count element) number i formed e = absurd cc
+selected_below types n (nodes.encapsulation held) number i formed e = absurd cc
+selected_below types n (nodes.tagged special tag inner other) number i formed e = tag_below (same_number (numbers.Unsigned special) number) i e
 
-taken_below : (types : List Node) (n switch : ℕ) (cases : List Case) (otherwise : Selected) (o : Option Number) (i : ℕ) → IsFormed types n (nodes.union switch cases otherwise)
-    → selected_by (selected (nodes.union switch cases otherwise)) o ≡ selecteds.Case i → i < length cases
-taken_below types n switch cases otherwise None i formed e = absurd cc
-taken_below types n switch cases otherwise (Some number) i formed e = selected_below types n (nodes.union switch cases otherwise) number i formed e
+taken_below : (types : List Node) (n : ℕ) (node : Node) (o : Option Number) (i : ℕ) → IsFormed types n node → selected_by (selected node) o ≡ selecteds.Case i → HasMember (shape_of node) i
+taken_below types n node None i formed e = absurd cc
+taken_below types n node (Some number) i formed e = selected_below types n node number i formed e
 
 -- ---- solid types
 
 some_part : (p : Part) (ps : List Part) → 0 < length (p ∷ ps)
 some_part p ps = omega arith
 
-grown_solid : (types : List Node) (n : ℕ) (node : Node) → IsFormed types n node → TakesOctet node → ((i : ℕ) → IsInner types n i → IsSolid (type_in types i)) → IsSolid (grow (type_in types) node)
+-- each type that stands in another is solid
+abbrev InnerSolid : List Node → ℕ → Type 0
+InnerSolid types n = (i : ℕ) → IsInner types n i → IsSolid (type_in types i)
+
+part_solid : (types : List Node) (n : ℕ) (node : Node) (i : ℕ) → IsFormed types n node → InnerSolid types n → HasPlace (shape_of node) i → IsSolid (part_of (grow (type_in types) node) i)
+part_solid types n node i formed inner has = subst IsSolid (part_grown (type_in types) node i has) (inner (type_of (part_at node i)) (part_formed types n node i formed has))
+
+grown_solid : (types : List Node) (n : ℕ) (node : Node) → IsFormed types n node → TakesOctet node → InnerSolid types n → IsSolid (grow (type_in types) node)
 unfolding IsSolid
 grown_solid types n (nodes.prim p) formed takes inner = tt
 grown_solid types n (nodes.enumeration names) formed takes inner = tt
 grown_solid types n (nodes.text bound) formed takes inner = tt
 grown_solid types n (nodes.octets bound) formed takes inner = tt
 grown_solid types n (nodes.members []) formed takes inner = absurd takes
-grown_solid types n (nodes.members (p ∷ ps)) formed takes inner =
-    (some_part p ps, λ i lt. subst IsSolid (part_grown (type_in types) (nodes.members (p ∷ ps)) i lt) (inner (type_of (part_at (nodes.members (p ∷ ps)) i)) (part_formed types n (nodes.members (p ∷ ps)) i formed lt)))
+grown_solid types n (nodes.members (p ∷ ps)) formed takes inner = (some_part p ps, λ i lt. part_solid types n (nodes.members (p ∷ ps)) i formed inner lt)
 grown_solid types n (nodes.union switch cases otherwise) formed takes inner = (
-  λ k i e. taken_below types n switch cases otherwise (taken_by (scalar_of (type_in types switch)) k) i formed e,
-  λ i lt. subst IsSolid (part_grown (type_in types) (nodes.union switch cases otherwise) i lt) (inner (type_of (part_at (nodes.union switch cases otherwise) i)) (part_formed types n (nodes.union switch cases otherwise) i formed lt)),
+  λ k i e. taken_below types n (nodes.union switch cases otherwise) (taken_by (scalar_of (type_in types switch)) k) i formed e,
+  λ i lt. part_solid types n (nodes.union switch cases otherwise) i formed inner lt,
 )
 grown_solid types n (nodes.sequence bound element) formed takes inner = inner element formed
 grown_solid types n (nodes.array count element) formed takes inner = (formed.0, inner element formed.1)
+grown_solid types n (nodes.encapsulation held) formed takes inner = inner held formed
+grown_solid types n (nodes.tagged special tag one other) formed takes inner = (
+  λ k i e. taken_below types n (nodes.tagged special tag one other) (taken_by (scalar_of (type_in types tag.type)) k) i formed e,
+  λ i lt. part_solid types n (nodes.tagged special tag one other) i formed inner lt,
+)
 
 solid_below : (types : List Node) (fuel i : ℕ) → AreTypes types → i < fuel → i < length types → TakesOctet (node_in types i) → IsSolid (type_in types i)
 solid_below types zero i are lt known takes = absurd (omega arith)
@@ -112,6 +129,8 @@ takes_or_empty (nodes.members (p ∷ ps)) = inl tt
 takes_or_empty (nodes.union switch cases otherwise) = inl tt
 takes_or_empty (nodes.sequence bound element) = inl tt
 takes_or_empty (nodes.array count element) = inl tt
+takes_or_empty (nodes.encapsulation held) = inl tt
+takes_or_empty (nodes.tagged special tag inner other) = inl tt
 
 -- each type of a table can stand at the root of a message
 pub root_at : (types : List Node) (i : ℕ) → AreTypes types → i < length types → IsRoot (type_in types i)

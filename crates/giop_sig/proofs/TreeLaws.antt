@@ -7,10 +7,10 @@ use Rattle.std.proofs.lemmas.List.{length-append, get_or_append_left}
 use Rattle.std.proofs.Math.Seq.{get_or-append_seam}
 use Rattle.std.proofs.lemmas.List.Elements.{recursion_from_All}
 use Rattle.giop_cdr.specs.declared.prim.Primitive.TheVariants.{Octet}
-use Rattle.giop_sig.specs.Types.{Cases, Ty, Single, Struct, Union, Sequence, Array, taken_by, switch_of, IsUnion}
-use Rattle.giop_sig.specs.Table.{Node, Part, Case, node_in, shape_of, switch_at, IsFormed, IsPart, IsScalarNode, case_part, name_of, selected}
+use Rattle.giop_sig.specs.Types.{Choice, Cases, Tag, Ty, Single, Struct, Union, Sequence, Array, Encapsulation, taken_by, switch_of, IsUnion}
+use Rattle.giop_sig.specs.Table.{Node, Part, Case, node_in, shape_of, part_at, switch_at, IsFormed, IsPart, IsScalarNode, case_part, name_of, selected}
 use Rattle.giop_sig.specs.Table as nodes
-use Rattle.giop_sig.specs.Trees.{grow, grown_part, octet_type, scalar_of, selected_by, tree_in, trees_after, trees_of, type_in, AreTypes}
+use Rattle.giop_sig.specs.Trees.{grow, grown_part, grown_union, octet_type, scalar_of, selected_by, tree_in, trees_after, trees_of, type_in, AreTypes}
 
 abbrev SameBelow : ℕ → (ℕ → Ty) → (ℕ → Ty) → Type 0
 SameBelow n f g = (i : ℕ) → i < n → f i ≡ g i
@@ -34,6 +34,13 @@ part_same : (types : List Node) (n : ℕ) (f g : ℕ → Ty) (o : Option Part) �
 part_same types n f g None same h = refl
 part_same types n f g (Some p) same h = same p.type h.inner.below
 
+union_same : (types : List Node) (n : ℕ) (f g : ℕ → Ty) (choice : Choice) (node : Node) → SameBelow n f g → f (switch_at node) ≡ g (switch_at node)
+    → ((i : ℕ) → OnPart (IsPart types n) (part_at node i)) → grown_union f choice node ≡ grown_union g choice node
+union_same types n f g choice node same switch parts =
+    ap (λ (T : Ty). Union choice (scalar_of T) (λ n. selected_by (selected node) (taken_by (scalar_of T) n)) (λ i. name_of (part_at node i)) (λ i. grown_part f (part_at node i))) switch
+    ∙ ap (Union choice (scalar_of (g (switch_at node))) (λ n. selected_by (selected node) (taken_by (scalar_of (g (switch_at node))) n)) (λ i. name_of (part_at node i)))
+    (fun_ext (λ i. part_same types n f g (part_at node i) same (parts i)))
+
 grow_same : (types : List Node) (n : ℕ) (f g : ℕ → Ty) (node : Node) → SameBelow n f g → IsFormed types n node → grow f node ≡ grow g node
 grow_same types n f g (nodes.prim p) same formed = refl
 grow_same types n f g (nodes.enumeration names) same formed = refl
@@ -43,13 +50,14 @@ grow_same types n f g (nodes.members parts) same formed =
     ap (Struct (length parts) (λ i. name_of (slice_get parts i)))
     (fun_ext (λ i. part_same types n f g (slice_get parts i) same (part_read (IsPart types n) parts i (recursion_from_All (IsPart types n) parts formed.1))))
 grow_same types n f g (nodes.union switch cases otherwise) same formed =
-    ap (λ (T : Ty). Union (Cases (length cases)) (scalar_of T) (λ n. selected_by (selected (nodes.union switch cases otherwise)) (taken_by (scalar_of T) n))
-    (λ i. name_of (case_part (slice_get cases i))) (λ i. grown_part f (case_part (slice_get cases i)))) (same switch formed.0.below)
-    ∙ ap (Union (Cases (length cases)) (scalar_of (g switch)) (λ n. selected_by (selected (nodes.union switch cases otherwise)) (taken_by (scalar_of (g switch)) n))
-    (λ i. name_of (case_part (slice_get cases i))))
-    (fun_ext (λ i. part_same types n f g (case_part (slice_get cases i)) same (case_read (IsPart types n) cases i (recursion_from_All (λ (c : Case). IsPart types n c.part) cases formed.2))))
+    union_same types n f g (Cases (length cases)) (nodes.union switch cases otherwise) same (same switch formed.0.below)
+    (λ i. case_read (IsPart types n) cases i (recursion_from_All (λ (c : Case). IsPart types n c.part) cases formed.2))
 grow_same types n f g (nodes.sequence bound element) same formed = ap (Sequence bound) (same element formed.below)
 grow_same types n f g (nodes.array count element) same formed = ap (Array count) (same element formed.1.below)
+grow_same types n f g (nodes.encapsulation held) same formed = ap Encapsulation (same held formed.below)
+grow_same types n f g (nodes.tagged special tag inner other) same formed =
+    union_same types n f g Tag (nodes.tagged special tag inner other) same (same tag.type formed.0.below)
+    (λ i. part_read (IsPart types n) (tag ∷ inner ∷ other ∷ []) i (formed.1, (formed.2, (formed.3, tt))))
 
 -- what is done stays
 kept : (done : List Ty) (ns : List Node) (i : ℕ) → i < length done → tree_in (trees_after done ns) i ≡ tree_in done i
@@ -91,6 +99,8 @@ single_of f (nodes.members parts) is = absurd is
 single_of f (nodes.union switch cases otherwise) is = absurd is
 single_of f (nodes.sequence bound element) is = absurd is
 single_of f (nodes.array count element) is = absurd is
+single_of f (nodes.encapsulation held) is = absurd is
+single_of f (nodes.tagged special tag inner other) is = absurd is
 
 -- the type of one number that a union's discriminator has
 pub single_at : (types : List Node) (i : ℕ) → AreTypes types → i < length types → IsScalarNode (node_in types i) → type_in types i ≡ Single (scalar_of (type_in types i))
@@ -107,6 +117,8 @@ switch_grown types n (nodes.members parts) formed are le is = absurd is
 switch_grown types n (nodes.union switch cases otherwise) formed are le is = single_at types switch are (let b = formed.0.below in omega arith) formed.0.scalar
 switch_grown types n (nodes.sequence bound element) formed are le is = absurd is
 switch_grown types n (nodes.array count element) formed are le is = absurd is
+switch_grown types n (nodes.encapsulation held) formed are le is = absurd is
+switch_grown types n (nodes.tagged special tag inner other) formed are le is = single_at types tag.type are (let b = formed.0.below in omega arith) formed.0.scalar
 
 -- ---- a table that grows
 

@@ -15,6 +15,7 @@ use Rattle.giop_tokens.specs.Reading.{◌>>=◌}
 use Rattle.giop_tokens.specs.Readers.{mark_at}
 use Rattle.giop_tokens.specs.Names.{is_reserved}
 use Rattle.giop_tokens.proofs.ReaderLaws.{word_again, number_again, mark_again, mark_if_again}
+use Rattle.giop_sig.specs.declared.numbers.TheConstants.{IOR}
 use Rattle.giop_sig.specs.Types.{depth}
 use Rattle.giop_sig.specs.Table.{Node}
 use Rattle.giop_sig.specs.Table as nodes
@@ -227,7 +228,7 @@ sequence_by at left s e o more (Ok x) t =
     (type_by (suc left) s (SequenceOf e o) more (most_at g.rest >>= λ b. mark_at marks.CloseAngle b.1 >>= λ r. added at (place s e).0 (sequence_node b.0 (place s e).1) >>= λ t. Ok (t.0, t.1, r)) (closed_reads at s e o g.rest more g.tokens g.keeps refl))
 sequence_by at left s e o more (Err x) t = record { out = inner_by left s e o x t.out }
 
-reference_reads : (s : Scope) (rest : List ℕ) (more : List Token) → AreTokens rest more → Out (placed s Reference) (λ k. OfType k s.names Reference) (place s Reference).0.table.types more (Ok (s, 17, rest))
+reference_reads : (s : Scope) (rest : List ℕ) (more : List Token) → AreTokens rest more → Out (placed s Reference) (λ k. OfType k s.names Reference) (place s Reference).0.table.types more (Ok (s, IOR, rest))
 unfolding OfType place
 reference_reads s rest more m = good rest m (λ k. tt)
 

@@ -13,6 +13,7 @@ use Rattle.giop_tokens.specs.declared.fault.Refusal.{Refusal}
 use Rattle.giop_tokens.specs.declared.fault.SigFaultKind.TheVariants as kinds
 use Rattle.giop_tokens.specs.declared.marks.Mark.{Mark}
 use Rattle.giop_tokens.specs.declared.marks.Mark.TheVariants as marks
+use Rattle.giop_sig.specs.declared.numbers.TheConstants.{STRING, IOR, BUILTIN_LEN}
 use Rattle.giop_tokens.specs.Tokens.{word, number, mark, AreTokens}
 use Rattle.giop_tokens.specs.Reading.{◌>>=◌}
 use Rattle.giop_tokens.specs.Readers.{misplaced, word_at, number_at, mark_at, mark_if}
@@ -140,11 +141,11 @@ pub record TakenType (s : Scope) (text : List ℕ) (x : TypeRead) : Type 0 where
   pub grows : Grows s x.0
   pub sound : IsScope s → Sound (x.0, x.1)
 
-built : (types more : List Node) (k : ℕ) → types ≡ builtin_types ++ more → k < 37 → TakesOctet (node_in builtin_types k) → IsKnown types k
+built : (types more : List Node) (k : ℕ) → types ≡ builtin_types ++ more → k < BUILTIN_LEN → TakesOctet (node_in builtin_types k) → IsKnown types k
 unfolding builtin_types
 built types more k e lt takes = subst (λ ns. IsKnown ns k) (sym e) (known_stays builtin_types more k (record { below = lt; takes = takes }))
 
-same_known : (s : Scope) (k : ℕ) → IsScope s → k < 37 → TakesOctet (node_in builtin_types k) → Sound (s, k)
+same_known : (s : Scope) (k : ℕ) → IsScope s → k < BUILTIN_LEN → TakesOctet (node_in builtin_types k) → Sound (s, k)
 same_known s k is lt takes = record { scope = is; known = built s.table.types (is.begins).0 k (is.begins).1 lt takes }
 
 base_sound : (s : Scope) (p : Primitive) → IsScope s → Sound (s, base_number p)
@@ -189,11 +190,11 @@ base_took s text w rest k t b = record {
 
 text_type_sound : (at : ℕ) (s : Scope) (b : Option ℕ) (p : Placed) → text_type at s b ≡ Ok p → IsScope s → Sound p
 unfolding builtin_types
-text_type_sound at s None p e is = subst Sound (ok_is (s, 11) p e) (same_known s 11 is (lit< tt) tt)
+text_type_sound at s None p e is = subst Sound (ok_is (s, STRING) p e) (same_known s STRING is (lit< tt) tt)
 text_type_sound at s (Some n) p e is = sound_added at s (nodes.text (Some n)) p e is tt
 
 text_type_grows : (at : ℕ) (s : Scope) (b : Option ℕ) (p : Placed) → text_type at s b ≡ Ok p → Grows s p.0
-text_type_grows at s None p e = subst (λ (q : Placed). Grows s q.0) (ok_is (s, 11) p e) (grows_none s)
+text_type_grows at s None p e = subst (λ (q : Placed). Grows s q.0) (ok_is (s, STRING) p e) (grows_none s)
 text_type_grows at s (Some n) p e = added_grows at s (nodes.text (Some n)) p e
 
 text_took : (at : ℕ) (s : Scope) (text w rest : List ℕ) (x : TypeRead) → Takes text (word w) rest → w ≡ codes "string" → text_at at s rest ≡ Ok x → TakenType s text x
@@ -271,14 +272,14 @@ named_took s text w rest x t e = named_by s text w rest x (is_reserved w) (ltb 6
 
 word_took : (at : ℕ) (element : List ℕ → Result TypeRead Refusal) (s : Scope) (text w rest : List ℕ) (x : TypeRead) → ((inner : List ℕ) (y : TypeRead) → element inner ≡ Ok y → TakenType s inner y)
     → Takes text (word w) rest → (a b c : Bool) → bytes_eq w (codes "string") ≡ a → bytes_eq w (codes "Object") ≡ b → bytes_eq w (codes "sequence") ≡ c
-    → cond a (text_at at s rest) (cond b (Ok (s, 17, rest)) (cond c (sequence_at at element rest) (named_type s text w rest))) ≡ Ok x → TakenType s text x
+    → cond a (text_at at s rest) (cond b (Ok (s, IOR, rest)) (cond c (sequence_at at element rest) (named_type s text w rest))) ≡ Ok x → TakenType s text x
 unfolding OfType builtin_types
 word_took at element s text w rest x takes t true b c p q r e = text_took at s text w rest x t ((bytes_eq-Decides w (codes "string")).0 p) e
-word_took at element s text w rest x takes t false true c p q r e = subst (TakenType s text) (ok_is (s, 17, rest) x e) (record {
+word_took at element s text w rest x takes t false true c p q r e = subst (TakenType s text) (ok_is (s, IOR, rest) x e) (record {
   expr = Reference;
   took = record { free = tt; front = subst (λ v. Takes text (word v) rest) ((bytes_eq-Decides w (codes "Object")).0 q) t };
   grows = grows_none s;
-  sound = λ is. same_known s 17 is (lit< tt) tt;
+  sound = λ is. same_known s IOR is (lit< tt) tt;
 })
 word_took at element s text w rest x takes t false false true p q r e = sequence_took at element s text w rest x takes t ((bytes_eq-Decides w (codes "sequence")).0 r) e
 word_took at element s text w rest x takes t false false false p q r e = named_took s text w rest x t e

@@ -36,6 +36,8 @@ discriminator_scalar (nodes.members parts) is = is
 discriminator_scalar (nodes.union switch cases otherwise) is = is
 discriminator_scalar (nodes.sequence bound element) is = is
 discriminator_scalar (nodes.array count element) is = is
+discriminator_scalar (nodes.encapsulation held) is = is
+discriminator_scalar (nodes.tagged special tag inner other) is = is
 
 -- the node of a union that was read
 abbrev pub union_node : ℕ → CasesRead → Node

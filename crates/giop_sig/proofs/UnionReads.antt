@@ -110,6 +110,8 @@ discriminates (nodes.members parts) e = absurd cc
 discriminates (nodes.union switch cases otherwise) e = absurd cc
 discriminates (nodes.sequence bound element) e = absurd cc
 discriminates (nodes.array count element) e = absurd cc
+discriminates (nodes.encapsulation held) e = absurd cc
+discriminates (nodes.tagged special tag inner other) e = absurd cc
 
 no_discriminator : (node : Node) → can_switch node ≡ false → IsDiscriminator node → ⊥
 no_discriminator (nodes.prim prims.Octet) e is = is
@@ -130,6 +132,8 @@ no_discriminator (nodes.members parts) e is = is
 no_discriminator (nodes.union switch cases otherwise) e is = is
 no_discriminator (nodes.sequence bound element) e is = is
 no_discriminator (nodes.array count element) e is = is
+no_discriminator (nodes.encapsulation held) e is = is
+no_discriminator (nodes.tagged special tag inner other) e is = is
 
 switch_keeps : (node : Node) → IsDiscriminator node → (k : Kind) → OfSwitch k node
 switch_keeps node is kinds.Token = tt

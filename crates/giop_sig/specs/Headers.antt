@@ -3,6 +3,7 @@ use Rattle.std.specs.Prelude.{◌≡◌, ℕ, suc, ◌<◌, ◌≤◌, ◌⊎◌
 use Rattle.std.specs.List.{All}
 use Rattle.std.specs.Option.{option_map}
 use Rattle.giop_cdr.specs.declared.prim.Primitive.TheVariants.{ULong}
+use Rattle.giop_sig.specs.declared.numbers.TheConstants.{SHORT, STRING, IOR, SYSTEM_EXCEPTION, REQUEST_1_0, REQUEST_1_1, REQUEST_1_2, REPLY, REPLY_1_2, ID_ALONE, LOCATE_REQUEST, LOCATE_REQUEST_1_2, LOCATE_REPLY, LOCATE_REPLY_1_2}
 use Rattle.giop_sig.specs.declared.types.Fixed.{Fixed}
 use Rattle.giop_sig.specs.declared.types.Fixed.TheVariants as fixeds
 use Rattle.giop_sig.specs.Types.{Plain, Ty, Single, Struct}
@@ -14,16 +15,16 @@ use Rattle.giop_sig.specs.Builtin.{builtin_types}
 abbrev pub header_rows : List (List (Option ℕ))
 header_rows =
     -- Request, Reply, CancelRequest, LocateRequest, LocateReply
-    (Some 27 ∷ Some 28 ∷ Some 29 ∷ [])
-    ∷ (Some 30 ∷ Some 30 ∷ Some 31 ∷ [])
-    ∷ (Some 32 ∷ Some 32 ∷ Some 32 ∷ [])
-    ∷ (Some 33 ∷ Some 33 ∷ Some 34 ∷ [])
-    ∷ (Some 35 ∷ Some 35 ∷ Some 36 ∷ [])
+    (Some REQUEST_1_0 ∷ Some REQUEST_1_1 ∷ Some REQUEST_1_2 ∷ [])
+    ∷ (Some REPLY ∷ Some REPLY ∷ Some REPLY_1_2 ∷ [])
+    ∷ (Some ID_ALONE ∷ Some ID_ALONE ∷ Some ID_ALONE ∷ [])
+    ∷ (Some LOCATE_REQUEST ∷ Some LOCATE_REQUEST ∷ Some LOCATE_REQUEST_1_2 ∷ [])
+    ∷ (Some LOCATE_REPLY ∷ Some LOCATE_REPLY ∷ Some LOCATE_REPLY_1_2 ∷ [])
     -- CloseConnection, MessageError
     ∷ (None ∷ None ∷ None ∷ [])
     ∷ (None ∷ None ∷ None ∷ [])
     -- Fragment
-    ∷ (None ∷ None ∷ Some 32 ∷ [])
+    ∷ (None ∷ None ∷ Some ID_ALONE ∷ [])
     ∷ []
 
 abbrev pub cell_of : Option (Option ℕ) → Option ℕ
@@ -43,10 +44,10 @@ abbrev pub header_type : ℕ → ℕ → Option Ty
 header_type minor kind = option_map (type_in builtin_types) (header_number minor kind)
 
 abbrev pub fixed_number : Fixed → ℕ
-fixed_number fixeds.ExceptionId = 11
-fixed_number fixeds.SystemException = 21
-fixed_number fixeds.Forward = 17
-fixed_number fixeds.Addressing = 3
+fixed_number fixeds.ExceptionId = STRING
+fixed_number fixeds.SystemException = SYSTEM_EXCEPTION
+fixed_number fixeds.Forward = IOR
+fixed_number fixeds.Addressing = SHORT
 
 abbrev pub fixed_type : Fixed → Ty
 fixed_type fixed = type_in builtin_types (fixed_number fixed)

@@ -24,3 +24,5 @@ literal_node (literals.Members parts) = nodes.members (map literal_part parts.no
 literal_node (literals.Target switch cases) = nodes.union switch (map literal_case cases.now) Refused
 literal_node (literals.Sequence element) = nodes.sequence None element
 literal_node (literals.Array count element) = nodes.array count element
+literal_node (literals.Encapsulation held) = nodes.encapsulation held
+literal_node (literals.Tagged special tag inner other) = nodes.tagged special (literal_part tag) (literal_part inner) (literal_part other)

@@ -7,6 +7,7 @@ use Rattle.giop_cdr.specs.declared.prim.Primitive.{Primitive}
 use Rattle.giop_cdr.specs.declared.prim.Primitive.TheVariants as prims
 use Rattle.giop_cdr.specs.declared.number.Number.{Number}
 use Rattle.giop_cdr.specs.declared.number.Number.TheVariants as numbers
+use Rattle.giop_sig.specs.declared.numbers.TheConstants.{STRING, IOR}
 use Rattle.giop_sig.specs.declared.read_calls.Direction.{Direction}
 use Rattle.giop_sig.specs.declared.read_calls.Direction.TheVariants as directions
 use Rattle.giop_sig.specs.declared.types.Selected.{Selected}
@@ -66,7 +67,7 @@ abbrev pub sequence_node : Option ℕ → ℕ → Node
 sequence_node bound element = if element == 0 then nodes.octets bound else nodes.sequence bound element
 
 abbrev pub place_text : Scope → Option ℕ → Placed
-place_text s None = (s, 11)
+place_text s None = (s, STRING)
 place_text s (Some n) = with_node s (nodes.text (Some n))
 
 abbrev pub place_sequence : Option ℕ → Placed → Placed
@@ -76,7 +77,7 @@ place_sequence bound p = with_node p.0 (sequence_node bound p.1)
 unfoldable pub place : Scope → TypeExpr → Placed
 place s (Base p) = (s, base_number p)
 place s (Text bound) = place_text s bound
-place s Reference = (s, 17)
+place s Reference = (s, IOR)
 place s (Named w) = (s, number_or (named s.names w))
 place s (SequenceOf e bound) = place_sequence bound (place s e)
 

@@ -1,6 +1,6 @@
 -- The table that a catalogue is: one node for each type, which names the types of its parts by their numbers, and the operations
 -- and exceptions by their names (meaning).
-use Rattle.std.specs.Prelude.{ℕ, ◌+◌, ◌<◌, ◌≤◌, ◌==◌, Bool, false, List, [], ◌∷◌, ◌++◌, length, Option, Some, None, slice_index_or, slice_get, position}
+use Rattle.std.specs.Prelude.{ℕ, ◌+◌, ◌<◌, ◌≤◌, ◌==◌, Bool, false, cond, List, [], ◌∷◌, ◌++◌, length, Option, Some, None, slice_index_or, slice_get, position}
 use Rattle.std.specs.Ordering.{int_eq}
 use mathlib.Core.Bool.{beq}
 use Rattle.std.specs.List.{list_any, All}
@@ -39,6 +39,10 @@ pub data Node : Type 0 where
   union : ℕ → List Case → Selected → Node
   sequence : Option ℕ → ℕ → Node
   array : ℕ → ℕ → Node
+  -- octets with a byte order of their own, that hold a value of a type
+  encapsulation : ℕ → Node
+  -- the number behind which the second part stands; the number's own part, and the parts behind this number and any other
+  tagged : ℕ → Part → Part → Part → Node
 
 -- the node of a type
 abbrev pub node_in : List Node → ℕ → Node
@@ -53,6 +57,8 @@ shape_of (members parts) = shapes.Members (length parts)
 shape_of (union switch cases otherwise) = shapes.Union (length cases)
 shape_of (sequence bound element) = shapes.Sequence bound
 shape_of (array count element) = shapes.Array count
+shape_of (encapsulation held) = shapes.Encapsulation
+shape_of (tagged special tag inner other) = shapes.Tagged
 
 abbrev pub no_case : Case
 no_case = record { labels = []; part = record { name = []; type = 0 } }
@@ -64,12 +70,14 @@ case_part (Some c) = Some c.part
 abbrev pub element_part : ℕ → Part
 element_part element = record { name = []; type = element }
 
--- the part at a place; an element stands at any place and has no name
+-- the part at a place; an element, and what an encapsulation holds, stands at any place and has no name
 abbrev pub part_at : Node → ℕ → Option Part
 part_at (members parts) i = slice_get parts i
 part_at (union switch cases otherwise) i = case_part (slice_get cases i)
 part_at (sequence bound element) i = Some (element_part element)
 part_at (array count element) i = Some (element_part element)
+part_at (encapsulation held) i = Some (element_part held)
+part_at (tagged special tag inner other) i = slice_get (tag ∷ inner ∷ other ∷ []) i
 part_at node i = None
 
 abbrev pub type_of : Option Part → ℕ
@@ -87,6 +95,7 @@ name_at node n = None
 
 abbrev pub switch_at : Node → ℕ
 switch_at (union switch cases otherwise) = switch
+switch_at (tagged special tag inner other) = tag.type
 switch_at node = 0
 
 -- ---- selection
@@ -111,6 +120,7 @@ case_or None otherwise = otherwise
 -- what the discriminator's value selects
 abbrev pub selected : Node → Number → Selected
 selected (union switch cases otherwise) n = case_or (case_with n cases) otherwise
+selected (tagged special tag inner other) n = cond (same_number (numbers.Unsigned special) n) (selecteds.Case 1) (selecteds.Case 2)
 selected node n = selecteds.Nothing
 
 -- ---- the table
@@ -225,3 +235,5 @@ IsFormed types n (members parts) = (length parts ≤ 256) × All (IsPart types n
 IsFormed types n (union switch cases otherwise) = IsSwitch types n switch × (length cases ≤ 256) × All (λ c. IsPart types n c.part) cases × IsCaseBelow (length cases) otherwise
 IsFormed types n (sequence bound element) = IsInner types n element
 IsFormed types n (array count element) = (0 < count) × IsInner types n element
+IsFormed types n (encapsulation held) = IsInner types n held
+IsFormed types n (tagged special tag inner other) = IsSwitch types n tag.type × IsPart types n tag × IsPart types n inner × IsPart types n other

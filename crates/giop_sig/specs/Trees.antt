@@ -4,8 +4,8 @@ use Rattle.giop_cdr.specs.declared.prim.Primitive.TheVariants as prims
 use Rattle.giop_cdr.specs.declared.number.Number.{Number}
 use Rattle.giop_sig.specs.declared.types.Selected.{Selected}
 use Rattle.giop_sig.specs.declared.types.Selected.TheVariants.{Nothing}
-use Rattle.giop_sig.specs.Types.{Cases, Scalar, Plain, Enum, taken_by, Ty, Single, Text, Octets, Struct, Union, Sequence, Array, depth}
-use Rattle.giop_sig.specs.Table.{Part, Case, Node, Table, IsFormed, case_part, name_of, part_at, type_of, selected}
+use Rattle.giop_sig.specs.Types.{Choice, Cases, Tag, Scalar, Plain, Enum, taken_by, Ty, Single, Text, Octets, Struct, Union, Sequence, Array, Encapsulation, depth}
+use Rattle.giop_sig.specs.Table.{Part, Node, Table, IsFormed, name_of, part_at, switch_at, type_of, selected}
 use Rattle.giop_sig.specs.Table as nodes
 
 -- ---- a node, with a tree for each number
@@ -30,18 +30,24 @@ abbrev pub selected_by : (Number → Selected) → Option Number → Selected
 selected_by select None = Nothing
 selected_by select (Some number) = select number
 
+-- the union that a node is, of the places of a choice
+abbrev pub grown_union : (ℕ → Ty) → Choice → Node → Ty
+grown_union tree choice node =
+    Union choice (scalar_of (tree (switch_at node)))
+    (λ n. selected_by (selected node) (taken_by (scalar_of (tree (switch_at node))) n))
+    (λ i. name_of (part_at node i)) (λ i. grown_part tree (part_at node i))
+
 abbrev pub grow : (ℕ → Ty) → Node → Ty
 grow tree (nodes.prim p) = Single (Plain p)
 grow tree (nodes.enumeration names) = Single (Enum (length names) (λ i. name_or (slice_get names i)))
 grow tree (nodes.text bound) = Text bound
 grow tree (nodes.octets bound) = Octets bound
 grow tree (nodes.members parts) = Struct (length parts) (λ i. name_of (slice_get parts i)) (λ i. grown_part tree (slice_get parts i))
-grow tree (nodes.union switch cases otherwise) =
-    Union (Cases (length cases)) (scalar_of (tree switch))
-    (λ n. selected_by (selected (nodes.union switch cases otherwise)) (taken_by (scalar_of (tree switch)) n))
-    (λ i. name_of (case_part (slice_get cases i))) (λ i. grown_part tree (case_part (slice_get cases i)))
+grow tree (nodes.union switch cases otherwise) = grown_union tree (Cases (length cases)) (nodes.union switch cases otherwise)
 grow tree (nodes.sequence bound element) = Sequence bound (tree element)
 grow tree (nodes.array count element) = Array count (tree element)
+grow tree (nodes.encapsulation held) = Encapsulation (tree held)
+grow tree (nodes.tagged special tag inner other) = grown_union tree Tag (nodes.tagged special tag inner other)
 
 -- ---- the trees, from the front of the table
 

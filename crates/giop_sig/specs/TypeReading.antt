@@ -8,6 +8,7 @@ use Rattle.giop_tokens.specs.declared.marks.Mark.TheVariants as marks
 use Rattle.giop_tokens.specs.Reading.{◌>>=◌}
 use Rattle.giop_tokens.specs.Readers.{misplaced, word_at, number_at, mark_at, mark_if}
 use Rattle.giop_tokens.specs.Names.{is_reserved}
+use Rattle.giop_sig.specs.declared.numbers.TheConstants.{STRING, IOR}
 use Rattle.giop_sig.specs.Types.{depth}
 use Rattle.giop_sig.specs.Table.{Node}
 use Rattle.giop_sig.specs.Table as nodes
@@ -78,7 +79,7 @@ base_of w =
     (if bytes_eq w (codes "double") then Some 10 else None))))))))))
 
 abbrev pub text_type : ℕ → Scope → Option ℕ → Result Placed Refusal
-text_type at s None = Ok (s, 11)
+text_type at s None = Ok (s, STRING)
 text_type at s (Some n) = added at s (nodes.text (Some n))
 
 -- a string, behind its word
@@ -117,7 +118,7 @@ abbrev pub type_after : ℕ → (List ℕ → Result TypeRead Refusal) → Scope
 type_after at element s text w rest (Some base) = Ok (s, base, rest)
 type_after at element s text w rest None =
     if bytes_eq w (codes "string") then text_at at s rest else
-    (if bytes_eq w (codes "Object") then Ok (s, 17, rest) else
+    (if bytes_eq w (codes "Object") then Ok (s, IOR, rest) else
     (if bytes_eq w (codes "sequence") then sequence_at at element rest else named_type s text w rest))
 
 -- a type of at most so many words

@@ -2,10 +2,11 @@
 use Rattle.std.specs.Prelude.{◌≡◌, ℕ, ◌≤◌, List, length, map}
 use Rattle.giop_sig.specs.declared.entries.PartEntry.{PartEntry}
 use Rattle.giop_sig.specs.declared.entries.CaseEntry.{CaseEntry}
+use Rattle.giop_sig.specs.declared.entries.TagEntry.{TagEntry}
 use Rattle.giop_sig.specs.declared.entries.Entry.{Entry}
 use Rattle.giop_sig.specs.declared.entries.Entry.TheVariants as entries
 use Rattle.giop_sig.specs.declared.entries.Placed.{Placed}
-use Rattle.giop_sig.specs.Table.{Node, Part, Case, prim, enumeration, text, octets, members, union, sequence, array}
+use Rattle.giop_sig.specs.Table.{Node, Part, Case, prim, enumeration, text, octets, members, union, sequence, array, encapsulation, tagged}
 use Rattle.giop_sig.specs.Trees.{AreTypes, trees_of, depths, depth_of}
 
 abbrev pub part_view : PartEntry → Part
@@ -13,6 +14,9 @@ part_view p = record { name = p.name.items; type = p.type_id.0 }
 
 abbrev pub case_view : CaseEntry → Case
 case_view c = record { labels = c.labels.items; part = part_view c.part }
+
+abbrev pub tag_view : TagEntry → Node
+tag_view t = tagged t.special (part_view t.tag) (part_view t.inner) (part_view t.other)
 
 abbrev pub node_view : Entry → Node
 node_view (entries.Prim p) = prim p
@@ -23,6 +27,8 @@ node_view (entries.Members parts) = members (map part_view parts.items)
 node_view (entries.Union switch cases otherwise) = union switch.0 (map case_view cases.items) otherwise
 node_view (entries.Sequence bound element) = sequence bound element.0
 node_view (entries.Array count element) = array count element.0
+node_view (entries.Encapsulation held) = encapsulation held.0
+node_view (entries.Tagged t) = tag_view t
 
 -- an entry whose parts or names are few enough to be counted in a shape
 abbrev pub IsSized : Entry → Type 0

@@ -7,13 +7,18 @@ ghost use Rattle.giop_sig.specs.Headers.{header_number, fixed_number};
 ghost use Rattle.giop_sig.specs.Views.{node_view, part_view, case_view};
 ghost use Rattle.giop_sig.specs.Literals.{literal_node, literal_part, literal_case};
 
-use crate::entries::{CaseEntry, Entry, PartEntry, Types};
+use crate::entries::{CaseEntry, Entry, PartEntry, TagEntry, Types};
+use crate::numbers::{
+    BOOLEAN, BUILTIN_LEN, CHAR, CODE_SETS, CODE_SETS_DATA, COMPLETED, DOUBLE, FLOAT, ID_ALONE,
+    IIOP, IIOP_DATA, IOR, IOR_ADDRESS, LOCATE_REPLY, LOCATE_REPLY_1_2, LOCATE_REQUEST,
+    LOCATE_REQUEST_1_2, LOCATE_STATUS, LOCATE_STATUS_1_2, LONG, LONGLONG, OCTET, OCTETS, REPLY,
+    REPLY_1_2, REPLY_STATUS, REPLY_STATUS_1_2, REQUEST_1_0, REQUEST_1_1, REQUEST_1_2, RESERVED,
+    SERVICE_CONTEXT, SERVICE_CONTEXTS, SHORT, STRING, SYSTEM_EXCEPTION, TAGGED_PROFILE,
+    TAGGED_PROFILES, TARGET, ULONG, ULONGLONG, USHORT,
+};
 use crate::types::{Fixed, Selected, TypeId};
 use giop_cdr::{Number, Prim};
 use std::alloc::{AllocError, Global};
-
-/// How many built-in types there are.
-pub(crate) const BUILTIN_LEN: u32 = 37;
 
 /// A type of the built-in table, as it is written.
 #[derive(Clone, Copy)]
@@ -27,6 +32,9 @@ pub(crate) enum Literal {
     Target(u32, &'static [Labelled]),
     Sequence(u32),
     Array(u32, u32),
+    Encapsulation(u32),
+    /// The number behind which the encapsulation stands; the number, the encapsulation, and the octets.
+    Tagged(u32, Named, Named, Named),
 }
 
 /// A member, with the number of its type.
@@ -40,16 +48,24 @@ pub(crate) struct Labelled(pub(crate) i64, pub(crate) &'static [u8], pub(crate) 
 /// The numbers of the header types of each message type, in 1.0, 1.1 and 1.2 (GIOP Message Formats).
 static HEADER_TYPES: [[Option<u32>; 3]; 8] = [
     // Request, Reply, CancelRequest, LocateRequest, LocateReply
-    [Some(27), Some(28), Some(29)],
-    [Some(30), Some(30), Some(31)],
-    [Some(32), Some(32), Some(32)],
-    [Some(33), Some(33), Some(34)],
-    [Some(35), Some(35), Some(36)],
+    [Some(REQUEST_1_0), Some(REQUEST_1_1), Some(REQUEST_1_2)],
+    [Some(REPLY), Some(REPLY), Some(REPLY_1_2)],
+    [Some(ID_ALONE), Some(ID_ALONE), Some(ID_ALONE)],
+    [
+        Some(LOCATE_REQUEST),
+        Some(LOCATE_REQUEST),
+        Some(LOCATE_REQUEST_1_2),
+    ],
+    [
+        Some(LOCATE_REPLY),
+        Some(LOCATE_REPLY),
+        Some(LOCATE_REPLY_1_2),
+    ],
     // CloseConnection, MessageError
     [None, None, None],
     [None, None, None],
     // Fragment
-    [None, None, Some(32)],
+    [None, None, Some(ID_ALONE)],
 ];
 
 /// The header type of a minor version and a message type.
@@ -69,10 +85,10 @@ pub(crate) fn fixed_id(fixed: Fixed) -> TypeId
     ensures { result.0 ≡ fixed_number fixed }
 {
     match fixed {
-        Fixed::ExceptionId => TypeId(11),
-        Fixed::SystemException => TypeId(21),
-        Fixed::Forward => TypeId(17),
-        Fixed::Addressing => TypeId(3),
+        Fixed::ExceptionId => TypeId(STRING),
+        Fixed::SystemException => TypeId(SYSTEM_EXCEPTION),
+        Fixed::Forward => TypeId(IOR),
+        Fixed::Addressing => TypeId(SHORT),
     }
 }
 
@@ -81,10 +97,12 @@ fn literal_of(number: u32) -> Literal
     requires { number < BUILTIN_LEN }
     ensures { literal_node result ≡ node_in builtin_types number }
 {
-    if number < 13 {
+    if number < CODE_SETS {
         leaf(number)
-    } else if number < 27 {
-        common(number)
+    } else if number < COMPLETED {
+        reference(number)
+    } else if number < REQUEST_1_0 {
+        status(number)
     } else {
         header(number)
     }
@@ -93,63 +111,101 @@ fn literal_of(number: u32) -> Literal
 /// The types without parts, but for enums.
 #[tactic(auto, unfolding(crate::specs::Builtin::builtin_types))]
 fn leaf(number: u32) -> Literal
-    requires { number < 13 }
+    requires { number < CODE_SETS }
     ensures { literal_node result ≡ node_in builtin_types number }
 {
     match number {
-        0 => Literal::Prim(Prim::Octet),
-        1 => Literal::Prim(Prim::Char),
-        2 => Literal::Prim(Prim::Boolean),
-        3 => Literal::Prim(Prim::Short),
-        4 => Literal::Prim(Prim::UShort),
-        5 => Literal::Prim(Prim::Long),
-        6 => Literal::Prim(Prim::ULong),
-        7 => Literal::Prim(Prim::LongLong),
-        8 => Literal::Prim(Prim::ULongLong),
-        9 => Literal::Prim(Prim::Float),
-        10 => Literal::Prim(Prim::Double),
-        11 => Literal::Text,
-        12 => Literal::Octets,
+        OCTET => Literal::Prim(Prim::Octet),
+        CHAR => Literal::Prim(Prim::Char),
+        BOOLEAN => Literal::Prim(Prim::Boolean),
+        SHORT => Literal::Prim(Prim::Short),
+        USHORT => Literal::Prim(Prim::UShort),
+        LONG => Literal::Prim(Prim::Long),
+        ULONG => Literal::Prim(Prim::ULong),
+        LONGLONG => Literal::Prim(Prim::LongLong),
+        ULONGLONG => Literal::Prim(Prim::ULongLong),
+        FLOAT => Literal::Prim(Prim::Float),
+        DOUBLE => Literal::Prim(Prim::Double),
+        STRING => Literal::Text,
+        OCTETS => Literal::Octets,
         _ => unreachable!(),
     }
 }
 
-/// What headers and bodies are made of (a row of a name and a type's number for each member).
+/// Contexts, profiles and references (a row of a name and a type's number for each member).
 #[tactic(auto, unfolding(crate::specs::Builtin::builtin_types))]
-fn common(number: u32) -> Literal
-    requires low { 13 ≤ number }
-    requires high { number < 27 }
+fn reference(number: u32) -> Literal
+    requires low { CODE_SETS ≤ number }
+    requires high { number < COMPLETED }
     ensures { literal_node result ≡ node_in builtin_types number }
 {
     match number {
-        13 => Literal::Members(&[Named(b"context_id", 6), Named(b"context_data", 12)]),
-        14 => Literal::Sequence(13),
-        15 => Literal::Members(&[Named(b"tag", 6), Named(b"profile_data", 12)]),
-        16 => Literal::Sequence(15),
-        17 => Literal::Members(&[Named(b"type_id", 11), Named(b"profiles", 16)]),
-        18 => Literal::Members(&[Named(b"selected_profile_index", 6), Named(b"ior", 17)]),
-        19 => Literal::Target(
-            3,
+        CODE_SETS => Literal::Members(&[Named(b"char_data", ULONG), Named(b"wchar_data", ULONG)]),
+        CODE_SETS_DATA => Literal::Encapsulation(CODE_SETS),
+        SERVICE_CONTEXT => Literal::Tagged(
+            1,
+            Named(b"context_id", ULONG),
+            Named(b"context_data", CODE_SETS_DATA),
+            Named(b"context_data", OCTETS),
+        ),
+        SERVICE_CONTEXTS => Literal::Sequence(SERVICE_CONTEXT),
+        IIOP => Literal::Members(&[
+            Named(b"major", OCTET),
+            Named(b"minor", OCTET),
+            Named(b"host", STRING),
+            Named(b"port", USHORT),
+            Named(b"object_key", OCTETS),
+        ]),
+        IIOP_DATA => Literal::Encapsulation(IIOP),
+        TAGGED_PROFILE => Literal::Tagged(
+            0,
+            Named(b"tag", ULONG),
+            Named(b"profile_data", IIOP_DATA),
+            Named(b"profile_data", OCTETS),
+        ),
+        TAGGED_PROFILES => Literal::Sequence(TAGGED_PROFILE),
+        IOR => Literal::Members(&[
+            Named(b"type_id", STRING),
+            Named(b"profiles", TAGGED_PROFILES),
+        ]),
+        IOR_ADDRESS => Literal::Members(&[
+            Named(b"selected_profile_index", ULONG),
+            Named(b"ior", IOR),
+        ]),
+        TARGET => Literal::Target(
+            SHORT,
             &[
-                Labelled(0, b"object_key", 12),
-                Labelled(1, b"profile", 15),
-                Labelled(2, b"ior", 18),
+                Labelled(0, b"object_key", OCTETS),
+                Labelled(1, b"profile", TAGGED_PROFILE),
+                Labelled(2, b"ior", IOR_ADDRESS),
             ],
         ),
-        20 => Literal::Names(&[b"COMPLETED_YES", b"COMPLETED_NO", b"COMPLETED_MAYBE"]),
-        21 => Literal::Members(&[
-            Named(b"exception_id", 11),
-            Named(b"minor", 6),
-            Named(b"completed", 20),
+        _ => unreachable!(),
+    }
+}
+
+/// How a request ended, and the octets that it reserves.
+#[tactic(auto, unfolding(crate::specs::Builtin::builtin_types))]
+fn status(number: u32) -> Literal
+    requires low { COMPLETED ≤ number }
+    requires high { number < REQUEST_1_0 }
+    ensures { literal_node result ≡ node_in builtin_types number }
+{
+    match number {
+        COMPLETED => Literal::Names(&[b"COMPLETED_YES", b"COMPLETED_NO", b"COMPLETED_MAYBE"]),
+        SYSTEM_EXCEPTION => Literal::Members(&[
+            Named(b"exception_id", STRING),
+            Named(b"minor", ULONG),
+            Named(b"completed", COMPLETED),
         ]),
-        22 => Literal::Array(3, 0),
-        23 => Literal::Names(&[
+        RESERVED => Literal::Array(3, OCTET),
+        REPLY_STATUS => Literal::Names(&[
             b"NO_EXCEPTION",
             b"USER_EXCEPTION",
             b"SYSTEM_EXCEPTION",
             b"LOCATION_FORWARD",
         ]),
-        24 => Literal::Names(&[
+        REPLY_STATUS_1_2 => Literal::Names(&[
             b"NO_EXCEPTION",
             b"USER_EXCEPTION",
             b"SYSTEM_EXCEPTION",
@@ -157,8 +213,8 @@ fn common(number: u32) -> Literal
             b"LOCATION_FORWARD_PERM",
             b"NEEDS_ADDRESSING_MODE",
         ]),
-        25 => Literal::Names(&[b"UNKNOWN_OBJECT", b"OBJECT_HERE", b"OBJECT_FORWARD"]),
-        26 => Literal::Names(&[
+        LOCATE_STATUS => Literal::Names(&[b"UNKNOWN_OBJECT", b"OBJECT_HERE", b"OBJECT_FORWARD"]),
+        LOCATE_STATUS_1_2 => Literal::Names(&[
             b"UNKNOWN_OBJECT",
             b"OBJECT_HERE",
             b"OBJECT_FORWARD",
@@ -173,51 +229,63 @@ fn common(number: u32) -> Literal
 /// The header types.
 #[tactic(auto, unfolding(crate::specs::Builtin::builtin_types))]
 fn header(number: u32) -> Literal
-    requires low { 27 ≤ number }
+    requires low { REQUEST_1_0 ≤ number }
     requires high { number < BUILTIN_LEN }
     ensures { literal_node result ≡ node_in builtin_types number }
 {
     match number {
-        27 => Literal::Members(&[
-            Named(b"service_contexts", 14),
-            Named(b"request_id", 6),
-            Named(b"response_expected", 2),
-            Named(b"object_key", 12),
-            Named(b"operation", 11),
-            Named(b"requesting_principal", 12),
+        REQUEST_1_0 => Literal::Members(&[
+            Named(b"service_contexts", SERVICE_CONTEXTS),
+            Named(b"request_id", ULONG),
+            Named(b"response_expected", BOOLEAN),
+            Named(b"object_key", OCTETS),
+            Named(b"operation", STRING),
+            Named(b"requesting_principal", OCTETS),
         ]),
-        28 => Literal::Members(&[
-            Named(b"service_contexts", 14),
-            Named(b"request_id", 6),
-            Named(b"response_expected", 2),
-            Named(b"reserved", 22),
-            Named(b"object_key", 12),
-            Named(b"operation", 11),
-            Named(b"requesting_principal", 12),
+        REQUEST_1_1 => Literal::Members(&[
+            Named(b"service_contexts", SERVICE_CONTEXTS),
+            Named(b"request_id", ULONG),
+            Named(b"response_expected", BOOLEAN),
+            Named(b"reserved", RESERVED),
+            Named(b"object_key", OCTETS),
+            Named(b"operation", STRING),
+            Named(b"requesting_principal", OCTETS),
         ]),
-        29 => Literal::Members(&[
-            Named(b"request_id", 6),
-            Named(b"response_flags", 0),
-            Named(b"reserved", 22),
-            Named(b"target", 19),
-            Named(b"operation", 11),
-            Named(b"service_contexts", 14),
+        REQUEST_1_2 => Literal::Members(&[
+            Named(b"request_id", ULONG),
+            Named(b"response_flags", OCTET),
+            Named(b"reserved", RESERVED),
+            Named(b"target", TARGET),
+            Named(b"operation", STRING),
+            Named(b"service_contexts", SERVICE_CONTEXTS),
         ]),
-        30 => Literal::Members(&[
-            Named(b"service_contexts", 14),
-            Named(b"request_id", 6),
-            Named(b"reply_status", 23),
+        REPLY => Literal::Members(&[
+            Named(b"service_contexts", SERVICE_CONTEXTS),
+            Named(b"request_id", ULONG),
+            Named(b"reply_status", REPLY_STATUS),
         ]),
-        31 => Literal::Members(&[
-            Named(b"request_id", 6),
-            Named(b"reply_status", 24),
-            Named(b"service_contexts", 14),
+        REPLY_1_2 => Literal::Members(&[
+            Named(b"request_id", ULONG),
+            Named(b"reply_status", REPLY_STATUS_1_2),
+            Named(b"service_contexts", SERVICE_CONTEXTS),
         ]),
-        32 => Literal::Members(&[Named(b"request_id", 6)]),
-        33 => Literal::Members(&[Named(b"request_id", 6), Named(b"object_key", 12)]),
-        34 => Literal::Members(&[Named(b"request_id", 6), Named(b"target", 19)]),
-        35 => Literal::Members(&[Named(b"request_id", 6), Named(b"locate_status", 25)]),
-        36 => Literal::Members(&[Named(b"request_id", 6), Named(b"locate_status", 26)]),
+        ID_ALONE => Literal::Members(&[Named(b"request_id", ULONG)]),
+        LOCATE_REQUEST => Literal::Members(&[
+            Named(b"request_id", ULONG),
+            Named(b"object_key", OCTETS),
+        ]),
+        LOCATE_REQUEST_1_2 => Literal::Members(&[
+            Named(b"request_id", ULONG),
+            Named(b"target", TARGET),
+        ]),
+        LOCATE_REPLY => Literal::Members(&[
+            Named(b"request_id", ULONG),
+            Named(b"locate_status", LOCATE_STATUS),
+        ]),
+        LOCATE_REPLY_1_2 => Literal::Members(&[
+            Named(b"request_id", ULONG),
+            Named(b"locate_status", LOCATE_STATUS_1_2),
+        ]),
         _ => unreachable!(),
     }
 }
@@ -289,6 +357,13 @@ fn entry_of(alloc: Global, literal: Literal) -> Result<Entry, AllocError>
         }
         Literal::Sequence(element) => Entry::Sequence(None, TypeId(element)),
         Literal::Array(count, element) => Entry::Array(count, TypeId(element)),
+        Literal::Encapsulation(held) => Entry::Encapsulation(TypeId(held)),
+        Literal::Tagged(special, tag, inner, other) => Entry::Tagged(TagEntry {
+            special,
+            tag: part_of(alloc, tag.0, tag.1)?,
+            inner: part_of(alloc, inner.0, inner.1)?,
+            other: part_of(alloc, other.0, other.1)?,
+        }),
     })
 }
 

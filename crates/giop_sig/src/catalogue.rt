@@ -75,10 +75,10 @@ impl Catalogue {
         let _types = &self.types;
     }
 
-    /// The depth of the deepest type, the built-in ones included: 7 to 24.
+    /// The depth of the deepest type, the built-in ones included: 9 to 24.
     pub fn depth(&self) -> u8
         ensures depth { result ≡ depth_of self.now.types }
-        ensures least { 7 ≤ result }
+        ensures least { 9 ≤ result }
         ensures most { result ≤ 24 }
     {
         self.types.deepest()
@@ -107,6 +107,7 @@ impl Catalogue {
     /// The outermost form of a type.
     pub fn shape(&self, t: TypeId) -> Shape
         requires { t.0 < length self.now.types }
+        ensures is { result ≡ shape_of (node_at self.now t.0) }
         ensures tree { result ≡ shape_in (tree self.now t.0) }
         ensures shape { HasShape (tree self.now t.0) result }
         ensures root { IsRoot (tree self.now t.0) }
@@ -114,7 +115,8 @@ impl Catalogue {
         self.types.entry(t).shape()
     }
 
-    /// The type of the part at a place: of a member or a case by its place from 0, of an element for any place.
+    /// The type of the part at a place: of a member, a case or a tagged type's part by its place from 0, of an element and
+    /// of what an encapsulation holds for any place.
     pub fn part(&self, t: TypeId, place: u32) -> TypeId
         requires known { t.0 < length self.now.types }
         requires place { HasPlace (shape_in (tree self.now t.0)) place }
@@ -125,7 +127,7 @@ impl Catalogue {
         self.types.entry(t).part(place)
     }
 
-    /// The name of the member or case at a place.
+    /// The name of the member, case or tagged type's part at a place.
     pub fn part_name(&self, t: TypeId, place: u32) -> &[u8]
         requires known { t.0 < length self.now.types }
         requires place { HasMember (shape_in (tree self.now t.0)) place }
@@ -146,7 +148,7 @@ impl Catalogue {
         self.types.entry(t).enum_name(number)
     }
 
-    /// The type of a union's discriminator.
+    /// The type of a union's discriminator, or of a tagged type's number.
     pub fn switch_type(&self, t: TypeId) -> TypeId
         requires known { t.0 < length self.now.types }
         requires union { IsUnion (shape_in (tree self.now t.0)) }
@@ -157,7 +159,8 @@ impl Catalogue {
         self.types.entry(t).switch_type()
     }
 
-    /// What a discriminator's value selects; Nothing where the type is no union. Only the built-in target refuses one.
+    /// What the value of a discriminator selects, or of a tagged type's number; Nothing where the type is neither a union
+    /// nor tagged. Only the built-in target refuses one.
     pub fn select(&self, t: TypeId, number: Number) -> Selected
         requires { t.0 < length self.now.types }
         ensures is { result ≡ selected (node_at self.now t.0) number }

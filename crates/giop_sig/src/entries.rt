@@ -1,5 +1,5 @@
 //! The types of a catalogue as they are kept: an entry for each, with its depth.
-ghost use Rattle.std.specs.Prelude.{◌≡◌, ℕ, ◌<◌, ◌≤◌, ◌++◌, ◌∷◌, [], length, map, IfOk, OnOk, OnErr, IfSome, max};
+ghost use Rattle.std.specs.Prelude.{◌≡◌, ℕ, ◌<◌, ◌≤◌, ◌++◌, ◌∷◌, [], length, map, Some, IfOk, OnOk, OnErr, IfSome, max};
 ghost use Rattle.std.specs.Option.{option_map};
 ghost use Rattle.std.specs.List.{list_any};
 ghost use Rattle.giop_sig.specs.Types.{depth, most, HasPlace, HasMember, IsUnion};
@@ -26,6 +26,47 @@ pub(crate) struct CaseEntry {
     pub(crate) part: PartEntry,
 }
 
+/// A tagged type: a number, and what stands behind it.
+#[derive(Drop)]
+pub(crate) struct TagEntry {
+    /// The number behind which the encapsulation stands.
+    pub(crate) special: u32,
+    /// The number.
+    pub(crate) tag: PartEntry,
+    /// The encapsulation.
+    pub(crate) inner: PartEntry,
+    /// What stands behind each other number.
+    pub(crate) other: PartEntry,
+}
+
+impl TagEntry {
+    ghost use Rattle.giop_sig.specs.Views.{tag_view};
+
+    /// The part at a place: the number, the encapsulation, or what stands behind each other number.
+    fn part(&self, place: u32) -> &PartEntry
+        requires { place < 3 }
+        ensures { part_at (tag_view self.now) place ≡ Some (part_view result.now) }
+    {
+        match place {
+            0 => &self.tag,
+            1 => &self.inner,
+            2 => &self.other,
+            _ => unreachable!(),
+        }
+    }
+
+    /// What stands behind a number: the encapsulation, or the octets.
+    fn select(&self, number: Number) -> Selected
+        ensures { result ≡ selected (tag_view self.now) number }
+    {
+        if Number::Unsigned(u64::from(self.special)) == number {
+            Selected::Case(1)
+        } else {
+            Selected::Case(2)
+        }
+    }
+}
+
 /// A type, by the numbers of its parts.
 #[derive(Drop)]
 pub(crate) enum Entry {
@@ -45,6 +86,10 @@ pub(crate) enum Entry {
     Sequence(Option<u32>, TypeId),
     /// An array of so many elements.
     Array(u32, TypeId),
+    /// Octets with a byte order of their own that hold a value.
+    Encapsulation(TypeId),
+    /// A number, and an encapsulation or octets behind it.
+    Tagged(TagEntry),
 }
 
 impl Entry {
@@ -64,10 +109,12 @@ impl Entry {
             Entry::Union(_, cases, _) => Shape::Union(cases.len() as u32),
             Entry::Sequence(bound, _) => Shape::Sequence(*bound),
             Entry::Array(count, _) => Shape::Array(*count),
+            Entry::Encapsulation(_) => Shape::Encapsulation,
+            Entry::Tagged(_) => Shape::Tagged,
         }
     }
 
-    /// The type of the part at a place, of an element for any place.
+    /// The type of the part at a place, of an element and of what an encapsulation holds for any place.
     pub(crate) fn part(&self, place: u32) -> TypeId
         requires { HasPlace (shape_of (node_view self.now)) place }
         ensures { result.0 ≡ type_of (part_at (node_view self.now) place) }
@@ -77,11 +124,13 @@ impl Entry {
             Entry::Union(_, cases, _) => cases[place as usize].part.type_id,
             Entry::Sequence(_, element) => *element,
             Entry::Array(_, element) => *element,
+            Entry::Encapsulation(held) => *held,
+            Entry::Tagged(tagged) => tagged.part(place).type_id,
             _ => unreachable!(),
         }
     }
 
-    /// The name of the member or case at a place.
+    /// The name of the member or case at a place, or of a tagged type's part.
     pub(crate) fn part_name(&self, place: u32) -> &[u8]
         requires { HasMember (shape_of (node_view self.now)) place }
         ensures { result.now ≡ name_of (part_at (node_view self.now) place) }
@@ -89,6 +138,7 @@ impl Entry {
         match self {
             Entry::Members(parts) => &parts[place as usize].name,
             Entry::Union(_, cases, _) => &cases[place as usize].part.name,
+            Entry::Tagged(tagged) => &tagged.part(place).name,
             _ => unreachable!(),
         }
     }
@@ -106,18 +156,19 @@ impl Entry {
         }
     }
 
-    /// The type of a union's discriminator.
+    /// The type of a union's discriminator, or of a tagged type's number.
     pub(crate) fn switch_type(&self) -> TypeId
         requires { IsUnion (shape_of (node_view self.now)) }
         ensures { result.0 ≡ switch_at (node_view self.now) }
     {
         match self {
             Entry::Union(switch, _, _) => *switch,
+            Entry::Tagged(tagged) => tagged.tag.type_id,
             _ => unreachable!(),
         }
     }
 
-    /// What a discriminator's value selects.
+    /// What the value of a discriminator, or of a tagged type's number, selects.
     pub(crate) fn select(&self, number: Number) -> Selected
         requires { IsSized self.now }
         ensures { result ≡ selected (node_view self.now) number }
@@ -127,6 +178,7 @@ impl Entry {
                 Some(place) => Selected::Case(place),
                 None => *otherwise,
             },
+            Entry::Tagged(tagged) => tagged.select(number),
             _ => Selected::Nothing,
         }
     }
@@ -248,8 +300,8 @@ impl Types {
             Shape::Union(count) => 1 + self.deepest_part(entry, count).max(1),
             Shape::Sequence(_) => 1 + self.depth_at(entry.part(0)),
             Shape::Array(_) => 1 + self.depth_at(entry.part(0)),
-            Shape::Encapsulation => unreachable!(),
-            Shape::Tagged => unreachable!(),
+            Shape::Encapsulation => 1 + self.depth_at(entry.part(0)),
+            Shape::Tagged => 1 + self.deepest_part(entry, 3).max(1),
         }
     }
 

@@ -7,6 +7,7 @@ mod draft;
 mod entries;
 mod fault;
 mod labels;
+mod numbers;
 mod parse;
 mod read_calls;
 mod read_enums;

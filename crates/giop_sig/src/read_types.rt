@@ -8,6 +8,7 @@ ghost use Rattle.giop_sig.specs.TypeReading.{added, size_at, enclosed_at, most_a
 
 use crate::draft::Draft;
 use crate::entries::Entry;
+use crate::numbers;
 use crate::stop::Stop;
 use crate::types::TypeId;
 use giop_tokens::{
@@ -20,9 +21,9 @@ const NAME_MAX: usize = 64;
 /// The greatest length or bound.
 const SIZE_MAX: u64 = 4_294_967_295;
 /// The type of a string without a bound.
-const STRING: TypeId = TypeId(11);
+const STRING: TypeId = TypeId(numbers::STRING);
 /// The type of an object reference.
-const REFERENCE: TypeId = TypeId(17);
+const REFERENCE: TypeId = TypeId(numbers::IOR);
 
 /// A refusal of the first token of a text.
 pub(crate) fn refused(kind: SigFaultKind, text: &[u8]) -> Refusal

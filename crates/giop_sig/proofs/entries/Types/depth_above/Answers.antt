@@ -32,3 +32,12 @@ returns-in-Sequence-clause-depth c =
 pub returns-in-Array-clause-depth : goal.returns-in-Array-clause-depth
 returns-in-Array-clause-depth c =
     ap (λ n. 1 + n) (c.depth_at-in-Array.ensures.depth ∙ ap (λ i. depth (type_in c.args.self.now i)) c.part-in-Array.ensures) ∙ sym (depth_at_shape c.args.self.now (node_view c.args.entry.now) _ c.in-Array.ensures)
+
+pub returns-in-Encapsulation-clause-depth : goal.returns-in-Encapsulation-clause-depth
+returns-in-Encapsulation-clause-depth c =
+    ap (λ n. 1 + n) (c.depth_at-in-Encapsulation.ensures.depth ∙ ap (λ i. depth (type_in c.args.self.now i)) c.part-in-Encapsulation.ensures) ∙ sym (depth_at_shape c.args.self.now (node_view c.args.entry.now) _ c.in-Encapsulation.ensures)
+
+pub returns-in-Tagged-clause-depth : goal.returns-in-Tagged-clause-depth
+returns-in-Tagged-clause-depth c =
+    let shape = depth_at_shape c.args.self.now (node_view c.args.entry.now) _ c.in-Tagged.ensures in
+    omega (arith, shape, c.max-in-Tagged.ensures, c.deepest_part-in-Tagged.ensures.depth)
