@@ -11,8 +11,8 @@ use std::alloc::Global;
 use std::process::Abort;
 use std::test::Fail;
 
-/// A sequence of structs whose one member is an array: its parameters' type is numbered 40, the sequence 39, the struct 38,
-/// the array 37, and the built-in short 3.
+/// A sequence of structs whose one member is an array: its parameters' type is numbered 44, the sequence 43, the struct 42,
+/// the array 41, and the built-in short 3.
 const DOTS: &[u8] =
     b"signatures 1; struct Dot { short spot[2]; }; operation void add(in sequence<Dot> dots);";
 
@@ -22,7 +22,7 @@ const TAKEN: &str = "00000002 ffff0002 000700";
 /// The decoder of these: big endian, a body of message 1, offset 59, and an octet of a short; then the parameters, the
 /// sequence with its second element of two, the struct, the array with its second element of two, and the short.
 const DOTS_STORED: &str =
-    "00 02 0000000000000001 03 00 00000003 00000000 00000000 01 00 00*7 00 00*32 00*5 00*5 00 00 00*128 00*2 00000028 00000000 00000001 00*4 00000027 00000001 00000002 00*4 00000026 00000000 00000001 00*4 00000025 00000001 00000002 00*4 00000003 00*12";
+    "00 02 0000000000000001 03 00 00000003 00000000 00000000 01 00 00*7 00 00*32 00*5 00*5 00 00 00*128 00*2 0000002c 00000000 00000001 00*4 0000002b 00000001 00000002 00*4 0000002a 00000000 00000001 00*4 00000029 00000001 00000002 00*4 00000003 00*12";
 
 /// A repository id of 34 octets, with one octet of its second piece.
 const NAMED: &str = "00000023 61*33";
@@ -178,7 +178,7 @@ static REFUSED: [(&str, usize, u8); 27] = [
     ("more octets than a name has", 77, 129),
     ("an octet behind a name", 78, 1),
     ("the last octet", 207, 1),
-    ("a frame of another type", 211, 39),
+    ("a frame of another type", 211, 43),
     ("a place behind the last member", 215, 1),
     ("a count that isn't the struct's", 219, 2),
     ("an octet behind a frame", 223, 1),
