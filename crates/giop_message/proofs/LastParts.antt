@@ -1,5 +1,5 @@
 -- The last part of a Request's header is no operation, so a header never ends with one.
-use Rattle.std.proofs.Common.{◌≡◌, ℕ, zero, suc, ◌+◌, ◌-◌, ◌<◌, ◌≤◌, ◌⊎◌, inl, inr, Bool, true, false, List, [], ◌∷◌, ◌++◌, Option, Some, None, refl, sym, ap, subst, ◌∙◌, append-nil, arith}
+use Rattle.std.proofs.Common.{◌≡◌, ℕ, zero, suc, ◌+◌, ◌-◌, ◌<◌, ◌≤◌, ◌⊎◌, inl, inr, Bool, true, false, List, [], ◌∷◌, ◌++◌, length, Option, Some, None, refl, sym, ap, subst, ◌∙◌, append-nil, arith}
 use Rattle.std.specs.Prelude.{◌&&◌, codes, IfSome}
 use Rattle.std.specs.List.{AllByRecursion as Each}
 use Rattle.std.specs.Option.{option_map}
@@ -47,11 +47,14 @@ builtin_is = record {
   declared_few = omega arith;
 }
 
-number_fit : (found : Option ℕ) → IfSome found (λ n. n < 37) → IfSome (option_map (type_in builtin_types) found) (IsFit 24)
+number_fit : (found : Option ℕ) → IfSome found (λ n. n < length builtin_types)
+    → IfSome (option_map (type_in builtin_types) found) (IsFit 24)
+unfolding builtin_types
 number_fit None h = tt
 number_fit (Some n) h = builtin_fit builtin_table n builtin_is h
 
 pub header_fit : (minor kind : ℕ) (T : Ty) → header_type minor kind ≡ Some T → IsFit 24 T
+unfolding builtin_types
 header_fit minor kind T e = subst (λ found. IfSome found (IsFit 24)) e (number_fit (header_number minor kind) (header_built_in minor kind))
 
 -- ---- no operation at the end

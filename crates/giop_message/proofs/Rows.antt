@@ -1,5 +1,5 @@
 -- The definitions at messages worked by hand.
-use Rattle.std.proofs.Common.{◌≡◌, ℕ, zero, suc, Bool, true, false, List, [], ◌∷◌, ◌++◌, replicate, Some, None, refl}
+use Rattle.std.proofs.Common.{◌≡◌, ℕ, zero, suc, ◌+◌, Bool, true, false, List, [], ◌∷◌, ◌++◌, replicate, length, Some, None, refl}
 use Rattle.std.specs.Prelude.{codes, IfSome, nat_lt, ◌&&◌, ◌||◌}
 use Rattle.std.specs.Fmt.{digits}
 use Rattle.giop_cdr.specs.Alignment.{padding}
@@ -20,15 +20,20 @@ use Rattle.giop_message.specs.Signatures.{Kept, said_by}
 use Rattle.giop_message.specs.Messages.{tell, is_shown, call_of, calls, tells, with_front, passes, rest_in, rest, typed, option_typed, members_of, after_exception, body, type_if, request_body, result_body, reply_body, is_request, body_of, has_body, padded, after_header, of_header, message, may_lack, close, told_of, stage_of}
 use Rattle.giop_message.specs.MessageReading.{saying_of, text_of, reading_by, message_reading}
 
+-- an operation by its structs, counted from the first type behind the built-in ones
+called : List ℕ → ℕ → ℕ → Operation
+called name request reply = record {
+  name = name;
+  request = length builtin_types + request;
+  reply = length builtin_types + reply;
+}
+
 -- exception Late "IDL:Late:1.0" { ushort by; };
 -- operation long ask(in long a, out octet b); operation void nop();
 -- operation void say(in string s); operation void raw(in sequence<octet> o);
 -- operation void set(in long v); operation void put(in double d);
-called : List ℕ → ℕ → ℕ → Operation
-called name request reply = record { name = name; request = request; reply = reply }
-
 late : Exception
-late = record { repository = codes "IDL:Late:1.0"; members = 37 }
+late = record { repository = codes "IDL:Late:1.0"; members = length builtin_types }
 
 table : Table
 unfolding called late
@@ -43,8 +48,8 @@ table = record {
       ∷ members (member (codes "v") 5 ∷ [])
       ∷ members (member (codes "d") 10 ∷ [])
       ∷ [];
-  operations = called (codes "ask") 38 39 ∷ called (codes "nop") 40 40 ∷ called (codes "say") 41 40 ∷ called (codes "raw") 42 40
-      ∷ called (codes "set") 43 40 ∷ called (codes "put") 44 40 ∷ [];
+  operations = called (codes "ask") 1 2 ∷ called (codes "nop") 3 3 ∷ called (codes "say") 4 3 ∷ called (codes "raw") 5 3
+      ∷ called (codes "set") 6 3 ∷ called (codes "put") 7 3 ∷ [];
   exceptions = late ∷ [];
   declared = 0;
 }

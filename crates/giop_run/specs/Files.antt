@@ -3,11 +3,11 @@
 use Rattle.std.specs.Prelude.{◌≡◌, ℕ, ◌<◌, ◌≤◌, List, [], length, take, Option, None, Some, IfSome, ◌⊎◌}
 use Rattle.giop_print.specs.Output.{counted}
 use Rattle.giop_sig.specs.Builtin.{builtin_table}
-use Rattle.giop_sig.specs.Grammar.{Declaration}
+use Rattle.giop_sig.specs.Grammar.{SignatureFile}
 use Rattle.giop_sig.specs.Scopes.{table}
 use Rattle.giop_sig.specs.Table.{Table, operation_number}
 use Rattle.giop_sig.specs.FileReading.{text_too_long, IsFirstRefusal}
-use Rattle.giop_sig.specs.Validity.{AreValid, Spells as Declared}
+use Rattle.giop_sig.specs.Validity.{IsValid, Spells as Declared}
 use Rattle.giop_sig.specs.RequestList.{Entry, Lists, IsOf, IsRefusedAs}
 use Rattle.giop_message.specs.Signatures.{Kept as Listed}
 use Rattle.giop_checkpoint.specs.declared.fixed.Counts.{Counts}
@@ -37,12 +37,12 @@ requests_most = 16777216
 abbrev pub checkpoint_most : ℕ
 checkpoint_most = 10976
 
--- a text spells valid declarations, of which this is the table
+-- a text spells a valid file of signatures, of which this is the table
 pub record Declares (text : List ℕ) (C : Table) : Type 0 where
-  pub declarations : List Declaration
-  pub spelled : Declared text declarations
-  pub valid : AreValid declarations
-  pub is : C ≡ table declarations
+  pub file : SignatureFile
+  pub spelled : Declared text file
+  pub valid : IsValid file
+  pub is : C ≡ table file
 
 -- a text is a list of requests, of which this is kept by the operations of a catalogue
 pub record Requests (text : List ℕ) (C : Table) (kept : Listed) : Type 0 where

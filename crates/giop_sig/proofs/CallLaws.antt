@@ -17,7 +17,7 @@ use Rattle.giop_sig.specs.declared.read_calls.Direction.{Direction}
 use Rattle.giop_sig.specs.declared.read_calls.Direction.TheVariants as directions
 use Rattle.giop_sig.specs.Table.{Node, Part, operation_in}
 use Rattle.giop_sig.specs.Table as nodes
-use Rattle.giop_sig.specs.Grammar.{TypeExpr, Base, Text, Reference, Named, SequenceOf, Param, base_word, direction_word, spell_bound, spell_most, spell_type, spell_item, spell_param, spell_more_params, spell_params, spell_return, Call}
+use Rattle.giop_sig.specs.Grammar.{TypeExpr, Base, Text, Reference, Named, SequenceOf, EncapsulationOf, Param, base_word, direction_word, spell_bound, spell_most, spell_type, spell_item, spell_param, spell_more_params, spell_params, spell_return, Call}
 use Rattle.giop_sig.specs.Scopes.{Names, Scope, part, item_part, with_node, with_call, place_item, place_params, place_return, onto_request, onto_reply, declare}
 use Rattle.giop_sig.specs.Validity.{Kind, OfItem, OfItems, OfType, OfReturn, OfOperation, OfDeclaration, items_of}
 use Rattle.giop_sig.specs.Outcomes.{refused}
@@ -54,6 +54,7 @@ no_void (Text o) names more free = refl
 no_void Reference names more free = refl
 no_void (Named w) names more free = is_not w (codes "void") free refl
 no_void (SequenceOf e o) names more free = refl
+no_void (EncapsulationOf e) names more free = refl
 
 if_no_void : (text : List ℕ) (t : Token) (ts : List Token) → is_the_word (codes "void") t ≡ false → AreTokens text (t ∷ ts) → keyword_if (codes "void") text ≡ Ok None
 if_no_void text t ts differs h = if_other (is_the_word (codes "void")) text t ts h differs
@@ -64,6 +65,7 @@ type_no_void (Text o) names text more free h = if_no_void text (word (codes "str
 type_no_void Reference names text more free h = if_no_void text (word (codes "Object")) more (no_void Reference names more free) h
 type_no_void (Named w) names text more free h = if_no_void text (word w) more (no_void (Named w) names more free) h
 type_no_void (SequenceOf e o) names text more free h = if_no_void text (word (codes "sequence")) (mark marks.OpenAngle ∷ spell_type e (spell_most o (mark marks.CloseAngle ∷ more))) (no_void (SequenceOf e o) names more free) h
+type_no_void (EncapsulationOf e) names text more free h = if_no_void text (word (codes "encapsulation")) (mark marks.OpenAngle ∷ spell_type e (mark marks.CloseAngle ∷ more)) (no_void (EncapsulationOf e) names more free) h
 
 abbrev made_return : Scope → Option TypeExpr → List ℕ → ReturnRead
 made_return s o rest = ((place_return s o).0, (place_return s o).1, rest)

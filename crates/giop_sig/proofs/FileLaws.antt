@@ -1,8 +1,7 @@
 -- What reading gives of a signature file, and what one that was read is spelled as.
-use Rattle.std.proofs.Common.{◌≡◌, ℕ, zero, suc, ◌+◌, ◌<◌, ◌≤◌, Bool, true, false, cond, eqb, List, [], ◌∷◌, ◌++◌, length, Option, Some, None, Result, Ok, Err, refl, sym, ap, subst, ◌∙◌, lit<, arith}
+use Rattle.std.proofs.Common.{◌≡◌, ℕ, zero, suc, ◌+◌, ◌<◌, ◌≤◌, Bool, true, false, cond, List, [], ◌∷◌, ◌++◌, length, Option, Some, None, Result, Ok, Err, refl, sym, ap, subst, ◌∙◌, lit<, arith}
 use Rattle.std.specs.Prelude.{MatchResult, codes}
 use Rattle.std.specs.Str.{bytes_eq}
-use Rattle.std.proofs.lemmas.Bool.{eqb-true}
 use Rattle.std.proofs.lemmas.Slice.Eq.{bytes_eq-Decides}
 use Rattle.giop_tokens.specs.declared.fault.Refusal.{Refusal}
 use Rattle.giop_tokens.specs.declared.fault.SigFaultKind.TheVariants as kinds
@@ -11,14 +10,14 @@ use Rattle.giop_tokens.specs.Tokens.{Token, word, number, repository, mark, next
 use Rattle.giop_tokens.specs.Reading.{◌>>=◌}
 use Rattle.giop_tokens.specs.Readers.{misplaced, word_at, number_at, mark_at, keyword_at, is_end, end_at}
 use Rattle.giop_tokens.proofs.ReaderLaws.{bind_ok, ok_is, Takes, word_again, number_again, mark_again, keyword_again, end_again, end_other, word_takes, number_takes, mark_takes, keyword_takes}
-use Rattle.giop_sig.specs.Grammar.{TypeExpr, Item, UnionCase, spell_type, spell_names, spell_items, spell_cases, spell_params, spell_return, Declaration, Enumeration, Structure, Choice, Raise, Call, spell, spell_all, spell_file}
-use Rattle.giop_sig.specs.Scopes.{Scope, builtin_scope, declare, scope_after, table}
-use Rattle.giop_sig.specs.Validity.{Kind, OfDeclaration, IsShallow, HasFreeNames, Each, AreValid, Spells, Refuses}
+use Rattle.giop_sig.specs.Grammar.{TypeExpr, Item, UnionCase, spell_type, spell_names, spell_items, spell_cases, spell_params, spell_return, Declaration, Enumeration, Structure, Choice, Raise, Call, spell, spell_all, SignatureFile, is_version, spell_file}
+use Rattle.giop_sig.specs.Scopes.{Scope, first_scope, declare, scope_after, table}
+use Rattle.giop_sig.specs.Validity.{Kind, OfDeclaration, IsShallow, HasItsWords, Each, IsValid, Spells, Refuses}
 use Rattle.giop_sig.specs.ItemReading.{Declared, structure_at, raise_at}
 use Rattle.giop_sig.specs.CallReading.{operation_at}
 use Rattle.giop_sig.specs.EnumReading.{enumeration_at}
 use Rattle.giop_sig.specs.UnionReading.{union_at}
-use Rattle.giop_sig.specs.FileReading.{declaration_after, declaration_at, declarations_run, version_at, file_at}
+use Rattle.giop_sig.specs.FileReading.{declaration_after, declaration_at, declarations_run, version_at, head_at, file_at}
 use Rattle.giop_sig.proofs.PlaceLaws.{deepest, size, declare_longer, scope_deeper}
 use Rattle.giop_sig.proofs.ReadingLaws.{Breaks, Out}
 use Rattle.giop_sig.proofs.DeclaredLaws.{TakenDeclaration, structure_reads, structure_takes, raise_reads, raise_takes}
@@ -27,7 +26,6 @@ use Rattle.giop_sig.proofs.EnumLaws.{enumeration_reads, TakenEnumeration, enumer
 use Rattle.giop_sig.proofs.TokensFew.{tokens_few, next_none}
 use Rattle.giop_sig.proofs.SpellLaws.{spelled_few}
 use Rattle.giop_sig.proofs.SizeLaws.{types_few}
-use Rattle.giop_sig.proofs.FreeLaws.{free_declared}
 use Rattle.giop_sig.specs.Builtin.{builtin_types}
 
 -- ---- a declaration
@@ -128,7 +126,7 @@ run_over : (n : ℕ) (s : Scope) (text : List ℕ) → end_at text ≡ Ok true �
 unfolding declarations_run
 run_over n s text h = rw h refl
 
-declarations_read : UnionReads → (ds : List Declaration) (n : ℕ) (s : Scope) (text : List ℕ) → length ds < n → 0 < size s → Each HasFreeNames s ds → AreTokens text (spell_all ds) → FileOut s ds (declarations_run n s text)
+declarations_read : UnionReads → (ds : List Declaration) (n : ℕ) (s : Scope) (text : List ℕ) → length ds < n → 0 < size s → Each HasItsWords s ds → AreTokens text (spell_all ds) → FileOut s ds (declarations_run n s text)
 unfolding Each
 declarations_read union [] zero s text lt some free h = absurd (omega arith)
 declarations_read union (d ∷ ds) zero s text lt some free h = absurd (omega arith)
@@ -139,28 +137,33 @@ declarations_read union (d ∷ ds) (suc n) s text lt some free h =
 
 -- ---- the whole file
 
-version_again : (text : List ℕ) (more : List Token) (h : AreTokens text (number 1 ∷ more)) → version_at text ≡ Ok h.0
+version_again : (text : List ℕ) (n : ℕ) (more : List Token) (h : AreTokens text (number n ∷ more)) → is_version n ≡ true → version_at text ≡ Ok (n, h.0)
 unfolding version_at
-version_again text more h = rw (number_again text 1 more h) refl
+version_again text n more h is = rw (number_again text n more h, is) refl
 
-built_in : 0 < size builtin_scope
+built_in : (version : ℕ) → 0 < size (first_scope version)
 unfolding builtin_types
-built_in = lit< tt
+built_in version = lit< tt
 
 -- what reading gives of a file
-pub file_reads : UnionReads → (text : List ℕ) (ds : List Declaration) → Spells text ds → FileOut builtin_scope ds (file_at text)
-unfolding file_at
-file_reads union text ds spells =
+pub file_reads : UnionReads → (text : List ℕ) (file : SignatureFile) → Spells text file → FileOut (first_scope file.version) file.declarations (file_at text)
+unfolding file_at head_at
+file_reads union text file spells =
     let h = spells.tokens in
-    let few = tokens_few (spell_file ds) text h in
-    rw (keyword_again (codes "signatures") text (number 1 ∷ mark marks.Semicolon ∷ spell_all ds) h, version_again h.0 (mark marks.Semicolon ∷ spell_all ds) h.2, mark_again marks.Semicolon (h.2).0 (spell_all ds) (h.2).2)
-    (declarations_read union ds (length text) builtin_scope ((h.2).2).0 (omega (arith, few, spelled_few ds)) built_in spells.names ((h.2).2).2)
+    let ds = file.declarations in
+    let few = tokens_few (spell_file file) text h in
+    rw (
+      keyword_again (codes "signatures") text (number file.version ∷ mark marks.Semicolon ∷ spell_all ds) h,
+      version_again h.0 file.version (mark marks.Semicolon ∷ spell_all ds) h.2 spells.version,
+      mark_again marks.Semicolon (h.2).0 (spell_all ds) (h.2).2,
+    )
+    (declarations_read union ds (length text) (first_scope file.version) ((h.2).2).0 (omega (arith, few, spelled_few ds)) (built_in file.version) spells.words ((h.2).2).2)
 
 -- ---- what was read
 
-pub record TakenAll (text : List ℕ) : Type 0 where
+pub record TakenAll (s : Scope) (text : List ℕ) : Type 0 where
   pub declarations : List Declaration
-  pub free : (s : Scope) → Each HasFreeNames s declarations
+  pub words : 0 < size s → Each HasItsWords s declarations
   pub tokens : AreTokens text (spell_all declarations)
 
 end_none : (text : List ℕ) (o : Option Token) (rest : List ℕ) → next text ≡ Ok (o, rest) → is_end o ≡ true → AreTokens text []
@@ -173,47 +176,79 @@ end_from text e =
     let t = bind_ok (next text) (λ t. Ok (is_end t.0)) true e in
     end_none text (t.0).0 (t.0).1 t.1 (ok_is (is_end (t.0).0) true t.2)
 
-over_by : (n : ℕ) (s : Scope) (text : List ℕ) (t : Scope) (v : Bool) → end_at text ≡ Ok v → cond v (Ok s) (declaration_at s text >>= λ d. declarations_run n d.0 d.1) ≡ Ok t → UnionTakes
-    → ((s : Scope) (text : List ℕ) → declarations_run n s text ≡ Ok t → TakenAll text) → TakenAll text
+-- the scope behind a declaration that was read is that of what it spells
+declared_is : UnionReads → (s : Scope) (d : Declaration) (text : List ℕ) (more : List Token) (x : Declared) → 0 < size s → HasItsWords s d → AreTokens text (spell d more) → declaration_at s text ≡ Ok x → x.0 ≡ declare s d
+declared_is union s d text more x some words h e =
+    let o : DeclarationOut s d more (Ok x) = subst (DeclarationOut s d more) e (declaration_reads union d s text more some words h) in
+    ap (λ (y : Declared). y.0) (o.out).is
+
+more_words : (s t : Scope) (d : Declaration) (ds : List Declaration) → 0 < size s → t ≡ declare s d → (0 < size t → Each HasItsWords t ds) → Each HasItsWords (declare s d) ds
+more_words s t d ds some is words = subst (λ u. Each HasItsWords u ds) is (words (omega (arith, declare_longer s d, ap size is)))
+
+over_by : (n : ℕ) (s : Scope) (text : List ℕ) (t : Scope) (v : Bool) → end_at text ≡ Ok v → cond v (Ok s) (declaration_at s text >>= λ d. declarations_run n d.0 d.1) ≡ Ok t → UnionReads → UnionTakes
+    → ((s : Scope) (text : List ℕ) → declarations_run n s text ≡ Ok t → TakenAll s text) → TakenAll s text
 unfolding Each
-over_by n s text t true over e union on = record { declarations = []; free = λ s. tt; tokens = end_from text over }
-over_by n s text t false over e union on =
+over_by n s text t true over e reads takes on = record { declarations = []; words = λ some. tt; tokens = end_from text over }
+over_by n s text t false over e reads takes on =
     let d = bind_ok (declaration_at s text) (λ d. declarations_run n d.0 d.1) t e in
-    let k = declaration_takes union s text d.0 d.1 in
+    let k = declaration_takes takes s text d.0 d.1 in
     let rest = on (d.0).0 (d.0).1 d.2 in
+    let tokens : AreTokens text (spell k.declaration (spell_all rest.declarations)) = k.took.front (spell_all rest.declarations) rest.tokens in
     record {
       declarations = k.declaration ∷ rest.declarations;
-      free = λ u. (free_declared k.declaration s u k.took.free, rest.free (declare u k.declaration));
-      tokens = k.took.front (spell_all rest.declarations) rest.tokens;
+      words = λ some. (
+        k.took.free,
+        more_words s (d.0).0 k.declaration rest.declarations some (declared_is reads s k.declaration text (spell_all rest.declarations) d.0 some k.took.free tokens d.1) rest.words,
+      );
+      tokens = tokens;
     }
 
-declarations_take : UnionTakes → (n : ℕ) (s : Scope) (text : List ℕ) (t : Scope) → declarations_run n s text ≡ Ok t → TakenAll text
+declarations_take : UnionReads → UnionTakes → (n : ℕ) (s : Scope) (text : List ℕ) (t : Scope) → declarations_run n s text ≡ Ok t → TakenAll s text
 unfolding declarations_run
-declarations_take union zero s text t e = absurd cc
-declarations_take union (suc n) s text t e =
+declarations_take reads takes zero s text t e = absurd cc
+declarations_take reads takes (suc n) s text t e =
     let o = bind_ok (end_at text) (λ over. cond over (Ok s) (declaration_at s text >>= λ d. declarations_run n d.0 d.1)) t e in
-    over_by n s text t o.0 o.1 o.2 union (λ s text run. declarations_take union n s text t run)
+    over_by n s text t o.0 o.1 o.2 reads takes (λ s text run. declarations_take reads takes n s text t run)
 
-version_by : (text : List ℕ) (n : ℕ × List ℕ) (x : List ℕ) (v : Bool) → eqb n.0 1 ≡ v → cond v (Ok n.1) (Err (misplaced text)) ≡ Ok x → Takes text (number n.0) n.1 → Takes text (number 1) x
-version_by text n x true h e t = subst (Takes text (number 1)) (ok_is n.1 x e) (subst (λ k. Takes text (number k) n.1) (eqb-true n.0 1 h) t)
-version_by text n x false h e t = absurd cc
+-- the version that a file begins with
+record TakenHead (text : List ℕ) (x : ℕ × List ℕ) : Type 0 where
+  pub version : is_version x.0 ≡ true
+  pub front : (more : List Token) → AreTokens x.1 more → AreTokens text (word (codes "signatures") ∷ number x.0 ∷ mark marks.Semicolon ∷ more)
 
-version_takes : (text x : List ℕ) → version_at text ≡ Ok x → Takes text (number 1) x
+version_by : (text : List ℕ) (n x : ℕ × List ℕ) (v : Bool) → is_version n.0 ≡ v → cond v (Ok (n.0, n.1)) (Err (misplaced text)) ≡ Ok x → (is_version n.0 ≡ true) × (n ≡ x)
+version_by text n x true h e = (h, ok_is n x e)
+version_by text n x false h e = absurd cc
+
+version_takes : (text : List ℕ) (x : ℕ × List ℕ) → version_at text ≡ Ok x → (is_version x.0 ≡ true) × Takes text (number x.0) x.1
 unfolding version_at
 version_takes text x e =
-    let n = bind_ok (number_at text) (λ n. cond (eqb n.0 1) (Ok n.1) (Err (misplaced text))) x e in
-    version_by text n.0 x (eqb (n.0).0 1) refl n.2 (number_takes text n.0 n.1)
+    let n = bind_ok (number_at text) (λ n. cond (is_version n.0) (Ok (n.0, n.1)) (Err (misplaced text))) x e in
+    let is = version_by text n.0 x (is_version (n.0).0) refl n.2 in
+    subst (λ (y : ℕ × List ℕ). (is_version y.0 ≡ true) × Takes text (number y.0) y.1) is.1 (is.0, number_takes text n.0 n.1)
 
-pub file_takes : UnionTakes → (text : List ℕ) (t : Scope) → length text ≤ 1048576 → file_at text ≡ Ok t → (ds : List Declaration) × Spells text ds
+head_takes : (text : List ℕ) (x : ℕ × List ℕ) → head_at text ≡ Ok x → TakenHead text x
+unfolding head_at
+head_takes text x e =
+    let k = bind_ok (keyword_at (codes "signatures") text) (λ k. version_at k >>= λ v. mark_at marks.Semicolon v.1 >>= λ r. Ok (v.0, r)) x e in
+    let v = bind_ok (version_at k.0) (λ v. mark_at marks.Semicolon v.1 >>= λ r. Ok (v.0, r)) x k.2 in
+    let r = bind_ok (mark_at marks.Semicolon (v.0).1) (λ r. Ok ((v.0).0, r)) x v.2 in
+    let is = version_takes k.0 v.0 v.1 in
+    subst (TakenHead text) (ok_is ((v.0).0, r.0) x r.2) (record {
+      version = is.0;
+      front = λ more m.
+          let tail : AreTokens (v.0).1 (mark marks.Semicolon ∷ more) = mark_takes marks.Semicolon (v.0).1 r.0 r.1 more m in
+          keyword_takes (codes "signatures") text k.0 k.1 (number (v.0).0 ∷ mark marks.Semicolon ∷ more) (is.1 (mark marks.Semicolon ∷ more) tail);
+    })
+
+pub file_takes : UnionReads → UnionTakes → (text : List ℕ) (t : Scope) → length text ≤ 1048576 → file_at text ≡ Ok t → (file : SignatureFile) × Spells text file
 unfolding file_at
-file_takes union text t short e =
-    let k = bind_ok (keyword_at (codes "signatures") text) (λ k. version_at k >>= λ v. mark_at marks.Semicolon v >>= λ r. declarations_run (length text) builtin_scope r) t e in
-    let v = bind_ok (version_at k.0) (λ v. mark_at marks.Semicolon v >>= λ r. declarations_run (length text) builtin_scope r) t k.2 in
-    let r = bind_ok (mark_at marks.Semicolon v.0) (λ r. declarations_run (length text) builtin_scope r) t v.2 in
-    let all = declarations_take union (length text) builtin_scope r.0 t r.2 in
-    let tail = spell_all all.declarations in
-    let tokens : AreTokens text (spell_file all.declarations) = keyword_takes (codes "signatures") text k.0 k.1 (number 1 ∷ mark marks.Semicolon ∷ tail) (version_takes k.0 v.0 v.1 (mark marks.Semicolon ∷ tail) (mark_takes marks.Semicolon v.0 r.0 r.1 tail all.tokens)) in
-    (all.declarations, record { short = short; tokens = tokens; names = all.free builtin_scope })
+file_takes reads takes text t short e =
+    let h = bind_ok (head_at text) (λ h. declarations_run (length text) (first_scope h.0) h.1) t e in
+    let head = head_takes text h.0 h.1 in
+    let all = declarations_take reads takes (length text) (first_scope (h.0).0) (h.0).1 t h.2 in (
+      record { version = (h.0).0; declarations = all.declarations },
+      record { short = short; tokens = head.front (spell_all all.declarations) all.tokens; version = head.version; words = all.words (built_in (h.0).0) },
+    )
 
 -- ---- in the words of the contract
 
@@ -222,16 +257,18 @@ unfolding Each
 each_shallow [] s le = tt
 each_shallow (d ∷ ds) s le = (omega (arith, scope_deeper (declare s d) ds), each_shallow ds (declare s d) le)
 
--- what was read is the table of valid declarations
-pub file_valid : UnionReads → (text : List ℕ) (t : Scope) (ds : List Declaration) → Spells text ds → file_at text ≡ Ok t → deepest t ≤ 24 → AreValid ds × (t.table ≡ table ds)
-file_valid union text t ds spells e shallow =
-    let o : FileOut builtin_scope ds (Ok t) = subst (FileOut builtin_scope ds) e (file_reads union text ds spells) in (
+-- what was read is the table of a valid file
+pub file_valid : UnionReads → (text : List ℕ) (t : Scope) (file : SignatureFile) → Spells text file → file_at text ≡ Ok t → deepest t ≤ 24 → IsValid file × (t.table ≡ table file)
+file_valid union text t file spells e shallow =
+    let s = first_scope file.version in
+    let ds = file.declarations in
+    let o : FileOut s ds (Ok t) = subst (FileOut s ds) e (file_reads union text file spells) in (
       record {
         known = o.1 kinds.UnknownType;
         distinct = o.1 kinds.Duplicate;
         some = o.1 kinds.Empty;
         labels = o.1 kinds.Label;
-        shallow = each_shallow ds builtin_scope (subst (λ (x : Scope). deepest x ≤ 24) o.0 shallow);
+        shallow = each_shallow ds s (subst (λ (x : Scope). deepest x ≤ 24) o.0 shallow);
         within = o.1 kinds.Limit;
       },
       ap (λ (x : Scope). x.table) o.0,
@@ -240,21 +277,26 @@ file_valid union text t ds spells e shallow =
 -- it adds no more types than the text has octets
 pub file_few : UnionReads → UnionTakes → (text : List ℕ) (t : Scope) → length text ≤ 1048576 → file_at text ≡ Ok t → size t ≤ length builtin_types + length text
 file_few reads takes text t short e =
-    let s = file_takes takes text t short e in
-    let o : FileOut builtin_scope s.0 (Ok t) = subst (FileOut builtin_scope s.0) e (file_reads reads text s.0 s.1) in
-    omega (arith, ap size o.0, tokens_few (spell_file s.0) text (s.1).tokens, types_few builtin_scope s.0)
+    let f = file_takes reads takes text t short e in
+    let s = first_scope (f.0).version in
+    let ds = (f.0).declarations in
+    let o : FileOut s ds (Ok t) = subst (FileOut s ds) e (file_reads reads text f.0 f.1) in
+    omega (arith, ap size o.0, tokens_few (spell_file f.0) text (f.1).tokens, types_few s ds)
 
-refuses : (k : Kind) (ds : List Declaration) → BrokenIn k builtin_scope ds → Refuses k ds
-refuses kinds.Token ds b = b.breaks
-refuses kinds.Syntax ds b = b.breaks
-refuses kinds.OutOfMemory ds b = tt
-refuses kinds.Depth ds b = record { before = b.before; broken = b.broken; after = b.after; all = b.all; breaks = λ le. let deep = b.breaks in omega arith }
-refuses kinds.UnknownType ds b = record { before = b.before; broken = b.broken; after = b.after; all = b.all; breaks = b.breaks }
-refuses kinds.Duplicate ds b = record { before = b.before; broken = b.broken; after = b.after; all = b.all; breaks = b.breaks }
-refuses kinds.Limit ds b = record { before = b.before; broken = b.broken; after = b.after; all = b.all; breaks = b.breaks }
-refuses kinds.Label ds b = record { before = b.before; broken = b.broken; after = b.after; all = b.all; breaks = b.breaks }
-refuses kinds.Empty ds b = record { before = b.before; broken = b.broken; after = b.after; all = b.all; breaks = b.breaks }
+refuses : (k : Kind) (file : SignatureFile) → BrokenIn k (first_scope file.version) file.declarations → Refuses k file
+refuses kinds.Token file b = b.breaks
+refuses kinds.Syntax file b = b.breaks
+refuses kinds.OutOfMemory file b = tt
+refuses kinds.Depth file b = record { before = b.before; broken = b.broken; after = b.after; all = b.all; breaks = λ le. let deep = b.breaks in omega arith }
+refuses kinds.UnknownType file b = record { before = b.before; broken = b.broken; after = b.after; all = b.all; breaks = b.breaks }
+refuses kinds.Duplicate file b = record { before = b.before; broken = b.broken; after = b.after; all = b.all; breaks = b.breaks }
+refuses kinds.Limit file b = record { before = b.before; broken = b.broken; after = b.after; all = b.all; breaks = b.breaks }
+refuses kinds.Label file b = record { before = b.before; broken = b.broken; after = b.after; all = b.all; breaks = b.breaks }
+refuses kinds.Empty file b = record { before = b.before; broken = b.broken; after = b.after; all = b.all; breaks = b.breaks }
 
--- a text that spells declarations is refused for a rule that one of them breaks
-pub file_refuses : UnionReads → (text : List ℕ) (e : Refusal) (ds : List Declaration) → Spells text ds → file_at text ≡ Err e → Refuses e.kind ds
-file_refuses union text e ds spells h = let o : FileOut builtin_scope ds (Err e) = subst (FileOut builtin_scope ds) h (file_reads union text ds spells) in refuses e.kind ds o
+-- a text that spells a file is refused for a rule that one of its declarations breaks
+pub file_refuses : UnionReads → (text : List ℕ) (e : Refusal) (file : SignatureFile) → Spells text file → file_at text ≡ Err e → Refuses e.kind file
+file_refuses union text e file spells h =
+    let s = first_scope file.version in
+    let o : FileOut s file.declarations (Err e) = subst (FileOut s file.declarations) h (file_reads union text file spells) in
+    refuses e.kind file o

@@ -15,7 +15,7 @@ use Rattle.giop_tokens.specs.Names.{too_long}
 use Rattle.giop_tokens.proofs.ReaderLaws.{mark_again, mark_if_again, identifier_again, identifier_long}
 use Rattle.giop_sig.specs.Table.{Node, Part}
 use Rattle.giop_sig.specs.Table as nodes
-use Rattle.giop_sig.specs.Grammar.{TypeExpr, Base, Text, Reference, Named, SequenceOf, Item, spell_length, spell_type, spell_item, spell_items}
+use Rattle.giop_sig.specs.Grammar.{TypeExpr, Base, Text, Reference, Named, SequenceOf, EncapsulationOf, Item, spell_length, spell_type, spell_item, spell_items}
 use Rattle.giop_sig.specs.Scopes.{Names, Scope, part, item_part, place, place_length, place_item, place_items}
 use Rattle.giop_sig.specs.Validity.{Kind, IsFree, is_among, OfNewName, OfItem, OfItems, OfDeclared}
 use Rattle.giop_sig.specs.Outcomes.{refused}
@@ -55,7 +55,7 @@ pub new_name_reads : (types : List Node) (most : ℕ) (seen : List (List ℕ)) (
     → Out {X = List ℕ × List ℕ} (λ rest. (w, rest)) (λ k. OfNewName k most seen w) types more (new_name_at most seen text)
 new_name_reads types most seen text w more free h = long_by types most seen text w more (ltb 64 (length w)) refl free h
 
-declared_keeps : (s : Scope) (count : ℕ) (w : List ℕ) → IsFree w → length w ≤ 64 → count < 4096 → lookup (bytes_eq w) s.names ≡ None → (k : Kind) → OfDeclared k s count w
+declared_keeps : (s : Scope) (count : ℕ) (w : List ℕ) → IsFree w → length w ≤ 64 → count < 4096 → lookup (bytes_eq w) s.names.known ≡ None → (k : Kind) → OfDeclared k s count w
 declared_keeps s count w free short few new kinds.Token = tt
 declared_keeps s count w free short few new kinds.Syntax = free
 declared_keeps s count w free short few new kinds.UnknownType = tt
@@ -74,18 +74,18 @@ pub no_none : {X : Type 0} (o : Option X) → is_some o ≡ false → o ≡ None
 no_none None e = refl
 no_none (Some x) e = absurd cc
 
-declared_by : (types : List Node) (s : Scope) (count : ℕ) (text w rest : List ℕ) (more : List Token) (a b : Bool) → is_some (lookup (bytes_eq w) s.names) ≡ a → leb 4096 count ≡ b → IsFree w → length w ≤ 64 → AreTokens rest more
+declared_by : (types : List Node) (s : Scope) (count : ℕ) (text w rest : List ℕ) (more : List Token) (a b : Bool) → is_some (lookup (bytes_eq w) s.names.known) ≡ a → leb 4096 count ≡ b → IsFree w → length w ≤ 64 → AreTokens rest more
     → Out {X = List ℕ × List ℕ} (λ rest. (w, rest)) (λ k. OfDeclared k s count w) types more (cond a (Err (refused kinds.Duplicate text)) (cond b (Err (refused kinds.Limit text)) (Ok (w, rest))))
-declared_by types s count text w rest more true b p q free short m = broken (refused kinds.Duplicate text) (some_none (lookup (bytes_eq w) s.names) p)
+declared_by types s count text w rest more true b p q free short m = broken (refused kinds.Duplicate text) (some_none (lookup (bytes_eq w) s.names.known) p)
 declared_by types s count text w rest more false true p q free short m = broken (refused kinds.Limit text) (λ h. let z = leb-true 4096 count q in let f = h.1 in omega arith)
-declared_by types s count text w rest more false false p q free short m = good rest m (declared_keeps s count w free short (leb-false 4096 count q) (no_none (lookup (bytes_eq w) s.names) p))
+declared_by types s count text w rest more false false p q free short m = good rest m (declared_keeps s count w free short (leb-false 4096 count q) (no_none (lookup (bytes_eq w) s.names.known) p))
 
 long_declared : (types : List Node) (s : Scope) (count : ℕ) (text w : List ℕ) (more : List Token) (v : Bool) → ltb 64 (length w) ≡ v → IsFree w → AreTokens text (word w ∷ more)
     → Out {X = List ℕ × List ℕ} (λ rest. (w, rest)) (λ k. OfDeclared k s count w) types more (declared_at s count text)
 unfolding declared_at
 long_declared types s count text w more true e free h = rw (identifier_long text w more h free (ltb-true 64 (length w) e)) (broken (too_long text) (λ r. let z = ltb-true 64 (length w) e in let f = r.0 in omega arith))
 long_declared types s count text w more false e free h =
-    rw (identifier_again text w more h free (ltb-false 64 (length w) e)) (declared_by types s count text w h.0 more (is_some (lookup (bytes_eq w) s.names)) (leb 4096 count) refl refl free (ltb-false 64 (length w) e) h.2)
+    rw (identifier_again text w more h free (ltb-false 64 (length w) e)) (declared_by types s count text w h.0 more (is_some (lookup (bytes_eq w) s.names.known)) (leb 4096 count) refl refl free (ltb-false 64 (length w) e) h.2)
 
 pub declared_reads : (types : List Node) (s : Scope) (count : ℕ) (text w : List ℕ) (more : List Token) → IsFree w → AreTokens text (word w ∷ more)
     → Out {X = List ℕ × List ℕ} (λ rest. (w, rest)) (λ k. OfDeclared k s count w) types more (declared_at s count text)
@@ -127,6 +127,7 @@ type_apart (Text o) more = refl
 type_apart Reference more = refl
 type_apart (Named w) more = refl
 type_apart (SequenceOf e o) more = refl
+type_apart (EncapsulationOf e) more = refl
 
 abbrev made_member : List (List ℕ) → List Part → Scope → Item → List ℕ → Members
 made_member seen parts s i rest = record { scope = (place_item s i).0; seen = seen ++ i.name ∷ []; parts = parts ++ item_part i (place_item s i) ∷ []; rest = rest; closed = false }

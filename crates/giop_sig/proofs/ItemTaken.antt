@@ -57,7 +57,7 @@ new_name_takes most seen text x e =
 pub record DeclaredTaken (s : Scope) (count : ℕ) (text : List ℕ) (x : List ℕ × List ℕ) : Type 0 where
   pub free : IsFree x.0
   pub short : length x.0 ≤ 64
-  pub new : lookup (bytes_eq x.0) s.names ≡ None
+  pub new : lookup (bytes_eq x.0) s.names.known ≡ None
   pub few : count < 4096
   pub front : Takes text (word x.0) x.1
 
@@ -65,19 +65,19 @@ none_of : {X : Type 0} (o : Option X) → is_some o ≡ false → o ≡ None
 none_of None e = refl
 none_of (Some x) e = absurd cc
 
-declared_by : (s : Scope) (count : ℕ) (text : List ℕ) (n x : List ℕ × List ℕ) (a b : Bool) → is_some (lookup (bytes_eq n.0) s.names) ≡ a → leb 4096 count ≡ b → (IsFree n.0) × (length n.0 ≤ 64) × Takes text (word n.0) n.1
+declared_by : (s : Scope) (count : ℕ) (text : List ℕ) (n x : List ℕ × List ℕ) (a b : Bool) → is_some (lookup (bytes_eq n.0) s.names.known) ≡ a → leb 4096 count ≡ b → (IsFree n.0) × (length n.0 ≤ 64) × Takes text (word n.0) n.1
     → cond a (Err (refused kinds.Duplicate text)) (cond b (Err (refused kinds.Limit text)) (Ok (n.0, n.1))) ≡ Ok x → DeclaredTaken s count text x
 declared_by s count text n x true b p q w e = absurd cc
 declared_by s count text n x false true p q w e = absurd cc
 declared_by s count text n x false false p q w e =
-    subst (DeclaredTaken s count text) (ok_is n x e) (record { free = w.0; short = w.1; new = none_of (lookup (bytes_eq n.0) s.names) p; few = leb-false 4096 count q; front = w.2 })
+    subst (DeclaredTaken s count text) (ok_is n x e) (record { free = w.0; short = w.1; new = none_of (lookup (bytes_eq n.0) s.names.known) p; few = leb-false 4096 count q; front = w.2 })
 
 pub declared_takes : (s : Scope) (count : ℕ) (text : List ℕ) (x : List ℕ × List ℕ) → declared_at s count text ≡ Ok x → DeclaredTaken s count text x
 unfolding declared_at
 declared_takes s count text x e =
-    let a = bind_ok (identifier_at text) (λ n. cond (is_some (lookup (bytes_eq n.0) s.names)) (Err (refused kinds.Duplicate text)) (cond (leb 4096 count) (Err (refused kinds.Limit text)) (Ok (n.0, n.1)))) x e in
+    let a = bind_ok (identifier_at text) (λ n. cond (is_some (lookup (bytes_eq n.0) s.names.known)) (Err (refused kinds.Duplicate text)) (cond (leb 4096 count) (Err (refused kinds.Limit text)) (Ok (n.0, n.1)))) x e in
     let w = identifier_word text a.0 a.1 in
-    declared_by s count text a.0 x (is_some (lookup (bytes_eq (a.0).0) s.names)) (leb 4096 count) refl refl (w.1, w.2, word_takes text a.0 w.0) a.2
+    declared_by s count text a.0 x (is_some (lookup (bytes_eq (a.0).0) s.names.known)) (leb 4096 count) refl refl (w.1, w.2, word_takes text a.0 w.0) a.2
 
 -- ---- items
 
@@ -235,8 +235,8 @@ struct_known at s o f m p fill e put =
     (node_known m.0 (nodes.members m.1) (some_octet m.1 ((members_takes at 257 [] [] s f m e).some some)))
 
 -- a name that was new is new still
-pub still_new : (s t : Scope) (w : List ℕ) → Grows s t → lookup (bytes_eq w) s.names ≡ None → lookup (bytes_eq w) t.names ≡ None
-still_new s t w g e = ap (λ ns. lookup (bytes_eq w) ns) g.names ∙ e
+pub still_new : (s t : Scope) (w : List ℕ) → Grows s t → lookup (bytes_eq w) s.names.known ≡ None → lookup (bytes_eq w) t.names.known ≡ None
+still_new s t w g e = ap (λ ns. lookup (bytes_eq w) ns.known) g.names ∙ e
 
 pub record RepositoryTaken (s : Scope) (text : List ℕ) (x : List ℕ × List ℕ) : Type 0 where
   pub short : length x.0 ≤ 128

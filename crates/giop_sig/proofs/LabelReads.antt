@@ -17,7 +17,7 @@ use Rattle.giop_tokens.specs.Readers.{is_the_word, mark_at, keyword_if}
 use Rattle.giop_tokens.specs.Names.{is_reserved}
 use Rattle.giop_tokens.proofs.ReaderLaws.{if_other, mark_again, keyword_again, keyword_if_again}
 use Rattle.giop_sig.specs.Table.{Node}
-use Rattle.giop_sig.specs.Grammar.{TypeExpr, Base, Text, Reference, Named, SequenceOf, base_word, Value, Plain, Below, Truth, Enumerator, Label, Default, Of, spell_bound, spell_most, spell_type, spell_value, spell_label, spell_labels}
+use Rattle.giop_sig.specs.Grammar.{TypeExpr, Base, Text, Reference, Named, SequenceOf, EncapsulationOf, base_word, Value, Plain, Below, Truth, Enumerator, Label, Default, Of, spell_bound, spell_most, spell_type, spell_value, spell_label, spell_labels}
 use Rattle.giop_sig.specs.Scopes.{Names, label_number, label_numbers, has_default}
 use Rattle.giop_sig.specs.Validity.{Kind, IsFree, OfType, OfEnumerator, OfFit, OfValueName, OfLabelValue, same_label, OfNewLabel, OfLabel, OfLabels}
 use Rattle.giop_sig.specs.Outcomes.{refused}
@@ -193,6 +193,7 @@ type_no_label (Text o) names text more free h = no_label text (codes "string") (
 type_no_label Reference names text more free h = no_label text (codes "Object") more refl refl h
 type_no_label (Named w) names text more free h = not_label text w more free h
 type_no_label (SequenceOf e o) names text more free h = no_label text (codes "sequence") (mark marks.OpenAngle ∷ spell_type e (spell_most o (mark marks.CloseAngle ∷ more))) refl refl h
+type_no_label (EncapsulationOf e) names text more free h = no_label text (codes "encapsulation") (mark marks.OpenAngle ∷ spell_type e (mark marks.CloseAngle ∷ more)) refl refl h
 
 -- a label does
 label_begins : (l : Label) (text : List ℕ) (more : List Token) → AreTokens text (spell_label l more) → begins_label text ≡ Ok true

@@ -35,7 +35,6 @@ mod LabelLaws
 mod TokensFew
 mod SpellLaws
 mod SizeLaws
-mod FreeLaws
 mod FileLoop
 mod FileLaws
 mod Told

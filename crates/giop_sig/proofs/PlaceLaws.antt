@@ -6,7 +6,7 @@ use Rattle.giop_sig.specs.Types.{Ty, depth}
 use Rattle.giop_sig.specs.Table.{Node, node_at}
 use Rattle.giop_sig.specs.Table as nodes
 use Rattle.giop_sig.specs.Trees.{grow, type_in, depth_of}
-use Rattle.giop_sig.specs.Grammar.{TypeExpr, Base, Text, Reference, Named, SequenceOf, Item, UnionCase, Param, Declaration, Enumeration, Structure, Choice, Raise, Call}
+use Rattle.giop_sig.specs.Grammar.{TypeExpr, Base, Text, Reference, Named, SequenceOf, EncapsulationOf, Item, UnionCase, Param, Declaration, Enumeration, Structure, Choice, Raise, Call}
 use Rattle.giop_sig.specs.Scopes.{Scope, Placed, with_node, sequence_node, place, place_length, place_item, place_items, place_cases, default_from, place_params, place_return, declare, scope_after}
 use Rattle.giop_sig.proofs.TreeLaws.{tree_added}
 use Rattle.giop_sig.proofs.Depths.{deepest_added, depth_within}
@@ -32,6 +32,7 @@ place_deeper s (Text (Some n)) = node_deeper s (nodes.text (Some n))
 place_deeper s Reference = omega arith
 place_deeper s (Named w) = omega arith
 place_deeper s (SequenceOf e bound) = omega (arith, place_deeper s e, node_deeper (place s e).0 (sequence_node bound (place s e).1))
+place_deeper s (EncapsulationOf e) = omega (arith, place_deeper s e, node_deeper (place s e).0 (nodes.encapsulation (place s e).1))
 
 pub place_longer : (s : Scope) (e : TypeExpr) → size s ≤ size (place s e).0
 unfolding place
@@ -41,6 +42,7 @@ place_longer s (Text (Some n)) = node_longer s (nodes.text (Some n))
 place_longer s Reference = omega arith
 place_longer s (Named w) = omega arith
 place_longer s (SequenceOf e bound) = omega (arith, place_longer s e, node_longer (place s e).0 (sequence_node bound (place s e).1))
+place_longer s (EncapsulationOf e) = omega (arith, place_longer s e, node_longer (place s e).0 (nodes.encapsulation (place s e).1))
 
 pub place_names : (s : Scope) (e : TypeExpr) → (place s e).0.names ≡ s.names
 unfolding place
@@ -50,6 +52,7 @@ place_names s (Text (Some n)) = refl
 place_names s Reference = refl
 place_names s (Named w) = refl
 place_names s (SequenceOf e bound) = place_names s e
+place_names s (EncapsulationOf e) = place_names s e
 
 -- ---- items
 
@@ -104,6 +107,7 @@ place_operations s (Text (Some n)) = refl
 place_operations s Reference = refl
 place_operations s (Named w) = refl
 place_operations s (SequenceOf e bound) = place_operations s e
+place_operations s (EncapsulationOf e) = place_operations s e
 
 pub return_deeper : (s : Scope) (o : Option TypeExpr) → deepest s ≤ deepest (place_return s o).0
 return_deeper s None = omega arith
@@ -176,13 +180,14 @@ scope_deeper s (d ∷ ds) = omega (arith, declare_deeper s d, scope_deeper (decl
 
 -- ---- a type of many levels is deep
 
--- how many sequences an expression begins with
+-- how many sequences and encapsulations an expression begins with
 abbrev pub nest : TypeExpr → ℕ
 nest (Base p) = 0
 nest (Text bound) = 0
 nest Reference = 0
 nest (Named w) = 0
 nest (SequenceOf e bound) = suc (nest e)
+nest (EncapsulationOf e) = suc (nest e)
 
 -- only what adds no type has the number 0
 nest_none : (s : Scope) (e : TypeExpr) → 0 < size s → (place s e).1 ≡ 0 → nest e ≡ 0
@@ -192,11 +197,16 @@ nest_none s (Text bound) some zeroth = refl
 nest_none s Reference some zeroth = refl
 nest_none s (Named w) some zeroth = refl
 nest_none s (SequenceOf e bound) some zeroth = absurd (omega (arith, place_longer s e, zeroth))
+nest_none s (EncapsulationOf e) some zeroth = absurd (omega (arith, place_longer s e, zeroth))
 
 sequence_depth : (f : ℕ → Ty) (bound : Option ℕ) (n k : ℕ) (v : Bool) → eqb n 0 ≡ v → (n ≡ 0 → k ≡ 0) → k ≤ depth (f n) → suc k ≤ depth (grow f (cond v (nodes.octets bound) (nodes.sequence bound n)))
 unfolding depth
 sequence_depth f bound n k true is leaf le = let z = leaf (eqb-true n 0 is) in omega arith
 sequence_depth f bound n k false is leaf le = omega arith
+
+held_depth : (f : ℕ → Ty) (n k : ℕ) → k ≤ depth (f n) → suc k ≤ depth (grow f (nodes.encapsulation n))
+unfolding depth
+held_depth f n k le = omega arith
 
 nest_depth : (s : Scope) (e : TypeExpr) → 0 < size s → nest e ≤ depth (type_in (place s e).0.table.types (place s e).1)
 unfolding place
@@ -209,6 +219,18 @@ nest_depth s (SequenceOf e bound) some =
     let node = sequence_node bound (place s e).1 in
     let more : suc (nest e) ≤ depth (grow (type_in types) node) = sequence_depth (type_in types) bound (place s e).1 (nest e) (eqb (place s e).1 0) refl (nest_none s e some) (nest_depth s e some) in
     omega (arith, more, ap depth (tree_added types node))
+nest_depth s (EncapsulationOf e) some =
+    let types = (place s e).0.table.types in
+    let node = nodes.encapsulation (place s e).1 in
+    let more : suc (nest e) ≤ depth (grow (type_in types) node) = held_depth (type_in types) (place s e).1 (nest e) (nest_depth s e some) in
+    omega (arith, more, ap depth (tree_added types node))
+
+-- a node that was added is no deeper than the deepest
+last_within : (s : Scope) (node : Node) → depth (type_in (with_node s node).0.table.types (with_node s node).1) ≤ deepest (with_node s node).0
+last_within s node =
+    let types = s.table.types in
+    let last : length types < length (types ++ node ∷ []) = omega (arith, length-append types (node ∷ [])) in
+    depth_within (types ++ node ∷ []) (length types) last
 
 -- as many levels as that are in the table
 pub nest_deepest : (s : Scope) (e : TypeExpr) → 0 < size s → 0 < nest e → nest e ≤ deepest (place s e).0
@@ -217,8 +239,5 @@ nest_deepest s (Base p) some lt = absurd (omega arith)
 nest_deepest s (Text bound) some lt = absurd (omega arith)
 nest_deepest s Reference some lt = absurd (omega arith)
 nest_deepest s (Named w) some lt = absurd (omega arith)
-nest_deepest s (SequenceOf e bound) some lt =
-    let types = (place s e).0.table.types in
-    let node = sequence_node bound (place s e).1 in
-    let last : length types < length (types ++ node ∷ []) = omega (arith, length-append types (node ∷ [])) in
-    omega (arith, nest_depth s (SequenceOf e bound) some, depth_within (types ++ node ∷ []) (length types) last)
+nest_deepest s (SequenceOf e bound) some lt = omega (arith, nest_depth s (SequenceOf e bound) some, last_within (place s e).0 (sequence_node bound (place s e).1))
+nest_deepest s (EncapsulationOf e) some lt = omega (arith, nest_depth s (EncapsulationOf e) some, last_within (place s e).0 (nodes.encapsulation (place s e).1))

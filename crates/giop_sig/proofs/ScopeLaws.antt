@@ -14,7 +14,7 @@ use Rattle.giop_sig.specs.Table.{Node, Table, IsInner, TakesOctet, node_in, with
 use Rattle.giop_sig.specs.Table as nodes
 use Rattle.giop_sig.specs.Builtin.{builtin_types}
 use Rattle.giop_sig.specs.RequestList.{flat}
-use Rattle.giop_sig.specs.Scopes.{Names, Scope, named, with_node, with_name}
+use Rattle.giop_sig.specs.Scopes.{Scope, named, with_node, with_name}
 use Rattle.giop_sig.specs.ScopeViews.{name_view, scope_view, IsKnown, IsKnownType, IsDeclaredName, IsScope}
 
 -- ---- look-ups
@@ -43,14 +43,14 @@ flat_map None = refl
 flat_map (Some t) = refl
 
 -- what is found by a key, in the names of a scope
-pub name_found : (s : Scope) (t : Table) (es : List (ArrayVec ℕ × Option TypeId)) (key : ArrayVec ℕ) (w : List ℕ) → scope_view t es ≡ s → key.items ≡ w → lookup (bytes_eq w) s.names ≡ option_map number_of_id (lookup (key_is key) es)
-name_found s t es key w view same = ap (λ (x : Scope). lookup (bytes_eq w) x.names) (sym view) ∙ ap (λ v. lookup (bytes_eq v) (map name_view es)) (sym same) ∙ view_found key es
+pub name_found : (s : Scope) (version : ℕ) (t : Table) (es : List (ArrayVec ℕ × Option TypeId)) (key : ArrayVec ℕ) (w : List ℕ) → scope_view version t es ≡ s → key.items ≡ w → lookup (bytes_eq w) s.names.known ≡ option_map number_of_id (lookup (key_is key) es)
+name_found s version t es key w view same = ap (λ (x : Scope). lookup (bytes_eq w) x.names.known) (sym view) ∙ ap (λ v. lookup (bytes_eq v) (map name_view es)) (sym same) ∙ view_found key es
 
-pub name_declared : (s : Scope) (t : Table) (es : List (ArrayVec ℕ × Option TypeId)) (key : ArrayVec ℕ) (w : List ℕ) → scope_view t es ≡ s → key.items ≡ w → is_some (lookup (key_is key) es) ≡ is_some (lookup (bytes_eq w) s.names)
-name_declared s t es key w view same = sym (some_map number_of_id (lookup (key_is key) es)) ∙ ap is_some (sym (name_found s t es key w view same))
+pub name_declared : (s : Scope) (version : ℕ) (t : Table) (es : List (ArrayVec ℕ × Option TypeId)) (key : ArrayVec ℕ) (w : List ℕ) → scope_view version t es ≡ s → key.items ≡ w → is_some (lookup (key_is key) es) ≡ is_some (lookup (bytes_eq w) s.names.known)
+name_declared s version t es key w view same = sym (some_map number_of_id (lookup (key_is key) es)) ∙ ap is_some (sym (name_found s version t es key w view same))
 
-pub name_typed : (s : Scope) (t : Table) (es : List (ArrayVec ℕ × Option TypeId)) (key : ArrayVec ℕ) (w : List ℕ) → scope_view t es ≡ s → key.items ≡ w → number_of_id (flat (lookup (key_is key) es)) ≡ named s.names w
-name_typed s t es key w view same = flat_map (lookup (key_is key) es) ∙ ap flat (sym (name_found s t es key w view same))
+pub name_typed : (s : Scope) (version : ℕ) (t : Table) (es : List (ArrayVec ℕ × Option TypeId)) (key : ArrayVec ℕ) (w : List ℕ) → scope_view version t es ≡ s → key.items ≡ w → number_of_id (flat (lookup (key_is key) es)) ≡ named s.names w
+name_typed s version t es key w view same = flat_map (lookup (key_is key) es) ∙ ap flat (sym (name_found s version t es key w view same))
 
 -- ---- scopes that grow
 
@@ -64,7 +64,7 @@ type_stays : (types more : List Node) (o : Option ℕ) → IsKnownType types o �
 type_stays types more None is = tt
 type_stays types more (Some i) is = known_stays types more i is
 
-names_stay : (types more : List Node) (names : Names) → AllByRecursion (IsDeclaredName types) names → AllByRecursion (IsDeclaredName (types ++ more)) names
+names_stay : (types more : List Node) (names : List (List ℕ × Option ℕ)) → AllByRecursion (IsDeclaredName types) names → AllByRecursion (IsDeclaredName (types ++ more)) names
 names_stay types more [] all = tt
 names_stay types more (e ∷ es) all = (record { short = (all.0).short; type = type_stays types more e.1 (all.0).type }, names_stay types more es all.1)
 
@@ -72,12 +72,13 @@ names_stay types more (e ∷ es) all = (record { short = (all.0).short; type = t
 pub scope_grows : (s : Scope) (n : Node) → IsScope s → IsScope (with_node s n).0
 scope_grows s n is = record {
   begins = let b = is.begins in (b.0 ++ n ∷ [], ap (λ types. types ++ n ∷ []) b.1 ∙ append_assoc builtin_types b.0 (n ∷ []));
-  names = names_stay s.table.types (n ∷ []) s.names is.names;
+  names = names_stay s.table.types (n ∷ []) s.names.known is.names;
 }
 
 -- the fields after a type is added
-pub grown_draft : (t new : Table) (es : List (ArrayVec ℕ × Option TypeId)) (n : Node) → IsScope (scope_view t es) → new ≡ with_type t n → IsScope (scope_view new es)
-grown_draft t new es n is put = subst (λ u. IsScope (scope_view u es)) (sym put) (scope_grows (scope_view t es) n is)
+pub grown_draft : (version : ℕ) (t new : Table) (es : List (ArrayVec ℕ × Option TypeId)) (n : Node) → IsScope (scope_view version t es) → new ≡ with_type t n
+    → IsScope (scope_view version new es)
+grown_draft version t new es n is put = subst (λ u. IsScope (scope_view version u es)) (sym put) (scope_grows (scope_view version t es) n is)
 
 pub some_copied : {X : Type 0} (o : Option (Bor X)) → is_some o ≡ is_some (option_copied o)
 some_copied None = refl
@@ -99,18 +100,18 @@ none_before f None e = refl
 none_before f (Some x) e = absurd cc
 
 -- the fields after a new name is put
-pub put_name : (s : Scope) (t : Table) (es new : List (ArrayVec ℕ × Option TypeId)) (key : ArrayVec ℕ) (v : Option TypeId) (w : List ℕ) → scope_view t es ≡ s → key.items ≡ w → lookup (bytes_eq w) s.names ≡ None → new ≡ insert_entry key_is es key v
-    → scope_view t new ≡ with_name s w (number_of_id v)
-put_name s t es new key v w view same none is =
-    let fresh : lookup (key_is key) es ≡ None = none_before number_of_id (lookup (key_is key) es) (sym (name_found s t es key w view same) ∙ none) in
+pub put_name : (s : Scope) (version : ℕ) (t : Table) (es new : List (ArrayVec ℕ × Option TypeId)) (key : ArrayVec ℕ) (v : Option TypeId) (w : List ℕ) → scope_view version t es ≡ s → key.items ≡ w → lookup (bytes_eq w) s.names.known ≡ None
+    → new ≡ insert_entry key_is es key v → scope_view version t new ≡ with_name s w (number_of_id v)
+put_name s version t es new key v w view same none is =
+    let fresh : lookup (key_is key) es ≡ None = none_before number_of_id (lookup (key_is key) es) (sym (name_found s version t es key w view same) ∙ none) in
     let last : new ≡ es ++ (key, v) ∷ [] = is ∙ entry_last key_is es key v (none_found key es fresh) in
-    ap (scope_view t) last ∙ ap (λ (ns : Names). record { table = t; names = ns }) (map-append name_view es ((key, v) ∷ []))
+    ap (scope_view version t) last ∙ ap (λ ns. record { table = t; names = record { version = version; known = ns } }) (map-append name_view es ((key, v) ∷ []))
     ∙ ap (λ (x : Scope). with_name x key.items (number_of_id v)) view ∙ ap (λ n. with_name s n (number_of_id v)) same
 
-all_last : (types : List Node) (names : Names) (e : List ℕ × Option ℕ) → AllByRecursion (IsDeclaredName types) names → IsDeclaredName types e → AllByRecursion (IsDeclaredName types) (names ++ e ∷ [])
+all_last : (types : List Node) (names : List (List ℕ × Option ℕ)) (e : List ℕ × Option ℕ) → AllByRecursion (IsDeclaredName types) names → IsDeclaredName types e → AllByRecursion (IsDeclaredName types) (names ++ e ∷ [])
 all_last types [] e all is = (is, tt)
 all_last types (n ∷ ns) e all is = (all.0, all_last types ns e all.1 is)
 
 -- a scope with a name more
 pub scope_named : (s : Scope) (w : List ℕ) (o : Option ℕ) → IsScope s → length w ≤ 64 → IsKnownType s.table.types o → IsScope (with_name s w o)
-scope_named s w o is short known = record { begins = is.begins; names = all_last s.table.types s.names (w, o) is.names (record { short = short; type = known }) }
+scope_named s w o is short known = record { begins = is.begins; names = all_last s.table.types s.names.known (w, o) is.names (record { short = short; type = known }) }

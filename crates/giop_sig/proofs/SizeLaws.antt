@@ -5,7 +5,7 @@ use Rattle.giop_tokens.specs.declared.marks.Mark.TheVariants as marks
 use Rattle.giop_tokens.specs.Tokens.{Token, word, mark}
 use Rattle.giop_sig.specs.Table.{Node, node_at}
 use Rattle.giop_sig.specs.Table as nodes
-use Rattle.giop_sig.specs.Grammar.{TypeExpr, Base, Text, Reference, Named, SequenceOf, spell_most, spell_type, Item, spell_length, spell_item, spell_items, spell_labels, UnionCase, spell_cases, Param, spell_more_params, spell_params, spell_return, Declaration, Enumeration, Structure, Choice, Raise, Call, spell, spell_all}
+use Rattle.giop_sig.specs.Grammar.{TypeExpr, Base, Text, Reference, Named, SequenceOf, EncapsulationOf, spell_most, spell_type, Item, spell_length, spell_item, spell_items, spell_labels, UnionCase, spell_cases, Param, spell_more_params, spell_params, spell_return, Declaration, Enumeration, Structure, Choice, Raise, Call, spell, spell_all}
 use Rattle.giop_sig.specs.Scopes.{Scope, Placed, with_node, sequence_node, place, place_length, place_item, place_items, place_cases, default_from, place_params, place_return, declare, scope_after}
 use Rattle.giop_sig.proofs.PlaceLaws.{size}
 use Rattle.giop_sig.proofs.SpellLaws.{most, names, label, labels}
@@ -24,6 +24,7 @@ typed s (Named w) more = omega arith
 typed s (SequenceOf e o) more =
     let p = place s e in
     omega (arith, typed s e (spell_most o (mark marks.CloseAngle ∷ more)), most o (mark marks.CloseAngle ∷ more), one_more p.0 (sequence_node o p.1))
+typed s (EncapsulationOf e) more = let p = place s e in omega (arith, typed s e (mark marks.CloseAngle ∷ more), one_more p.0 (nodes.encapsulation p.1))
 
 lengthened : (p : Placed) (o : Option ℕ) (more : List Token) → size (place_length o p).0 + length more ≤ size p.0 + length (spell_length o more)
 lengthened p None more = omega arith

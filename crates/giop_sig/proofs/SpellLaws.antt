@@ -3,7 +3,7 @@ use Rattle.std.proofs.Common.{ℕ, ◌<◌, ◌≤◌, List, [], ◌∷◌, leng
 use Rattle.giop_tokens.specs.declared.marks.Mark.{Mark}
 use Rattle.giop_tokens.specs.declared.marks.Mark.TheVariants as marks
 use Rattle.giop_tokens.specs.Tokens.{Token, word, mark}
-use Rattle.giop_sig.specs.Grammar.{TypeExpr, Base, Text, Reference, Named, SequenceOf, spell_between, spell_most, spell_type, Item, spell_length, spell_item, spell_items, spell_more_names, spell_names, Value, Plain, Below, Truth, Enumerator, spell_value, Label, Default, Of, spell_label, spell_labels, UnionCase, spell_cases, Param, spell_more_params, spell_params, spell_return, Declaration, Enumeration, Structure, Choice, Raise, Call, spell, spell_all}
+use Rattle.giop_sig.specs.Grammar.{TypeExpr, Base, Text, Reference, Named, SequenceOf, EncapsulationOf, spell_between, spell_most, spell_type, Item, spell_length, spell_item, spell_items, spell_more_names, spell_names, Value, Plain, Below, Truth, Enumerator, spell_value, Label, Default, Of, spell_label, spell_labels, UnionCase, spell_cases, Param, spell_more_params, spell_params, spell_return, Declaration, Enumeration, Structure, Choice, Raise, Call, spell, spell_all}
 
 between : (a b : Mark) (o : Option ℕ) (more : List Token) → length more ≤ length (spell_between a b o more)
 between a b None more = omega arith
@@ -19,6 +19,7 @@ typed (Text o) more = omega (arith, between marks.OpenAngle marks.CloseAngle o m
 typed Reference more = omega arith
 typed (Named w) more = omega arith
 typed (SequenceOf e o) more = omega (arith, typed e (spell_most o (mark marks.CloseAngle ∷ more)), most o (mark marks.CloseAngle ∷ more))
+typed (EncapsulationOf e) more = omega (arith, typed e (mark marks.CloseAngle ∷ more))
 
 item : (i : Item) (more : List Token) → length more ≤ length (spell_item i more)
 item i more = omega (arith, typed i.type (word i.name ∷ spell_length i.length more), between marks.OpenBracket marks.CloseBracket i.length more)

@@ -20,11 +20,11 @@ use Rattle.giop_sig.specs.Types.{depth}
 use Rattle.giop_sig.specs.Table.{Node}
 use Rattle.giop_sig.specs.Table as nodes
 use Rattle.giop_sig.specs.Trees.{grow, tree, depth_of}
-use Rattle.giop_sig.specs.Grammar.{TypeExpr, Base, Text, Reference, Named, SequenceOf, base_word, spell_between, spell_bound, spell_most, spell_type}
-use Rattle.giop_sig.specs.Scopes.{Names, Scope, Placed, named, base_number, number_or, with_node, sequence_node, place_text, place}
-use Rattle.giop_sig.specs.Validity.{Kind, IsFree, OfTypeName, OfSize, OfBound, OfType}
+use Rattle.giop_sig.specs.Grammar.{TypeExpr, Base, Text, Reference, Named, SequenceOf, EncapsulationOf, base_word, spell_between, spell_bound, spell_most, spell_type}
+use Rattle.giop_sig.specs.Scopes.{Names, has_encapsulations, Scope, Placed, named, base_number, number_or, with_node, sequence_node, place_text, place}
+use Rattle.giop_sig.specs.Validity.{Kind, IsFree, OfTypeName, OfSize, OfBound, OfVersion, OfType}
 use Rattle.giop_sig.specs.Outcomes.{refused}
-use Rattle.giop_sig.specs.TypeReading.{too_deep, added, size_at, enclosed_at, most_at, TypeRead, base_of, text_type, text_at, found_type, named_type, type_after, type_at}
+use Rattle.giop_sig.specs.TypeReading.{too_deep, added, size_at, enclosed_at, most_at, TypeRead, base_of, text_type, text_at, behind_element, behind_held, found_type, named_type, leaf_at, type_after, type_at}
 use Rattle.giop_sig.proofs.Depths.{deepest_added}
 use Rattle.giop_sig.proofs.PlaceLaws.{deepest, size, nest, node_deeper, nest_deepest}
 use Rattle.giop_sig.proofs.ReadingLaws.{Breaks, lift, Good, Out, good, broken, out_bind, Apart, if_apart}
@@ -134,6 +134,32 @@ base_word_of prims.ULongLong = refl
 base_word_of prims.Float = refl
 base_word_of prims.Double = refl
 
+no_sequence : (p : Primitive) → bytes_eq (base_word p) (codes "sequence") ≡ false
+no_sequence prims.Octet = refl
+no_sequence prims.Char = refl
+no_sequence prims.Boolean = refl
+no_sequence prims.Short = refl
+no_sequence prims.UShort = refl
+no_sequence prims.Long = refl
+no_sequence prims.ULong = refl
+no_sequence prims.LongLong = refl
+no_sequence prims.ULongLong = refl
+no_sequence prims.Float = refl
+no_sequence prims.Double = refl
+
+no_encapsulation : (p : Primitive) → bytes_eq (base_word p) (codes "encapsulation") ≡ false
+no_encapsulation prims.Octet = refl
+no_encapsulation prims.Char = refl
+no_encapsulation prims.Boolean = refl
+no_encapsulation prims.Short = refl
+no_encapsulation prims.UShort = refl
+no_encapsulation prims.Long = refl
+no_encapsulation prims.ULong = refl
+no_encapsulation prims.LongLong = refl
+no_encapsulation prims.ULongLong = refl
+no_encapsulation prims.Float = refl
+no_encapsulation prims.Double = refl
+
 -- ---- types
 
 abbrev pub placed : Scope → TypeExpr → List ℕ → TypeRead
@@ -147,10 +173,10 @@ type_by : (left : ℕ) (s : Scope) (e : TypeExpr) (more : List Token) (r : Resul
 type_by left s e more (Ok x) o = record { out = o.out }
 type_by left s e more (Err x) o = record { out = inl o.out }
 
-base_reads : (at : ℕ) (element : List ℕ → Result TypeRead Refusal) (s : Scope) (p : Primitive) (text rest : List ℕ) (more : List Token) → AreTokens rest more
-    → Out (placed s (Base p)) (λ k. OfType k s.names (Base p)) (place s (Base p)).0.table.types more (type_after at element s text (base_word p) rest (base_of (base_word p)))
-unfolding OfType place
-base_reads at element s p text rest more m = rw (base_word_of p) (good rest m (λ k. tt))
+base_reads : (at : ℕ) (inner : List ℕ → Result TypeRead Refusal) (s : Scope) (p : Primitive) (text rest : List ℕ) (more : List Token) → AreTokens rest more
+    → Out (placed s (Base p)) (λ k. OfType k s.names (Base p)) (place s (Base p)).0.table.types more (type_after at inner s text (base_word p) rest)
+unfolding OfType place leaf_at
+base_reads at inner s p text rest more m = rw (no_sequence p, no_encapsulation p, base_word_of p) (good rest m (λ k. tt))
 
 text_type_reads : (at : ℕ) (s : Scope) (o : Option ℕ) (rest : List ℕ) (more : List Token) → AreTokens rest more → ((k : Kind) → OfBound k o)
     → Out {X = TypeRead} (λ rest. ((place_text s o).0, (place_text s o).1, rest)) (λ k. OfBound k o) (place_text s o).0.table.types more (text_type at s o >>= λ t. Ok (t.0, t.1, rest))
@@ -197,11 +223,11 @@ named_reads : (s : Scope) (text w rest : List ℕ) (more : List Token) → IsFre
 unfolding named_type OfType place
 named_reads s text w rest more free m = rw free (long_reads s text w rest more (ltb 64 (length w)) refl free m)
 
-name_reads : (at : ℕ) (element : List ℕ → Result TypeRead Refusal) (s : Scope) (text w rest : List ℕ) (more : List Token) → IsFree w → AreTokens rest more
-    → Out (placed s (Named w)) (λ k. OfType k s.names (Named w)) (place s (Named w)).0.table.types more (type_after at element s text w rest (base_of w))
-unfolding is_reserved
-name_reads at element s text w rest more free m =
-    rw (no_base w free, is_not w (codes "string") free refl, is_not w (codes "Object") free refl, is_not w (codes "sequence") free refl) (named_reads s text w rest more free m)
+name_reads : (at : ℕ) (inner : List ℕ → Result TypeRead Refusal) (s : Scope) (text w rest : List ℕ) (more : List Token) → IsFree w → AreTokens rest more
+    → Out (placed s (Named w)) (λ k. OfType k s.names (Named w)) (place s (Named w)).0.table.types more (type_after at inner s text w rest)
+unfolding is_reserved leaf_at
+name_reads at inner s text w rest more free m =
+    rw (is_not w (codes "sequence") free refl, is_not w (codes "encapsulation") free refl, no_base w free, is_not w (codes "string") free refl, is_not w (codes "Object") free refl) (named_reads s text w rest more free m)
 
 -- a sequence behind its element
 closed_reads : (at : ℕ) (s : Scope) (e : TypeExpr) (o : Option ℕ) (rest : List ℕ) (more : List Token) → AreTokens rest (spell_most o (mark marks.CloseAngle ∷ more)) → ((k : Kind) → OfType k s.names e) → (apart : Apart marks.Comma (mark marks.CloseAngle ∷ more))
@@ -214,19 +240,51 @@ closed_reads at s e o rest more m keeps apart =
     (λ r n bound. rw (mark_again marks.CloseAngle r more n) (added_bind at (place s e).0 (sequence_node o (place s e).1) (λ t. Ok (t.0, t.1, n.0)) (omega arith) (good n.0 n.2 (λ k. (keeps k, bound k)))))
     (λ k w. w.1) (node_deeper (place s e).0 (sequence_node o (place s e).1))
 
-inner_by : (left : ℕ) (s : Scope) (e : TypeExpr) (o : Option ℕ) (x : Refusal) → Breaks x.kind (λ k. OfType k s.names e) (place s e).0.table.types ⊎ ((x.kind ≡ kinds.Depth) × (left ≤ nest e))
-    → Breaks x.kind (λ k. OfType k s.names (SequenceOf e o)) (place s (SequenceOf e o)).0.table.types ⊎ ((x.kind ≡ kinds.Depth) × (suc left ≤ nest (SequenceOf e o)))
-unfolding OfType place
-inner_by left s e o x (inl b) = inl (lift x.kind (λ k. OfType k s.names e) (λ k. OfType k s.names (SequenceOf e o)) (place s e).0.table.types (place s (SequenceOf e o)).0.table.types (λ k w. w.0) (node_deeper (place s e).0 (sequence_node o (place s e).1)) b)
-inner_by left s e o x (inr d) = inr (d.0, let n = d.1 in omega arith)
+version_keeps : (names : Names) → has_encapsulations names ≡ true → (k : Kind) → OfVersion k names
+version_keeps names has kinds.Token = tt
+version_keeps names has kinds.Syntax = has
+version_keeps names has kinds.UnknownType = tt
+version_keeps names has kinds.Duplicate = tt
+version_keeps names has kinds.Limit = tt
+version_keeps names has kinds.Depth = tt
+version_keeps names has kinds.Label = tt
+version_keeps names has kinds.Empty = tt
+version_keeps names has kinds.OutOfMemory = tt
 
-sequence_by : (at left : ℕ) (s : Scope) (e : TypeExpr) (o : Option ℕ) (more : List Token) (r : Result TypeRead Refusal) → TypeOut left s e (spell_most o (mark marks.CloseAngle ∷ more)) r
-    → TypeOut (suc left) s (SequenceOf e o) more (r >>= λ e. most_at e.2 >>= λ b. mark_at marks.CloseAngle b.1 >>= λ r. added at e.0 (sequence_node b.0 e.1) >>= λ t. Ok (t.0, t.1, r))
-sequence_by at left s e o more (Ok x) t =
+-- an encapsulation behind what it holds
+held_reads : (at : ℕ) (s : Scope) (e : TypeExpr) (rest : List ℕ) (more : List Token) → has_encapsulations s.names ≡ true → AreTokens rest (mark marks.CloseAngle ∷ more) → ((k : Kind) → OfType k s.names e)
+    → Out (placed s (EncapsulationOf e)) (λ k. OfType k s.names (EncapsulationOf e)) (place s (EncapsulationOf e)).0.table.types more (behind_held at (placed s e rest))
+unfolding OfType place
+held_reads at s e rest more has m keeps =
+    rw (mark_again marks.CloseAngle rest more m)
+    (added_bind at (place s e).0 (nodes.encapsulation (place s e).1) (λ t. Ok (t.0, t.1, m.0)) (omega arith) (good m.0 m.2 (λ k. (version_keeps s.names has k, keeps k))))
+
+sequence_deeper : (s : Scope) (e : TypeExpr) (o : Option ℕ) → deepest (place s e).0 ≤ deepest (place s (SequenceOf e o)).0
+unfolding place
+sequence_deeper s e o = node_deeper (place s e).0 (sequence_node o (place s e).1)
+
+held_deeper : (s : Scope) (e : TypeExpr) → deepest (place s e).0 ≤ deepest (place s (EncapsulationOf e)).0
+unfolding place
+held_deeper s e = node_deeper (place s e).0 (nodes.encapsulation (place s e).1)
+
+-- a type that has another in it, one level deeper
+record Nests (s : Scope) (e whole : TypeExpr) : Type 0 where
+  pub levels : nest whole ≡ suc (nest e)
+  pub rules : (k : Kind) → OfType k s.names whole → OfType k s.names e
+  pub deeper : deepest (place s e).0 ≤ deepest (place s whole).0
+
+inner_by : (left : ℕ) (s : Scope) (e whole : TypeExpr) (x : Refusal) → Nests s e whole → Breaks x.kind (λ k. OfType k s.names e) (place s e).0.table.types ⊎ ((x.kind ≡ kinds.Depth) × (left ≤ nest e))
+    → Breaks x.kind (λ k. OfType k s.names whole) (place s whole).0.table.types ⊎ ((x.kind ≡ kinds.Depth) × (suc left ≤ nest whole))
+inner_by left s e whole x is (inl b) = inl (lift x.kind (λ k. OfType k s.names e) (λ k. OfType k s.names whole) (place s e).0.table.types (place s whole).0.table.types is.rules is.deeper b)
+inner_by left s e whole x is (inr d) = inr (d.0, let n = d.1 in omega (arith, is.levels))
+
+nested_by : (left : ℕ) (s : Scope) (e whole : TypeExpr) (tail more : List Token) (r : Result TypeRead Refusal) (h : TypeRead → Result TypeRead Refusal) → Nests s e whole → TypeOut left s e tail r
+    → ((rest : List ℕ) → AreTokens rest tail → ((k : Kind) → OfType k s.names e) → Out (placed s whole) (λ k. OfType k s.names whole) (place s whole).0.table.types more (h (placed s e rest)))
+    → TypeOut (suc left) s whole more (r >>= h)
+nested_by left s e whole tail more (Ok x) h is t on =
     let g = t.out in
-    subst (λ (y : TypeRead). TypeOut (suc left) s (SequenceOf e o) more (most_at y.2 >>= λ b. mark_at marks.CloseAngle b.1 >>= λ r. added at y.0 (sequence_node b.0 y.1) >>= λ t. Ok (t.0, t.1, r))) (sym g.is)
-    (type_by (suc left) s (SequenceOf e o) more (most_at g.rest >>= λ b. mark_at marks.CloseAngle b.1 >>= λ r. added at (place s e).0 (sequence_node b.0 (place s e).1) >>= λ t. Ok (t.0, t.1, r)) (closed_reads at s e o g.rest more g.tokens g.keeps refl))
-sequence_by at left s e o more (Err x) t = record { out = inner_by left s e o x t.out }
+    subst (λ (y : TypeRead). TypeOut (suc left) s whole more (h y)) (sym g.is) (type_by (suc left) s whole more (h (placed s e g.rest)) (on g.rest g.tokens g.keeps))
+nested_by left s e whole tail more (Err x) h is t on = record { out = inner_by left s e whole x is t.out }
 
 reference_reads : (s : Scope) (rest : List ℕ) (more : List Token) → AreTokens rest more → Out (placed s Reference) (λ k. OfType k s.names Reference) (place s Reference).0.table.types more (Ok (s, IOR, rest))
 unfolding OfType place
@@ -237,16 +295,22 @@ most_apart None more = refl
 most_apart (Some n) more = refl
 
 type_out : (at left : ℕ) (s : Scope) (e : TypeExpr) (text : List ℕ) (more : List Token) → OfType kinds.Syntax s.names e → Apart marks.OpenAngle more → AreTokens text (spell_type e more) → TypeOut left s e more (type_at at left s text)
-unfolding type_at OfType
+unfolding type_at leaf_at OfType
 type_out at zero s e text more free apart h = record { out = inr (refl, omega arith) }
 type_out at (suc left) s (Base p) text more free apart h = rw (word_again text (base_word p) more h) (type_by (suc left) s (Base p) more _ (base_reads at (type_at at left s) s p text h.0 more h.2))
 type_out at (suc left) s (Text o) text more free apart h = rw (word_again text (codes "string") (spell_bound o more) h) (type_by (suc left) s (Text o) more _ (string_reads at s o h.0 more apart h.2))
 type_out at (suc left) s Reference text more free apart h = rw (word_again text (codes "Object") more h) (type_by (suc left) s Reference more _ (reference_reads s h.0 more h.2))
 type_out at (suc left) s (Named w) text more free apart h = rw (word_again text w more h) (type_by (suc left) s (Named w) more _ (name_reads at (type_at at left s) s text w h.0 more free h.2))
 type_out at (suc left) s (SequenceOf e o) text more free apart h =
-    let tail = spell_type e (spell_most o (mark marks.CloseAngle ∷ more)) in
-    rw (word_again text (codes "sequence") (mark marks.OpenAngle ∷ tail) h, mark_again marks.OpenAngle h.0 tail h.2)
-    (sequence_by at left s e o more (type_at at left s (h.2).0) (type_out at left s e (h.2).0 (spell_most o (mark marks.CloseAngle ∷ more)) free.0 (most_apart o more) (h.2).2))
+    let tail = spell_most o (mark marks.CloseAngle ∷ more) in
+    rw (word_again text (codes "sequence") (mark marks.OpenAngle ∷ spell_type e tail) h, mark_again marks.OpenAngle h.0 (spell_type e tail) h.2)
+    (nested_by left s e (SequenceOf e o) tail more (type_at at left s (h.2).0) (behind_element at) (record { levels = refl; rules = λ k w. w.0; deeper = sequence_deeper s e o })
+    (type_out at left s e (h.2).0 tail free.0 (most_apart o more) (h.2).2) (λ rest m keeps. closed_reads at s e o rest more m keeps refl))
+type_out at (suc left) s (EncapsulationOf e) text more free apart h =
+    let tail = mark marks.CloseAngle ∷ more in
+    rw (word_again text (codes "encapsulation") (mark marks.OpenAngle ∷ spell_type e tail) h, free.0, mark_again marks.OpenAngle h.0 (spell_type e tail) h.2)
+    (nested_by left s e (EncapsulationOf e) tail more (type_at at left s (h.2).0) (behind_held at) (record { levels = refl; rules = λ k w. w.1; deeper = held_deeper s e })
+    (type_out at left s e (h.2).0 tail free.1 refl (h.2).2) (λ rest m keeps. held_reads at s e rest more free.0 m keeps))
 
 deep_by : (s : Scope) (e : TypeExpr) (x : Refusal) → 0 < size s → Breaks x.kind (λ k. OfType k s.names e) (place s e).0.table.types ⊎ ((x.kind ≡ kinds.Depth) × (25 ≤ nest e)) → Breaks x.kind (λ k. OfType k s.names e) (place s e).0.table.types
 deep_by s e x some (inl b) = b

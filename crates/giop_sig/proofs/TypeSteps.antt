@@ -3,14 +3,14 @@ use Rattle.std.proofs.Common.{◌≡◌, ℕ, zero, suc, ◌-◌, ◌<◌, List,
 use Rattle.giop_tokens.specs.Reading.{◌>>=◌}
 use Rattle.giop_tokens.specs.Readers.{word_at}
 use Rattle.giop_sig.specs.Scopes.{Scope}
-use Rattle.giop_sig.specs.TypeReading.{too_deep, base_of, type_after, type_at}
+use Rattle.giop_sig.specs.TypeReading.{too_deep, type_after, type_at}
 
 pub type_at-none : (at left : ℕ) (s : Scope) (text : List ℕ) → left ≡ 0 → type_at at left s text ≡ Err (too_deep at)
 unfolding type_at
 type_at-none at zero s text e = refl
 type_at-none at (suc left) s text e = absurd (omega arith)
 
-pub type_at-step : (at left : ℕ) (s : Scope) (text : List ℕ) → 0 < left → type_at at left s text ≡ (word_at text >>= λ w. type_after at (type_at at (left - 1) s) s text w.0 w.1 (base_of w.0))
+pub type_at-step : (at left : ℕ) (s : Scope) (text : List ℕ) → 0 < left → type_at at left s text ≡ (word_at text >>= λ w. type_after at (type_at at (left - 1) s) s text w.0 w.1)
 unfolding type_at
 type_at-step at zero s text h = absurd (omega arith)
 type_at-step at (suc left) s text h = let e : suc left - 1 ≡ left = omega arith in rw e refl

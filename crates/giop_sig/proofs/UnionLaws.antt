@@ -13,7 +13,7 @@ use Rattle.giop_tokens.proofs.ReaderLaws.{mark_again, mark_if_again}
 use Rattle.giop_sig.specs.declared.types.Selected.{Selected}
 use Rattle.giop_sig.specs.Table.{Case, Node, node_at, node_in}
 use Rattle.giop_sig.specs.Table as nodes
-use Rattle.giop_sig.specs.Grammar.{TypeExpr, Base, Text, Reference, Named, SequenceOf, Item, Label, Default, Of, UnionCase, spell_length, spell_item, spell_labels, spell_cases}
+use Rattle.giop_sig.specs.Grammar.{TypeExpr, Base, Text, Reference, Named, SequenceOf, EncapsulationOf, Item, Label, Default, Of, UnionCase, spell_length, spell_item, spell_labels, spell_cases}
 use Rattle.giop_sig.specs.Scopes.{Names, Scope, Placed, has_default, labels_of, union_case, place, place_length, place_item}
 use Rattle.giop_sig.specs.Validity.{OfItem, OfLabels, OfCases}
 use Rattle.giop_sig.specs.ItemReading.{item_at}
@@ -66,6 +66,7 @@ place_grows s (Text (Some n)) = node_grows s (nodes.text (Some n))
 place_grows s Reference = grows_none s
 place_grows s (Named w) = grows_none s
 place_grows s (SequenceOf e bound) = grows_on s (place s e).0 (place s (SequenceOf e bound)).0 (place_grows s e) (node_grows (place s e).0 _)
+place_grows s (EncapsulationOf e) = grows_on s (place s e).0 (place s (EncapsulationOf e)).0 (place_grows s e) (node_grows (place s e).0 _)
 
 length_grows : (s : Scope) (o : Option ℕ) (p : Placed) → Grows s p.0 → Grows s (place_length o p).0
 length_grows s None p g = g

@@ -9,7 +9,8 @@ use Rattle.giop_tokens.specs.Reading.{◌>>=◌}
 use Rattle.giop_tokens.specs.Faults.{no_memory}
 use Rattle.giop_tokens.specs.Lines.{fault_of}
 use Rattle.giop_tokens.specs.Readers.{misplaced, word_at, number_at, mark_at, keyword_at, end_at}
-use Rattle.giop_sig.specs.Scopes.{Scope, builtin_scope}
+use Rattle.giop_sig.specs.Grammar.{is_version}
+use Rattle.giop_sig.specs.Scopes.{Scope, first_scope}
 use Rattle.giop_sig.specs.ItemReading.{Declared, structure_at, raise_at}
 use Rattle.giop_sig.specs.CallReading.{operation_at}
 use Rattle.giop_sig.specs.EnumReading.{enumeration_at}
@@ -36,17 +37,23 @@ declarations_run (suc n) s text = do
   if over then Ok s else (declaration_at s text >>= λ d. declarations_run n d.0 d.1)
 
 -- the version of the format, a number
-unfoldable pub version_at : List ℕ → Result (List ℕ) Refusal
+unfoldable pub version_at : List ℕ → Result (ℕ × List ℕ) Refusal
 version_at text = do
   n ← number_at text
-  if n.0 == 1 then Ok n.1 else Err (misplaced text)
+  if is_version n.0 then Ok (n.0, n.1) else Err (misplaced text)
+
+-- what stands before the declarations
+unfoldable pub head_at : List ℕ → Result (ℕ × List ℕ) Refusal
+head_at text = do
+  k ← keyword_at (codes "signatures") text
+  v ← version_at k
+  r ← mark_at marks.Semicolon v.1
+  Ok (v.0, r)
 
 unfoldable pub file_at : List ℕ → Result Scope Refusal
 file_at text = do
-  k ← keyword_at (codes "signatures") text
-  v ← version_at k
-  r ← mark_at marks.Semicolon v
-  declarations_run (length text) builtin_scope r
+  h ← head_at text
+  declarations_run (length text) (first_scope h.0) h.1
 
 -- the refusal of a text that is too long
 abbrev pub text_too_long : SigFault

@@ -1,6 +1,6 @@
--- Signature files: what a list of declarations is, and the tokens that spell it (docs/FORMATS.md, Signature file; meaning). Each
+-- Signature files: what a file and its declarations are, and the tokens that spell it (docs/FORMATS.md, Signature file; meaning). Each
 -- spelling is written in front of what follows it.
-use Rattle.std.specs.Prelude.{ℕ, Bool, true, false, List, [], ◌∷◌, Option, Some, None, codes}
+use Rattle.std.specs.Prelude.{ℕ, ◌==◌, ◌||◌, Bool, true, false, List, [], ◌∷◌, Option, Some, None, codes}
 use Rattle.giop_cdr.specs.declared.prim.Primitive.{Primitive}
 use Rattle.giop_cdr.specs.declared.prim.Primitive.TheVariants as prims
 use Rattle.giop_tokens.specs.declared.marks.Mark.{Mark}
@@ -20,6 +20,8 @@ pub data TypeExpr : Type 0 where
   -- an enum, struct or union by its name
   Named : List ℕ → TypeExpr
   SequenceOf : TypeExpr → Option ℕ → TypeExpr
+  -- a value of a type, in octets of its own
+  EncapsulationOf : TypeExpr → TypeExpr
 
 abbrev pub base_word : Primitive → List ℕ
 base_word prims.Octet = codes "octet"
@@ -54,6 +56,7 @@ spell_type (Text bound) more = word (codes "string") ∷ spell_bound bound more
 spell_type Reference more = word (codes "Object") ∷ more
 spell_type (Named w) more = word w ∷ more
 spell_type (SequenceOf e bound) more = word (codes "sequence") ∷ mark marks.OpenAngle ∷ spell_type e (spell_most bound (mark marks.CloseAngle ∷ more))
+spell_type (EncapsulationOf e) more = word (codes "encapsulation") ∷ mark marks.OpenAngle ∷ spell_type e (mark marks.CloseAngle ∷ more)
 
 -- ---- items: members, cases and parameters
 
@@ -181,6 +184,17 @@ abbrev pub spell_all : List Declaration → List Token
 spell_all [] = []
 spell_all (d ∷ ds) = spell d (spell_all ds)
 
--- the whole file
-abbrev pub spell_file : List Declaration → List Token
-spell_file ds = word (codes "signatures") ∷ number 1 ∷ mark marks.Semicolon ∷ spell_all ds
+-- ---- files
+
+pub record SignatureFile : Type 0 where
+  pub version : ℕ
+  pub declarations : List Declaration
+
+-- the versions of the format
+abbrev pub is_version : ℕ → Bool
+is_version n = (n == 1) || (n == 2)
+
+-- the whole file, its version first
+abbrev pub spell_file : SignatureFile → List Token
+spell_file file =
+    word (codes "signatures") ∷ number file.version ∷ mark marks.Semicolon ∷ spell_all file.declarations

@@ -29,7 +29,7 @@ new_name_at most seen text = do
 unfoldable pub declared_at : Scope → ℕ → List ℕ → Result (List ℕ × List ℕ) Refusal
 declared_at s count text = do
   n ← identifier_at text
-  if is_some (lookup (bytes_eq n.0) s.names) then Err (refused kinds.Duplicate text) else (if nat_le 4096 count then Err (refused kinds.Limit text) else Ok (n.0, n.1))
+  if is_some (lookup (bytes_eq n.0) s.names.known) then Err (refused kinds.Duplicate text) else (if nat_le 4096 count then Err (refused kinds.Limit text) else Ok (n.0, n.1))
 
 -- ---- items
 

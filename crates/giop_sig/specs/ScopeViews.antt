@@ -11,8 +11,8 @@ use Rattle.giop_sig.specs.Scopes.{Scope}
 abbrev pub name_view : ArrayVec ℕ × Option TypeId → List ℕ × Option ℕ
 name_view e = (e.0.items, option_map (λ t. t.0) e.1)
 
-abbrev pub scope_view : Table → List (ArrayVec ℕ × Option TypeId) → Scope
-scope_view t es = record { table = t; names = map name_view es }
+abbrev pub scope_view : ℕ → Table → List (ArrayVec ℕ × Option TypeId) → Scope
+scope_view version t es = record { table = t; names = record { version = version; known = map name_view es } }
 
 -- a type that others can have for a part
 abbrev pub IsKnown : List Node → ℕ → Type 0
@@ -29,4 +29,4 @@ pub record IsDeclaredName (types : List Node) (e : List ℕ × Option ℕ) : Typ
 -- the named types are in the table, and can be parts
 pub record IsScope (s : Scope) : Type 0 where
   pub begins : (more : List Node) × (s.table.types ≡ builtin_types ++ more)
-  pub names : AllByRecursion (IsDeclaredName s.table.types) s.names
+  pub names : AllByRecursion (IsDeclaredName s.table.types) s.names.known

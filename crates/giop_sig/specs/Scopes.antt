@@ -16,23 +16,30 @@ use Rattle.giop_sig.specs.Table.{Part, Case, Node, Table, node_at, with_type, wi
 use Rattle.giop_sig.specs.Table as nodes
 use Rattle.giop_sig.specs.Builtin.{builtin_table}
 use Rattle.giop_sig.specs.RequestList.{flat}
-use Rattle.giop_sig.specs.Grammar.{TypeExpr, Base, Text, Reference, Named, SequenceOf, Item, Value, Plain, Below, Truth, Enumerator, Label, Default, Of, UnionCase, Param, Declaration, Enumeration, Structure, Choice, Raise, Call}
+use Rattle.giop_sig.specs.Grammar.{TypeExpr, Base, Text, Reference, Named, SequenceOf, EncapsulationOf, Item, Value, Plain, Below, Truth, Enumerator, Label, Default, Of, UnionCase, Param, Declaration, Enumeration, Structure, Choice, Raise, Call, SignatureFile}
 
--- the names of enums, structs and unions, each with its type's number, and of exceptions, with none
-abbrev pub Names : Type 0
-Names = List (List ℕ × Option ℕ)
+-- What the words of a file mean as types: the file's version, and the names of enums, structs and unions, each with its
+-- type's number, and of exceptions, with none.
+pub record Names : Type 0 where
+  pub version : ℕ
+  pub known : List (List ℕ × Option ℕ)
+
+-- encapsulations are types since version 2
+abbrev pub has_encapsulations : Names → Bool
+has_encapsulations names = names.version == 2
 
 -- what the declarations so far made
 pub record Scope : Type 0 where
   pub table : Table
   pub names : Names
 
-abbrev pub builtin_scope : Scope
-builtin_scope = record { table = builtin_table; names = [] }
+-- the scope in which a file of a version begins
+abbrev pub first_scope : ℕ → Scope
+first_scope version = record { table = builtin_table; names = record { version = version; known = [] } }
 
 -- the type of a name
 abbrev pub named : Names → List ℕ → Option ℕ
-named names w = flat (lookup (bytes_eq w) names)
+named names w = flat (lookup (bytes_eq w) names.known)
 
 abbrev pub number_or : Option ℕ → ℕ
 number_or None = 0
@@ -73,6 +80,9 @@ place_text s (Some n) = with_node s (nodes.text (Some n))
 abbrev pub place_sequence : Option ℕ → Placed → Placed
 place_sequence bound p = with_node p.0 (sequence_node bound p.1)
 
+abbrev pub place_encapsulation : Placed → Placed
+place_encapsulation p = with_node p.0 (nodes.encapsulation p.1)
+
 -- the types that an expression adds, and its own number
 unfoldable pub place : Scope → TypeExpr → Placed
 place s (Base p) = (s, base_number p)
@@ -80,6 +90,7 @@ place s (Text bound) = place_text s bound
 place s Reference = (s, IOR)
 place s (Named w) = (s, number_or (named s.names w))
 place s (SequenceOf e bound) = place_sequence bound (place s e)
+place s (EncapsulationOf e) = place_encapsulation (place s e)
 
 -- ---- items
 
@@ -199,7 +210,7 @@ place_return s (Some e) = ((place s e).0, part (codes "return") (place s e).1 �
 -- ---- declarations
 
 abbrev pub with_name : Scope → List ℕ → Option ℕ → Scope
-with_name s w number = record s { names = s.names ++ (w, number) ∷ [] }
+with_name s w number = record s { names = record (s.names) { known = s.names.known ++ (w, number) ∷ [] } }
 
 -- an enum, struct or union of a new name
 abbrev pub with_named : List ℕ → Placed → Scope
@@ -241,6 +252,10 @@ abbrev pub scope_after : Scope → List Declaration → Scope
 scope_after s [] = s
 scope_after s (d ∷ ds) = scope_after (declare s d) ds
 
--- the table of a list of declarations, the built-in types included
-abbrev pub table : List Declaration → Table
-table ds = (scope_after builtin_scope ds).table
+-- the scope after all declarations of a file
+abbrev pub last_scope : SignatureFile → Scope
+last_scope file = scope_after (first_scope file.version) file.declarations
+
+-- the table of a file, the built-in types included
+abbrev pub table : SignatureFile → Table
+table file = (last_scope file).table

@@ -13,7 +13,7 @@ use Rattle.giop_sig.specs.Types.{depth}
 use Rattle.giop_sig.specs.Table.{Node}
 use Rattle.giop_sig.specs.Table as nodes
 use Rattle.giop_sig.specs.Trees.{grow, tree}
-use Rattle.giop_sig.specs.Scopes.{Scope, Placed, named, with_node, sequence_node}
+use Rattle.giop_sig.specs.Scopes.{has_encapsulations, Scope, Placed, named, with_node, sequence_node}
 use Rattle.giop_sig.specs.Outcomes.{refused}
 
 -- too many levels, in the declaration whose name is at this place
@@ -104,6 +104,24 @@ sequence_at at element rest = do
   e ← element inner
   behind_element at e
 
+-- an encapsulation, behind the type of what it holds: the closing mark
+abbrev pub behind_held : ℕ → TypeRead → Result TypeRead Refusal
+behind_held at h = do
+  r ← mark_at marks.CloseAngle h.2
+  t ← added at h.0 (nodes.encapsulation h.1)
+  Ok (t.0, t.1, r)
+
+-- an encapsulation, behind its word; held reads the type of what it holds
+abbrev pub held_at : ℕ → (List ℕ → Result TypeRead Refusal) → List ℕ → Result TypeRead Refusal
+held_at at held rest = do
+  inner ← mark_at marks.OpenAngle rest
+  h ← held inner
+  behind_held at h
+
+-- an encapsulation, where the file may have one; its word is the first of the text
+abbrev pub encapsulation_at : ℕ → (List ℕ → Result TypeRead Refusal) → Scope → List ℕ → List ℕ → Result TypeRead Refusal
+encapsulation_at at held s text rest = if has_encapsulations s.names then held_at at held rest else Err (misplaced text)
+
 abbrev pub found_type : Scope → List ℕ → List ℕ → Option ℕ → Result TypeRead Refusal
 found_type s text rest None = Err (refused kinds.UnknownType text)
 found_type s text rest (Some n) = Ok (s, n, rest)
@@ -114,16 +132,24 @@ named_type s text w rest =
     if is_reserved w then Err (misplaced text) else
     (if nat_lt 64 (length w) then Err (refused kinds.Limit text) else found_type s text rest (named s.names w))
 
-abbrev pub type_after : ℕ → (List ℕ → Result TypeRead Refusal) → Scope → List ℕ → List ℕ → List ℕ → Option ℕ → Result TypeRead Refusal
-type_after at element s text w rest (Some base) = Ok (s, base, rest)
-type_after at element s text w rest None =
+abbrev pub leaf_after : ℕ → Scope → List ℕ → List ℕ → List ℕ → Option ℕ → Result TypeRead Refusal
+leaf_after at s text w rest (Some base) = Ok (s, base, rest)
+leaf_after at s text w rest None =
     if bytes_eq w (codes "string") then text_at at s rest else
-    (if bytes_eq w (codes "Object") then Ok (s, IOR, rest) else
-    (if bytes_eq w (codes "sequence") then sequence_at at element rest else named_type s text w rest))
+    (if bytes_eq w (codes "Object") then Ok (s, IOR, rest) else named_type s text w rest)
+
+-- a type that has no other in angle brackets, by the first word of the text
+unfoldable pub leaf_at : ℕ → Scope → List ℕ → List ℕ → List ℕ → Result TypeRead Refusal
+leaf_at at s text w rest = leaf_after at s text w rest (base_of w)
+
+abbrev pub type_after : ℕ → (List ℕ → Result TypeRead Refusal) → Scope → List ℕ → List ℕ → List ℕ → Result TypeRead Refusal
+type_after at inner s text w rest =
+    if bytes_eq w (codes "sequence") then sequence_at at inner rest else
+    (if bytes_eq w (codes "encapsulation") then encapsulation_at at inner s text rest else leaf_at at s text w rest)
 
 -- a type of at most so many words
 unfoldable pub type_at : ℕ → ℕ → Scope → List ℕ → Result TypeRead Refusal
 type_at at zero s text = Err (too_deep at)
 type_at at (suc left) s text = do
   w ← word_at text
-  type_after at (type_at at left s) s text w.0 w.1 (base_of w.0)
+  type_after at (type_at at left s) s text w.0 w.1

@@ -14,8 +14,8 @@ use Rattle.giop_tokens.specs.Tokens.{AreTokens}
 use Rattle.giop_sig.specs.Table.{Node, node_at, operation_in, exception_in}
 use Rattle.giop_sig.specs.Table as nodes
 use Rattle.giop_sig.specs.Trees.{depth_of}
-use Rattle.giop_sig.specs.Grammar.{TypeExpr, Base, Text, Reference, Named, SequenceOf, Item, Value, Plain, Below, Truth, Enumerator, Label, Default, Of, UnionCase, Param, Declaration, Enumeration, Structure, Choice, Raise, Call, spell_file}
-use Rattle.giop_sig.specs.Scopes.{Names, Scope, Placed, builtin_scope, named, place, label_number, labels_of, declare, scope_after}
+use Rattle.giop_sig.specs.Grammar.{TypeExpr, Base, Text, Reference, Named, SequenceOf, EncapsulationOf, Item, Value, Plain, Below, Truth, Enumerator, Label, Default, Of, UnionCase, Param, Declaration, Enumeration, Structure, Choice, Raise, Call, SignatureFile, is_version, spell_file}
+use Rattle.giop_sig.specs.Scopes.{Names, has_encapsulations, Scope, Placed, first_scope, named, place, label_number, labels_of, declare, scope_after}
 
 abbrev pub Kind : Type 0
 Kind = SigFaultKind
@@ -60,12 +60,18 @@ OfSome k xs = Unit {0}
 
 -- ---- types and items
 
+-- the word of an encapsulation stands in files of its version
+abbrev pub OfVersion : Kind → Names → Type 0
+OfVersion kinds.Syntax names = has_encapsulations names ≡ true
+OfVersion k names = Unit {0}
+
 unfoldable pub OfType : Kind → Names → TypeExpr → Type 0
 OfType k names (Base p) = Unit {0}
 OfType k names (Text bound) = OfBound k bound
 OfType k names Reference = Unit {0}
 OfType k names (Named w) = OfTypeName k names w
 OfType k names (SequenceOf e bound) = OfType k names e × OfBound k bound
+OfType k names (EncapsulationOf e) = OfVersion k names × OfType k names e
 
 abbrev pub OfItem : Kind → Names → ℕ → List (List ℕ) → Item → Type 0
 OfItem k names most seen i = OfType k names i.type × OfNewName k most seen i.name × OfBound k i.length
@@ -157,7 +163,7 @@ placed_node p = node_at (p.0).table p.1
 abbrev pub OfDeclared : Kind → Scope → ℕ → List ℕ → Type 0
 OfDeclared kinds.Syntax s count w = IsFree w
 OfDeclared kinds.Limit s count w = (length w ≤ 64) × (count < 4096)
-OfDeclared kinds.Duplicate s count w = lookup (bytes_eq w) s.names ≡ None
+OfDeclared kinds.Duplicate s count w = lookup (bytes_eq w) s.names.known ≡ None
 OfDeclared k s count w = Unit {0}
 
 -- the repository id of an exception
@@ -213,9 +219,9 @@ IsShallow s d = depth_of (declare s d).table.types ≤ 24
 abbrev pub IsWithinLimits : Scope → Declaration → Type 0
 IsWithinLimits s d = OfDeclaration kinds.Limit s d
 
--- the names are no reserved words; this is grammar
-abbrev pub HasFreeNames : Scope → Declaration → Type 0
-HasFreeNames s d = OfDeclaration kinds.Syntax s d
+-- its names are no reserved words, and it has no words of a later version; this is grammar
+abbrev pub HasItsWords : Scope → Declaration → Type 0
+HasItsWords s d = OfDeclaration kinds.Syntax s d
 
 -- the rule of a kind
 abbrev pub Rule : Kind → Scope → Declaration → Type 0
@@ -229,31 +235,38 @@ unfoldable pub Each : (Scope → Declaration → Type 0) → Scope → List Decl
 Each R s [] = Unit {0}
 Each R s (d ∷ ds) = R s d × Each R (declare s d) ds
 
-pub record AreValid (ds : List Declaration) : Type 0 where
-  pub known : Each TypesAreKnown builtin_scope ds
-  pub distinct : Each NamesAreDistinct builtin_scope ds
-  pub some : Each IsNotEmpty builtin_scope ds
-  pub labels : Each LabelsFit builtin_scope ds
-  pub shallow : Each IsShallow builtin_scope ds
-  pub within : Each IsWithinLimits builtin_scope ds
+-- ---- files
 
--- the text is the file of these declarations
-pub record Spells (text : List ℕ) (ds : List Declaration) : Type 0 where
+-- a rule holds of each declaration of a file
+abbrev pub EachOf : (Scope → Declaration → Type 0) → SignatureFile → Type 0
+EachOf R file = Each R (first_scope file.version) file.declarations
+
+pub record IsValid (file : SignatureFile) : Type 0 where
+  pub known : EachOf TypesAreKnown file
+  pub distinct : EachOf NamesAreDistinct file
+  pub some : EachOf IsNotEmpty file
+  pub labels : EachOf LabelsFit file
+  pub shallow : EachOf IsShallow file
+  pub within : EachOf IsWithinLimits file
+
+-- the text is this file
+pub record Spells (text : List ℕ) (file : SignatureFile) : Type 0 where
   pub short : length text ≤ 1048576
-  pub tokens : AreTokens text (spell_file ds)
-  pub names : Each HasFreeNames builtin_scope ds
+  pub tokens : AreTokens text (spell_file file)
+  pub version : is_version file.version ≡ true
+  pub words : EachOf HasItsWords file
 
 -- the rule of a kind is broken by one of the declarations
-pub record IsBroken (k : Kind) (ds : List Declaration) : Type 0 where
+pub record IsBroken (k : Kind) (file : SignatureFile) : Type 0 where
   pub before : List Declaration
   pub broken : Declaration
   pub after : List Declaration
-  pub all : ds ≡ before ++ broken ∷ after
-  pub breaks : Rule k (scope_after builtin_scope before) broken → ⊥
+  pub all : file.declarations ≡ before ++ broken ∷ after
+  pub breaks : Rule k (scope_after (first_scope file.version) before) broken → ⊥
 
--- a refusal of this kind, of a text that spells the declarations: only memory needs no reason
-abbrev pub Refuses : Kind → List Declaration → Type 0
-Refuses kinds.OutOfMemory ds = Unit {0}
-Refuses kinds.Token ds = ⊥
-Refuses kinds.Syntax ds = ⊥
-Refuses k ds = IsBroken k ds
+-- a refusal of this kind, of a text that spells the file: only memory needs no reason
+abbrev pub Refuses : Kind → SignatureFile → Type 0
+Refuses kinds.OutOfMemory file = Unit {0}
+Refuses kinds.Token file = ⊥
+Refuses kinds.Syntax file = ⊥
+Refuses k file = IsBroken k file

@@ -5,7 +5,7 @@ ghost use Rattle.std.specs.Map.{lookup};
 ghost use Rattle.std.specs.Str.{bytes_eq};
 ghost use Rattle.giop_cdr.specs.declared.prim.Primitive.TheVariants as prims;
 ghost use Rattle.giop_sig.specs.Table.{IsFormed, node_at, prim, operation_in, exception_in};
-ghost use Rattle.giop_sig.specs.Scopes.{builtin_scope, named, with_name, with_named, with_raised, with_call};
+ghost use Rattle.giop_sig.specs.Scopes.{first_scope, has_encapsulations, named, with_name, with_named, with_raised, with_call};
 ghost use Rattle.giop_sig.specs.ScopeViews.{IsScope, IsKnown, IsKnownType};
 ghost use Rattle.giop_sig.specs.Outcomes.{Gives};
 ghost use Rattle.giop_sig.specs.TypeReading.{added};
@@ -25,10 +25,14 @@ use std::marker::Model;
 /// The octets of a name.
 pub(crate) type Key = ArrayVec<u8, 64>;
 
-/// The catalogue of the declarations so far, with the names of enums, structs and unions, each with its type, and of
-/// exceptions. A contract sees the `Scope`.
+/// The version of a file that may have encapsulations.
+const ENCAPSULATIONS_SINCE: u64 = 2;
+
+/// The catalogue of the declarations so far, with the version of their file, the names of enums, structs and unions, each
+/// with its type, and of exceptions. A contract sees the `Scope`.
 #[derive(Drop)]
 pub(crate) struct Draft {
+    version: u64,
     catalogue: Catalogue,
     names: IndexMap<Key, Option<TypeId>>,
 }
@@ -39,21 +43,22 @@ impl Model for Draft {
 
     ghost Value = { Scope };
 
-    ghost view = { λ a. scope_view a.catalogue a.names.entries };
+    ghost view = { λ a. scope_view a.version a.catalogue a.names.entries };
 
-    ghost invariant = { λ a. IsScope (scope_view a.catalogue a.names.entries) };
+    ghost invariant = { λ a. IsScope (scope_view a.version a.catalogue a.names.entries) };
 }
 
 impl Draft {
-    /// The draft of no declarations.
-    pub(crate) fn new(alloc: Global) -> Result<Draft, Stop>
-        ensures ok { IfOk result (λ draft. draft ≡ builtin_scope) }
+    /// The draft of no declarations, of a file of a version.
+    pub(crate) fn new(alloc: Global, version: u64) -> Result<Draft, Stop>
+        ensures ok { IfOk result (λ draft. draft ≡ first_scope version) }
         ensures err { IfErr result (λ stop. stop ≡ Stop.Memory) }
     {
         let Ok(catalogue) = Catalogue::builtin(alloc) else {
             return Err(Stop::Memory);
         };
         Ok(Draft {
+            version,
             catalogue,
             names: IndexMap::new(alloc),
         })
@@ -66,6 +71,13 @@ impl Draft {
     {
         let _names = &self.names;
         self.catalogue.laws();
+    }
+
+    /// Whether the file may have encapsulations.
+    pub(crate) fn has_encapsulations(&self) -> bool
+        ensures { result ≡ has_encapsulations self.now.names }
+    {
+        self.version == ENCAPSULATIONS_SINCE
     }
 
     /// The type of an enum, struct or union, by its name.
@@ -81,7 +93,7 @@ impl Draft {
     /// Whether a name is declared, an exception's too.
     pub(crate) fn is_declared(&self, name: &[u8]) -> bool
         requires { length name.now ≤ 64 }
-        ensures { result ≡ is_some (lookup (bytes_eq name.now) self.now.names) }
+        ensures { result ≡ is_some (lookup (bytes_eq name.now) self.now.names.known) }
     {
         let names = &self.names;
         let key: Key = ArrayVec::try_from(name).unwrap();
@@ -164,7 +176,7 @@ impl Draft {
     /// Adds a name that is new, perhaps a type's.
     fn add_name(&mut self, name: &[u8], t: Option<TypeId>) -> Result<(), Stop>
         requires short { length name.now ≤ 64 }
-        requires new { lookup (bytes_eq name.now) self.old.names ≡ None }
+        requires new { lookup (bytes_eq name.now) self.old.names.known ≡ None }
         requires known { IsKnownType self.old.table.types (option_map (λ t. t.0) t) }
         ensures added { OnOk result (self.new ≡ with_name self.old name.now (option_map (λ t. t.0) t)) }
         ensures err { IfErr result (λ stop. stop ≡ Stop.Memory) }
@@ -177,7 +189,7 @@ impl Draft {
     /// Declares an enum, struct or union by a new name.
     pub(crate) fn name_type(&mut self, name: &[u8], t: TypeId) -> Result<(), Stop>
         requires short { length name.now ≤ 64 }
-        requires new { lookup (bytes_eq name.now) self.old.names ≡ None }
+        requires new { lookup (bytes_eq name.now) self.old.names.known ≡ None }
         requires few { self.old.table.declared < 4096 }
         requires known { IsKnown self.old.table.types t.0 }
         ensures added { OnOk result (self.new ≡ with_named name.now (self.old, t.0)) }
@@ -191,7 +203,7 @@ impl Draft {
     /// Declares an exception by a new name and a new repository id.
     pub(crate) fn raise(&mut self, name: &[u8], repository: &[u8], t: TypeId) -> Result<(), Stop>
         requires short { length name.now ≤ 64 }
-        requires new { lookup (bytes_eq name.now) self.old.names ≡ None }
+        requires new { lookup (bytes_eq name.now) self.old.names.known ≡ None }
         requires few { length self.old.table.exceptions < 4096 }
         requires identity { length repository.now ≤ 128 }
         requires different { exception_in self.old.table repository.now ≡ None }

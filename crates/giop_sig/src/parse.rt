@@ -1,11 +1,11 @@
 //! Reading a signature file (docs/FORMATS.md).
-ghost use Rattle.std.specs.Prelude.{◌≡◌, ◌+◌, ◌<◌, ◌≤◌, ◌↔◌, List, length, IfOk, IfErr};
+ghost use Rattle.std.specs.Prelude.{◌≡◌, ◌+◌, ◌<◌, ◌≤◌, ◌↔◌, length, IfOk, IfErr};
 ghost use Rattle.giop_sig.specs.Builtin.{builtin_types};
-ghost use Rattle.giop_sig.specs.Grammar.{Declaration};
-ghost use Rattle.giop_sig.specs.Scopes.{builtin_scope, table};
-ghost use Rattle.giop_sig.specs.Validity.{AreValid, Spells, Refuses};
+ghost use Rattle.giop_sig.specs.Grammar.{SignatureFile};
+ghost use Rattle.giop_sig.specs.Scopes.{table};
+ghost use Rattle.giop_sig.specs.Validity.{IsValid, Spells, Refuses};
 ghost use Rattle.giop_sig.specs.Outcomes.{Gives};
-ghost use Rattle.giop_sig.specs.FileReading.{declaration_at, declarations_run, version_at, file_at, text_too_long, IsFirstRefusal};
+ghost use Rattle.giop_sig.specs.FileReading.{declaration_at, declarations_run, version_at, head_at, file_at, text_too_long, IsFirstRefusal};
 
 use crate::catalogue::Catalogue;
 use crate::draft::Draft;
@@ -21,8 +21,10 @@ use std::alloc::Global;
 
 /// The most octets of a text.
 const TEXT_MAX: usize = 1_048_576;
-/// The version of the format.
-const VERSION: u64 = 1;
+/// The versions of the format.
+const FIRST_VERSION: u64 = 1;
+
+const SECOND_VERSION: u64 = 2;
 
 /// A declaration: its first word tells which.
 #[tactic(auto, unfolding(crate::specs::FileReading::declaration_at))]
@@ -61,35 +63,36 @@ fn declarations(alloc: Global, draft: &mut Draft, steps: usize, text: &[u8]) -> 
 
 /// The version of the format.
 #[tactic(auto, unfolding(crate::specs::FileReading::version_at))]
-fn version_at(text: &[u8]) -> Result<&[u8], Stop>
-    ensures { Gives (λ x. x.now) result (version_at text.now) }
+fn version_at(text: &[u8]) -> Result<(u64, &[u8]), Stop>
+    ensures { Gives (λ x. (x.0, x.1.now)) result (version_at text.now) }
 {
     let (n, rest) = number(text)?;
-    if n == VERSION {
-        Ok(rest)
+    if n == FIRST_VERSION || n == SECOND_VERSION {
+        Ok((n, rest))
     } else {
         Err(Stop::Refused(misplaced(text)))
     }
 }
 
-/// The whole file, into a draft of no declarations.
-#[tactic(auto, unfolding(crate::specs::FileReading::file_at))]
-fn file_at(alloc: Global, draft: &mut Draft, text: &[u8]) -> Result<(), Stop>
-    requires { draft.old ≡ builtin_scope }
-    ensures { Gives (λ x. draft.new) result (file_at text.now) }
+/// What stands before the declarations: it says the version.
+#[tactic(auto, unfolding(crate::specs::FileReading::head_at))]
+fn head_at(text: &[u8]) -> Result<(u64, &[u8]), Stop>
+    ensures { Gives (λ x. (x.0, x.1.now)) result (head_at text.now) }
 {
     let rest = keyword(text, b"signatures")?;
-    let rest = version_at(rest)?;
+    let (version, rest) = version_at(rest)?;
     let rest = mark(rest, Mark::Semicolon)?;
-    declarations(alloc, draft, text.len(), rest)
+    Ok((version, rest))
 }
 
 /// The draft of a file.
+#[tactic(auto, unfolding(crate::specs::FileReading::file_at))]
 fn draft_of(alloc: Global, text: &[u8]) -> Result<Draft, Stop>
     ensures { Gives (λ x. x) result (file_at text.now) }
 {
-    let mut draft = Draft::new(alloc)?;
-    file_at(alloc, &mut draft, text)?;
+    let (version, rest) = head_at(text)?;
+    let mut draft = Draft::new(alloc, version)?;
+    declarations(alloc, &mut draft, text.len(), rest)?;
     Ok(draft)
 }
 
@@ -97,13 +100,13 @@ impl Catalogue {
     /// The catalogue of a signature file: the types, operations and exceptions that its text declares, with the built-in
     /// types. A refusal tells the first rule that is broken, and its line; nothing is kept after it.
     pub fn parse(alloc: Global, text: &[u8]) -> Result<Catalogue, SigFault>
-        // The text spells some valid declarations, and this is their table.
-        ensures ok { IfOk result (λ c. (ds : List Declaration) × Spells text.now ds × AreValid ds × (c ≡ table ds)) }
+        // The text spells a valid file, and this is its table.
+        ensures ok { IfOk result (λ c. (file : SignatureFile) × Spells text.now file × IsValid file × (c ≡ table file)) }
         // It adds no more types than the text has octets.
         ensures few { IfOk result (λ c. length c.types ≤ length builtin_types + length text.now) }
-        // Of a text that spells declarations, the refusal is that of a rule which one of them breaks, unless memory was
-        // refused.
-        ensures err { (ds : List Declaration) → Spells text.now ds → IfErr result (λ f. Refuses f.kind ds) }
+        // Of a text that spells a file, the refusal is that of a rule which one of its declarations breaks, unless memory
+        // was refused.
+        ensures err { (file : SignatureFile) → Spells text.now file → IfErr result (λ f. Refuses f.kind file) }
         // A text that is too long isn't read. Another is refused where reading it from the front comes to what can't
         // stand, at the line of that token; want of memory alone has no line.
         ensures long { 1048576 < length text.now → result ≡ Err text_too_long }

@@ -1,10 +1,11 @@
 //! Reading types.
-ghost use Rattle.std.specs.Prelude.{◌≡◌, ℕ, ◌<◌, length, IfOk, IfSome};
+ghost use Rattle.std.specs.Prelude.{◌≡◌, ℕ, ◌<◌, length, IfOk, IfSome, codes};
+ghost use Rattle.std.specs.Str.{bytes_eq};
 ghost use Rattle.std.specs.Option.{option_map};
 ghost use Rattle.giop_sig.specs.Outcomes.{Gives, refused};
 ghost use Rattle.giop_sig.specs.Scopes.{sequence_node};
 ghost use Rattle.giop_sig.specs.ScopeViews.{IsKnown};
-ghost use Rattle.giop_sig.specs.TypeReading.{added, size_at, enclosed_at, most_at, base_of, text_at, behind_element, named_type, type_at};
+ghost use Rattle.giop_sig.specs.TypeReading.{added, size_at, enclosed_at, most_at, base_of, text_at, behind_element, behind_held, named_type, leaf_at, type_at};
 
 use crate::draft::Draft;
 use crate::entries::Entry;
@@ -184,8 +185,53 @@ fn behind_element<'a>(
     Ok((t, rest))
 }
 
-/// A type, with at most so many words `sequence` around it. One that is too deep is refused, in the declaration whose
-/// name is at this place.
+/// What stands behind the type that an encapsulation holds: the closing mark.
+fn behind_held<'a>(
+    draft: &mut Draft,
+    at: usize,
+    held: TypeId,
+    text: &'a [u8],
+) -> Result<(TypeId, &'a [u8]), Stop>
+    requires { IsKnown draft.old.table.types held.0 }
+    ensures { Gives (λ x. (draft.new, x.0.0, x.1.now)) result (behind_held at (draft.old, held.0, text.now)) }
+{
+    let rest = mark(text, Mark::CloseAngle)?;
+    let t = draft.add(at, Entry::Encapsulation(held))?;
+    Ok((t, rest))
+}
+
+/// Whether a word begins an encapsulation.
+fn is_encapsulation(word: &[u8]) -> bool
+    ensures { result ≡ bytes_eq word.now (codes "encapsulation") }
+{
+    word == b"encapsulation".as_slice()
+}
+
+/// A type that has no other in angle brackets, by the first word of the text.
+#[tactic(auto, unfolding(crate::specs::TypeReading::leaf_at))]
+fn leaf_at<'a>(
+    draft: &mut Draft,
+    at: usize,
+    text: &[u8],
+    name: &[u8],
+    rest: &'a [u8],
+) -> Result<(TypeId, &'a [u8]), Stop>
+    ensures { Gives (λ x. (draft.new, x.0.0, x.1.now)) result (leaf_at at draft.old text.now name.now rest.now) }
+{
+    if let Some(base) = base_of(name) {
+        return Ok((base, rest));
+    }
+    if name == b"string".as_slice() {
+        return text_at(draft, at, rest);
+    }
+    if name == b"Object".as_slice() {
+        return Ok((REFERENCE, rest));
+    }
+    named_type(draft, text, name, rest)
+}
+
+/// A type, with at most so many words `sequence` and `encapsulation` around it. One that is too deep is refused, in the
+/// declaration whose name is at this place.
 #[tactic(auto, using(crate::proofs::TypeSteps::type_steps))]
 pub(crate) fn type_at<'a>(
     draft: &mut Draft,
@@ -203,19 +249,18 @@ pub(crate) fn type_at<'a>(
     }
     draft.laws();
     let (name, rest) = word(text)?;
-    if let Some(base) = base_of(name) {
-        return Ok((base, rest));
-    }
-    if name == b"string".as_slice() {
-        return text_at(draft, at, rest);
-    }
-    if name == b"Object".as_slice() {
-        return Ok((REFERENCE, rest));
-    }
     if name == b"sequence".as_slice() {
         let rest = mark(rest, Mark::OpenAngle)?;
         let (element, rest) = type_at(draft, at, left - 1, rest)?;
         return behind_element(draft, at, element, rest);
     }
-    named_type(draft, text, name, rest)
+    if is_encapsulation(name) {
+        if !draft.has_encapsulations() {
+            return Err(Stop::Refused(misplaced(text)));
+        }
+        let rest = mark(rest, Mark::OpenAngle)?;
+        let (held, rest) = type_at(draft, at, left - 1, rest)?;
+        return behind_held(draft, at, held, rest);
+    }
+    leaf_at(draft, at, text, name, rest)
 }

@@ -11,7 +11,7 @@ use std::process::Abort;
 use std::test::Fail;
 
 /// Compares what is told of each file of a table.
-fn are_told(rt: &(impl Abort + AllocGlobal), rows: &[u8]) -> Result<(), Fail> {
+pub fn are_told(rt: &(impl Abort + AllocGlobal), rows: &[u8]) -> Result<(), Fail> {
     for row in rows.split(|octet| *octet == b'=') {
         is_told(rt, row)?;
     }

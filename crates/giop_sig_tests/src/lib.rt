@@ -21,3 +21,7 @@ mod list_tests;
 mod rows;
 #[cfg(test)]
 mod shapes;
+#[cfg(test)]
+mod version_rows;
+#[cfg(test)]
+mod version_tests;
