@@ -1,7 +1,7 @@
 //! The sizes of a checkpoint's layout, and its version.
 
 /// The layout's version.
-pub const VERSION: u32 = 1;
+pub const VERSION: u32 = 2;
 
 /// The octets of the fixed part.
 pub const FIXED_SIZE: usize = 96;
@@ -16,7 +16,7 @@ pub const RECORD_SIZE: usize = 256;
 pub const MESSAGE_SIZE: usize = 224;
 
 /// The octets of a frame.
-pub const FRAME_SIZE: usize = 16;
+pub const FRAME_SIZE: usize = 24;
 
 /// The greatest number of a record's frames.
 pub const MOST_FRAMES: u8 = 24;

@@ -21,7 +21,7 @@ leaf_long (innermost.Number of) = refl
 leaf_long (innermost.Content of total offset) = refl
 leaf_long (innermost.Opening of count) = refl
 
-pub frame_long : (f : Frame) → length (frame_octets f) ≡ 16
+pub frame_long : (f : Frame) → length (frame_octets f) ≡ 24
 unfolding four
 frame_long f = refl
 
@@ -101,3 +101,8 @@ fields_written d leaf carry piece o0 o1 o2 o3 o4 o5 o6 o7 o8 o9 a b e0 e1 e2 e3 
     let f3 : o3 ≡ front = rw (e3, f2) refl in
     let f5 : o5 ≡ front ++ d.at ∷ leaf_octets leaf = rw (e5, e4, f3) (append_assoc front (d.at ∷ []) (leaf_octets leaf)) in
     rw (e9, e8, e7, e6, f5, a, b) refl
+
+-- the fields of a frame, put one behind the other
+pub put_together : (o a b c z : List ℕ) (i : ℕ)
+    → ((((o ++ a) ++ b) ++ c) ++ i ∷ []) ++ z ≡ o ++ (a ++ b ++ c ++ i ∷ z)
+put_together o a b c z i = simp append_assoc

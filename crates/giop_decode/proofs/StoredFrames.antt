@@ -66,7 +66,7 @@ pub frame_again : (f : Frame) (of index count : ℕ) (inside : Option Order) (oc
     → ((i : Option Order) (rest : List ℕ) → drop 12 octets ≡ inside_octet i ∷ rest → inside ≡ i)
     → record { of = type_id of; index = index; count = count; inside = inside } ≡ f
 frame_again f of index count inside octets rest range is of_is index_is count_is inside_is =
-    let last : List ℕ = inside_octet f.inside ∷ replicate 3 0 in
+    let last : List ℕ = inside_octet f.inside ∷ replicate 11 0 in
     let first : drop 0 octets ≡ four f.of.0 ++ (four f.index ++ (four f.count ++ (last ++ rest))) = is ∙ four_fields (four f.of.0) (four f.index) (four f.count) last rest in
     let second : drop 4 octets ≡ four f.index ++ (four f.count ++ (last ++ rest)) = behind 0 4 octets _ _ first (four_long f.of.0) in
     let third : drop 8 octets ≡ four f.count ++ (last ++ rest) = behind 4 4 octets _ _ second (four_long f.index) in
@@ -84,11 +84,11 @@ pub record Left (all items : List Frame) (own : Frame) (octets : List ℕ) : Typ
   pub octets_are : octets ≡ frames_octets (left ++ own ∷ [])
   pub all_are : all ≡ items ++ left
 
-two_long : (g h : Frame) (gs : List Frame) → 32 ≤ length (frames_octets (g ∷ gs ++ h ∷ []))
+two_long : (g h : Frame) (gs : List Frame) → 48 ≤ length (frames_octets (g ∷ gs ++ h ∷ []))
 two_long g h [] = omega (arith, length-append (frame_octets g) (frame_octets h ++ []), length-append (frame_octets h) [], frame_long g, frame_long h)
 two_long g h (k ∷ gs) = omega (arith, length-append (frame_octets g) (frames_octets (k ∷ gs ++ h ∷ [])), two_long k h gs, frame_long g)
 
-pub frame_more : (all items new : List Frame) (own f : Frame) (octets after : List ℕ) → Left all items own octets → 32 ≤ length octets → after ≡ drop 16 octets → new ≡ items ++ f ∷ []
+pub frame_more : (all items new : List Frame) (own f : Frame) (octets after : List ℕ) → Left all items own octets → 48 ≤ length octets → after ≡ drop 24 octets → new ≡ items ++ f ∷ []
     → ((g : Frame) (rest : List ℕ) → FrameHasRange g → octets ≡ frame_octets g ++ rest → f ≡ g) → Left all new own after
 frame_more all items new own f octets after l long is pushed read = by_left l.left l.range l.octets_are l.all_are
   where
@@ -97,17 +97,17 @@ frame_more all items new own f octets after l long is pushed read = by_left l.le
     by_left (g ∷ gs) range e a = record {
       left = gs;
       range = range.1;
-      octets_are = is ∙ behind 0 16 octets (frame_octets g) _ e (frame_long g);
+      octets_are = is ∙ behind 0 24 octets (frame_octets g) _ e (frame_long g);
       all_are = a ∙ ap (λ (x : Frame). items ++ x ∷ gs) (sym (read g _ range.0 e)) ∙ sym (append_assoc items (f ∷ []) gs) ∙ ap (λ (xs : List Frame). xs ++ gs) (sym pushed);
     }
 
 -- none are left where there is less than two frames, or no room
-pub frames_ended : (all items : List Frame) (own : Frame) (octets : List ℕ) → Left all items own octets → length all < 24 → (32 ≤ length octets → length items ≡ 24) → items ≡ all
+pub frames_ended : (all items : List Frame) (own : Frame) (octets : List ℕ) → Left all items own octets → length all < 24 → (48 ≤ length octets → length items ≡ 24) → items ≡ all
 frames_ended all items own octets l few ended = by_left l.left l.octets_are l.all_are
   where
     by_left : (left : List Frame) → octets ≡ frames_octets (left ++ own ∷ []) → all ≡ items ++ left → items ≡ all
     by_left [] e a = sym (a ∙ append-nil items)
     by_left (g ∷ gs) e a =
-        let long : 32 ≤ length octets = omega (arith, ap length e, two_long g own gs) in
+        let long : 48 ≤ length octets = omega (arith, ap length e, two_long g own gs) in
         let full : length items ≡ 24 = ended long in
         absurd (omega (arith, full, few, ap length a, length-append items (g ∷ gs)))

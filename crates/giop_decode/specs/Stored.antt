@@ -17,8 +17,8 @@
 --     77     129  the octets in it: how many, and room for 128; none where it is too short
 --    206       2  zero
 --
--- and a frame of 16 octets for each part that is begun and not ended, the outermost first: its type, the place of its own part
--- that is being read, how many it has (0 in a union), and 4 zeros. Of an encapsulation whose byte order was read the place says
+-- and a frame of 24 octets for each part that is begun and not ended, the outermost first: its type, the place of its own part
+-- that is being read, how many it has (0 in a union), and 12 zeros. Of an encapsulation whose byte order was read the place says
 -- how many of its octets were taken and the count how many it has, and the first of the zeros is 1 for big or 2 for little. The
 -- last frame is the innermost part's: its type and zeros.
 -- Numbers have the heaviest octet first; what is held is followed by zeros.
@@ -78,14 +78,14 @@ fixed_octets d leaf = order_octet d.order ∷ root_octet d.root ∷ eight d.mess
 
 -- the octets of a frame
 abbrev pub frame_size : ℕ
-frame_size = 16
+frame_size = 24
 
 abbrev pub inside_octet : Option Order → ℕ
 inside_octet None = 0
 inside_octet (Some order) = 1 + order_octet order
 
 abbrev pub frame_octets : Frame → List ℕ
-frame_octets f = four f.of.0 ++ four f.index ++ four f.count ++ inside_octet f.inside ∷ replicate 3 0
+frame_octets f = four f.of.0 ++ four f.index ++ four f.count ++ inside_octet f.inside ∷ replicate 11 0
 
 abbrev pub frames_octets : List Frame → List ℕ
 frames_octets frames = flat_map frame_octets frames

@@ -57,7 +57,7 @@ impl Decoder {
             IsRestored d self.now → IsTrue result }
     {
         let mut fixed_again = [0; 208];
-        let mut frames_again = [0; 384];
+        let mut frames_again = [0; 576];
         let count = usize::from(self.store(&mut fixed_again, &mut frames_again));
         if !same(&fixed_again, fixed) {
             return false;

@@ -18,11 +18,11 @@ use giop_octets::{put_eight, put_four, put_held, put_optional, put_zeros};
 use giop_print::Root;
 
 /// How many octets a frame has.
-pub(crate) const FRAME_SIZE: usize = 16;
+pub(crate) const FRAME_SIZE: usize = 24;
 
 impl Decoder {
     /// Writes what is kept of a decoder that goes on: its own octets and those of its frames, of which it answers the number.
-    pub fn store(&self, fixed: &mut [u8; 208], frames: &mut [u8; 384]) -> u8
+    pub fn store(&self, fixed: &mut [u8; 208], frames: &mut [u8; 576]) -> u8
         ensures few { result ≤ 24 }
         ensures depth { (C : Table) → Fits C self.now → result ≤ depth_of C.types }
         ensures stored { (C : Table) → Fits C self.now →
@@ -154,7 +154,7 @@ fn kept_name(memory: &Memory) -> &[u8]
 }
 
 /// Writes the frames, the innermost part's last.
-fn put_frames(out: &mut ArrayVec<u8, 384>, outer: &[Frame], leaf: Leaf)
+fn put_frames(out: &mut ArrayVec<u8, 576>, outer: &[Frame], leaf: Leaf)
     requires empty { out.old.items ≡ [] }
     requires few { length outer.now < 24 }
     ensures put { out.new.items ≡ frames_octets (outer.now ++ own_frame leaf ∷ []) }
@@ -176,8 +176,8 @@ fn put_frames(out: &mut ArrayVec<u8, 384>, outer: &[Frame], leaf: Leaf)
 }
 
 /// Writes a frame.
-fn put_frame(out: &mut ArrayVec<u8, 384>, frame: Frame)
-    requires room { array_vec_len out.old + frame_size ≤ 384 }
+fn put_frame(out: &mut ArrayVec<u8, 576>, frame: Frame)
+    requires room { array_vec_len out.old + frame_size ≤ 576 }
     ensures put { out.new.items ≡ out.old.items ++ frame_octets frame }
     ensures len { array_vec_len out.new ≡ array_vec_len out.old + frame_size }
     ensures range { FrameHasRange frame }
@@ -186,7 +186,7 @@ fn put_frame(out: &mut ArrayVec<u8, 384>, frame: Frame)
     put_four(out, frame.index);
     put_four(out, frame.count);
     out.push(inside_octet(frame.inside));
-    put_zeros(out, 3);
+    put_zeros(out, 11);
 }
 
 /// The octet of an encapsulation's byte order, or of none.

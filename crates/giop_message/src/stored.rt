@@ -83,7 +83,7 @@ impl Part {
     }
 
     /// Writes what is kept of it, and answers the number of its decoder's frames: 0 where it has none.
-    fn store(&self, octets: &mut [u8; 208], frames: &mut [u8; 384]) -> u8
+    fn store(&self, octets: &mut [u8; 208], frames: &mut [u8; 576]) -> u8
         ensures few { result ≤ 24 }
         ensures depth { (C : Table) (at : ℕ) → FitsPart C at self.now → result ≤ depth_of C.types }
         ensures stored { (C : Table) (at : ℕ) → FitsPart C at self.now →
@@ -116,7 +116,7 @@ impl Message {
 
     /// Writes what is kept of it, its number and its header apart: its octets, and the frames of its decoder, of which it
     /// answers the number.
-    pub fn store(&self, fixed: &mut [u8; 224], frames: &mut [u8; 384]) -> u8
+    pub fn store(&self, fixed: &mut [u8; 224], frames: &mut [u8; 576]) -> u8
         ensures few { result ≤ 24 }
         ensures depth { (C : Table) → Fits C self.now → result ≤ depth_of C.types }
         ensures stored { (C : Table) → Fits C self.now →

@@ -16,10 +16,10 @@ fn again(catalogue: &Catalogue, message: &Message) -> Option<Message>
     ensures { IfSome result (λ m. Fits catalogue.now m) }
 {
     let mut fixed = [0; 224];
-    let mut frames = [0; 384];
+    let mut frames = [0; 576];
     let count = usize::from(message.store(&mut fixed, &mut frames));
     let (number, header) = (message.number(), message.header());
-    Message::restore(catalogue, number, header, &fixed, &frames[..16 * count])
+    Message::restore(catalogue, number, header, &fixed, &frames[..24 * count])
 }
 
 /// Takes the octets behind a header in two pieces, as message 1 of a stream, and closes the message, which is stored and
@@ -161,7 +161,7 @@ const CASES: [Case; 3] = [
         octets: "47494f50 0100 00 01 00000036 00000001 00000007 00000004 aabbccdd 00000001 00000003 0000000a 49444c3a",
         own: "02 000000000000002c 01 00000001 0000",
         part: "00 02 0000000000000001 04 01 0000000b 00000009 00000000 00 00*8 04 49444c3a 00*28 00*5 00*5 00 00*129 00*2",
-        frames: "00000015 00000000 00000002 00000000 0000000b 00000000 00000000 00000000",
+        frames: "00000015 00000000 00000002 00*12 0000000b 00*20",
     },
 ];
 
@@ -213,7 +213,7 @@ fn stored_differs(
         return "the answer";
     }
     let mut fixed = [0; 224];
-    let mut all = [0; 384];
+    let mut all = [0; 576];
     let count = usize::from(message.store(&mut fixed, &mut all));
     if &fixed[..16] != own {
         return "its own octets";
@@ -221,7 +221,7 @@ fn stored_differs(
     if &fixed[16..] != part {
         return "the octets of its part";
     }
-    if &all[..16 * count] != frames {
+    if &all[..24 * count] != frames {
         return "the frames";
     }
     ""
@@ -285,7 +285,7 @@ fn padding_and_a_rest_have_no_frames(rt: HostRuntime) -> Result<(), Fail> {
     let known = built_in(rt.alloc())?;
     for case in 0..2 {
         let octets = octets_of_case(rt.alloc(), case)?;
-        assert!(rt; !is_restored(&known.0, &octets, &[0; 16]));
+        assert!(rt; !is_restored(&known.0, &octets, &[0; 24]));
     }
     Ok(())
 }

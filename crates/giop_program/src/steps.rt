@@ -70,7 +70,7 @@ pub fn performed<'a, R: Inputs + AllocGlobal, O: Flush, F: Saves>(
     ensures flushed { OnOk result (O.kept out.new ≡ []) }
 {
     let save = asked.save;
-    let mut into = [0; 10_976];
+    let mut into = [0; 14_240];
     let ran = ran(rt, asked, out, &mut into);
     kept(files, save, ran, &into)
 }
@@ -80,7 +80,7 @@ fn ran<'a, R: Inputs + AllocGlobal, O: Flush>(
     rt: &R,
     asked: Arguments<'a>,
     out: &mut O,
-    into: &mut [u8; 10_976],
+    into: &mut [u8; 14_240],
 ) -> Result<Report, ProgramFault<'a>>
     // A run reads what the words name: the stream, by the catalogue and the list of the files, from the checkpoint on.
     ensures dumped { let task = task_of (R.held rt.now) (R.given rt.now) (asked_of asked.entry) in
@@ -102,7 +102,7 @@ fn listed<'a, R: Inputs + AllocGlobal, O: Flush>(
     rt: &R,
     asked: Arguments<'a>,
     out: &mut O,
-    into: &mut [u8; 10_976],
+    into: &mut [u8; 14_240],
     catalogue: &Catalogue,
 ) -> Result<Report, ProgramFault<'a>>
     ensures dumped { let asked = asked_of asked.entry in let held = R.held rt.now in
@@ -129,7 +129,7 @@ fn begun<'a, R: Inputs + AllocGlobal, O: Flush>(
     rt: &R,
     asked: Arguments<'a>,
     out: &mut O,
-    into: &mut [u8; 10_976],
+    into: &mut [u8; 14_240],
     catalogue: &Catalogue,
     requests: &Requests,
 ) -> Result<Report, ProgramFault<'a>>
@@ -172,7 +172,7 @@ fn opened<'a, R: Inputs, O: Flush>(
     out: &mut O,
     engine: Engine,
     ending: Ending,
-    into: &mut [u8; 10_976],
+    into: &mut [u8; 14_240],
 ) -> Result<Report, ProgramFault<'a>>
     requires sound { engine.failed ≡ false }
     ensures dumped { IfSome (run_of result) (λ ran. (p : List ℕ) → Holds engine.entry p
@@ -195,7 +195,7 @@ fn dumped<'a, R: Read + Drop, O: Flush>(
     out: &mut O,
     engine: Engine,
     ending: Ending,
-    into: &mut [u8; 10_976],
+    into: &mut [u8; 14_240],
 ) -> Result<Report, ProgramFault<'a>>
     requires sound { engine.failed ≡ false }
     ensures dumped { IfSome (run_of result) (λ ran. (p : List ℕ) → Holds engine.entry p
@@ -216,7 +216,7 @@ fn kept<'a, F: Saves>(
     files: &mut F,
     save: Option<&'a str>,
     ran: Result<Report, ProgramFault<'a>>,
-    into: &[u8; 10_976],
+    into: &[u8; 14_240],
 ) -> Result<Report, ProgramFault<'a>>
     ensures { Kept (option_map (λ n. n.now) save.entry) ran.entry result into.now
         (F.saved files.old) (F.saved files.new) }

@@ -70,7 +70,7 @@ fn resumed(
     let (first, rest) = stream.split_at(at.min(stream.len()));
     let mut engine = Engine::new(catalogue, requests);
     let _fed = engine.feed(first, sheet);
-    let mut octets = [0; 10_976];
+    let mut octets = [0; 14_240];
     let saved = engine.save(&mut octets).unwrap_or(0);
     let Ok(mut engine) = Engine::load(catalogue, requests, front(&octets, saved)) else {
         return REFUSED;

@@ -72,7 +72,7 @@ fn saved<'a>(
     requires of { AreOf catalogue.now requests.now }
 {
     let most = most(catalogue.depth());
-    let mut octets = [0; 10_976];
+    let mut octets = [0; 14_240];
     let mut engine = Engine::new(catalogue, requests);
     let mut hash = NO_OCTETS;
     for (at, wanted) in told.lengths.iter().enumerate() {
@@ -99,7 +99,7 @@ fn saved<'a>(
 
 /// The greatest length of a checkpoint by types of this depth.
 fn most(depth: u8) -> usize {
-    FIXED + 17 * (256 + 16 * usize::from(depth))
+    FIXED + 17 * (256 + 24 * usize::from(depth))
 }
 
 /// So many octets, from the front.
@@ -108,7 +108,7 @@ pub fn front(octets: &[u8], length: usize) -> &[u8] {
 }
 
 /// The fixed part of a checkpoint.
-fn fixed_part(octets: &[u8; 10_976]) -> &[u8] {
+fn fixed_part(octets: &[u8; 14_240]) -> &[u8] {
     &octets[..FIXED]
 }
 

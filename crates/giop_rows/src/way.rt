@@ -83,7 +83,7 @@ fn read<O: Out>(engine: Engine, octets: Octets, out: &mut O) -> Result<Report, R
         out,
         engine,
         Ending::Finish,
-        &mut [0; 10_976],
+        &mut [0; 14_240],
     )
 }
 
@@ -96,7 +96,7 @@ fn cut<O: Out>(engine: Engine, stream: &[u8], at: usize, out: &mut O) -> Result<
         Err(Stop::Failed) => return Err(RunFault::Failed),
     }
     let mut source = Piecewise::new(rest, 4096);
-    run(&mut source, out, engine, Ending::Finish, &mut [0; 10_976])
+    run(&mut source, out, engine, Ending::Finish, &mut [0; 14_240])
 }
 
 fn pieces<O: Out>(
@@ -106,7 +106,7 @@ fn pieces<O: Out>(
     out: &mut O,
 ) -> Result<Report, RunFault> {
     let mut source = Piecewise::new(stream, step.max(1));
-    run(&mut source, out, engine, Ending::Finish, &mut [0; 10_976])
+    run(&mut source, out, engine, Ending::Finish, &mut [0; 14_240])
 }
 
 /// Feeds a stream. Where a put fails the engine is failed: it is fed once more, and run to its finish.
@@ -121,5 +121,5 @@ fn failing<O: Out>(engine: Engine, stream: &[u8], out: &mut O) -> Result<Report,
         },
     }
     let mut nothing = Piecewise::new(&[], 1);
-    run(&mut nothing, out, engine, Ending::Finish, &mut [0; 10_976])
+    run(&mut nothing, out, engine, Ending::Finish, &mut [0; 14_240])
 }

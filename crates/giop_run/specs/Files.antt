@@ -35,7 +35,7 @@ abbrev pub requests_most : ℕ
 requests_most = 16777216
 
 abbrev pub checkpoint_most : ℕ
-checkpoint_most = 10976
+checkpoint_most = 14240
 
 -- a text spells a valid file of signatures, of which this is the table
 pub record Declares (text : List ℕ) (C : Table) : Type 0 where

@@ -18,7 +18,7 @@ pub fn dump<R: Read + Drop, O: Flush>(
     out: &mut O,
     engine: Engine,
     ending: Ending,
-    into: &mut [u8; 10_976],
+    into: &mut [u8; 14_240],
 ) -> Result<Report, RunFault>
     ensures dumped { (p : List ℕ) → Holds engine.entry p
         → Dumped (way_of engine.entry ending into.old into.new) result p (R.remaining reader) (O.log out.old) (O.log out.new) }

@@ -15,7 +15,7 @@ use giop_sig::{Catalogue, Requests};
 use giop_stream::Engine;
 
 /// The greatest number of octets of a checkpoint. Longer ones are refused by their reader.
-const CHECKPOINT_MOST: u64 = 10_976;
+const CHECKPOINT_MOST: u64 = 14_240;
 
 /// The engine of a checkpoint's octets.
 fn loaded<'a, 'c>(

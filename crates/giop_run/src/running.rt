@@ -50,7 +50,7 @@ pub fn run<S: Source, O: Out>(
     out: &mut O,
     engine: Engine,
     ending: Ending,
-    into: &mut [u8; 10_976],
+    into: &mut [u8; 14_240],
 ) -> Result<Report, RunFault>
     ensures ran { (p : List ℕ) → Holds engine.entry p → (s : List ℕ)
         × Ran (way_of engine.entry ending into.old into.new) result p s (S.log source.old) (S.log source.new) (O.log out.old) (O.log out.new) }
@@ -71,7 +71,7 @@ pub(crate) fn run_by<S: Source, O: Out, F: Between<O>>(
     out: &mut O,
     engine: Engine,
     ending: Ending,
-    into: &mut [u8; 10_976],
+    into: &mut [u8; 14_240],
 ) -> Result<Report, RunFault>
     ensures ran { (p : List ℕ) → Holds engine.entry p → (s : List ℕ)
         × Ran (way_of engine.entry ending into.old into.new) result p s (S.log source.old) (S.log source.new) (O.log out.old) (O.log out.new) }
@@ -166,7 +166,7 @@ fn close<O: Out, F: Between<O>>(
     engine: Engine,
     out: &mut O,
     ending: Ending,
-    into: &mut [u8; 10_976],
+    into: &mut [u8; 14_240],
 ) -> Result<Report, RunFault>
     ensures closed { (p : List ℕ) → Holds engine.entry p
         → Closed (way_of engine.entry ending into.old into.new) result p (O.log out.old) (O.log out.new) }
@@ -196,7 +196,7 @@ fn finished<O: Out, F: Between<O>>(engine: Engine, out: &mut O) -> Result<Report
 fn saved<O: Out, F: Between<O>>(
     engine: &Engine,
     out: &mut O,
-    into: &mut [u8; 10_976],
+    into: &mut [u8; 14_240],
 ) -> Result<Report, RunFault>
     ensures closed { (p : List ℕ) → Holds engine.now p
         → Closed (way_of engine.now Ending.Save into.old into.new) result p (O.log out.old) (O.log out.new) }
@@ -211,7 +211,7 @@ fn saved<O: Out, F: Between<O>>(
 }
 
 /// Saves the stream's checkpoint: how many octets it has.
-fn save(engine: &Engine, into: &mut [u8; 10_976]) -> Result<usize, RunFault>
+fn save(engine: &Engine, into: &mut [u8; 14_240]) -> Result<usize, RunFault>
     ensures saves { (p : List ℕ) → Holds engine.now p
         → IfOk result (λ n. Saves n into.new engine.now.table engine.now.listed p) }
     ensures behind { IfOk result (λ n. drop n into.new ≡ drop n into.old) }

@@ -60,7 +60,7 @@ fn is_watched(
         &mut lines,
         Engine::new(catalogue, requests),
         Ending::Finish,
-        &mut [0; 10_976],
+        &mut [0; 14_240],
     )
     .is_ok())
 }
@@ -100,7 +100,7 @@ fn dumps(
         &mut lines,
         Engine::new(catalogue, requests),
         Ending::Finish,
-        &mut [0; 10_976],
+        &mut [0; 14_240],
     );
     assert!(rt; lines.writer().as_slice() == want);
     Ok(status_of(dumped))
@@ -142,7 +142,7 @@ fn dump_by_octets(
         &mut lines,
         Engine::new(catalogue, requests),
         Ending::Finish,
-        &mut [0; 10_976],
+        &mut [0; 14_240],
     ))
 }
 

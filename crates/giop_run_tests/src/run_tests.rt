@@ -22,7 +22,7 @@ fn reads(rt: &impl Abort, engine: Engine, stream: &[u8], want: &[u8]) {
         &mut sheet,
         engine,
         Ending::Finish,
-        &mut [0; 10_976],
+        &mut [0; 14_240],
     );
     assert!(rt; ran.is_ok() && sheet.held() == want);
 }
@@ -78,7 +78,7 @@ fn fails_at_a_read(rt: &impl Abort, engine: Engine, fails_at: usize) {
         &mut sheet,
         engine,
         Ending::Finish,
-        &mut [0; 10_976],
+        &mut [0; 14_240],
     );
     let differs = read_differs(ran, reads.get(), sheet.held(), fails_at);
     assert!(rt; differs.is_empty(), "read {fails_at}: {differs}");
@@ -137,7 +137,7 @@ fn tries_again(rt: &impl Abort, engine: Engine, interrupts: usize) {
         &mut sheet,
         engine,
         Ending::Finish,
-        &mut [0; 10_976],
+        &mut [0; 14_240],
     );
     let differs = interrupt_differs(ran, reads.get(), sheet.held(), interrupts);
     assert!(rt; differs.is_empty(), "{interrupts} interrupted: {differs}");
@@ -180,7 +180,7 @@ fn fails_at_a_put(rt: &(impl Abort + AllocGlobal), engine: Engine, fails_at: usi
         &mut out,
         engine,
         Ending::Finish,
-        &mut [0; 10_976],
+        &mut [0; 14_240],
     );
     let held = held.into_inner();
     let differs = put_differs(ran, &held);
@@ -250,7 +250,7 @@ fn reads_nothing(rt: &impl Abort, engine: Engine) {
         &mut sheet,
         engine,
         Ending::Finish,
-        &mut [0; 10_976],
+        &mut [0; 14_240],
     );
     let untouched = reads.get() == 0 && sheet.held().is_empty();
     assert!(rt; ran == Err(RunFault::Failed) && untouched);

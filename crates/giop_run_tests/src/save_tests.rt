@@ -21,28 +21,28 @@ const ROWS: [Row; 4] = [
         b"",
         b"",
         0,
-        "47494f5044554d5000000001000000000000000000000000000000000000000000000000000000000000000000000000\
+        "47494f5044554d5000000002000000000000000000000000000000000000000000000000000000000000000000000000\
 0000000000000000000000ff000000000000000000000000000000000000000000000000000000000000000000000000",
     ),
     (
         b"GIOP\x01",
         b"",
         0,
-        "47494f5044554d5000000001000000000000000000000000000000000000000000000000000000050000000000000000\
+        "47494f5044554d5000000002000000000000000000000000000000000000000000000000000000050000000000000000\
 0000000000000000000005ff47494f500100000000000000000000000000000000000000000000000000000000000000",
     ),
     (
         CLOSE,
         b"m1 start 1.0 big CloseConnection size 0\nm1 end\n",
         0,
-        "47494f5044554d50000000010000000000000000000000000000000000000000000000000000000c0000000000000001\
+        "47494f5044554d50000000020000000000000000000000000000000000000000000000000000000c0000000000000001\
 0000000000000000000000ff000000000000000000000000000000000000000000000000000000000000000000000000",
     ),
     (
         b"GIOQ",
         b"stream fault magic at 4\n",
         1,
-        "47494f5044554d5000000001000000000000000000000000000000000000000000000000000000040000000000000000\
+        "47494f5044554d5000000002000000000000000000000000000000000000000000000000000000040000000000000000\
 0000000000000001020100ff000000000000000000000000000000000000000000000000000000000000000000000000",
     ),
 ];
@@ -73,7 +73,7 @@ fn save_differs(
 fn saves(rt: &(impl Abort + AllocGlobal), engine: Engine, row: Row) -> Result<(), Fail> {
     let mut room = [0; 512];
     let mut sheet = Sheet::new(&mut room);
-    let mut into = [7; 10_976];
+    let mut into = [7; 14_240];
     let mut source = Piecewise::new(row.0, 3);
     let ran = run(&mut source, &mut sheet, engine, Ending::Save, &mut into);
     let checkpoint = octets(rt.alloc(), row.3)?;
@@ -105,7 +105,7 @@ fn a_saved_stream_has_its_lines_and_no_closing(rt: HostRuntime) -> Result<(), Fa
 fn saves_nothing(rt: &impl Abort, engine: Engine, room: usize) {
     let mut octets = [0; COMPLETED];
     let mut sheet = Sheet::new(&mut octets[..room.min(COMPLETED)]);
-    let mut into = [7; 10_976];
+    let mut into = [7; 14_240];
     let mut source = Piecewise::new(CLOSE, 12);
     let ran = run(&mut source, &mut sheet, engine, Ending::Save, &mut into);
     let untouched = into.iter().all(|octet| *octet == 7);
@@ -131,7 +131,7 @@ fn a_failing_put_saves_nothing(rt: HostRuntime) -> Result<(), Fail> {
 fn reads_nothing(rt: &impl Abort, engine: Engine, fails_at: usize) {
     let mut room = [0; 512];
     let mut sheet = Sheet::new(&mut room);
-    let mut into = [7; 10_976];
+    let mut into = [7; 14_240];
     let reads = Cell::new(0);
     let mut source = Reading::new(FailingReader::new(CLOSE, &reads, fails_at));
     let ran = run(&mut source, &mut sheet, engine, Ending::Save, &mut into);
@@ -166,7 +166,7 @@ fn goes_on(rt: &impl Abort, catalogue: &Catalogue, requests: &Requests, at: usiz
     let (front, rest) = CLOSE.split_at(at.min(CLOSE.len()));
     let mut room = [0; 512];
     let mut sheet = Sheet::new(&mut room);
-    let mut into = [7; 10_976];
+    let mut into = [7; 14_240];
     let mut source = Piecewise::new(front, 3);
     let engine = Engine::new(catalogue, requests);
     let saved = match run(&mut source, &mut sheet, engine, Ending::Save, &mut into) {
@@ -184,7 +184,7 @@ fn goes_on(rt: &impl Abort, catalogue: &Catalogue, requests: &Requests, at: usiz
 /// Runs the rest of a stream to its end.
 fn ends(engine: Engine, rest: &[u8], sheet: &mut Sheet) -> bool {
     let mut source = Piecewise::new(rest, 3);
-    run(&mut source, sheet, engine, Ending::Finish, &mut [7; 10_976]).is_ok()
+    run(&mut source, sheet, engine, Ending::Finish, &mut [7; 14_240]).is_ok()
 }
 
 fn each_cut(rt: &impl Abort, catalogue: &Catalogue, requests: &Requests)

@@ -431,7 +431,7 @@ records_are (e ∷ es) h =
     let rest : List ℕ = flat_map entry_octets es in
     let s : List ℕ = entry_octets e ++ rest in
     let size : length (entry_octets e) ≡ used s =
-    entry_long e h.0 ∙ ap (λ (n : ℕ). 256 + 16 * n) (sym (first_of e rest)) in
+    entry_long e h.0 ∙ ap (λ (n : ℕ). 256 + 24 * n) (sym (first_of e rest)) in
     let P : List ℕ → Type 0 = λ xs. AreRecords (length es) xs in (
       omega (arith, size, length-append (entry_octets e) rest),
       subst P (sym (drop_at (entry_octets e) rest (used s) size)) (records_are es h.1),

@@ -149,7 +149,7 @@ impl<'a> Engine<'a> {
 
     /// Writes the checkpoint of what was read into the front of these octets, and says how many it has
     /// (docs/FORMATS.md, Checkpoints).
-    pub fn save(&self, into: &mut [u8; 10_976]) -> Result<usize, Stop>
+    pub fn save(&self, into: &mut [u8; 14_240]) -> Result<usize, Stop>
         // They are the checkpoint of each stream that it holds.
         ensures saves { (p : List ℕ) → Holds self.now p →
             IfOk result (λ n. Saves n into.new self.now.table self.now.listed p) }
@@ -162,7 +162,7 @@ impl<'a> Engine<'a> {
         if self.failed {
             return Err(Stop::Failed);
         }
-        let mut out: ArrayVec<u8, 10_976> = ArrayVec::new();
+        let mut out: ArrayVec<u8, 14_240> = ArrayVec::new();
         saving::write(&self.framing, self.catalogue, self.requests, &mut out);
         let len = out.len();
         into[..len].copy_from_slice(out.as_slice());

@@ -25,7 +25,7 @@ pub fn write(
     framing: &Framing,
     catalogue: &Catalogue,
     requests: &Requests,
-    out: &mut ArrayVec<u8, 10_976>,
+    out: &mut ArrayVec<u8, 14_240>,
 )
     requires ready { AreReady catalogue.now (framing.now.totals.octets + 1) framing.now.slots }
     requires empty { out.old.items ≡ [] }
@@ -127,11 +127,11 @@ fn owner_of(slots: &Slots) -> Option<u8>
 }
 
 /// Writes the records of the open messages.
-fn write_open(slots: &[Slot], out: &mut ArrayVec<u8, 10_976>)
-    requires room { array_vec_len out.old + 640 * length slots.now ≤ 10976 }
+fn write_open(slots: &[Slot], out: &mut ArrayVec<u8, 14_240>)
+    requires room { array_vec_len out.old + 832 * length slots.now ≤ 14240 }
     ensures put { (C : Table) (at : ℕ) → Each (λ slot. IsReady C at slot.message) slots.now →
         IsPut out.old.items out.new.items (AreOpen slots.now) }
-    ensures len { array_vec_len out.new ≤ array_vec_len out.old + 640 * length slots.now }
+    ensures len { array_vec_len out.new ≤ array_vec_len out.old + 832 * length slots.now }
 {
     for slot in slots {
         write_slot(slot, out);
@@ -139,11 +139,11 @@ fn write_open(slots: &[Slot], out: &mut ArrayVec<u8, 10_976>)
 }
 
 /// Writes the record of an open message.
-fn write_slot(slot: &Slot, out: &mut ArrayVec<u8, 10_976>)
-    requires room { array_vec_len out.old + 640 ≤ 10976 }
+fn write_slot(slot: &Slot, out: &mut ArrayVec<u8, 14_240>)
+    requires room { array_vec_len out.old + 832 ≤ 14240 }
     ensures put { (C : Table) (at : ℕ) → IsReady C at slot.now.message →
         IsPutOne out.old.items out.new.items (IsOpen slot.now) }
-    ensures len { array_vec_len out.new ≤ array_vec_len out.old + 640 }
+    ensures len { array_vec_len out.new ≤ array_vec_len out.old + 832 }
 {
     match &slot.message {
         Some(message) => {
@@ -169,14 +169,14 @@ fn write_message(
     number: u64,
     header: [u8; 12],
     message: &Message,
-    out: &mut ArrayVec<u8, 10_976>,
+    out: &mut ArrayVec<u8, 14_240>,
 )
-    requires room { array_vec_len out.old + 640 ≤ 10976 }
+    requires room { array_vec_len out.old + 832 ≤ 14240 }
     ensures put { (C : Table) → Fits C message.now →
         IsPutOne out.old.items out.new.items (IsKept standing number header message.now) }
-    ensures len { array_vec_len out.new ≤ array_vec_len out.old + 640 }
+    ensures len { array_vec_len out.new ≤ array_vec_len out.old + 832 }
 {
-    let (mut fixed, mut frames) = ([0; 224], [0; 384]);
+    let (mut fixed, mut frames) = ([0; 224], [0; 576]);
     let count = message.store(&mut fixed, &mut frames);
     let record = Record {
         frames: count,

@@ -62,14 +62,12 @@ total messages 5 faults 0 octets 152\n";
 
 /// A checkpoint without records, by the built-in types: 2^48 octets were read. And one of two octets more, which are too many.
 const FULL: &str =
-    "47494f5044554d500000000100000000000000000000000000000000000000000001000000000000\
-00000000000000000000000000000000000000ff0000000000000000000000000000000000000000\
-00000000000000000000000000000000";
+    "47494f5044554d5000000002000000000000000000000000000000000000000000010000000000000000000000000000\
+0000000000000000000000ff000000000000000000000000000000000000000000000000000000000000000000000000";
 
 const TOO_FULL: &str =
-    "47494f5044554d500000000100000000000000000000000000000000000000000001000000000002\
-00000000000000000000000000000000000000ff0000000000000000000000000000000000000000\
-00000000000000000000000000000000";
+    "47494f5044554d5000000002000000000000000000000000000000000000000000010000000000020000000000000000\
+0000000000000000000000ff000000000000000000000000000000000000000000000000000000000000000000000000";
 
 /// What is written behind the first.
 const LIMIT_TEXT: &[u8] = b"stream fault stream-limit at 281474976710657\n\
@@ -80,7 +78,7 @@ fn saved(
     known: &(Catalogue, Requests),
     front: &[u8],
     sheet: &mut Sheet<'_>,
-    octets: &mut [u8; 10_976],
+    octets: &mut [u8; 14_240],
 ) -> Option<usize>
     requires { AreOf known.now.0 known.now.1 }
 {
@@ -98,7 +96,7 @@ fn differs(known: &(Catalogue, Requests), stream: &[u8], at: usize, text: &[u8])
     let (front, behind) = stream.split_at(stream.len().min(at));
     let mut room = [0; 4096];
     let mut sheet = Sheet::new(&mut room);
-    let mut octets = [0; 10_976];
+    let mut octets = [0; 14_240];
     let Some(length) = saved(known, front, &mut sheet, &mut octets) else {
         return "the save";
     };
@@ -140,7 +138,7 @@ fn the_first_check_that_fails_is_told(rt: HostRuntime) -> Result<(), Fail> {
     let stream = <[u8; 152] as FromHex>::from_hex(STREAM).map_err(|_| Fail::from("the stream"))?;
     let mut room = [0; 4096];
     let mut sheet = Sheet::new(&mut room);
-    let mut octets = [0; 10_976];
+    let mut octets = [0; 14_240];
     let length = saved(&known, &stream, &mut sheet, &mut octets);
     assert!(rt; length == Some(96));
     let (whole, _) = octets.split_at(96);
@@ -152,6 +150,7 @@ fn the_first_check_that_fails_is_told(rt: HostRuntime) -> Result<(), Fail> {
     assert!(rt; refusal(&known, long) == Some(LoadFault::Length));
     for (at, octet, want) in [
         (0, 0xb8, LoadFault::Magic),
+        (11, 1, LoadFault::Version),
         (11, 9, LoadFault::Version),
         (31, 18, LoadFault::State),
     ] {

@@ -22,7 +22,7 @@ returns-clause-rest c =
     let first = first_is c.in-Some.record s c.in-Some.ensures.range (sym c.split_at.ensures.front ∙ c.in-Some.ensures.own) in
     let behind = c.split_at-2.ensures.back ∙ (ap (drop 224) c.split_at.ensures.back ∙ drop-drop 224 32 s) in
     c.split_at-3.ensures.back
-    ∙ (ap (drop (16 * c.in-Some.record.frames)) behind ∙ (drop-drop (16 * c.in-Some.record.frames) 256 s ∙ ap (λ (n : ℕ). drop (256 + 16 * n) s) (sym first)))
+    ∙ (ap (drop (24 * c.in-Some.record.frames)) behind ∙ (drop-drop (24 * c.in-Some.record.frames) 256 s ∙ ap (λ (n : ℕ). drop (256 + 24 * n) s) (sym first)))
 
 pub returns-clause-again : goal.returns-clause-again
 returns-clause-again c e rest h is =

@@ -10,7 +10,7 @@ returns-clause-put c C fits =
     let entry : Entry = record {
       record_is = record { frames = c.store-count.result; standing = c.args.standing; number = c.args.number; header = c.args.header };
       message = c.store-count.new.fixed;
-      frames = take (16 * c.store-count.result) c.store-count.new.frames;
+      frames = take (24 * c.store-count.result) c.store-count.new.frames;
     } in
     record {
       entry = entry;
