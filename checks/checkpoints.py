@@ -9,21 +9,24 @@ import tempfile
 from concurrent.futures import ThreadPoolExecutor
 from typing import Iterator, List, Tuple
 
+import encapsulated
 from failing import EXAMPLES, PROGRAM, SECONDS, TOUR
 
 WORDS = ("magic", "version", "catalogue", "length", "state")
 NAMING = ("--signatures", str(EXAMPLES / "naming.sig"))
 LISTED = (*NAMING, "--requests", str(EXAMPLES / "naming.req"))
+FEATURES = ("--signatures", str(EXAMPLES / "features.sig"))
 TYPED = ("--signatures", str(TOUR / "data/tour.sig"), "--requests", str(TOUR / "data/tour.requests"))
 Stream = Tuple[Tuple[str, ...], bytes]
 
 
 def streams() -> List[Stream]:
-    """Requests, replies with their list, and the front of a long stream with every sort of value."""
+    """Requests, replies with their list, the front of a long stream with every sort of value, and encapsulations."""
     return [
         (NAMING, (EXAMPLES / "naming.giop").read_bytes()),
         (LISTED, (EXAMPLES / "naming-replies.giop").read_bytes()),
         (TYPED, (TOUR / "stdin").read_bytes()[:3000]),
+        (FEATURES, b"".join(encapsulated.messages())[:1000]),
     ]
 
 
@@ -70,6 +73,7 @@ def damaged(checkpoint: bytes) -> Iterator[Tuple[str, bytes, Tuple[str, ...]]]:
         word = ("magic",) if at < 8 else ("version",) if at < 12 else ("catalogue",) if at < 28 else ("state", "length", "")
         yield f"octet {at}", wrong, word
         yield f"the first {at} octets", checkpoint[:at], ("length",) if at < 96 else ("length", "state")
+    yield "layout 1", checkpoint[:11] + b"\1" + checkpoint[12:], ("version",)
     yield "an octet more", checkpoint + b"\0", ("length",)
     yield "a longer file than any", checkpoint + bytes(20_000), ("length",)
 

@@ -10,6 +10,8 @@ from dataclasses import dataclass
 from pathlib import Path
 from typing import Dict, List, Tuple
 
+import encapsulated
+
 TOP = Path(__file__).resolve().parent.parent
 PROGRAM = TOP / "crates/giopdump/out/giopdump"
 EXAMPLES = TOP / "examples"
@@ -59,10 +61,10 @@ def files_of(case: Case) -> Dict[str, bytes]:
 
 
 def cases() -> List[Case]:
-    """No octets, typed requests, typed replies with their list, a long stream with every sort of value, one that ends
-    early, parts of one that are saved and gone on from, and what is refused: a list that is none, a checkpoint that is
-    none, an option that is none, a word that isn't UTF-8, a missing file."""
-    naming = str(EXAMPLES / "naming.sig")
+    """No octets, typed requests, typed replies with their list, encapsulations, a long stream with every sort of value, one
+    that ends early, parts of one that are saved and gone on from, and what is refused: a list that is none, a checkpoint that
+    is none, an option that is none, a word that isn't UTF-8, a missing file."""
+    naming, features = str(EXAMPLES / "naming.sig"), str(EXAMPLES / "features.sig")
     listed = ("--signatures", naming, "--requests", str(EXAMPLES / "naming.req"))
     tour = ("--signatures", str(TOUR / "data/tour.sig"), "--requests", str(TOUR / "data/tour.requests"))
     stream = (TOUR / "stdin").read_bytes()
@@ -75,6 +77,7 @@ def cases() -> List[Case]:
         Case("built-in types", stream=(EXAMPLES / "naming.giop").read_bytes()),
         Case("a stream in a file", ("--signatures", naming, str(EXAMPLES / "naming.giop"))),
         Case("a request list", listed, (EXAMPLES / "naming-replies.giop").read_bytes()),
+        Case("encapsulations", ("--signatures", features), b"".join(encapsulated.messages())),
         Case("a long stream", tour, (TOUR / "stdin").read_bytes()),
         Case("a cut stream", stream=(EXAMPLES / "naming.giop").read_bytes()[:-5], status=1),
         Case("a first part", (*tour, *save), first),

@@ -1,7 +1,8 @@
-"""Streams made from the examples by seeds: messages are taken in any order, and octets of them changed, left out, put
-in and repeated. Of each the program writes the same text however its reads are cut, and in parts, each gone on from where
-the one before it was saved; and a front of it when the stream ends early. It ends with status 0 or 1, its total line is
-right, and it makes as many requests for memory as ever. From a checkpoint that is changed so it goes on, or refuses it."""
+"""Streams made by seeds from the examples and from messages with encapsulations: these are taken in any order, and octets
+of them changed, left out, put in and repeated. Of each the program writes the same text however its reads are cut, and in
+parts, each gone on from where the one before it was saved; and a front of it when the stream ends early. It ends with status
+0 or 1, its total line is right, and it makes as many requests for memory as ever. From a checkpoint that is changed so it
+goes on, or refuses it."""
 
 from __future__ import annotations
 
@@ -14,6 +15,7 @@ import time
 from concurrent.futures import ThreadPoolExecutor
 from typing import Dict, List, Sequence, Tuple
 
+import encapsulated
 from failing import CHECKPOINT, EXAMPLES, PROGRAM, SECONDS, TOUR, Case, Differences, Ended, checkpoint_of, run
 
 MOST = 20_000
@@ -21,6 +23,7 @@ TYPES = [
     (),
     ("--signatures", str(EXAMPLES / "naming.sig"), "--requests", str(EXAMPLES / "naming.req")),
     ("--signatures", str(TOUR / "data/tour.sig"), "--requests", str(TOUR / "data/tour.requests")),
+    ("--signatures", str(EXAMPLES / "features.sig")),
 ]
 Requests = Dict[Tuple[str, ...], int]
 CLOSING = (b"stream fault truncated ", b"total ")
@@ -31,10 +34,10 @@ REFUSALS = {
 
 
 def messages() -> List[bytes]:
-    """The messages of the examples, each with its header."""
+    """The messages, each with its header."""
     streams = [(EXAMPLES / name).read_bytes() for name in ("naming.giop", "naming-replies.giop")]
     streams.append((TOUR / "stdin").read_bytes())
-    found = []
+    found = encapsulated.messages()
     for stream in streams:
         while len(stream) >= 12 and stream.startswith(b"GIOP"):
             order = "little" if stream[6] & 1 else "big"

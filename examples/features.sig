@@ -1,4 +1,4 @@
-signatures 1;
+signatures 2;
 
 // One declaration for each feature of a signature file.
 
@@ -28,3 +28,6 @@ operation Object find(in sequence<octet> key, inout Mark mark, out ulong hits[3]
 operation double scale(in float by, in sequence<sequence<ushort>, 8> rows, out longlong sum, out ulonglong squares);
 operation octet choose(in Choice choice);
 operation void ping();
+
+// Octets with a byte order of their own, which `signatures 2;` allows.
+operation void keep(in encapsulation<Point> at, in sequence<encapsulation<string>, 4> notes);

@@ -1,9 +1,10 @@
 //! The decoder on the parameters of operations that a signature file declares.
 
-use crate::declared_rows::{Declared, ROWS, declared_of};
+use crate::declared_rows::{Declared, declared_of};
 use crate::octets::octets_of;
 use crate::rows::Row;
 use crate::tracing::is_told;
+use crate::{declared_rows, encapsulation_rows};
 use giop_cdr::Order;
 use giop_decode::Decoder;
 use giop_print::Root;
@@ -12,7 +13,7 @@ use std::process::Abort;
 use std::test::Fail;
 
 /// The struct of an operation's parameters.
-fn parameters_of(catalogue: &Catalogue, operation: &str) -> Result<TypeId, Fail> {
+pub fn parameters_of(catalogue: &Catalogue, operation: &str) -> Result<TypeId, Fail> {
     let operation = catalogue
         .operation(operation.as_bytes())
         .ok_or("the operation")?;
@@ -21,8 +22,18 @@ fn parameters_of(catalogue: &Catalogue, operation: &str) -> Result<TypeId, Fail>
 
 #[test]
 fn declared_values_are_told_at_their_last_octets(rt: HostRuntime) -> Result<(), Fail> {
-    for text in ROWS.split("=\n") {
-        is_declared(&rt, declared_of(text))?;
+    are_declared(&rt, declared_rows::ROWS)
+}
+
+#[test]
+fn values_in_encapsulations_are_told_at_their_last_octets(rt: HostRuntime) -> Result<(), Fail> {
+    are_declared(&rt, encapsulation_rows::ROWS)
+}
+
+/// Compares what comes of each row of a table.
+fn are_declared(rt: &(impl Abort + AllocGlobal), rows: &str) -> Result<(), Fail> {
+    for text in rows.split("=\n") {
+        is_declared(rt, declared_of(text))?;
     }
     Ok(())
 }

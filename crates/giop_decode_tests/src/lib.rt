@@ -8,6 +8,8 @@ mod declared_rows;
 #[cfg(test)]
 mod declared_tests;
 #[cfg(test)]
+mod encapsulation_rows;
+#[cfg(test)]
 mod header_rows;
 #[cfg(test)]
 mod number_tests;

@@ -2,9 +2,11 @@
 ghost use Rattle.std.specs.Prelude.{◌≤◌, length, IfOk, IsTrue};
 ghost use Rattle.giop_decode.specs.Holding.{Fits, GoesOn};
 
+use crate::declared_rows::declared_of;
+use crate::declared_tests::parameters_of;
 use crate::octets::octets_of;
 use crate::rows::{Row, row_of};
-use crate::{content_rows, header_rows, value_rows};
+use crate::{content_rows, encapsulation_rows, header_rows, value_rows};
 use giop_decode::{Decoder, Progress};
 use giop_print::Sheet;
 use giop_sig::Catalogue;
@@ -193,6 +195,17 @@ fn contents_may_be_cut_anywhere(rt: HostRuntime) -> Result<(), Fail> {
 #[test]
 fn headers_may_be_cut_anywhere(rt: HostRuntime) -> Result<(), Fail> {
     are_cut(&rt, header_rows::ROWS)
+}
+
+#[test]
+fn encapsulations_may_be_cut_anywhere(rt: HostRuntime) -> Result<(), Fail> {
+    for text in encapsulation_rows::ROWS.split("=\n") {
+        let row = declared_of(text);
+        let catalogue = Catalogue::parse(rt.alloc(), row.signatures.as_bytes())?;
+        let of = parameters_of(&catalogue, row.operation)?;
+        is_cut_anywhere(&rt, &catalogue, Row { of, ..row.value })?;
+    }
+    Ok(())
 }
 
 /// The content of a sequence of octets, which stands at 52 of its message.

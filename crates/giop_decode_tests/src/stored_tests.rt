@@ -2,6 +2,7 @@
 ghost use Rattle.std.specs.Prelude.{IfOk, IfSome, OnOk};
 ghost use Rattle.giop_decode.specs.Holding.{Fits};
 
+use crate::declared_tests::parameters_of;
 use crate::octets::octets_of;
 use giop_cdr::Order;
 use giop_decode::{Decoder, Progress};
@@ -11,8 +12,8 @@ use std::alloc::Global;
 use std::process::Abort;
 use std::test::Fail;
 
-/// A sequence of structs whose one member is an array: its parameters' type is numbered 40, the sequence 39, the struct 38,
-/// the array 37, and the built-in short 3.
+/// A sequence of structs whose one member is an array: its parameters' type is numbered 44, the sequence 43, the struct 42,
+/// the array 41, and the built-in short 3.
 const DOTS: &[u8] =
     b"signatures 1; struct Dot { short spot[2]; }; operation void add(in sequence<Dot> dots);";
 
@@ -22,7 +23,7 @@ const TAKEN: &str = "00000002 ffff0002 000700";
 /// The decoder of these: big endian, a body of message 1, offset 59, and an octet of a short; then the parameters, the
 /// sequence with its second element of two, the struct, the array with its second element of two, and the short.
 const DOTS_STORED: &str =
-    "00 02 0000000000000001 03 00 00000003 00000000 00000000 01 00 00*7 00 00*32 00*5 00*5 00 00 00*128 00*2 00000028 00000000 00000001 00*4 00000027 00000001 00000002 00*4 00000026 00000000 00000001 00*4 00000025 00000001 00000002 00*4 00000003 00*12";
+    "00 02 0000000000000001 03 00 00000003 00000000 00000000 01 00 00*7 00 00*32 00*5 00*5 00 00 00*128 00*2 0000002c 00000000 00000001 00*12 0000002b 00000001 00000002 00*12 0000002a 00000000 00000001 00*12 00000029 00000001 00000002 00*12 00000003 00*20";
 
 /// A repository id of 34 octets, with one octet of its second piece.
 const NAMED: &str = "00000023 61*33";
@@ -30,7 +31,20 @@ const NAMED: &str = "00000023 61*33";
 /// The decoder of these: big endian, a repository id of message 1, offset 85, a content of 34 octets whose piece begins at
 /// 32 and has one octet, and a name that has begun with 32; the string is the built-in type 11.
 const NAMED_STORED: &str =
-    "00 01 0000000000000001 05 01 0000000b 00000022 00000020 00 00*8 01 61 00*31 00*5 00*5 00 20 61*32 00*96 00*2 0000000b 00*12";
+    "00 01 0000000000000001 05 01 0000000b 00000022 00000020 00 00*8 01 61 00*31 00*5 00*5 00 20 61*32 00*96 00*2 0000000b 00*20";
+
+/// A struct in an encapsulation: the parameters' type is numbered 43, the encapsulation 42, the struct 41, and the built-in
+/// ulonglong 8.
+const HELD: &[u8] =
+    b"signatures 2; struct P { octet a; ulonglong b; }; operation void enc(in encapsulation<P> e);";
+
+/// An encapsulation of 16 octets, in little endian, but for the last octet of its ulonglong.
+const HELD_TAKEN: &str = "00000010 01 07 ee*6 05 00*6";
+
+/// The decoder of these: big endian, a body of message 1, offset 67, and seven octets of a ulonglong; then the parameters, the
+/// encapsulation, in little endian with 15 of its 16 octets taken, the struct with its second member, and the ulonglong.
+const HELD_STORED: &str =
+    "00 02 0000000000000001 03 00 00000008 00000000 00000000 07 05 00*7 00 00*32 00*5 00*5 00 00 00*128 00*2 0000002b 00000000 00000001 00*12 0000002a 0000000f 00000010 02 00*11 00000029 00000001 00000002 00*12 00000008 00*20";
 
 /// A decoder of a value at offset 48 of message 1 that has taken octets.
 fn taken(catalogue: &Catalogue, of: TypeId, root: Root, octets: &[u8]) -> Result<Decoder, Fail>
@@ -121,17 +135,12 @@ fn goes_on(
     Ok(())
 }
 
-/// The struct of the parameters of `add`.
-fn dots_of(catalogue: &Catalogue) -> Result<TypeId, Fail> {
-    let add = catalogue.operation(b"add").ok_or("the operation")?;
-    Ok(catalogue.request_of(add))
-}
-
 #[test]
 fn a_decoder_in_an_array_in_a_sequence_is_restored(rt: HostRuntime) -> Result<(), Fail> {
     let catalogue = Catalogue::parse(rt.alloc(), DOTS)?;
     let octets = octets_of(rt.alloc(), TAKEN)?;
-    let decoder = taken(&catalogue, dots_of(&catalogue)?, Root::Body, &octets)?;
+    let of = parameters_of(&catalogue, "add")?;
+    let decoder = taken(&catalogue, of, Root::Body, &octets)?;
     goes_on(
         &rt,
         &catalogue,
@@ -139,6 +148,22 @@ fn a_decoder_in_an_array_in_a_sequence_is_restored(rt: HostRuntime) -> Result<()
         DOTS_STORED,
         8,
         "m1 body.dots[1].spot[1] short 8\n",
+    )
+}
+
+#[test]
+fn a_decoder_in_an_encapsulation_is_restored(rt: HostRuntime) -> Result<(), Fail> {
+    let catalogue = Catalogue::parse(rt.alloc(), HELD)?;
+    let octets = octets_of(rt.alloc(), HELD_TAKEN)?;
+    let of = parameters_of(&catalogue, "enc")?;
+    let decoder = taken(&catalogue, of, Root::Body, &octets)?;
+    goes_on(
+        &rt,
+        &catalogue,
+        &decoder,
+        HELD_STORED,
+        0,
+        "m1 body.e.b ulonglong 5\n",
     )
 }
 
@@ -156,7 +181,7 @@ fn a_decoder_in_a_piece_is_restored(rt: HostRuntime) -> Result<(), Fail> {
 }
 
 /// An octet that no decoder stores there, in place of that of the decoder in an array.
-static REFUSED: [(&str, usize, u8); 27] = [
+static REFUSED: [(&str, usize, u8); 28] = [
     ("a byte order", 0, 2),
     ("a root", 1, 3),
     ("an offset", 10, 8),
@@ -178,24 +203,46 @@ static REFUSED: [(&str, usize, u8); 27] = [
     ("more octets than a name has", 77, 129),
     ("an octet behind a name", 78, 1),
     ("the last octet", 207, 1),
-    ("a frame of another type", 211, 39),
+    ("a frame of another type", 211, 43),
     ("a place behind the last member", 215, 1),
     ("a count that isn't the struct's", 219, 2),
-    ("an octet behind a frame", 223, 1),
-    ("a place behind the last element", 263, 2),
-    ("a place in the innermost part", 279, 1),
+    ("a byte order of a struct", 220, 1),
+    ("the last octet of a frame", 231, 1),
+    ("a place behind the last element", 287, 2),
+    ("a place in the innermost part", 311, 1),
+];
+
+/// The same of the decoder in an encapsulation.
+static REFUSED_HELD: [(&str, usize, u8); 5] = [
+    ("no byte order", 244, 0),
+    ("a third byte order", 244, 3),
+    ("an octet behind a byte order", 245, 1),
+    ("an encapsulation of which no octet was taken", 239, 0),
+    ("more octets than an encapsulation has", 239, 17),
 ];
 
 #[test]
 fn octets_that_no_decoder_stores_are_refused(rt: HostRuntime) -> Result<(), Fail> {
     let catalogue = Catalogue::parse(rt.alloc(), DOTS)?;
-    for (name, at, octet) in &REFUSED {
-        let mut stored = octets_of(rt.alloc(), DOTS_STORED)?;
+    are_refused(&rt, &catalogue, DOTS_STORED, &REFUSED)?;
+    let catalogue = Catalogue::parse(rt.alloc(), HELD)?;
+    are_refused(&rt, &catalogue, HELD_STORED, &REFUSED_HELD)
+}
+
+/// Compares what comes of stored octets with each of these in place of its own.
+fn are_refused(
+    rt: &(impl Abort + AllocGlobal),
+    catalogue: &Catalogue,
+    stored_in: &str,
+    octets: &[(&str, usize, u8)],
+) -> Result<(), Fail> {
+    for (name, at, octet) in octets {
+        let mut stored = octets_of(rt.alloc(), stored_in)?;
         if *at >= stored.len() {
             return Err(Fail::from("no such octet"));
         }
         stored[*at] = *octet;
-        assert!(rt; restored(&catalogue, &stored)?.is_none(), "{name}");
+        assert!(rt; restored(catalogue, &stored)?.is_none(), "{name}");
     }
     Ok(())
 }
@@ -203,13 +250,13 @@ fn octets_that_no_decoder_stores_are_refused(rt: HostRuntime) -> Result<(), Fail
 #[test]
 fn frames_too_few_or_too_many_are_refused(rt: HostRuntime) -> Result<(), Fail> {
     let catalogue = Catalogue::parse(rt.alloc(), DOTS)?;
-    for more in ["00", "00*16", "00000003 00*12"] {
+    for more in ["00", "00*24", "00000003 00*20"] {
         let mut stored = octets_of(rt.alloc(), DOTS_STORED)?;
         stored.extend_from_slice(&octets_of(rt.alloc(), more)?)?;
         assert!(rt; restored(&catalogue, &stored)?.is_none(), "{more}");
     }
     let stored = octets_of(rt.alloc(), DOTS_STORED)?;
-    for count in [208, 224, 272, 287] {
+    for count in [208, 232, 304, 327] {
         if count > stored.len() {
             return Err(Fail::from("fewer octets"));
         }

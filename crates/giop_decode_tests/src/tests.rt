@@ -47,12 +47,14 @@ fn headers_leave_their_id_their_status_and_their_operation_in_mind(
     are_told(&rt, &Catalogue::builtin(rt.alloc())?, header_rows::ROWS)
 }
 
-static FAULTS: [(Kind, u32); 5] = [
+static FAULTS: [(Kind, u32); 7] = [
     (Kind::Boolean, 1),
     (Kind::StringEnd, 2),
     (Kind::Enum, 3),
     (Kind::Bound, 4),
     (Kind::Disposition, 5),
+    (Kind::EncapShort, 6),
+    (Kind::EncapOrder, 7),
 ];
 
 #[test]

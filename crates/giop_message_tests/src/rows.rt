@@ -49,7 +49,7 @@ pub fn rows() -> Split<'static, &'static str> {
 
 static ROWS: &str = r#"a 1.0 body follows its header at once
 ends
-47494f50 0100 00 01 00000036 00000001 00000007 00000004 aabbccdd 00000001 00000003 0000000a 49444c3a583a312e3000 0000 00000001 00000000 00000002 0102
+47494f50 0100 00 01 00000036 00000001 00000007 00000004 aabbccdd 00000001 00000003 0000000a 49444c3a583a312e3000 0000 00000001 00000003 00000002 0102
 m1 header.service_contexts count 1
 m1 header.service_contexts[0].context_id ulong 7
 m1 header.service_contexts[0].context_data octets @0 aabbccdd
@@ -57,7 +57,7 @@ m1 header.request_id ulong 1
 m1 header.reply_status enum LOCATION_FORWARD
 m1 body.type_id string @0 "IDL:X:1.0"
 m1 body.profiles count 1
-m1 body.profiles[0].tag ulong 0
+m1 body.profiles[0].tag ulong 3
 m1 body.profiles[0].profile_data octets @0 0102
 m1 end
 =
@@ -287,4 +287,114 @@ fault 21
 m1 header.service_contexts count 0
 m1 header.request_id ulong 7
 m1 fault boolean at 21
+=
+code sets in big endian
+ends
+47494f50 0100 00 01 00000020 00000001 00000001 0000000c 00 000000 00010001 00010109 00000007 00000000
+m1 header.service_contexts count 1
+m1 header.service_contexts[0].context_id ulong 1
+m1 header.service_contexts[0].context_data encapsulation 12
+m1 header.service_contexts[0].context_data order big
+m1 header.service_contexts[0].context_data.char_data ulong 65537
+m1 header.service_contexts[0].context_data.wchar_data ulong 65801
+m1 header.request_id ulong 7
+m1 header.reply_status enum NO_EXCEPTION
+m1 end
+=
+code sets in little endian
+ends
+47494f50 0100 00 01 00000020 00000001 00000001 0000000c 01 000000 01000100 09010100 00000007 00000000
+m1 header.service_contexts count 1
+m1 header.service_contexts[0].context_id ulong 1
+m1 header.service_contexts[0].context_data encapsulation 12
+m1 header.service_contexts[0].context_data order little
+m1 header.service_contexts[0].context_data.char_data ulong 65537
+m1 header.service_contexts[0].context_data.wchar_data ulong 65801
+m1 header.request_id ulong 7
+m1 header.reply_status enum NO_EXCEPTION
+m1 end
+=
+code sets of 8 octets
+fault 32
+47494f50 0100 00 01 0000001c 00000001 00000001 00000008 00 000000 00010001 00000007 00000000
+m1 header.service_contexts count 1
+m1 header.service_contexts[0].context_id ulong 1
+m1 header.service_contexts[0].context_data encapsulation 8
+m1 header.service_contexts[0].context_data order big
+m1 header.service_contexts[0].context_data.char_data ulong 65537
+m1 fault encap-short at 32
+=
+code sets of no octets
+fault 24
+47494f50 0100 00 01 00000014 00000001 00000001 00000000 00000007 00000000
+m1 header.service_contexts count 1
+m1 header.service_contexts[0].context_id ulong 1
+m1 header.service_contexts[0].context_data encapsulation 0
+m1 fault encap-short at 24
+=
+code sets with a byte order of 2
+fault 25
+47494f50 0100 00 01 00000020 00000001 00000001 0000000c 02 000000 00010001 00010109 00000007 00000000
+m1 header.service_contexts count 1
+m1 header.service_contexts[0].context_id ulong 1
+m1 header.service_contexts[0].context_data encapsulation 12
+m1 fault encap-order at 25
+=
+code sets that end with the message
+fault 32
+47494f50 0100 00 01 00000014 00000001 00000001 00000008 00 000000 00010001
+m1 header.service_contexts count 1
+m1 header.service_contexts[0].context_id ulong 1
+m1 header.service_contexts[0].context_data encapsulation 8
+m1 header.service_contexts[0].context_data order big
+m1 header.service_contexts[0].context_data.char_data ulong 65537
+m1 fault encap-short at 32
+=
+code sets that are longer than the message
+short
+47494f50 0100 00 01 0000001a 00000001 00000001 0000000f 00 000000 00010001 00010109 5555
+m1 header.service_contexts count 1
+m1 header.service_contexts[0].context_id ulong 1
+m1 header.service_contexts[0].context_data encapsulation 15
+m1 header.service_contexts[0].context_data order big
+m1 header.service_contexts[0].context_data.char_data ulong 65537
+m1 header.service_contexts[0].context_data.wchar_data ulong 65801
+m1 fault short at 38
+=
+an IIOP profile with components
+ends
+47494f50 0102 00 03 00000028 00000001 0001 0000 00000000 00000018 00 01 02 00 00000002 6800 0007 00000001 41 000000 00000000
+m1 header.request_id ulong 1
+m1 header.target.switch short 1
+m1 header.target.profile.tag ulong 0
+m1 header.target.profile.profile_data encapsulation 24
+m1 header.target.profile.profile_data order big
+m1 header.target.profile.profile_data.major octet 1
+m1 header.target.profile.profile_data.minor octet 2
+m1 header.target.profile.profile_data.host string @0 "h"
+m1 header.target.profile.profile_data.port ushort 7
+m1 header.target.profile.profile_data.object_key octets @0 41
+m1 header.target.profile.profile_data rest @0 00000000000000
+m1 end
+=
+a reply that names another place, with 33 octets of its profile left
+ends
+47494f50 0102 01 01 55000000 07000000 03000000 00000000 00000000 01000000 00000000 38000000 00 01 00 ee 00000004 666f6f00 0af9 ee*2 00000003 6b6579 11*33 2a
+m1 header.request_id ulong 7
+m1 header.reply_status enum LOCATION_FORWARD
+m1 header.service_contexts count 0
+m1 body.type_id string @0 ""
+m1 body.profiles count 1
+m1 body.profiles[0].tag ulong 0
+m1 body.profiles[0].profile_data encapsulation 56
+m1 body.profiles[0].profile_data order big
+m1 body.profiles[0].profile_data.major octet 1
+m1 body.profiles[0].profile_data.minor octet 0
+m1 body.profiles[0].profile_data.host string @0 "foo"
+m1 body.profiles[0].profile_data.port ushort 2809
+m1 body.profiles[0].profile_data.object_key octets @0 6b6579
+m1 body.profiles[0].profile_data rest @0 1111111111111111111111111111111111111111111111111111111111111111
+m1 body.profiles[0].profile_data rest @32 11
+m1 rest @0 2a
+m1 end
 "#;

@@ -146,7 +146,7 @@ const CASES: [Case; 3] = [
         name: "in front of a system exception",
         octets: "47494f50 0102 01 01 37000000 01000000 02000000 01000000 07000000 01000000 aa",
         own: "03 0000000000000021 01 00000001 0000",
-        part: "01 00000015 00*203",
+        part: "01 00000019 00*203",
         frames: "",
     },
     Case {
@@ -161,7 +161,7 @@ const CASES: [Case; 3] = [
         octets: "47494f50 0100 00 01 00000036 00000001 00000007 00000004 aabbccdd 00000001 00000003 0000000a 49444c3a",
         own: "02 000000000000002c 01 00000001 0000",
         part: "00 02 0000000000000001 04 01 0000000b 00000009 00000000 00 00*8 04 49444c3a 00*28 00*5 00*5 00 00*129 00*2",
-        frames: "00000011 00000000 00000002 00000000 0000000b 00000000 00000000 00000000",
+        frames: "00000015 00000000 00000002 00*12 0000000b 00*20",
     },
 ];
 
@@ -237,7 +237,7 @@ const WRONG: [Wrong; 11] = [
     Wrong("a request id that was neither said nor not", 0, 9, 2),
     Wrong("an octet without a use behind the id", 0, 15, 1),
     Wrong("a body of no kind", 0, 16, 3),
-    Wrong("a type that the catalogue doesn't have", 0, 20, 37),
+    Wrong("a type that the catalogue doesn't have", 0, 20, 41),
     Wrong("an octet without a use behind a type", 0, 223, 1),
     Wrong("more octets of a rest than there were", 1, 23, 45),
     Wrong("a last part that is full", 1, 24, 32),
@@ -285,7 +285,7 @@ fn padding_and_a_rest_have_no_frames(rt: HostRuntime) -> Result<(), Fail> {
     let known = built_in(rt.alloc())?;
     for case in 0..2 {
         let octets = octets_of_case(rt.alloc(), case)?;
-        assert!(rt; !is_restored(&known.0, &octets, &[0; 16]));
+        assert!(rt; !is_restored(&known.0, &octets, &[0; 24]));
     }
     Ok(())
 }
