@@ -30,6 +30,7 @@ mod Cases
 mod Beginning
 mod ReadingPlays
 mod Performing
+mod SlotLists
 mod Keepers
 mod Naming
 mod Named
