@@ -13,7 +13,8 @@ use Rattle.giop_stream.specs.State.{octets_of}
 use Rattle.giop_stream.specs.Machine.{utters_kept}
 use Rattle.giop_stream.specs.Plays.{lines_of, octets_then}
 use Rattle.giop_stream.proofs.Lists.{each_filter}
-use Rattle.giop_stream.proofs.Cutting.{settle, of_parts}
+use Rattle.giop_stream.proofs.Cutting.{of_parts}
+use Rattle.giop_stream.proofs.CutFrom.{settle}
 use Rattle.giop_stream.proofs.Start.{cut_nothing}
 
 -- ---- A value ends no message.

@@ -16,7 +16,8 @@ use Rattle.giop_stream.specs.Octet.{Octet, Behind, Ends, Held, Of}
 use Rattle.giop_stream.specs.State.{octets_of, is_open}
 use Rattle.giop_stream.specs.Machine.{now_written}
 use Rattle.giop_stream.proofs.Lists.{by_growth, each_weaker, all_by}
-use Rattle.giop_stream.proofs.Cutting.{settle, stopped_at, of_parts, settled_messages}
+use Rattle.giop_stream.proofs.Cutting.{stopped_at, of_parts, settled_messages}
+use Rattle.giop_stream.proofs.CutFrom.{settle}
 use Rattle.giop_stream.proofs.Happenings.{happens_each}
 use Rattle.giop_stream.proofs.HappeningsKeep.{Below}
 use Rattle.giop_stream.proofs.Grown.{said_grows, said_idle, open_grows, open_idle}

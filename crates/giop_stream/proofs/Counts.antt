@@ -11,7 +11,8 @@ use Rattle.giop_stream.specs.Headers.{wrong}
 use Rattle.giop_stream.specs.Stream.{tally}
 use Rattle.giop_stream.proofs.Lists.{by_growth}
 use Rattle.giop_stream.proofs.Start.{cut_nothing}
-use Rattle.giop_stream.proofs.Cutting.{settle, header_case, of_parts, next, cut_grows, next_limit, next_payload, next_front, next_stopped}
+use Rattle.giop_stream.proofs.Cutting.{of_parts, next, cut_grows, next_limit, next_payload, next_front, next_stopped}
+use Rattle.giop_stream.proofs.CutFrom.{settle, header_case}
 use Rattle.giop_stream.proofs.EngineAlive.{sound}
 
 -- of so many octets, so many messages and so many octets of the next header

@@ -1,8 +1,8 @@
 -- What the code does at an octet of a message, over what its fields show of a stream: the step.
-use Rattle.std.proofs.Common.{inl, inr, ◌≡◌, ℕ, suc, ◌+◌, ◌^◌, ◌<◌, ◌≤◌, Bool, true, false, List, [], ◌∷◌, ◌++◌, length, refl, sym, ap, subst, ◌∙◌, append-nil, Option, Some, None, Result, Ok, Err, IsErr, arith}
-use Rattle.std.specs.Prelude.{◌==◌, if◌then◌else◌, OnOk}
-use Rattle.std.proofs.lemmas.Bool.{cases_lt, lt-ltb, le-ltb, eq-eqb, ne_eqb, false≢true}
-use Rattle.std.proofs.lemmas.List.{length_push, append_cancel_left}
+use Rattle.std.proofs.Common.{inl, inr, ◌≡◌, ℕ, suc, ◌+◌, ◌^◌, ◌<◌, ◌≤◌, List, [], ◌∷◌, ◌++◌, length, refl, sym, ap, subst, ◌∙◌, append-nil, Option, Some, None, Result, arith}
+use Rattle.std.specs.Prelude.{OnOk}
+use Rattle.std.proofs.lemmas.Bool.{cases_lt}
+use Rattle.std.proofs.lemmas.List.{length_push}
 use Rattle.std.proofs.lemmas.List.Elements.{All-append}
 use Rattle.giop_cdr.specs.Numbers.{AreOctets}
 use Rattle.giop_print.specs.Output.{OutLog, Writes}
@@ -12,27 +12,27 @@ use Rattle.giop_message.specs.Reading.{Reading, IsCausal}
 use Rattle.giop_message.specs.Signatures.{Kept as Listed, said_by}
 use Rattle.giop_message.specs.MessageReading.{message_reading}
 use Rattle.giop_message.proofs.MessageLaws.{is_causal}
-use Rattle.giop_checkpoint.specs.declared.fault.StreamFault.{StreamFault}
 use Rattle.giop_stream.specs.declared.status.Totals.{Totals}
 use Rattle.giop_stream.specs.declared.slots.Slots.{Slots}
 use Rattle.giop_stream.specs.declared.current.Current.{Current}
 use Rattle.giop_stream.specs.Headers.{wrong, offence}
-use Rattle.giop_stream.specs.Framing.{Message, Cut, cut, messages, fault_of}
-use Rattle.giop_stream.specs.Events.{Open, happens, open_after}
+use Rattle.giop_stream.specs.Framing.{Message, Cut, cut, messages}
+use Rattle.giop_stream.specs.Events.{happens, open_after}
 use Rattle.giop_stream.specs.Lines.{Line, lines}
 use Rattle.giop_stream.specs.Text.{lines_text}
 use Rattle.giop_stream.specs.Stream.{fault_count, tally}
 use Rattle.giop_stream.specs.Plays.{Scene, Play, plays, stage, with_octet}
-use Rattle.giop_stream.specs.Keeping.{Keeps, AreReady}
+use Rattle.giop_stream.specs.Keeping.{Keeps}
 use Rattle.giop_stream.specs.Whose.{IsNext, IsFirst, IsNewest, Knows, whose_in, whose_after}
 use Rattle.giop_stream.specs.Remembering.{Memory}
 use Rattle.giop_stream.specs.Octet.{header_of, come_of}
 use Rattle.giop_stream.specs.Engine.{State, state_of}
-use Rattle.giop_stream.specs.Step.{Step, step, run_state, runs}
+use Rattle.giop_stream.specs.Step.{step, run_state, runs}
 use Rattle.giop_stream.specs.Steps.{held_on, settle as settled}
 use Rattle.giop_stream.specs.Showing.{IsReached, Shows, Does}
 use Rattle.giop_stream.proofs.Lists.{each_weaker}
-use Rattle.giop_stream.proofs.Cutting.{settle, of_parts}
+use Rattle.giop_stream.proofs.Cutting.{of_parts}
+use Rattle.giop_stream.proofs.CutFrom.{settle}
 use Rattle.giop_stream.proofs.Soundness.{CurrentFits, Fits, IsSound}
 use Rattle.giop_stream.proofs.StepCases.{place_more, place_first}
 use Rattle.giop_stream.proofs.StepCases.{if_some}
@@ -40,67 +40,13 @@ use Rattle.giop_stream.proofs.Parts.{in_turn}
 use Rattle.giop_stream.proofs.OfOctets.{header_octets, size_fits}
 use Rattle.giop_stream.proofs.RequestIds.{says_id}
 use Rattle.giop_stream.proofs.OneOctet.{Adds, beginner, paid_is, begins_is}
-use Rattle.giop_stream.proofs.EngineStep.{read_all, tally_settled}
+use Rattle.giop_stream.proofs.EngineStep.{tally_settled}
+use Rattle.giop_stream.proofs.NextOctet.{read_all}
 use Rattle.giop_stream.proofs.EngineAlive.{sound, alive}
 use Rattle.giop_stream.proofs.EngineLaws.{step_state, step_lines, run_holds, run_lines}
 use Rattle.giop_stream.proofs.Held.{come_state, shows_by, knows_it}
 use Rattle.giop_stream.proofs.Idle.{within_limit}
-
--- ---- A call does a step, by what it makes of a stream.
-
-does_by : {A E : Type 0} (C : Table) (l : Listed) (p q : List ℕ) (one : Step) (ls : List Line) (result : Result A E) (before after : OutLog) (f : Memory)
-    → (let R = message_reading C l in state_of R q ≡ one.state → lines R q ≡ lines R p ++ one.lines
-    → lines R q ≡ lines R p ++ ls → Writes result before after (lines_text ls) → OnOk result (Shows C l f (state_of R q))
-    → Does C l result before after f one)
-does_by C l p q one ls result before after f state more grows text shows =
-    let R = message_reading C l in
-    let same : one.lines ≡ ls = append_cancel_left (lines R p) one.lines ls (sym more ∙ grows) in
-    record { text = rw same text; shows = subst (λ (s : State). OnOk result (Shows C l f s)) state shows }
-
--- where a put failed nothing is said of the fields
-pub on_err : {A E : Type 0} (P : Type 0) (r : Result A E) → IsErr r → OnOk r P
-on_err P (Ok x) h = absurd (false≢true h)
-on_err P (Err e) h = tt
-
--- ---- Behind a message's last octet, and within it.
-
-settled_on : (m : Memory) (n : ℕ) → (m.come ≡ n → ⊥) → settled m n ≡ m
-unfolding settled
-settled_on m n other = rw (ne_eqb m.come n other) refl
-
-settled_off : (m : Memory) (n : ℕ) → m.come ≡ n → settled m n ≡ record m { header = []; come = 0 }
-unfolding settled
-settled_off m n same = rw (eq-eqb m.come n same) refl
-
-pub goes_on : (whole : List Message) (m : Message) → length m.payload < size m.header → settle whole m ≡ of_parts whole (Some m) [] None
-unfolding settle of_parts
-goes_on whole m less = rw (lt-ltb (length m.payload) (size m.header) less) refl
-
-goes_off : (whole : List Message) (m : Message) → size m.header ≤ length m.payload → settle whole m ≡ of_parts (whole ++ m ∷ []) None [] None
-unfolding settle of_parts
-goes_off whole m more = rw (le-ltb (length m.payload) (size m.header) more) refl
-
-whose_settled : (live : List Open) (whole : List Message) (m : Message) → length m.payload ≤ size m.header
-    → whose_in live (settle whole m).current ≡ whose_after live m
-unfolding settle whose_after
-whose_settled live whole m fits = elim (cases_lt (length m.payload) (size m.header)) [
-  | inl less ↦ rw (lt-ltb (length m.payload) (size m.header) less, ne_eqb (length m.payload) (size m.header) (λ e. omega (arith, less, e))) refl
-  | inr more ↦ rw (le-ltb (length m.payload) (size m.header) more, eq-eqb (length m.payload) (size m.header) (omega (arith, more, fits))) refl
-]
-
--- what can take the next octet can behind a message's last octet
-pub ready_settled : (C : Table) (m m' : Memory) (n place : ℕ) → m' ≡ settled m n → place ≡ m.totals.octets
-    → AreReady C (place + 1) m.slots → AreReady C (m'.totals.octets + 1) m'.slots
-unfolding settled
-ready_settled C m m' n place e is h = rw e (go (m.come == n))
-  where
-    go : (b : Bool) → (let m : Memory = if b then record m { header = []; come = 0 } else m in AreReady C (m.totals.octets + 1) m.slots)
-    go true = rw (← is) h
-    go false = rw (← is) h
-
-none_stops : (o : Option (ℕ × StreamFault)) → fault_of o ≡ None → o ≡ None
-none_stops None e = refl
-none_stops (Some found) e = absurd cc
+use Rattle.giop_stream.proofs.Settling.{does_by, settled_on, settled_off, goes_on, goes_off, whose_settled, none_stops}
 
 -- ---- A state of a stream.
 

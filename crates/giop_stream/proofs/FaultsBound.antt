@@ -12,7 +12,7 @@ use Rattle.giop_stream.specs.Events.{Happening, Begins, Takes, Opens, Continues,
 use Rattle.giop_stream.specs.Lines.{Content, Started, Said, Goes_on, Ended_by, Faulted, Line, line, tells, told, classes, by_class, in_order, ends, is_last_of, standing, said, stop_line, lines}
 use Rattle.giop_stream.specs.Stream.{is_fault, fault_count, is_inside, is_truncated, tally, final}
 use Rattle.giop_stream.proofs.Lists.{each_append, each_weaker, each_map, each_filter}
-use Rattle.giop_stream.proofs.Cutting.{cut_wrong, cut_short, cut_open, cut_more}
+use Rattle.giop_stream.proofs.CutFrom.{cut_wrong, cut_short, cut_open, cut_more}
 use Rattle.giop_stream.proofs.Happenings.{happens_each, opened_each}
 use Rattle.giop_stream.proofs.Telling.{classes_each}
 use Rattle.giop_stream.proofs.Grown.{count_append}

@@ -7,7 +7,7 @@ use Rattle.giop_stream.specs.Framing.{Message, Cut, cut, read_of}
 use Rattle.giop_message.specs.Reading.{Reading, IsCausal, IsEnding, IsInTurn}
 use Rattle.giop_stream.specs.Text.{truncated_line}
 use Rattle.giop_stream.specs.Stream.{is_inside}
-use Rattle.giop_stream.specs.Events.{Open, title, has_named, events, open_after, joined, now_of}
+use Rattle.giop_stream.specs.Events.{Open, title, has_named, events, open_after, joined}
 use Rattle.giop_stream.specs.Stream.{is_over, unfinished}
 use Rattle.giop_stream.specs.State.{Kept, octets_of, is_open, slots_of}
 use Rattle.giop_stream.specs.Machine.{left_by, left_open}

@@ -21,7 +21,7 @@ use Rattle.giop_stream.specs.Keeping.{Keeps, AreReady}
 use Rattle.giop_stream.specs.Whose.{IsFirst, IsAt, whose, whose_after, end_events}
 use Rattle.giop_stream.proofs.Lists.{each_weaker}
 use Rattle.giop_stream.proofs.Happenings.{quiet_header}
-use Rattle.giop_stream.proofs.Keepers.{later_ready, all_later}
+use Rattle.giop_stream.proofs.SlotLists.{later_ready, all_later}
 use Rattle.giop_stream.proofs.Cases.{plays_append, header_begins, header_refused}
 use Rattle.giop_stream.proofs.Performing.{BeginsSo}
 use Rattle.giop_stream.proofs.Ending.{whose_early}

@@ -1,6 +1,6 @@
 -- What the code keeps of the messages, event by event.
-use Rattle.std.proofs.Common.{◌≡◌, ℕ, zero, suc, ◌<◌, ◌≤◌, true, false, not, List, [], ◌∷◌, ◌++◌, length, refl, sym, ap, subst, ◌∙◌, Option, Some, None, Result, Ok, arith, append-nil}
-use Rattle.std.specs.Prelude.{◌==◌, slice_get, slice_set, slice_index_or}
+use Rattle.std.proofs.Common.{◌≡◌, ℕ, ◌<◌, true, false, not, List, [], ◌∷◌, ◌++◌, length, refl, sym, ap, subst, ◌∙◌, Option, Some, None, Result, Ok, append-nil}
+use Rattle.std.specs.Prelude.{◌==◌, slice_get, slice_set}
 use Rattle.std.specs.List.{filter, remove, AllByRecursion as Each}
 use Rattle.std.proofs.lemmas.Bool.{ne_eqb}
 use Rattle.arrayvec.specs.ArrayVec.{ArrayVec}
@@ -16,32 +16,15 @@ use Rattle.giop_message.specs.Holding.{Follows}
 use Rattle.giop_print.specs.Output.{OutLog}
 use Rattle.giop_stream.specs.Events.{Title, Open, Happening, Takes, Opens, Imposed, Cancelled, Closes, octet, changed, Rising}
 use Rattle.giop_stream.specs.Lines.{tells, standing}
-use Rattle.giop_stream.specs.State.{Slot, Kept, slots_of}
+use Rattle.giop_stream.specs.State.{Slot, slots_of}
 use Rattle.giop_stream.specs.Machine.{utters_kept}
 use Rattle.giop_stream.specs.Plays.{Scene, Play, Part, part_of, scene_at, lines_of, octets_then, one_play, IsNotOpen}
-use Rattle.giop_stream.specs.Keeping.{IsKept, IsReady, IsSlot, AreSlots, Keeps, event, play_to}
+use Rattle.giop_stream.specs.Keeping.{IsKept, IsSlot, AreSlots, Keeps, event, play_to}
 use Rattle.giop_stream.specs.Playing.{Plays, PlaysPart, Says, one_if}
 use Rattle.giop_stream.proofs.Lists.{each_weaker, each_filter, filter_keeps}
 use Rattle.giop_stream.proofs.Performing.{performs_on, does_nothing}
 use Rattle.giop_stream.proofs.InPlace.{at_index, own_then, others_then, slot_at, no_slot, slot_gone, slot_comes}
-
--- ---- The slots of the code beside those that are known.
-
-pub get_some : {A : Type 0} (xs : List A) (k : ℕ) (x : A) → k < length xs → x ≡ slice_index_or xs k x → slice_get xs k ≡ Some x
-get_some [] k x h e = absurd (omega arith)
-get_some {A} (a ∷ xs) zero x h e = ap (λ (y : A). Some y) (sym e)
-get_some (a ∷ xs) (suc k) x h e = get_some xs k x (omega arith) e
-
-pub slots_get : (c : Scene) (k : ℕ) (o : Open) → slice_get c.live k ≡ Some o
-    → slice_get (slots_of c.known c.live) k ≡ Some (record { open_as = o; octets = c.known o.opener.number })
-unfolding slots_of
-slots_get c k o e = go c.live k e
-  where
-    go : (live : List Open) (k : ℕ) → slice_get live k ≡ Some o
-        → slice_get (slots_of c.known live) k ≡ Some (record { open_as = o; octets = c.known o.opener.number })
-    go [] k e = absurd cc
-    go (a ∷ live) zero e = let same : a ≡ o = cc in ap (λ (b : Open). Some (record { open_as = b; octets = c.known b.opener.number })) same
-    go (a ∷ live) (suc k) e = go live k e
+use Rattle.giop_stream.proofs.SlotLists.{slots_get, get_last, slots_many, slot_of, set_slot, no_more_slots, are_as_many, push_slot, remove_slot}
 
 -- ---- An event that opens and closes nothing.
 
@@ -72,15 +55,6 @@ pub record Alters (c : Scene) (w : Title) (play : Play) (part : Part) : Type 0 w
 
 -- ---- A message begins, becomes open, and closes.
 
-get_last : (live : List Open) (o : Open) → slice_get (live ++ o ∷ []) (length live) ≡ Some o
-get_last [] o = refl
-get_last (a ∷ live) o = get_last live o
-
-pub slots_many : (K : Kept) (live : List Open) → length (slots_of K live) ≡ length live
-unfolding slots_of
-slots_many K [] = refl
-slots_many K (o ∷ live) = ap suc (slots_many K live)
-
 -- ---- An open message goes.
 
 abbrev pub IsGone : Happening → Type 0
@@ -103,28 +77,6 @@ none_there live n h =
 -- ---- A cancel, of an open message by one whose payload comes.
 
 module _ (C : Table) (l : Listed) where
-  pub slot_of : (ks : List Kept_slot) (ss : List Slot) (k : ℕ) (x : Kept_slot) (s : Slot) → AreSlots C l ks ss
-      → slice_get ks k ≡ Some x → slice_get ss k ≡ Some s → IsSlot C l x s
-  slot_of [] ss k x s h e f = absurd cc
-  slot_of (y ∷ ks) [] k x s h e f = absurd cc
-  slot_of (y ∷ ks) (t ∷ ss) zero x s h e f = let a : y ≡ x = cc in let b : t ≡ s = cc in rw (← a, ← b) h.0
-  slot_of (y ∷ ks) (t ∷ ss) (suc k) x s h e f = slot_of ks ss k x s h.1 e f
-
-  pub set_slot : (ks : List Kept_slot) (ss : List Slot) (k : ℕ) (x : Kept_slot) (s : Slot) → AreSlots C l ks ss
-      → IsSlot C l x s → AreSlots C l (slice_set ks k x) (slice_set ss k s)
-  set_slot [] [] k x s h i = tt
-  set_slot [] (t ∷ ss) k x s h i = absurd h
-  set_slot (y ∷ ks) [] k x s h i = absurd h
-  set_slot (y ∷ ks) (t ∷ ss) zero x s h i = (i, h.1)
-  set_slot (y ∷ ks) (t ∷ ss) (suc k) x s h i = (h.0, set_slot ks ss k x s h.1 i)
-
-  pub no_more_slots : (ks : List Kept_slot) (ss : List Slot) (k : ℕ) (s : Slot) → AreSlots C l ks ss → slice_get ss k ≡ Some s → k < length ks
-  no_more_slots [] [] k s h e = absurd cc
-  no_more_slots [] (t ∷ ss) k s h e = absurd h
-  no_more_slots (y ∷ ks) [] k s h e = absurd h
-  no_more_slots (y ∷ ks) (t ∷ ss) zero s h e = omega arith
-  no_more_slots (y ∷ ks) (t ∷ ss) (suc k) s h e = let less = no_more_slots ks ss k s h.1 e in omega arith
-
   pub still_alters : (at : ℕ) (c : Scene) (w : Title) (what : Happening) → IsStill what
       → Alters c w (one_play (message_reading C l) c at w what) (part_of (message_reading C l) (event at w what) (c.known w.number))
   unfolding scene_at part_of
@@ -157,7 +109,7 @@ module _ (C : Table) (l : Listed) where
   slot_here s c w k x h p e =
       let number : p.slot.opener.number ≡ w.number = ap (λ (t : Title). t.number) p.is in
       let one =
-      slot_of s.slots.items (slots_of c.known c.live) k x
+      slot_of C l s.slots.items (slots_of c.known c.live) k x
       (record { open_as = p.slot; octets = c.known p.slot.opener.number }) h.slots e (slots_get c k p.slot p.here) in
       subst (λ (n : ℕ). IsSlot C l x (record { open_as = p.slot; octets = c.known n })) number one
 
@@ -178,7 +130,7 @@ module _ (C : Table) (l : Listed) where
       let slots' = slot_at play.scene.known c.known c.live k p.slot rising p.here (λ i other. alters.others i (λ same. other (same ∙ sym number))) in
       let later : play.scene.known p.slot.opener.number ≡ part.octets = ap play.scene.known number ∙ alters.own in
       record {
-        slots = rw (alters.live, slots', later) (set_slot s.slots.items (slots_of c.known c.live) k (record x { message = message }) slot h.slots new);
+        slots = rw (alters.live, slots', later) (set_slot C l s.slots.items (slots_of c.known c.live) k (record x { message = message }) slot h.slots new);
         payload = (p.own, (p.slot, rw alters.live p.here, p.is));
       }
 
@@ -239,7 +191,7 @@ module _ (C : Table) (l : Listed) where
   no_slot_says s c None k e n h = absurd (rw e at h.payload)
   no_slot_says s c (Some w) k e n h =
       let p = place_of s c w k e h in
-      absurd (n (no_more_slots s.slots.items (slots_of c.known c.live) k
+      absurd (n (no_more_slots C l s.slots.items (slots_of c.known c.live) k
       (record { open_as = p.slot; octets = c.known p.slot.opener.number }) h.slots (slots_get c k p.slot p.here)))
 
   pub begin_keeps : (s : Slots) (m : Message) (c : Scene) (whose : Option Title) (w : Title) (number : ℕ) (header : List ℕ)
@@ -250,19 +202,6 @@ module _ (C : Table) (l : Listed) where
     where
       kept : IsKept C l (Some m) w (Some [])
       kept = rw (n, f) e
-
-  pub are_as_many : (ks : List Kept_slot) (ss : List Slot) → AreSlots C l ks ss → length ks ≡ length ss
-  are_as_many [] [] h = refl
-  are_as_many [] (s ∷ ss) h = absurd h
-  are_as_many (k ∷ ks) [] h = absurd h
-  are_as_many (k ∷ ks) (s ∷ ss) h = ap suc (are_as_many ks ss h.1)
-
-  push_slot : (ks : List Kept_slot) (ss : List Slot) (x : Kept_slot) (s : Slot) → AreSlots C l ks ss → IsSlot C l x s
-      → AreSlots C l (ks ++ x ∷ []) (ss ++ s ∷ [])
-  push_slot [] [] x s h i = (i, tt)
-  push_slot [] (t ∷ ss) x s h i = absurd h
-  push_slot (k ∷ ks) [] x s h i = absurd h
-  push_slot (k ∷ ks) (t ∷ ss) x s h i = (h.0, push_slot ks ss x s h.1 i)
 
   -- an event that says nothing and takes nothing
   opens_then : (at : ℕ) (w : Title) (i : ℕ) (o : Option (List ℕ)) → octets_then (message_reading C l) (event at w (Opens i)) o ≡ o
@@ -300,10 +239,10 @@ module _ (C : Table) (l : Listed) where
       each_weaker (λ a. a.opener.number ≡ w.number → ⊥)
       (λ a. (scene_at (message_reading C l) c e).known a.opener.number ≡ c.known a.opener.number)
       (λ a j. others_then (message_reading C l) c e a.opener.number j) c.live apart in
-      let many : length s.slots.items ≡ length c.live = are_as_many s.slots.items (slots_of c.known c.live) slots ∙ slots_many c.known c.live in
+      let many : length s.slots.items ≡ length c.live = are_as_many C l s.slots.items (slots_of c.known c.live) slots ∙ slots_many c.known c.live in
       record {
         slots = rw (opened_live at c w i, slot_comes (scene_at (message_reading C l) c e).known c.known c.live o same, known)
-            (push_slot s.slots.items (slots_of c.known c.live)
+            (push_slot C l s.slots.items (slots_of c.known c.live)
             (record { number = number; header = header; id = i; message = s.own })
             (record { open_as = o; octets = c.known w.number }) slots
             (record { number = sym n; header = sym f; id = refl; message = kept }));
@@ -332,14 +271,6 @@ module _ (C : Table) (l : Listed) where
   unfolding scene_at
   gone_live at c w what h = h c.live w
 
-  remove_slot : (ks : List Kept_slot) (ss : List Slot) (k : ℕ) → AreSlots C l ks ss → AreSlots C l (remove ks k) (remove ss k)
-  remove_slot [] [] zero h = tt
-  remove_slot [] [] (suc k) h = tt
-  remove_slot [] (s ∷ ss) k h = absurd h
-  remove_slot (x ∷ ks) [] k h = absurd h
-  remove_slot (x ∷ ks) (s ∷ ss) zero h = h.1
-  remove_slot (x ∷ ks) (s ∷ ss) (suc k) h = (h.0, remove_slot ks ss k h.1)
-
   -- the slots, where a message that isn't open closes
   own_gone : (c : Scene) (w : Title) (at : ℕ) (what : Happening) (ks : List Kept_slot) → IsGone what
       → Each (λ o. o.opener.number ≡ w.number → ⊥) c.live → AreSlots C l ks (slots_of c.known c.live)
@@ -366,7 +297,7 @@ module _ (C : Table) (l : Listed) where
         slot_gone
             (scene_at (message_reading C l) c e).known c.known c.live k o rising here
             (λ i j. others_then (message_reading C l) c e i j),
-      ) (remove_slot ks (slots_of c.known c.live) k h)
+      ) (remove_slot C l ks (slots_of c.known c.live) k h)
 
   -- a call that closes a message
   module _ {A E : Type 0} {n : A → ℕ} (r : Result A E) (a b : OutLog) (at : ℕ) where
@@ -413,12 +344,12 @@ module _ (C : Table) (l : Listed) where
       → slice_get c.live k ≡ Some o → slice_get s.slots.items k ≡ Some x
       → IsSlot C l x (record { open_as = o; octets = c.known o.opener.number })
   open_slot s x c whose k o h here e =
-      slot_of s.slots.items (slots_of c.known c.live) k x (record { open_as = o; octets = c.known o.opener.number }) h.slots e (slots_get c k o here)
+      slot_of C l s.slots.items (slots_of c.known c.live) k x (record { open_as = o; octets = c.known o.opener.number }) h.slots e (slots_get c k o here)
 
   pub open_there : {A : Type 0} (s : Slots) (c : Scene) (whose : Option Title) (k : ℕ) (o : Open)
       → (k < length s.slots.items → ⊥) → Keeps C l s c whose → slice_get c.live k ≡ Some o → A
   open_there s c whose k o n h here =
-      absurd (n (no_more_slots s.slots.items (slots_of c.known c.live) k
+      absurd (n (no_more_slots C l s.slots.items (slots_of c.known c.live) k
       (record { open_as = o; octets = c.known o.opener.number }) h.slots (slots_get c k o here)))
 
   pub cancel_keeps : (s : Slots) (slots' : ArrayVec Kept_slot) (c : Scene) (w : Title) (k : ℕ) (o : Open) (at j : ℕ)
@@ -438,24 +369,3 @@ module _ (C : Table) (l : Listed) where
               (others_then (message_reading C l) c ev w.number (λ same. apart (sym same))) p.1,
         );
       })
-
--- ---- What can take an octet.
-
-pub later_ready : (C : Table) (n n' : ℕ) (message : Option Message) → n ≤ n' → IsReady C n message → IsReady C n' message
-later_ready C n n' None less h = tt
-later_ready C n n' (Some m) less h = (h.0, omega (arith, h.1))
-
-pub all_later : (C : Table) (n n' : ℕ) (ks : List Kept_slot) → n ≤ n' → Each (λ slot. IsReady C n slot.message) ks → Each (λ slot. IsReady C n' slot.message) ks
-all_later C n n' [] less h = tt
-all_later C n n' (k ∷ ks) less h = (later_ready C n n' k.message less h.0, all_later C n n' ks less h.1)
-
-pub set_ready : (C : Table) (n : ℕ) (ks : List Kept_slot) (k : ℕ) (x : Kept_slot) → IsReady C n x.message
-    → Each (λ slot. IsReady C n slot.message) ks → Each (λ slot. IsReady C n slot.message) (slice_set ks k x)
-set_ready C n [] k x h hs = tt
-set_ready C n (y ∷ ks) zero x h hs = (h, hs.1)
-set_ready C n (y ∷ ks) (suc k) x h hs = (hs.0, set_ready C n ks k x h hs.1)
-
-pub push_ready : (C : Table) (n : ℕ) (ks : List Kept_slot) (x : Kept_slot) → IsReady C n x.message
-    → Each (λ slot. IsReady C n slot.message) ks → Each (λ slot. IsReady C n slot.message) (ks ++ x ∷ [])
-push_ready C n [] x h hs = (h, tt)
-push_ready C n (y ∷ ks) x h hs = (hs.0, push_ready C n ks x h hs.1)

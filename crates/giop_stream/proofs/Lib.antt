@@ -1,5 +1,6 @@
 mod Lists
 mod Counts
+mod CutFrom
 mod Cutting
 mod Walking
 mod Happenings
@@ -21,6 +22,7 @@ mod Rows
 mod Ordering
 mod Spans
 mod Accepted
+mod InClasses
 mod Turns
 mod InPlace
 mod Places
@@ -28,6 +30,7 @@ mod Cases
 mod Beginning
 mod ReadingPlays
 mod Performing
+mod SlotLists
 mod Keepers
 mod Naming
 mod Named
@@ -38,6 +41,7 @@ mod Headed
 mod Adding
 mod Sizes
 mod Idle
+mod Settling
 mod Doing
 mod Further
 mod OfOctets
@@ -51,6 +55,7 @@ pub mod StreamLaws
 mod EngineRows
 mod Acts
 mod OneOctet
+mod NextOctet
 mod EngineStep
 mod EngineLaws
 mod EngineAlive

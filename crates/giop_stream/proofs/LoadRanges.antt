@@ -32,7 +32,7 @@ use Rattle.giop_stream.proofs.OneOctet.{Then, then_is}
 use Rattle.giop_stream.proofs.OfOctets.{HeaderOctets, header_octets, size_fits}
 use Rattle.giop_stream.proofs.EngineAlive.{sound, few_open}
 use Rattle.giop_stream.proofs.Parts.{in_turn}
-use Rattle.giop_stream.proofs.Keepers.{slots_many, are_as_many}
+use Rattle.giop_stream.proofs.SlotLists.{slots_many, are_as_many}
 use Rattle.giop_stream.proofs.Counts.{octets_few, octets_free, messages_few}
 use Rattle.giop_stream.proofs.FaultsBound.{stop_count, one_stop, tally_faults}
 

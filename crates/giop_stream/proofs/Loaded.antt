@@ -29,7 +29,7 @@ use Rattle.giop_stream.specs.Remembering.{Memory}
 use Rattle.giop_stream.specs.Showing.{IsOwn}
 use Rattle.giop_stream.specs.Checkpoint.{IsStored, IsHeld, AreEntries, standing_of, counts_of, fixed_of, checkpoint_octets, Spells, IsRefused}
 use Rattle.giop_stream.specs.Reloading.{IsEntry, pushed, IsOpenEntry, IsCurrentEntry, AreLeft, HasAdded}
-use Rattle.giop_stream.proofs.Keepers.{are_as_many}
+use Rattle.giop_stream.proofs.SlotLists.{are_as_many}
 use Rattle.giop_stream.proofs.LoadRanges.{fixed_range}
 use Rattle.giop_stream.proofs.SavedSizes.{entry_long, entries_count, entries_range}
 

@@ -29,7 +29,7 @@ use Rattle.giop_stream.specs.Checkpoint.{place_of, owner_of, fixed_of, Spells}
 use Rattle.giop_stream.specs.Reloading as fields
 use Rattle.giop_stream.specs.Reloading.{AreLeft, HasAdded}
 use Rattle.giop_stream.proofs.EngineAlive.{few_open}
-use Rattle.giop_stream.proofs.Keepers.{slots_many, are_as_many}
+use Rattle.giop_stream.proofs.SlotLists.{slots_many, are_as_many}
 use Rattle.giop_stream.proofs.LoadRanges.{AreTotals, may_be_again}
 use Rattle.giop_stream.proofs.SavedSizes.{entries_count}
 

@@ -25,7 +25,8 @@ use Rattle.giop_print.specs.Lines.{continues_line}
 use Rattle.giop_stream.specs.Keeping.{IsSlot, event}
 use Rattle.giop_stream.specs.Whose.{IsNamed, opener_title, whose_named}
 use Rattle.giop_stream.proofs.Performing.{BeginsSo}
-use Rattle.giop_stream.proofs.Keepers.{are_as_many, slots_many, open_slot}
+use Rattle.giop_stream.proofs.Keepers.{open_slot}
+use Rattle.giop_stream.proofs.SlotLists.{are_as_many, slots_many}
 use Rattle.giop_stream.proofs.Naming.{none_open, one_open}
 use Rattle.giop_stream.proofs.Cases.{opener_twice, opener_no_room, opener_opens, fragment_unknown, fragment_in_order, fragment_out_of_order, cancel_misses, cancel_spares, cancel_closes, other_id}
 

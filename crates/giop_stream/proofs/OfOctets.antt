@@ -9,7 +9,7 @@ use Rattle.giop_message.specs.Headers.{order, size}
 use Rattle.giop_checkpoint.specs.declared.fault.StreamFault.{StreamFault}
 use Rattle.giop_stream.specs.Headers.{offence}
 use Rattle.giop_stream.specs.Framing.{Cut, with_first, cut_from, limit, stop_or_limit, limited, cut}
-use Rattle.giop_stream.proofs.Cutting.{cut_wrong, cut_short, cut_open, cut_more}
+use Rattle.giop_stream.proofs.CutFrom.{cut_wrong, cut_short, cut_open, cut_more}
 
 -- the header of the current message is of octets, none of which is wrong
 abbrev pub HeaderOctets : Cut → Type 0

@@ -16,7 +16,7 @@ use Rattle.giop_stream.specs.Keeping.{IsKept, IsWhose}
 use Rattle.giop_stream.specs.Whose.{opener_title, whose, whose_in}
 use Rattle.giop_stream.specs.Engine.{State, Own, is_named, own_for, owner_for, own_in, owner_in}
 use Rattle.giop_stream.specs.Showing.{IsOwn, IsOwner}
-use Rattle.giop_stream.proofs.Keepers.{slots_get}
+use Rattle.giop_stream.proofs.SlotLists.{slots_get}
 use Rattle.giop_stream.proofs.Acts.{found_in}
 
 -- ---- The messages that are open.

@@ -15,7 +15,7 @@ use Rattle.giop_message.specs.Reading.{Reading, IsCausal, IsInTurn}
 use Rattle.giop_message.proofs.MessageLaws.{is_causal}
 use Rattle.giop_stream.specs.declared.slots.Slots.{Slots}
 use Rattle.giop_stream.specs.Framing.{Message, Cut, with_payload, limit, cut, messages, read_of}
-use Rattle.giop_stream.specs.Events.{Takes, Title, Open, Rising, happens, at_octet, changed, open_after, id}
+use Rattle.giop_stream.specs.Events.{Takes, Title, Open, Rising, happens, at_octet, changed, open_after}
 use Rattle.giop_stream.specs.Lines.{lines}
 use Rattle.giop_stream.specs.Text.{lines_text}
 use Rattle.giop_stream.specs.Stream.{start_count, fault_count, tally}
@@ -29,7 +29,8 @@ use Rattle.giop_stream.specs.Engine.{State, state_of}
 use Rattle.giop_stream.specs.Step.{runs}
 use Rattle.giop_stream.specs.Showing.{IsReached, Shows, Does}
 use Rattle.giop_stream.specs.Octet.{header_of, come_of}
-use Rattle.giop_stream.proofs.Cutting.{settle, next, of_parts, parts_by, cut_grows, next_payload}
+use Rattle.giop_stream.proofs.Cutting.{next, of_parts, parts_by, cut_grows, next_payload}
+use Rattle.giop_stream.proofs.CutFrom.{settle}
 use Rattle.giop_stream.proofs.Grown.{count_append}
 use Rattle.giop_stream.proofs.Soundness.{CurrentFits}
 use Rattle.giop_stream.proofs.StepCases.{place_more}
@@ -37,10 +38,11 @@ use Rattle.giop_stream.proofs.StepCases.{if_some}
 use Rattle.giop_stream.proofs.Taken.{whose_elsewhere}
 use Rattle.giop_stream.proofs.Parts.{in_turn, octet_does, whose_next}
 use Rattle.giop_stream.proofs.OneOctet.{Adds, paid_is}
-use Rattle.giop_stream.proofs.EngineStep.{read_all}
+use Rattle.giop_stream.proofs.NextOctet.{read_all}
 use Rattle.giop_stream.proofs.EngineAlive.{sound}
 use Rattle.giop_stream.proofs.Held.{shows_by}
-use Rattle.giop_stream.proofs.Doing.{does_run, runs_on, all_read, knows_at, faults_at, header_is, come_is, number_is, size_few, goes_on}
+use Rattle.giop_stream.proofs.Doing.{does_run, runs_on, all_read, knows_at, faults_at, header_is, come_is, number_is, size_few}
+use Rattle.giop_stream.proofs.Settling.{goes_on}
 
 -- ---- One of them.
 

@@ -1,19 +1,16 @@
 -- What is joined by events is what the messages share.
 use Rattle.std.proofs.Common.{inl, inr, ◌≡◌, ℕ, ◌-◌, ◌≤◌, Bool, true, false, List, [], ◌∷◌, ◌++◌, length, get_or, take, drop, refl, sym, ap, ◌∙◌, append_assoc, Option, Some, None, arith}
-use Rattle.std.specs.Prelude.{nat_lt, nat_le, ◌==◌, if◌then◌else◌, ◌&&◌, ◌||◌}
+use Rattle.std.specs.Prelude.{◌==◌, if◌then◌else◌}
 use Rattle.std.proofs.lemmas.Bool.{lt-ltb, le-ltb, cases_lt, ne_eqb, eq-eqb}
 use Rattle.std.proofs.lemmas.List.{append-nil, length_push, get_or_push, take-append-le, drop-append-le, take_all, drop_all}
-use Rattle.giop_stream.specs.declared.fault.ImposedFault.{ImposedFault}
-use Rattle.giop_stream.specs.declared.fault.ImposedFault.TheVariants.{Short, NoOpen, IdOpen, TooManyOpen, FragmentOrder}
-use Rattle.giop_message.specs.Headers.{order, has_more, size, is_fragment, is_opener, is_cancel}
+use Rattle.giop_message.specs.Headers.{is_fragment}
 use Rattle.giop_stream.specs.Framing.{Message, with_payload, cut, messages}
-use Rattle.giop_stream.specs.Kinds.{may_be_cancelled, refused}
-use Rattle.giop_stream.specs.Events.{Happening, Begins, Takes, Opens, Continues, Cancelled, Imposed, Closes, Event, Open, own, about, id, opener_of, goes_past, imposed, at_header, at_octet, opens, most_open, same_order, continues, cancels, at_id, at_end, happens, events_of, opened, events_from, events, octet, joined, now_of, header_acts, octet_acts, id_acts, end_acts, Now}
+use Rattle.giop_stream.specs.Events.{Happening, Begins, Takes, Opens, Continues, Cancelled, Imposed, Closes, Event, Open, own, about, id, opener_of, goes_past, at_header, at_octet, happens, events_of, opened, events_from, events, octet, joined, now_of, header_acts, octet_acts, Now}
 use Rattle.giop_stream.specs.Shares.{continued, share, shares}
 use Rattle.giop_stream.proofs.Lists.{by_growth}
 use Rattle.giop_stream.proofs.Happenings.{events_of_push, events_of_none}
 use Rattle.giop_stream.proofs.Telling.{joined_append}
-use Rattle.giop_stream.proofs.Walking.{IsLater, IsJoined, HoldsOf, of_header, of_later}
+use Rattle.giop_stream.proofs.Walking.{IsLater, IsJoined, of_header, of_later}
 
 -- Events that join no octet.
 IsSilent : ℕ → List Event → Type 0

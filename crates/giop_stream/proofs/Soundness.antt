@@ -13,7 +13,8 @@ use Rattle.giop_stream.specs.Stream.{start_count}
 use Rattle.giop_stream.specs.State.{Kept, octets_of}
 use Rattle.giop_stream.specs.Machine.{taking, written, now_written}
 use Rattle.giop_stream.proofs.Lists.{each_append, each_weaker, all_by}
-use Rattle.giop_stream.proofs.Cutting.{settle, settle_stop, settled_messages}
+use Rattle.giop_stream.proofs.Cutting.{settle_stop, settled_messages}
+use Rattle.giop_stream.proofs.CutFrom.{settle}
 use Rattle.giop_stream.proofs.Happenings.{opened_append, events_from_push, events_of_push, events_of_none, happens_same, happens_each, opened_each, quiet_one}
 use Rattle.giop_stream.proofs.HappeningsKeep.{Below, rising_happens, IsFew, few_happens, Differ, differ_happens, AreOpeners, openers_happens}
 use Rattle.giop_stream.proofs.Telling.{joined_append, written_each, none_last, none_joined}

@@ -1,0 +1,102 @@
+-- The slots of the code beside those that are known, one by one; and what of them can take an octet.
+use Rattle.std.proofs.Common.{◌≡◌, ℕ, zero, suc, ◌<◌, ◌≤◌, List, [], ◌∷◌, ◌++◌, length, refl, sym, ap, Option, Some, None, arith}
+use Rattle.std.specs.Prelude.{slice_get, slice_set, slice_index_or}
+use Rattle.std.specs.List.{remove, AllByRecursion as Each}
+use Rattle.giop_message.specs.declared.message.Message.{Message}
+use Rattle.giop_stream.specs.declared.slots.Slot.{Slot as Kept_slot}
+use Rattle.giop_sig.specs.Table.{Table}
+use Rattle.giop_message.specs.Signatures.{Kept as Listed}
+use Rattle.giop_stream.specs.Events.{Open}
+use Rattle.giop_stream.specs.State.{Slot, Kept, slots_of}
+use Rattle.giop_stream.specs.Plays.{Scene}
+use Rattle.giop_stream.specs.Keeping.{IsReady, IsSlot, AreSlots}
+
+pub get_some : {A : Type 0} (xs : List A) (k : ℕ) (x : A) → k < length xs → x ≡ slice_index_or xs k x → slice_get xs k ≡ Some x
+get_some [] k x h e = absurd (omega arith)
+get_some {A} (a ∷ xs) zero x h e = ap (λ (y : A). Some y) (sym e)
+get_some (a ∷ xs) (suc k) x h e = get_some xs k x (omega arith) e
+
+pub slots_get : (c : Scene) (k : ℕ) (o : Open) → slice_get c.live k ≡ Some o
+    → slice_get (slots_of c.known c.live) k ≡ Some (record { open_as = o; octets = c.known o.opener.number })
+unfolding slots_of
+slots_get c k o e = go c.live k e
+  where
+    go : (live : List Open) (k : ℕ) → slice_get live k ≡ Some o
+        → slice_get (slots_of c.known live) k ≡ Some (record { open_as = o; octets = c.known o.opener.number })
+    go [] k e = absurd cc
+    go (a ∷ live) zero e = let same : a ≡ o = cc in ap (λ (b : Open). Some (record { open_as = b; octets = c.known b.opener.number })) same
+    go (a ∷ live) (suc k) e = go live k e
+
+pub get_last : (live : List Open) (o : Open) → slice_get (live ++ o ∷ []) (length live) ≡ Some o
+get_last [] o = refl
+get_last (a ∷ live) o = get_last live o
+
+pub slots_many : (K : Kept) (live : List Open) → length (slots_of K live) ≡ length live
+unfolding slots_of
+slots_many K [] = refl
+slots_many K (o ∷ live) = ap suc (slots_many K live)
+
+module _ (C : Table) (l : Listed) where
+  pub slot_of : (ks : List Kept_slot) (ss : List Slot) (k : ℕ) (x : Kept_slot) (s : Slot) → AreSlots C l ks ss
+      → slice_get ks k ≡ Some x → slice_get ss k ≡ Some s → IsSlot C l x s
+  slot_of [] ss k x s h e f = absurd cc
+  slot_of (y ∷ ks) [] k x s h e f = absurd cc
+  slot_of (y ∷ ks) (t ∷ ss) zero x s h e f = let a : y ≡ x = cc in let b : t ≡ s = cc in rw (← a, ← b) h.0
+  slot_of (y ∷ ks) (t ∷ ss) (suc k) x s h e f = slot_of ks ss k x s h.1 e f
+
+  pub set_slot : (ks : List Kept_slot) (ss : List Slot) (k : ℕ) (x : Kept_slot) (s : Slot) → AreSlots C l ks ss
+      → IsSlot C l x s → AreSlots C l (slice_set ks k x) (slice_set ss k s)
+  set_slot [] [] k x s h i = tt
+  set_slot [] (t ∷ ss) k x s h i = absurd h
+  set_slot (y ∷ ks) [] k x s h i = absurd h
+  set_slot (y ∷ ks) (t ∷ ss) zero x s h i = (i, h.1)
+  set_slot (y ∷ ks) (t ∷ ss) (suc k) x s h i = (h.0, set_slot ks ss k x s h.1 i)
+
+  pub no_more_slots : (ks : List Kept_slot) (ss : List Slot) (k : ℕ) (s : Slot) → AreSlots C l ks ss → slice_get ss k ≡ Some s → k < length ks
+  no_more_slots [] [] k s h e = absurd cc
+  no_more_slots [] (t ∷ ss) k s h e = absurd h
+  no_more_slots (y ∷ ks) [] k s h e = absurd h
+  no_more_slots (y ∷ ks) (t ∷ ss) zero s h e = omega arith
+  no_more_slots (y ∷ ks) (t ∷ ss) (suc k) s h e = let less = no_more_slots ks ss k s h.1 e in omega arith
+
+  pub are_as_many : (ks : List Kept_slot) (ss : List Slot) → AreSlots C l ks ss → length ks ≡ length ss
+  are_as_many [] [] h = refl
+  are_as_many [] (s ∷ ss) h = absurd h
+  are_as_many (k ∷ ks) [] h = absurd h
+  are_as_many (k ∷ ks) (s ∷ ss) h = ap suc (are_as_many ks ss h.1)
+
+  pub push_slot : (ks : List Kept_slot) (ss : List Slot) (x : Kept_slot) (s : Slot) → AreSlots C l ks ss → IsSlot C l x s
+      → AreSlots C l (ks ++ x ∷ []) (ss ++ s ∷ [])
+  push_slot [] [] x s h i = (i, tt)
+  push_slot [] (t ∷ ss) x s h i = absurd h
+  push_slot (k ∷ ks) [] x s h i = absurd h
+  push_slot (k ∷ ks) (t ∷ ss) x s h i = (h.0, push_slot ks ss x s h.1 i)
+
+  pub remove_slot : (ks : List Kept_slot) (ss : List Slot) (k : ℕ) → AreSlots C l ks ss → AreSlots C l (remove ks k) (remove ss k)
+  remove_slot [] [] zero h = tt
+  remove_slot [] [] (suc k) h = tt
+  remove_slot [] (s ∷ ss) k h = absurd h
+  remove_slot (x ∷ ks) [] k h = absurd h
+  remove_slot (x ∷ ks) (s ∷ ss) zero h = h.1
+  remove_slot (x ∷ ks) (s ∷ ss) (suc k) h = (h.0, remove_slot ks ss k h.1)
+
+-- ---- What can take an octet.
+
+pub later_ready : (C : Table) (n n' : ℕ) (message : Option Message) → n ≤ n' → IsReady C n message → IsReady C n' message
+later_ready C n n' None less h = tt
+later_ready C n n' (Some m) less h = (h.0, omega (arith, h.1))
+
+pub all_later : (C : Table) (n n' : ℕ) (ks : List Kept_slot) → n ≤ n' → Each (λ slot. IsReady C n slot.message) ks → Each (λ slot. IsReady C n' slot.message) ks
+all_later C n n' [] less h = tt
+all_later C n n' (k ∷ ks) less h = (later_ready C n n' k.message less h.0, all_later C n n' ks less h.1)
+
+pub set_ready : (C : Table) (n : ℕ) (ks : List Kept_slot) (k : ℕ) (x : Kept_slot) → IsReady C n x.message
+    → Each (λ slot. IsReady C n slot.message) ks → Each (λ slot. IsReady C n slot.message) (slice_set ks k x)
+set_ready C n [] k x h hs = tt
+set_ready C n (y ∷ ks) zero x h hs = (h, hs.1)
+set_ready C n (y ∷ ks) (suc k) x h hs = (hs.0, set_ready C n ks k x h hs.1)
+
+pub push_ready : (C : Table) (n : ℕ) (ks : List Kept_slot) (x : Kept_slot) → IsReady C n x.message
+    → Each (λ slot. IsReady C n slot.message) ks → Each (λ slot. IsReady C n slot.message) (ks ++ x ∷ [])
+push_ready C n [] x h hs = (h, tt)
+push_ready C n (y ∷ ks) x h hs = (hs.0, push_ready C n ks x h hs.1)
