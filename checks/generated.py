@@ -1,7 +1,7 @@
 """Streams made from the examples by seeds: messages are taken in any order, and octets of them changed, left out, put
 in and repeated. Of each the program writes the same text however its reads are cut, and in parts, each gone on from where
 the one before it was saved; and a front of it when the stream ends early. It ends with status 0 or 1, its total line is
-right, and it makes as many requests for memory as ever. From a checkpoint that is changed so it goes on, or refuses it."""
+right, and it makes as many requests for memory as ever."""
 
 from __future__ import annotations
 
@@ -115,7 +115,7 @@ def in_parts(case: Case, cuts: List[int]) -> Tuple[bytes, int]:
 
 
 def harmed(seed: int, case: Case) -> Case:
-    """The rest of a stream, behind a checkpoint of which octets are changed."""
+    """The rest of a stream, behind a checkpoint that is changed as streams are, or keeps its length."""
     draw = random.Random(f"checkpoint of {seed}")
     at = draw.randrange(len(case.stream) + 1)
     checkpoint = checkpoint_of(case.words, case.stream[:at])
