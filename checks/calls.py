@@ -13,7 +13,7 @@ from failing import Case, Differences, Ended, cases, run
 
 ERRORS = (errno.EIO, errno.ENOSPC, errno.EAGAIN)
 ON = 2**63
-# The kit tries a write again at most 64 times more than it has octets.
+# How often a call is interrupted that is to go on: less often than any reader or writer of the program gives up after.
 INTERRUPTIONS = 50
 # Opens and syncs the kit tries again without an end, so they are not interrupted more often.
 OFTEN = 2**17
