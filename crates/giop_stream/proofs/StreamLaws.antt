@@ -5,8 +5,8 @@ use Rattle.giop_message.specs.Signatures.{Kept, said_by}
 use Rattle.giop_message.specs.MessageReading.{message_reading}
 use Rattle.giop_message.proofs.MessageLaws.{is_causal}
 use Rattle.giop_stream.specs.Holding.{added}
-use Rattle.giop_stream.proofs.Parts.{in_turn}
-use Rattle.giop_stream.proofs.Further as further
+use Rattle.giop_stream.proofs.Keep.Parts.{in_turn}
+use Rattle.giop_stream.proofs.Told.Further as further
 
 -- what octets add to the text of a stream, and then others
 pub added_both : (C : Table) (kept : Kept) (p q r : List ℕ) →

@@ -1,5 +1,5 @@
 use Rattle.std.proofs.Common.{None, refl, sym, ◌∙◌}
-use Rattle.giop_stream.proofs.Named.{finds, misses, fragment_named}
+use Rattle.giop_stream.proofs.Keep.Named.{finds, misses, fragment_named}
 use Rattle.giop_stream.proofs.dispatch.continues.Goals as goal
 
 pub returns-in-Some-clause-does : goal.returns-in-Some-clause-does

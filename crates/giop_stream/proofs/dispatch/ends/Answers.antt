@@ -1,6 +1,6 @@
 use Rattle.std.proofs.Common.{refl}
-use Rattle.giop_stream.proofs.Performing.{does_nothing, performs_on}
-use Rattle.giop_stream.proofs.Ending.{own_short, ends_short, ends_followed, ends_closed}
+use Rattle.giop_stream.proofs.Keep.Performing.{does_nothing, performs_on}
+use Rattle.giop_stream.proofs.Keep.Ending.{own_short, ends_short, ends_followed, ends_closed}
 use Rattle.giop_stream.proofs.dispatch.ends.Goals as goal
 
 pub returns-then-is_short-clause-does : goal.returns-then-is_short-clause-does

@@ -1,6 +1,6 @@
 use Rattle.std.proofs.Common.{refl}
-use Rattle.giop_stream.proofs.Performing.{performs_on}
-use Rattle.giop_stream.proofs.Named.{unknown}
+use Rattle.giop_stream.proofs.Keep.Performing.{performs_on}
+use Rattle.giop_stream.proofs.Keep.Named.{unknown}
 use Rattle.giop_stream.proofs.dispatch.fails.Goals as goal
 
 pub returns-clause-does : goal.returns-clause-does

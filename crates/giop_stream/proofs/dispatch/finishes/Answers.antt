@@ -1,7 +1,7 @@
 use Rattle.std.proofs.Common.{refl, sym, ◌∙◌}
 use Rattle.std.proofs.lemmas.Bool.{eq-eqb, ne_eqb}
-use Rattle.giop_stream.proofs.Performing.{does_nothing}
-use Rattle.giop_stream.proofs.Taken.{end_here, no_end, last_here, after_here, after_still}
+use Rattle.giop_stream.proofs.Keep.Performing.{does_nothing}
+use Rattle.giop_stream.proofs.Keep.Taken.{end_here, no_end, last_here, after_here, after_still}
 use Rattle.giop_stream.proofs.dispatch.finishes.Goals as goal
 
 pub returns-then-now-size_of-clause-does : goal.returns-then-now-size_of-clause-does

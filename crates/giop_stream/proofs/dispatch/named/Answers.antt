@@ -1,7 +1,7 @@
 use Rattle.std.proofs.Common.{false, true, refl, sym}
 use Rattle.giop_message.specs.Headers.{is_fragment, is_opener, is_cancel}
-use Rattle.giop_stream.proofs.Performing.{does_nothing, call_failed, counts_as}
-use Rattle.giop_stream.proofs.Named.{whose_fragment, whose_other, header_is, no_name}
+use Rattle.giop_stream.proofs.Keep.Performing.{does_nothing, call_failed, counts_as}
+use Rattle.giop_stream.proofs.Keep.Named.{whose_fragment, whose_other, header_is, no_name}
 use Rattle.giop_stream.proofs.dispatch.named.Goals as goal
 
 pub returns-then-is_fragment-clause-does : goal.returns-then-is_fragment-clause-does

@@ -1,7 +1,7 @@
 use Rattle.std.proofs.Common.{refl}
 use Rattle.std.proofs.lemmas.Bool.{eq-eqb, ne_eqb}
-use Rattle.giop_stream.proofs.Performing.{does_nothing}
-use Rattle.giop_stream.proofs.Taken.{id_here, no_id, named_here, whose_then, whose_still}
+use Rattle.giop_stream.proofs.Keep.Performing.{does_nothing}
+use Rattle.giop_stream.proofs.Keep.Taken.{id_here, no_id, named_here, whose_then, whose_still}
 use Rattle.giop_stream.proofs.dispatch.names.Goals as goal
 
 pub returns-then-now-eq4-clause-does : goal.returns-then-now-eq4-clause-does

@@ -1,9 +1,9 @@
 use Rattle.std.proofs.Common.{sym, ap, arith}
 use Rattle.giop_message.specs.MessageReading.{message_reading}
 use Rattle.giop_stream.specs.Plays.{Play, with_octet}
-use Rattle.giop_stream.proofs.Parts.{in_parts, some_come, come_is, takes_play, taken_here, named_at, third_whose}
-use Rattle.giop_stream.proofs.Performing.{performs_on, first_failed, call_failed, then_failed, done_then, counts_as}
-use Rattle.giop_stream.proofs.Headed.{ready_later}
+use Rattle.giop_stream.proofs.Keep.Parts.{in_parts, some_come, come_is, takes_play, taken_here, named_at, third_whose}
+use Rattle.giop_stream.proofs.Keep.Performing.{performs_on, first_failed, call_failed, then_failed, done_then, counts_as}
+use Rattle.giop_stream.proofs.Keep.Headed.{ready_later}
 use Rattle.giop_stream.proofs.dispatch.octet.Goals as goal
 
 pub take-requires : goal.take-requires

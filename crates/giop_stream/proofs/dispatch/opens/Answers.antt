@@ -1,6 +1,6 @@
 use Rattle.std.proofs.Common.{refl, sym}
-use Rattle.giop_stream.proofs.Performing.{does_nothing, performs_on}
-use Rattle.giop_stream.proofs.Named.{twice, no_room, opens_one, full_is, room_is, opens_lines, opener_named}
+use Rattle.giop_stream.proofs.Keep.Performing.{does_nothing, performs_on}
+use Rattle.giop_stream.proofs.Keep.Named.{twice, no_room, opens_one, full_is, room_is, opens_lines, opener_named}
 use Rattle.giop_stream.proofs.dispatch.opens.Goals as goal
 
 pub returns-then-is_some-clause-does : goal.returns-then-is_some-clause-does

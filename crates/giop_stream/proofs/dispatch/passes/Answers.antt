@@ -1,6 +1,6 @@
 use Rattle.std.proofs.Common.{[], sym, ◌∙◌}
-use Rattle.giop_stream.proofs.Performing.{no_faults, wrote_line, line_then, line_failed}
-use Rattle.giop_stream.proofs.Named.{in_order, out_of_order, goes_text, goes_faults, goes_first, opener_slot, orders, read_slot}
+use Rattle.giop_stream.proofs.Keep.Performing.{no_faults, wrote_line, line_then, line_failed}
+use Rattle.giop_stream.proofs.Keep.Named.{in_order, out_of_order, goes_text, goes_faults, goes_first, opener_slot, orders, read_slot}
 use Rattle.giop_stream.proofs.dispatch.passes.Goals as goal
 
 pub returns-in_err-continues_line-clause-does : goal.returns-in_err-continues_line-clause-does

@@ -1,6 +1,6 @@
 use Rattle.std.proofs.Common.{[], arith, sym, ◌∙◌}
-use Rattle.giop_stream.proofs.Performing.{all_ok, no_faults, wrote_line, line_then, line_failed}
-use Rattle.giop_stream.proofs.Headed.{ready_later, starts_faults, apart, begins, refuses, starts_text, starts_first}
+use Rattle.giop_stream.proofs.Keep.Performing.{all_ok, no_faults, wrote_line, line_then, line_failed}
+use Rattle.giop_stream.proofs.Keep.Headed.{ready_later, starts_faults, apart, begins, refuses, starts_text, starts_first}
 use Rattle.giop_stream.proofs.dispatch.starts.Goals as goal
 
 pub returns-in_err-start_line-clause-does : goal.returns-in_err-start_line-clause-does

@@ -1,8 +1,8 @@
 use Rattle.giop_message.specs.Signatures.{said_by}
 use Rattle.giop_message.specs.MessageReading.{message_reading}
 use Rattle.giop_message.proofs.MessageLaws.{is_causal}
-use Rattle.giop_stream.proofs.Parts.{in_turn}
-use Rattle.giop_stream.proofs.ReadOn.{remains, spells_within}
+use Rattle.giop_stream.proofs.Keep.Parts.{in_turn}
+use Rattle.giop_stream.proofs.Told.ReadOn.{remains, spells_within}
 use Rattle.giop_stream.proofs.engine.remaining.Goals as goal
 
 pub returns : goal.returns

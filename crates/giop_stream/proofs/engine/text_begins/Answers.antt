@@ -2,8 +2,8 @@ use Rattle.giop_message.specs.Signatures.{said_by}
 use Rattle.giop_message.specs.MessageReading.{message_reading}
 use Rattle.giop_message.proofs.MessageLaws.{is_causal}
 use Rattle.giop_stream.specs.Holding.{added}
-use Rattle.giop_stream.proofs.Parts.{in_turn}
-use Rattle.giop_stream.proofs.Further.{text_adds}
+use Rattle.giop_stream.proofs.Keep.Parts.{in_turn}
+use Rattle.giop_stream.proofs.Told.Further.{text_adds}
 use Rattle.giop_stream.proofs.engine.text_begins.Goals as goal
 
 pub returns : goal.returns

@@ -1,5 +1,5 @@
 use Rattle.std.proofs.Common.{sym, ◌∙◌}
-use Rattle.giop_stream.proofs.Sizes.{size_big, size_little}
+use Rattle.giop_stream.proofs.Cuts.Sizes.{size_big, size_little}
 use Rattle.giop_stream.proofs.header.size_of.Goals as goal
 
 pub returns-in-Big : goal.returns-in-Big

@@ -1,8 +1,8 @@
 use Rattle.giop_print.specs.Output.{Writes}
-use Rattle.giop_stream.proofs.Performing.{does_nothing, failed}
+use Rattle.giop_stream.proofs.Keep.Performing.{does_nothing, failed}
 use Rattle.std.proofs.Common.{refl}
 use Rattle.giop_print.proofs.Writing.{writes_failed}
-use Rattle.giop_stream.proofs.Runs.{none_run, given_text, given_on, given_over}
+use Rattle.giop_stream.proofs.Moves.Runs.{none_run, given_text, given_on, given_over}
 use Rattle.giop_stream.proofs.kept.give.Goals as goal
 
 pub returns-in_default-clause-does : goal.returns-in_default-clause-does

@@ -1,4 +1,4 @@
-use Rattle.giop_stream.proofs.Stopped.{text_stays, tally_stays}
+use Rattle.giop_stream.proofs.Cuts.Stopped.{text_stays, tally_stays}
 use Rattle.giop_stream.proofs.laws.behind_a_stop.Goals as goal
 
 pub returns : goal.returns

@@ -1,5 +1,5 @@
 use Rattle.std.proofs.Common.{◌+◌, refl}
-use Rattle.giop_stream.proofs.Loaded.{all_none, front_is, front_found, front_added, all_again}
+use Rattle.giop_stream.proofs.Restored.Loaded.{all_none, front_is, front_found, front_added, all_again}
 use Rattle.giop_stream.proofs.loading.+add_all.Goals as goal
 
 pub returns-then-count-eq0-clause-again : goal.returns-then-count-eq0-clause-again

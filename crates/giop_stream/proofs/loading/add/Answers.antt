@@ -1,5 +1,5 @@
 use Rattle.std.proofs.Common.{◌+◌}
-use Rattle.giop_stream.proofs.Loaded.{open_not_current, current_not_open, current_not_over}
+use Rattle.giop_stream.proofs.Restored.Loaded.{open_not_current, current_not_open, current_not_over}
 use Rattle.giop_stream.proofs.loading.add.Goals as goal
 
 pub returns-in-Current-clause-one_open : goal.returns-in-Current-clause-one_open

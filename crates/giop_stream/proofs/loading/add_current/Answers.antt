@@ -1,5 +1,5 @@
 use Rattle.std.proofs.Common.{◌∙◌}
-use Rattle.giop_stream.proofs.Loaded.{current_again}
+use Rattle.giop_stream.proofs.Restored.Loaded.{current_again}
 use Rattle.giop_stream.proofs.loading.add_current.Goals as goal
 
 pub returns-clause-again : goal.returns-clause-again

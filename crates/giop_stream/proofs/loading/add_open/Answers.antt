@@ -1,5 +1,5 @@
 use Rattle.std.proofs.Common.{◌+◌}
-use Rattle.giop_stream.proofs.Loaded.{open_again, added_one}
+use Rattle.giop_stream.proofs.Restored.Loaded.{open_again, added_one}
 use Rattle.giop_stream.proofs.loading.add_open.Goals as goal
 
 pub returns-then-is_some-clause-ready : goal.returns-then-is_some-clause-ready

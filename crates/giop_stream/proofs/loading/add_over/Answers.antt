@@ -1,4 +1,4 @@
-use Rattle.giop_stream.proofs.Loaded.{over_again, added_one}
+use Rattle.giop_stream.proofs.Restored.Loaded.{over_again, added_one}
 use Rattle.giop_stream.proofs.loading.add_over.Goals as goal
 
 pub returns-then-is_zero-clause-ready : goal.returns-then-is_zero-clause-ready

@@ -1,7 +1,7 @@
 use Rattle.std.proofs.Common.{length, refl, ap, ◌∙◌}
 use Rattle.giop_message.specs.MessageReading.{message_reading}
 use Rattle.giop_stream.specs.Engine.{state_of}
-use Rattle.giop_stream.proofs.LoadedFields.{spells_left, room_for, totals_again, shows_again}
+use Rattle.giop_stream.proofs.Restored.LoadedFields.{spells_left, room_for, totals_again, shows_again}
 use Rattle.giop_stream.proofs.loading.framing_of.Goals as goal
 
 pub returns-then-not-add_all-clause-again : goal.returns-then-not-add_all-clause-again

@@ -1,6 +1,6 @@
 use Rattle.std.proofs.Common.{ℕ, List, ◌+◌, ◌++◌, ap, ◌∙◌}
 use Rattle.giop_checkpoint.specs.Fixed.{fixed_octets}
-use Rattle.giop_stream.proofs.Saved.{whole_is, whole_own, put_same, current_is, ready_fits}
+use Rattle.giop_stream.proofs.Restored.Saved.{whole_is, whole_own, put_same, current_is, ready_fits}
 use Rattle.giop_stream.proofs.saving.write.Goals as goal
 
 pub returns-in-Some-clause-whole : goal.returns-in-Some-clause-whole

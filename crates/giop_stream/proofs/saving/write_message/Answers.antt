@@ -2,7 +2,7 @@ use Rattle.std.proofs.Common.{◌*◌, take, refl, arith}
 use Rattle.std.proofs.lemmas.List.{length-take-le}
 use Rattle.giop_checkpoint.specs.declared.sizes.TheConstants.{FRAME_SIZE}
 use Rattle.giop_checkpoint.specs.Records.{Entry}
-use Rattle.giop_stream.proofs.Saved.{kept_put}
+use Rattle.giop_stream.proofs.Restored.Saved.{kept_put}
 use Rattle.giop_stream.proofs.saving.write_message.Goals as goal
 
 pub returns-clause-put : goal.returns-clause-put

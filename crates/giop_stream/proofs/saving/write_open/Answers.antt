@@ -1,5 +1,5 @@
 use Rattle.std.proofs.Common.{arith}
-use Rattle.giop_stream.proofs.Saved.{put_read, put_all, ready_at}
+use Rattle.giop_stream.proofs.Restored.Saved.{put_read, put_all, ready_at}
 use Rattle.giop_stream.proofs.saving.write_open.Goals as goal
 
 pub loop-slot-preserved : goal.loop-slot-preserved

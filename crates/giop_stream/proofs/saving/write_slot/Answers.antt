@@ -1,5 +1,5 @@
 use Rattle.std.proofs.Common.{refl, arith}
-use Rattle.giop_stream.proofs.Saved.{over_is, open_is, ready_fits}
+use Rattle.giop_stream.proofs.Restored.Saved.{over_is, open_is, ready_fits}
 use Rattle.giop_stream.proofs.saving.write_slot.Goals as goal
 
 pub returns-in-Some-clause-put : goal.returns-in-Some-clause-put

@@ -5,9 +5,9 @@ use Rattle.giop_message.specs.MessageReading.{message_reading}
 use Rattle.giop_message.proofs.MessageLaws.{is_causal}
 use Rattle.giop_stream.specs.Engine.{state_of}
 use Rattle.giop_stream.specs.Holding.{status_of}
-use Rattle.giop_stream.proofs.Parts.{in_turn}
-use Rattle.giop_stream.proofs.Adding.{added_text}
-use Rattle.giop_stream.proofs.EngineLaws.{run_holds, stop_is}
+use Rattle.giop_stream.proofs.Keep.Parts.{in_turn}
+use Rattle.giop_stream.proofs.Keep.Adding.{added_text}
+use Rattle.giop_stream.proofs.Moves.EngineLaws.{run_holds, stop_is}
 use Rattle.giop_stream.proofs.engine.Engine.feed.Goals as goal
 
 pub returns-in-Ok-clause-held : goal.returns-in-Ok-clause-held

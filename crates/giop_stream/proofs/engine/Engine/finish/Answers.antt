@@ -1,8 +1,8 @@
 use Rattle.std.proofs.Common.{sym, ◌∙◌}
 use Rattle.giop_message.specs.Signatures.{said_by}
 use Rattle.giop_message.proofs.MessageLaws.{is_causal, is_ending}
-use Rattle.giop_stream.proofs.Parts.{in_turn}
-use Rattle.giop_stream.proofs.EngineLaws.{final_is, finish_is}
+use Rattle.giop_stream.proofs.Keep.Parts.{in_turn}
+use Rattle.giop_stream.proofs.Moves.EngineLaws.{final_is, finish_is}
 use Rattle.giop_stream.proofs.engine.Engine.finish.Goals as goal
 
 pub returns-in-Ok-clause-text : goal.returns-in-Ok-clause-text

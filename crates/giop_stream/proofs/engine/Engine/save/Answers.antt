@@ -1,7 +1,7 @@
 use Rattle.std.proofs.Common.{ap, sym, ◌∙◌, length}
 use Rattle.std.proofs.lemmas.List.{take_at}
-use Rattle.giop_stream.proofs.Saved.{saved_is}
-use Rattle.giop_stream.proofs.SavedSizes.{HasRoom}
+use Rattle.giop_stream.proofs.Restored.Saved.{saved_is}
+use Rattle.giop_stream.proofs.Restored.SavedSizes.{HasRoom}
 use Rattle.giop_stream.proofs.engine.Engine.save.Goals as goal
 
 pub returns-clause-saves : goal.returns-clause-saves

@@ -1,7 +1,7 @@
 use Rattle.std.proofs.Common.{refl, sym}
 use Rattle.giop_stream.specs.Shown.{shown}
 use Rattle.giop_stream.specs.Steps.{final_totals}
-use Rattle.giop_stream.proofs.Closing.{totals_at_end, no_more}
+use Rattle.giop_stream.proofs.Told.Closing.{totals_at_end, no_more}
 use Rattle.giop_stream.proofs.framing.Framing.final_totals.Goals as goal
 
 pub returns-then-is_cut_short-clause-value : goal.returns-then-is_cut_short-clause-value

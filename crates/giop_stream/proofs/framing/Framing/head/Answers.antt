@@ -6,8 +6,8 @@ use Rattle.giop_stream.specs.Remembering.{Memory}
 use Rattle.giop_stream.specs.Shown.{shown}
 use Rattle.giop_stream.specs.Step.{held_on}
 use Rattle.giop_stream.specs.Showing.{Shows}
-use Rattle.giop_stream.proofs.Headed.{ready_later}
-use Rattle.giop_stream.proofs.Idle.{pushed_is, ready_stopped, ended_text, ended_shows, wrong_step, held_step, held_shows, held_text}
+use Rattle.giop_stream.proofs.Keep.Headed.{ready_later}
+use Rattle.giop_stream.proofs.Moves.Idle.{pushed_is, ready_stopped, ended_text, ended_shows, wrong_step, held_step, held_shows, held_text}
 use Rattle.giop_stream.proofs.framing.Framing.head.Goals as goal
 
 pub returns-in-Some-clause-does : goal.returns-in-Some-clause-does

@@ -4,8 +4,8 @@ use Rattle.giop_message.specs.MessageReading.{message_reading}
 use Rattle.giop_stream.specs.Plays.{stage}
 use Rattle.giop_stream.specs.Shown.{shown}
 use Rattle.giop_print.proofs.Writing.{writes_failed}
-use Rattle.giop_stream.proofs.Doing.{has_current, come_fits, is_next, paid_does, paid_shows}
-use Rattle.giop_stream.proofs.Settling.{on_err, ready_settled}
+use Rattle.giop_stream.proofs.Moves.Doing.{has_current, come_fits, is_next, paid_does, paid_shows}
+use Rattle.giop_stream.proofs.Moves.Settling.{on_err, ready_settled}
 use Rattle.giop_stream.proofs.framing.Framing.pay.Goals as goal
 
 pub returns-in_err-faults-clause-does : goal.returns-in_err-faults-clause-does

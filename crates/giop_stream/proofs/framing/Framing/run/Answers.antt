@@ -5,9 +5,9 @@ use Rattle.giop_stream.specs.Plays.{stage}
 use Rattle.giop_stream.specs.Whose.{whose}
 use Rattle.giop_stream.specs.Shown.{shown}
 use Rattle.giop_print.proofs.Writing.{writes_failed}
-use Rattle.giop_stream.proofs.Doing.{has_current}
-use Rattle.giop_stream.proofs.Settling.{on_err}
-use Rattle.giop_stream.proofs.Running.{run_keeps, run_fits, run_rises, run_does, run_shows, number_fits, one_byte}
+use Rattle.giop_stream.proofs.Moves.Doing.{has_current}
+use Rattle.giop_stream.proofs.Moves.Settling.{on_err}
+use Rattle.giop_stream.proofs.Moves.Running.{run_keeps, run_fits, run_rises, run_does, run_shows, number_fits, one_byte}
 use Rattle.giop_stream.proofs.framing.Framing.run.Goals as goal
 
 pub returns-in_err-faulted-clause-does : goal.returns-in_err-faulted-clause-does

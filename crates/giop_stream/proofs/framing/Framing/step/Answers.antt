@@ -2,9 +2,9 @@ use Rattle.std.proofs.Common.{arith, refl, sym, ◌∙◌}
 use Rattle.std.proofs.lemmas.Result.{on_ok_weaker}
 use Rattle.giop_checkpoint.specs.declared.fault.StreamFault.TheVariants.{StreamLimit}
 use Rattle.giop_stream.specs.Shown.{shown}
-use Rattle.giop_stream.proofs.Headed.{ready_later}
-use Rattle.giop_stream.proofs.Performing.{nothing_text}
-use Rattle.giop_stream.proofs.Idle.{none_by, ready_stopped, behind_step, limit_step, ended_text, ended_shows}
+use Rattle.giop_stream.proofs.Keep.Headed.{ready_later}
+use Rattle.giop_stream.proofs.Keep.Performing.{nothing_text}
+use Rattle.giop_stream.proofs.Moves.Idle.{none_by, ready_stopped, behind_step, limit_step, ended_text, ended_shows}
 use Rattle.giop_stream.proofs.framing.Framing.step.Goals as goal
 
 pub returns-then-is_some-clause-does : goal.returns-then-is_some-clause-does

@@ -7,10 +7,10 @@ use Rattle.giop_stream.specs.Shown.{shown}
 use Rattle.giop_stream.specs.Engine.{State}
 use Rattle.giop_stream.specs.Step.{run, run_state}
 use Rattle.giop_stream.specs.Showing.{IsReached, Shows}
-use Rattle.giop_stream.proofs.Performing.{nothing_text}
-use Rattle.giop_stream.proofs.Doing.{reached_on}
-use Rattle.giop_stream.proofs.Settling.{on_err}
-use Rattle.giop_stream.proofs.Further.{first_of, further, octets_come, run_within, run_state_on, run_text_on, one_run}
+use Rattle.giop_stream.proofs.Keep.Performing.{nothing_text}
+use Rattle.giop_stream.proofs.Moves.Doing.{reached_on}
+use Rattle.giop_stream.proofs.Moves.Settling.{on_err}
+use Rattle.giop_stream.proofs.Told.Further.{first_of, further, octets_come, run_within, run_state_on, run_text_on, one_run}
 use Rattle.giop_stream.proofs.framing.Framing.steps.Goals as goal
 
 pub loop-octet-init : goal.loop-octet-init

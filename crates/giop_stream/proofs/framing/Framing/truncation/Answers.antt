@@ -1,7 +1,7 @@
 use Rattle.std.proofs.Common.{sym}
 use Rattle.giop_print.proofs.Writing.{wrote-nil}
 use Rattle.giop_stream.specs.Shown.{shown}
-use Rattle.giop_stream.proofs.Closing.{truncation_is}
+use Rattle.giop_stream.proofs.Told.Closing.{truncation_is}
 use Rattle.giop_stream.proofs.framing.Framing.truncation.Goals as goal
 
 pub returns-then-is_cut_short : goal.returns-then-is_cut_short

@@ -1,5 +1,5 @@
 use Rattle.std.proofs.Common.{arith}
-use Rattle.giop_stream.proofs.Keepers.{begin_keeps}
+use Rattle.giop_stream.proofs.Keep.Keepers.{begin_keeps}
 use Rattle.giop_stream.proofs.slots.Slots.begin.Goals as goal
 
 pub returns : goal.returns

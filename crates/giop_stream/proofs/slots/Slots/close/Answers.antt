@@ -1,6 +1,6 @@
 use Rattle.std.proofs.Common.{sym}
 use Rattle.std.proofs.lemmas.Bool.{false≢true}
-use Rattle.giop_stream.proofs.Keepers.{own_closes, slot_closes, nobody_closes, no_slot_says}
+use Rattle.giop_stream.proofs.Keep.Keepers.{own_closes, slot_closes, nobody_closes, no_slot_says}
 use Rattle.giop_stream.proofs.slots.Slots.close.Goals as goal
 
 pub returns-in-Own-clause-does : goal.returns-in-Own-clause-does

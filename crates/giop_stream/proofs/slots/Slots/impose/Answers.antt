@@ -1,7 +1,7 @@
 use Rattle.std.proofs.Common.{Some, refl}
 use Rattle.std.proofs.lemmas.Bool.{false≢true}
-use Rattle.giop_stream.proofs.Keepers.{still_imposed, still_alters, own_plays, slot_plays, no_slot_says}
-use Rattle.giop_stream.proofs.SlotLists.{get_some, set_ready}
+use Rattle.giop_stream.proofs.Keep.Keepers.{still_imposed, still_alters, own_plays, slot_plays, no_slot_says}
+use Rattle.giop_stream.proofs.Keep.SlotLists.{get_some, set_ready}
 use Rattle.giop_stream.proofs.slots.Slots.impose.Goals as goal
 
 pub returns-in-Own-clause-does : goal.returns-in-Own-clause-does

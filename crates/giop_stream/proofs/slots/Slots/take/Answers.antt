@@ -1,8 +1,8 @@
 use Rattle.std.proofs.Common.{refl}
 use Rattle.std.proofs.lemmas.Bool.{false≢true}
-use Rattle.giop_stream.proofs.Keepers.{no_slot_says}
-use Rattle.giop_stream.proofs.SlotLists.{get_some}
-use Rattle.giop_stream.proofs.Runs.{own_runs, slot_runs, nobody_runs}
+use Rattle.giop_stream.proofs.Keep.Keepers.{no_slot_says}
+use Rattle.giop_stream.proofs.Keep.SlotLists.{get_some}
+use Rattle.giop_stream.proofs.Moves.Runs.{own_runs, slot_runs, nobody_runs}
 use Rattle.giop_stream.proofs.slots.Slots.take.Goals as goal
 
 pub returns-in-Own-clause-does : goal.returns-in-Own-clause-does

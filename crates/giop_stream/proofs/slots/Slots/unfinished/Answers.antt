@@ -1,7 +1,7 @@
 use Rattle.std.proofs.Common.{◌≡◌, ◌<◌, length, get_or, take_all, sym, ◌∙◌}
 use Rattle.giop_print.proofs.Writing.{wrote-nil, wrote-append, front-parts, flat_map-take}
 use Rattle.giop_print.proofs.Writing.{writes_failed}
-use Rattle.giop_stream.proofs.Closing.{slot_text, slot_says, slot_silent, slots_left}
+use Rattle.giop_stream.proofs.Told.Closing.{slot_text, slot_says, slot_silent, slots_left}
 use Rattle.giop_stream.proofs.slots.Slots.unfinished.Goals as goal
 use Rattle.giop_stream.proofs.slots.Slots.unfinished.Goals.{then-is_some+in_ok-unfinished_line, else-is_some}
 

@@ -1,0 +1,8 @@
+-- How a stream falls into messages, octet by octet.
+pub mod Cutting
+pub mod CutFrom
+pub mod Start
+pub mod OfOctets
+pub mod Stopped
+pub mod Counts
+pub mod Sizes

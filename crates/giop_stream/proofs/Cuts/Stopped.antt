@@ -1,0 +1,47 @@
+-- Behind a stream fault no octet adds a line or is counted.
+use Rattle.std.proofs.Common.{◌≡◌, ℕ, List, [], ◌∷◌, ◌++◌, length, refl, ◌∙◌, sym, ap, append_assoc, Some, arith}
+use Rattle.std.proofs.lemmas.List.{append-nil, length_push}
+use Rattle.giop_checkpoint.specs.declared.fault.StreamFault.{StreamFault}
+use Rattle.giop_message.specs.Reading.{Reading, IsCausal}
+use Rattle.giop_stream.specs.Framing.{Cut, cut, messages, read_of}
+use Rattle.giop_stream.specs.Events.{events_from, events}
+use Rattle.giop_stream.specs.Lines.{lines}
+use Rattle.giop_stream.specs.Text.{lines_text}
+use Rattle.giop_stream.specs.Stream.{start_count, fault_count, text, tally}
+use Rattle.giop_stream.proofs.Cuts.Cutting.{next, parts_by, cut_grows, next_stopped}
+use Rattle.giop_stream.proofs.Happening.Grown.{said_idle, lines_stopped}
+use Rattle.giop_stream.proofs.Moves.EngineAlive.{early_events}
+
+cut_stays : (p : List ℕ) (x : ℕ) (found : ℕ × StreamFault) → (cut p).stop ≡ Some found → cut (p ++ x ∷ []) ≡ cut p
+cut_stays p x found h =
+    let parts = parts_by (cut p) (cut p).current (Some found) refl h in
+    cut_grows p x ∙ (ap (next (length p) x) parts ∙ (next_stopped (cut p).whole (cut p).current (cut p).held found (length p) x ∙ sym parts))
+
+one_stays : (R : Reading) → IsCausal R → (p : List ℕ) (x : ℕ) (found : ℕ × StreamFault) → (cut p).stop ≡ Some found → lines R (p ++ x ∷ []) ≡ lines R p
+unfolding events
+one_stays R causal p x found h =
+    let p' = p ++ x ∷ [] in
+    let same = cut_stays p x found h in
+    let sd = said_idle R causal p p' (omega (arith, length_push p x)) (ap (λ (c : Cut). events_from [] (messages c)) same) (early_events p) in
+    lines_stopped R p' (Some found) (ap (λ (c : Cut). c.stop) same ∙ h) ∙ (rw sd refl ∙ sym (lines_stopped R p (Some found) h))
+
+-- the fault stands
+stop_stays : (p q : List ℕ) (found : ℕ × StreamFault) → (cut p).stop ≡ Some found → (cut (p ++ q)).stop ≡ Some found
+stop_stays p [] found h = rw (append-nil p) h
+stop_stays p (x ∷ q) found h = rw (← append_assoc p (x ∷ []) q) (stop_stays (p ++ x ∷ []) q found (ap (λ (c : Cut). c.stop) (cut_stays p x found h) ∙ h))
+
+lines_stay : (R : Reading) → IsCausal R → (p q : List ℕ) (found : ℕ × StreamFault) → (cut p).stop ≡ Some found → lines R (p ++ q) ≡ lines R p
+lines_stay R causal p [] found h = ap (lines R) (append-nil p)
+lines_stay R causal p (x ∷ q) found h =
+    rw (← append_assoc p (x ∷ []) q) (lines_stay R causal (p ++ x ∷ []) q found
+    (ap (λ (c : Cut). c.stop) (cut_stays p x found h) ∙ h) ∙ one_stays R causal p x found h)
+
+pub text_stays : (R : Reading) → IsCausal R → (p q : List ℕ) (found : ℕ × StreamFault) → (cut p).stop ≡ Some found → text R (p ++ q) ≡ text R p
+unfolding text
+text_stays R causal p q found h = ap lines_text (lines_stay R causal p q found h)
+
+pub tally_stays : (R : Reading) → IsCausal R → (p q : List ℕ) (found : ℕ × StreamFault) → (cut p).stop ≡ Some found → tally R (p ++ q) ≡ tally R p
+unfolding tally read_of
+tally_stays R causal p q found h =
+    let same = lines_stay R causal p q found h in
+    rw (stop_stays p q found h, h) (λ j. record { messages = start_count (same j); faults = fault_count (same j); octets = found.0 })

@@ -1,0 +1,217 @@
+-- What the code does at a request id, by the slots that it finds.
+use Rattle.std.proofs.Common.{inl, inr, ◌≡◌, ℕ, zero, suc, ◌<◌, ◌≤◌, Bool, true, false, List, [], ◌∷◌, length, refl, sym, ap, ◌∙◌, Option, Some, None, arith}
+use Rattle.std.specs.Prelude.{◌==◌, ◌||◌, slice_get, slice_index_or, is_some}
+use Rattle.std.proofs.lemmas.Bool.{cases_eq, eq-eqb, eqb-true, false≢true}
+use Rattle.std.specs.List.{find, position_from}
+use Rattle.giop_sig.specs.Table.{Table}
+use Rattle.giop_message.specs.Signatures.{Kept as Listed}
+use Rattle.giop_message.specs.MessageReading.{message_reading}
+use Rattle.giop_message.specs.Headers.{order, is_fragment, is_opener, is_cancel, has_name}
+use Rattle.giop_stream.specs.declared.fault.ImposedFault.TheVariants.{NoOpen, IdOpen, TooManyOpen, FragmentOrder}
+use Rattle.giop_stream.specs.declared.slots.Slots.{Slots}
+use Rattle.giop_stream.specs.declared.current.Current.{Current}
+use Rattle.giop_stream.specs.Framing.{Message}
+use Rattle.giop_stream.specs.Events.{Open, Opens, Imposed, Cancelled, title, opener_of, at_id, most_open, same_order}
+use Rattle.giop_stream.specs.State.{slots_of}
+use Rattle.giop_stream.specs.Plays.{Scene, Play, plays, one_play, no_play, line_play, lines_of, goes_on}
+use Rattle.giop_stream.specs.Lines.{Line, tells, standing}
+use Rattle.giop_stream.specs.Machine.{utters_kept}
+use Rattle.giop_stream.specs.Text.{line_text}
+use Rattle.giop_stream.specs.Stream.{fault_count}
+use Rattle.giop_cdr.specs.declared.order.Order.{Order}
+use Rattle.giop_stream.specs.Kinds.{may_be_cancelled}
+use Rattle.giop_stream.specs.declared.slots.Slot.{Slot as Kept_slot}
+use Rattle.giop_print.specs.Lines.{continues_line}
+use Rattle.giop_stream.specs.Keeping.{IsSlot, event}
+use Rattle.giop_stream.specs.Whose.{IsNamed, opener_title, whose_named}
+use Rattle.giop_stream.proofs.Keep.Performing.{BeginsSo}
+use Rattle.giop_stream.proofs.Keep.Keepers.{open_slot}
+use Rattle.giop_stream.proofs.Keep.SlotLists.{are_as_many, slots_many}
+use Rattle.giop_stream.proofs.Keep.Naming.{none_open, one_open}
+use Rattle.giop_stream.proofs.Keep.Cases.{opener_twice, opener_no_room, opener_opens, fragment_unknown, fragment_in_order, fragment_out_of_order, cancel_misses, cancel_spares, cancel_closes, other_id}
+
+-- the open message that is found, and where
+pub record IsFound (c : Scene) (m : Message) (k : ℕ) : Type 0 where
+  pub o : Open
+  pub here : slice_get c.live k ≡ Some o
+  pub is : opener_of c.live m ≡ Some o
+
+-- what indexing reads, with this default
+pub read_slot : (items xs : List Kept_slot) (k : ℕ) (d : Kept_slot) → xs ≡ items → k < length items → slice_get items k ≡ Some (slice_index_or xs k d)
+read_slot items xs k d e less = rw e (go items k less)
+  where
+    go : (ys : List Kept_slot) (k : ℕ) → k < length ys → slice_get ys k ≡ Some (slice_index_or ys k d)
+    go [] k less = absurd (omega arith)
+    go (y ∷ ys) zero less = refl
+    go (y ∷ ys) (suc k) less = go ys k (omega arith)
+
+-- ---- What a header says by its kind.
+
+pub fragment_named : (header : List ℕ) → is_fragment header ≡ true → has_name header ≡ true
+fragment_named header f = rw f (go (is_opener header) (is_cancel header))
+  where
+    go : (a b : Bool) → (a || true || b) ≡ true
+    go true b = refl
+    go false b = refl
+
+pub opener_named : (header : List ℕ) → is_opener header ≡ true → has_name header ≡ true
+opener_named header f = rw f refl
+
+pub cancel_named : (header : List ℕ) → is_cancel header ≡ true → has_name header ≡ true
+cancel_named header f = rw f (go (is_opener header) (is_fragment header))
+  where
+    go : (a b : Bool) → (a || b || true) ≡ true
+    go true b = refl
+    go false true = refl
+    go false false = refl
+
+-- ---- Whether there is room.
+
+pub full_is : (n : ℕ) → (n == 16) ≡ true → n ≡ 16
+full_is n e = eqb-true n 16 e
+
+pub room_is : (n : ℕ) → (n == 16) ≡ false → n ≤ 16 → n < 16
+room_is n e less = elim (cases_eq n 16) [ inl same ↦ absurd (false≢true (sym e ∙ eq-eqb n 16 same)) | inr other ↦ omega (arith, less, other) ]
+
+-- ---- A message that becomes open says nothing.
+
+module _ (C : Table) (l : Listed) where
+  pub opens_lines : (c : Scene) (m : Message) (at i : ℕ) → (one_play (message_reading C l) c at (title m) (Opens i)).lines ≡ []
+  unfolding lines_of utters_kept tells standing
+  opens_lines c m at i = go (c.known m.number)
+    where
+      go : (o : Option (List ℕ)) → lines_of (message_reading C l) (event at (title m) (Opens i)) o ≡ []
+      go None = refl
+      go (Some xs) = refl
+
+pub goes_faults : (m : Message) (o : Open) (ls : List Line) → fault_count (goes_on m o ∷ ls) ≡ fault_count ls
+unfolding fault_count
+goes_faults m o ls = refl
+
+-- ---- Whose the octets are then.
+
+pub whose_fragment : (live : List Open) (m : Message) → is_fragment m.header ≡ true → whose_named live m ≡ opener_title (opener_of live m)
+unfolding whose_named
+whose_fragment live m f = rw f refl
+
+pub whose_other : (live : List Open) (m : Message) → is_fragment m.header ≡ false → whose_named live m ≡ Some (title m)
+unfolding whose_named
+whose_other live m f = rw f refl
+
+module _ (C : Table) (l : Listed) (s : Slots) (c : Scene) (m : Message) (now : Current) (i : ℕ) (h : IsNamed C l s c m now i) where
+  -- ---- The search.
+
+  opener_is : has_name m.header ≡ true → opener_of c.live m ≡ find (λ o. o.id == i) c.live
+  unfolding opener_of
+  opener_is name = ap (λ (n : ℕ). find (λ (o : Open). o.id == n) c.live) (h.id_is name)
+
+  pub misses : has_name m.header ≡ true → (r : Option ℕ) → r ≡ position_from (λ slot. slot.id == i) 0 s.slots.items
+      → is_some r ≡ false → opener_of c.live m ≡ None
+  misses name None e n = opener_is name ∙ none_open C l s.slots.items c i h.keeps.slots (sym e)
+  misses name (Some k) e n = absurd cc
+
+  pub finds : has_name m.header ≡ true → (k : ℕ) → Some k ≡ position_from (λ slot. slot.id == i) 0 s.slots.items → IsFound c m k
+  finds name k e =
+      let f = one_open C l s.slots.items c i k h.keeps.slots (sym e) in
+      record { o = f.o; here = f.here; is = opener_is name ∙ f.is }
+
+  pub hits : has_name m.header ≡ true → (r : Option ℕ) → r ≡ position_from (λ slot. slot.id == i) 0 s.slots.items
+      → is_some r ≡ true → (o : Open) × (opener_of c.live m ≡ Some o)
+  hits name None e n = absurd cc
+  hits name (Some k) e n = let f = finds name k e in (f.o, f.is)
+
+  pub as_many : length s.slots.items ≡ length c.live
+  as_many = are_as_many C l s.slots.items (slots_of c.known c.live) h.keeps.slots ∙ slots_many c.known c.live
+
+  -- ---- A message that opens.
+
+  pub twice : (r : Option ℕ) → r ≡ position_from (λ slot. slot.id == i) 0 s.slots.items → is_some r ≡ true
+      → is_fragment m.header ≡ false → is_opener m.header ≡ true
+      → plays (message_reading C l) c (at_id c.live m) ≡ one_play (message_reading C l) c now.place (title m) (Imposed IdOpen)
+  twice r e n f g = let o = hits (opener_named m.header g) r e n in opener_twice (message_reading C l) c c.live m o.0 f g o.1 ∙ rw h.current.place refl
+
+  pub no_room : (r : Option ℕ) → r ≡ position_from (λ slot. slot.id == i) 0 s.slots.items → is_some r ≡ false
+      → length s.slots.items ≡ 16 → is_fragment m.header ≡ false → is_opener m.header ≡ true
+      → plays (message_reading C l) c (at_id c.live m) ≡ one_play (message_reading C l) c now.place (title m) (Imposed TooManyOpen)
+  no_room r e n full f g =
+      let many = as_many in
+      let room : most_open ≤ length c.live = omega (arith, many, full) in
+      opener_no_room (message_reading C l) c c.live m f g (misses (opener_named m.header g) r e n) room ∙ rw h.current.place refl
+
+  pub opens_one : (r : Option ℕ) → r ≡ position_from (λ slot. slot.id == i) 0 s.slots.items → is_some r ≡ false
+      → length s.slots.items < 16 → is_fragment m.header ≡ false → is_opener m.header ≡ true
+      → plays (message_reading C l) c (at_id c.live m) ≡ one_play (message_reading C l) c now.place (title m) (Opens i)
+  opens_one r e n few f g =
+      let many = as_many in
+      let room : length c.live < most_open = omega (arith, many, few) in
+      opener_opens (message_reading C l) c c.live m f g (misses (opener_named m.header g) r e n) room
+      ∙ rw (h.current.place, h.id_is (opener_named m.header g)) refl
+
+  -- ---- A Fragment.
+
+  pub unknown : is_fragment m.header ≡ true → opener_of c.live m ≡ None
+      → plays (message_reading C l) c (at_id c.live m) ≡ one_play (message_reading C l) c now.place (title m) (Imposed NoOpen)
+  unknown f e = fragment_unknown (message_reading C l) c c.live m f e ∙ rw h.current.place refl
+
+  pub in_order : (o : Open) → is_fragment m.header ≡ true → opener_of c.live m ≡ Some o → same_order (order m.header) (order o.opener.header) ≡ true
+      → plays (message_reading C l) c (at_id c.live m) ≡ line_play (goes_on m o) (no_play c)
+  in_order o f e same = let xs = h.alive (fragment_named m.header f) in fragment_in_order (message_reading C l) c c.live m o xs.0 f e xs.1 same
+
+  pub out_of_order : (o : Open) → is_fragment m.header ≡ true → opener_of c.live m ≡ Some o → same_order (order m.header) (order o.opener.header) ≡ false
+      → plays (message_reading C l) c (at_id c.live m) ≡ line_play (goes_on m o) (one_play (message_reading C l) c now.place o.opener (Imposed FragmentOrder))
+  out_of_order o f e other =
+      let xs = h.alive (fragment_named m.header f) in
+      fragment_out_of_order (message_reading C l) c c.live m o xs.0 f e xs.1 other ∙ rw h.current.place refl
+
+  -- the line of a Fragment, as the code writes it
+  pub goes_text : (o : Open) (number : ℕ) → o.opener.number ≡ number → line_text (goes_on m o) ≡ continues_line now.number number
+  goes_text o number e = rw (h.current.number, e) refl
+
+  -- which begins all that is written
+  pub goes_first : (o : Open) → is_fragment m.header ≡ true → opener_of c.live m ≡ Some o
+      → BeginsSo (goes_on m o) (plays (message_reading C l) c (at_id c.live m)).lines
+  goes_first o f e = go (same_order (order m.header) (order o.opener.header)) refl
+    where
+      go : (b : Bool) → same_order (order m.header) (order o.opener.header) ≡ b → BeginsSo (goes_on m o) (plays (message_reading C l) c (at_id c.live m)).lines
+      go true same = record { more = _; is = ap (λ (p : Play). p.lines) (in_order o f e same) }
+      go false other = record { more = _; is = ap (λ (p : Play). p.lines) (out_of_order o f e other) }
+
+  -- the slot of its opener
+  pub opener_slot : (k : ℕ) (o : Open) (x : Kept_slot) → slice_get c.live k ≡ Some o → slice_get s.slots.items k ≡ Some x
+      → IsSlot C l x (record { open_as = o; octets = c.known o.opener.number })
+  opener_slot k o x here e = open_slot C l s x c (Some (title m)) k o h.keeps here e
+
+  pub orders : (o : Open) (a b : Order) (header : List ℕ) (r : Bool) → a ≡ order now.header → b ≡ order header
+      → header ≡ o.opener.header → same_order a b ≡ r → same_order (order m.header) (order o.opener.header) ≡ r
+  orders o a b header r e f g same = rw (h.current.header, ← g, ← e, ← f) same
+
+  -- ---- A CancelRequest.
+
+  pub misses_all : (r : Option ℕ) → r ≡ position_from (λ slot. slot.id == i) 0 s.slots.items → is_some r ≡ false
+      → is_fragment m.header ≡ false → is_opener m.header ≡ false → is_cancel m.header ≡ true
+      → plays (message_reading C l) c (at_id c.live m) ≡ no_play c
+  misses_all r e n f g b = cancel_misses (message_reading C l) c c.live m f g b (misses (cancel_named m.header b) r e n)
+
+  -- the header of the open message that is found
+  pub header_may : (o : Open) (x : Kept_slot) (k : ℕ) (r : Bool) → slice_get c.live k ≡ Some o
+      → slice_get s.slots.items k ≡ Some x → may_be_cancelled x.header ≡ r → may_be_cancelled o.opener.header ≡ r
+  header_may o x k r here e may = let slot = opener_slot k o x here e in rw (← slot.header) may
+
+  pub spares : (o : Open) → is_fragment m.header ≡ false → is_opener m.header ≡ false → is_cancel m.header ≡ true
+      → opener_of c.live m ≡ Some o → may_be_cancelled o.opener.header ≡ false
+      → plays (message_reading C l) c (at_id c.live m) ≡ no_play c
+  spares o f g b e j = cancel_spares (message_reading C l) c c.live m o f g b e j
+
+  pub cancels_one : (o : Open) → is_fragment m.header ≡ false → is_opener m.header ≡ false → is_cancel m.header ≡ true
+      → opener_of c.live m ≡ Some o → may_be_cancelled o.opener.header ≡ true
+      → plays (message_reading C l) c (at_id c.live m) ≡ one_play (message_reading C l) c now.place o.opener (Cancelled now.number)
+  cancels_one o f g b e j = cancel_closes (message_reading C l) c c.live m o f g b e j ∙ rw (h.current.place, h.current.number) refl
+
+  -- ---- Any message.
+
+  pub header_is : (says : List ℕ → Bool) (r : Bool) → says now.header ≡ r → says m.header ≡ r
+  header_is says r e = ap says h.current.header ∙ e
+
+  pub no_name : is_fragment now.header ≡ false → is_opener now.header ≡ false → is_cancel now.header ≡ false
+      → plays (message_reading C l) c (at_id c.live m) ≡ no_play c
+  no_name f g b = other_id (message_reading C l) c c.live m (header_is is_fragment false f) (header_is is_opener false g) (header_is is_cancel false b)

@@ -1,0 +1,116 @@
+-- What is so of every stream, octet for octet: what `Soundness` says, and that a message which begins with its request id is not
+-- over before that is complete.
+use Rattle.std.proofs.Common.{inl, inr, ◌⊎◌, ◌≡◌, ℕ, suc, ◌-◌, ◌<◌, ◌≤◌, true, List, [], ◌∷◌, ◌++◌, length, get_or, refl, sym, ap, ◌∙◌, Some, None, arith, append-nil}
+use Rattle.std.specs.List.{AllByRecursion as Each}
+use Rattle.std.proofs.lemmas.List.{length_push, get_or_push}
+use Rattle.giop_message.specs.Headers.{size, has_name}
+use Rattle.giop_message.specs.Reading.{Reading, End, IsCausal, IsInTurn}
+use Rattle.giop_stream.specs.Framing.{Message, Cut, cut, messages}
+use Rattle.giop_stream.specs.Events.{Takes, Event, Rising, title, place, happens, events, open_after, most_open}
+use Rattle.giop_stream.specs.State.{octets_of}
+use Rattle.giop_stream.specs.Plays.{Scene, Play, octets_then, plays, one_play, starts, with_octet, stage}
+use Rattle.giop_stream.specs.Octet.{Octet, Behind, Ends, Held, Of, octet_of}
+use Rattle.giop_stream.proofs.Lists.{by_growth}
+use Rattle.giop_stream.proofs.Cuts.Cutting.{stopped_at, of_parts}
+use Rattle.giop_stream.proofs.Happening.HappeningsKeep.{IsFew}
+use Rattle.giop_stream.proofs.Cuts.Start.{sound_start}
+use Rattle.giop_stream.proofs.Keep.InPlace.{own_then}
+use Rattle.giop_stream.proofs.Keep.Cases.{octet_own, header_begins}
+use Rattle.giop_stream.proofs.Told.Accepted.{named_accepted}
+use Rattle.giop_stream.proofs.Told.Beginning.{IsAlive, alive_start, named_then, early_octet, first_octet, settled_is, not_past}
+use Rattle.giop_stream.proofs.Happening.Soundness.{IsSound}
+use Rattle.giop_stream.proofs.Moves.OneOctet.{Then, then_is}
+
+known_is : (R : Reading) (p : List ℕ) (i : ℕ) → (stage R p).known i ≡ octets_of R p i
+unfolding stage
+known_is R p i = refl
+
+module _ (R : Reading) (laws : IsInTurn R) (p : List ℕ) (x : ℕ) (sound : IsSound R p) (alive : IsAlive R p) where
+  -- what is kept of the message then
+  kept_now : (m : Message) → (cut p).stop ≡ None → length m.payload ≤ size m.header → length m.payload < size m.header → m.number ≡ suc (length (cut p).whole) → has_name m.header ≡ true → length m.payload < 4
+      → (((cut p).current ≡ None) × (m.payload ≡ [])) ⊎ ((was : Message) × ((cut p).current ≡ Some was) × (m ≡ with_octet was x)) → (plays R (stage R p) (happens (open_after p) m)).scene.known m.number ≡ Some m.payload
+  unfolding messages
+  kept_now m st fits lacks number name few (inl (cur, none)) =
+      let free : length m.payload ≡ 0 = ap length none in
+      let count : length (messages (cut p)) ≡ length (cut p).whole = rw cur (ap length (append-nil (cut p).whole)) in
+      let known : octets_of R p m.number ≡ Some [] = sound.unknown m.number (omega (arith, count, number)) in
+      let some : 0 < size m.header = omega (arith, lacks, free) in
+      let played : plays R (stage R p) (happens (open_after p) m) ≡ record { scene = stage R p; lines = starts m ∷ [] } = rw (first_octet (open_after p) m free some) (header_begins R (stage R p) m [] (known_is R p m.number ∙ known) (named_accepted m.header name)) in
+      ap (λ (q : Play). q.scene.known m.number) played ∙ (known_is R p m.number ∙ (known ∙ ap Some (sym none)))
+  kept_now m st fits lacks number name few (inr (was, cur, is)) = rw is (next was cur (rw is at name) (rw is at few) (rw is at lacks))
+    where
+      next : (was : Message) → (cut p).current ≡ Some was → has_name was.header ≡ true → length (was.payload ++ x ∷ []) < 4 → length (was.payload ++ x ∷ []) < size was.header → (plays R (stage R p) (happens (open_after p) (with_octet was x))).scene.known was.number ≡ Some (was.payload ++ x ∷ [])
+      next was cur name few lacks =
+          let m = with_octet was x in
+          let long = length_push was.payload x in
+          let known : octets_of R p was.number ≡ Some was.payload = alive st was cur name (omega (arith, few, long)) in
+          let last : get_or m.payload (length m.payload - 1) 0 ≡ x = get_or_push was.payload x 0 (length m.payload - 1) (omega (arith, long)) in
+          let e : Event = record { place = place m; whom = title was; what = Takes x } in
+          let played : plays R (stage R p) (happens (open_after p) m) ≡ one_play R (stage R p) (place m) (title was) (Takes x) = rw (early_octet (open_after p) m (omega (arith, long)) few lacks, octet_own R (stage R p) (open_after p) m (not_past m (omega (arith, few))), last) refl in
+          ap (λ (q : Play). q.scene.known was.number) played ∙ (own_then R (stage R p) e ∙ (ap (octets_then R e) (known_is R p was.number ∙ known) ∙ named_then R laws (place m) (title was) was.payload x name (omega (arith, few, long))))
+
+  pub alive_then : (o : Octet) → Then R p x o → IsAlive R (p ++ x ∷ [])
+  unfolding stopped_at of_parts
+  alive_then Behind h st m cur name few = absurd (let no : Some h.0 ≡ None = sym h.1 ∙ (ap (λ (c : Cut). c.stop) (sym h.2.cut_is) ∙ st) in cc)
+  alive_then (Ends fault) h st m cur name few = absurd (let no : Some (suc (length p), fault) ≡ None = ap (λ (c : Cut). c.stop) (sym h.1.cut_is) ∙ st in cc)
+  alive_then (Held front) h st m cur name few = absurd (let no : None ≡ Some m = ap (λ (c : Cut). c.current) (sym h.2.cut_is) ∙ cur in cc)
+  alive_then (Of now) h st m cur name few =
+      let one = h.1 in
+      let adds = one.adds in
+      let s = settled_is (cut p).whole one.m m (ap (λ (c : Cut). c.current) (sym adds.cut_is) ∙ cur) in
+      let same = s.same in
+      let name' : has_name one.m.header ≡ true = ap (λ (n : Message). has_name n.header) (sym same) ∙ name in
+      let few' : length one.m.payload < 4 = omega (arith, few, ap (λ (n : Message). length n.payload) same) in
+      sym (known_is R (p ++ x ∷ []) m.number)
+      ∙ (ap (λ (c : Scene). c.known m.number) adds.stage
+      ∙ (ap (λ (n : Message). (plays R (stage R p) (happens (open_after p) one.m)).scene.known n.number) same ∙ (kept_now one.m h.0 one.fits s.lacks one.number_is name' few' one.from ∙ ap (λ (n : Message). Some n.payload) (sym same))))
+
+-- ---- What is kept throughout.
+
+sound_by : (R : Reading) (p : List ℕ) (x : ℕ) (o : Octet) → Then R p x o → IsSound R (p ++ x ∷ [])
+sound_by R p x Behind h = h.2.sound
+sound_by R p x (Ends fault) h = h.1.sound
+sound_by R p x (Held front) h = h.2.sound
+sound_by R p x (Of now) h = h.1.adds.sound
+
+record IsKept (R : Reading) (p : List ℕ) : Type 0 where
+  sound : IsSound R p
+  alive : IsAlive R p
+
+kept : (R : Reading) → IsCausal R → IsInTurn R → (p : List ℕ) → IsKept R p
+kept R causal laws = by_growth (IsKept R) (record { sound = sound_start R; alive = alive_start R }) (λ p x h.
+    let octet = then_is R causal laws p x h.sound in
+    record { sound = sound_by R p x (octet_of (cut p) (length p) x) octet; alive = alive_then R laws p x h.sound h.alive (octet_of (cut p) (length p) x) octet })
+
+pub sound : (R : Reading) → IsCausal R → IsInTurn R → (p : List ℕ) → IsSound R p
+sound R causal laws p = (kept R causal laws p).sound
+
+pub alive : (R : Reading) → IsCausal R → IsInTurn R → (p : List ℕ) → IsAlive R p
+alive R causal laws p = (kept R causal laws p).alive
+
+-- ---- What depends on no reading.
+
+mute : Reading
+mute = record { reads = λ header xs. []; closes = λ header xs. (End, []) ∷ [] }
+
+mute_causal : IsCausal mute
+unfolding mute
+mute_causal = record { earlier = λ header xs more k h. refl }
+
+mute_in_turn : IsInTurn mute
+unfolding mute
+mute_in_turn = record {
+  named = record { named = λ header xs name few. tt };
+  ordered = record { ordered = λ header xs k. inl refl };
+  closing = record { closed = λ header xs. inr (inl refl); over = λ header xs x no. absurd cc; one_rest = λ header xs x no. absurd cc };
+}
+
+pub few_open : (p : List ℕ) → length (open_after p) ≤ most_open
+unfolding IsFew
+few_open p = (sound mute mute_causal mute_in_turn p).live.few
+
+pub rising_open : (p : List ℕ) → Rising (open_after p)
+rising_open p = (sound mute mute_causal mute_in_turn p).rising
+
+pub early_events : (p : List ℕ) → Each (λ e. e.place ≤ length p) (events p)
+early_events p = (sound mute mute_causal mute_in_turn p).places

@@ -1,0 +1,262 @@
+-- The step is the definitions' next octet: from what an engine holds of a stream, the lines that the octet adds, and what an
+-- engine holds of the longer stream.
+use Rattle.std.proofs.Common.{inl, inr, ◌≡◌, ℕ, suc, ◌+◌, ◌-◌, ◌<◌, ◌≤◌, Bool, true, false, List, [], ◌∷◌, ◌++◌, length, refl, sym, ap, subst, ◌∙◌, Option, Some, None, arith}
+use Rattle.std.specs.Prelude.{nat_lt, nat_le, ◌||◌, if◌then◌else◌, option_map, is_some}
+use Rattle.std.specs.List.{AllByRecursion as Each}
+use Rattle.std.proofs.lemmas.Bool.{cases_eq, eq-eqb, leb-true, ltb-true, ltb-false, and_parts}
+use Rattle.std.proofs.lemmas.List.{length_push}
+use Rattle.giop_message.specs.Headers.{size, has_name, is_fragment}
+use Rattle.giop_message.specs.Reading.{Reading, IsCausal, IsInTurn}
+use Rattle.giop_stream.specs.declared.status.Totals.{Totals}
+use Rattle.giop_stream.specs.Framing.{Message, Cut, cut, messages, read_of}
+use Rattle.giop_stream.specs.Events.{Happening, Event, Open, id, place, opener_of, has_named, goes_past, happens, opened, open_after, Now, now_of}
+use Rattle.giop_stream.specs.Lines.{Line, lines}
+use Rattle.giop_stream.specs.Stream.{fault_count, tally}
+use Rattle.giop_stream.specs.State.{Kept, octets_of, is_open, slots_of}
+use Rattle.giop_stream.specs.Plays.{Scene, Play, scene_at, plays, stage}
+use Rattle.giop_stream.specs.Octet.{Octet, Behind, Ends, Held, Of, octet_of}
+use Rattle.giop_stream.specs.Engine.{State, Own, is_named, own_for, owner_for, state_of}
+use Rattle.giop_stream.specs.Step.{own_octets, live_of, scene_of, id_of, other_of, events_at, played, step_by, step}
+use Rattle.giop_stream.proofs.Lists.{each_weaker}
+use Rattle.giop_stream.proofs.Cuts.Cutting.{settled_messages, settle_stop}
+use Rattle.giop_stream.proofs.Cuts.CutFrom.{settle}
+use Rattle.giop_stream.proofs.Happening.Happenings.{happens_agree, opened_each, not_past, quiet_one}
+use Rattle.giop_stream.proofs.Happening.KeptSlots.{opens_back, kept_own, kept_all, slots_agree}
+use Rattle.giop_stream.proofs.Happening.Grown.{count_append}
+use Rattle.giop_stream.proofs.Happening.Soundness.{IsSound}
+use Rattle.giop_stream.proofs.Told.Beginning.{IsAlive}
+use Rattle.giop_stream.proofs.Happening.Acts.{acts_agree, AgreeOn, plays_agree}
+use Rattle.giop_stream.proofs.Moves.OneOctet.{Adds, IsOf, Then, then_is}
+use Rattle.giop_stream.proofs.Moves.NextOctet.{shape, state_is, tally_by, octet_is, Steps, behind_steps, ends_steps, held_steps, Shows, shows, fragment_named}
+
+-- ---- What the octet does then.
+
+pub plays_live : (R : Reading) (c : Scene) (es : List Event) → (plays R c es).scene.live ≡ opened c.live es
+unfolding plays opened
+plays_live R c [] = refl
+plays_live R c (e ∷ es) = plays_live R (scene_at R c e) es ∙ unfold scene_at in refl
+
+own_agree : (f g : Kept) (live live' : List Open) (now : Now) → live ≡ live'
+    → (is_named now ≡ false → f now.whom.number ≡ g now.whom.number) → own_for f live now ≡ own_for g live' now
+unfolding own_for
+own_agree f g live live' now l h = rw l (go (is_open live' now.whom.number) (is_named now) refl)
+  where
+    held : Option (List ℕ) → Option Own
+    held o = option_map (λ xs. record { title = now.whom; octets = xs }) o
+
+    go : (a b : Bool) → is_named now ≡ b → (if a || b then None else held (f now.whom.number)) ≡ (if a || b then None else held (g now.whom.number))
+    go true b e = refl
+    go false true e = refl
+    go false false e = ap held (h e)
+
+owner_agree : (f g : Kept) (live live' : List Open) (now : Now) (o q : Option Open) → live ≡ live'
+    → (is_named now ≡ false → f now.whom.number ≡ g now.whom.number) → (is_named now ≡ true → o ≡ q)
+    → owner_for f live now o ≡ owner_for g live' now q
+unfolding owner_for
+owner_agree f g live live' now o q l h k = rw l (go (is_named now) refl)
+  where
+    go : (b : Bool) → is_named now ≡ b → (if b then option_map
+        (λ o. o.opener.number) o else if is_open live' now.whom.number || is_some
+        (f now.whom.number) then Some now.whom.number else None)
+        ≡ (if b then option_map (λ o. o.opener.number) q else if is_open live' now.whom.number || is_some
+        (g now.whom.number) then Some now.whom.number else None)
+    go true e = ap (option_map (λ (o : Open). o.opener.number)) (k e)
+    go false e = ap (λ (xs : Option (List ℕ)). if is_open live' now.whom.number || is_some xs then Some now.whom.number else None) (h e)
+
+module _ (R : Reading) (p : List ℕ) (m : Message) (fits : length m.payload ≤ size m.header) (shows : Shows R p m) where
+  s : State
+  s = state_of R p
+
+  now : Now
+  now = now_of m
+
+  live_same : live_of s ≡ open_after p
+  live_same = unfold live_of s state_of in opens_back (octets_of R p) (open_after p)
+
+  same_name : length m.payload ≡ 4 → has_name m.header ≡ true → other_of s now ≡ opener_of (open_after p) m
+  unfolding s now other_of opener_of
+  same_name four name = rw (eq-eqb (length m.payload) 4 four, live_same, shows.name_is four name) refl
+
+  events_same : events_at s now ≡ happens (open_after p) m
+  unfolding s now events_at happens
+  events_same =
+      rw live_same (acts_agree (open_after p) (now_of m) (id_of s now) (id m) (other_of s now) (opener_of (open_after p) m)
+      (λ four name. (shows.name_is four name, same_name four name)) shows.past_is)
+
+  Same : ℕ → Type 0
+  Same i = (scene_of s now).known i ≡ octets_of R p i
+
+  mine : goes_past m ≡ false → Same m.number
+  unfolding Same s now scene_of state_of
+  mine past = kept_own (octets_of R p) (open_after p) m.number (own_octets (state_of R p) (now_of m)) (shows.own_is past)
+
+  theirs : Each (λ o. Same o.opener.number) (open_after p)
+  unfolding Same s now scene_of state_of
+  theirs = kept_all (octets_of R p) (open_after p) m.number (own_octets (state_of R p) (now_of m))
+
+  each_same : Each (λ e. Same e.whom.number) (happens (open_after p) m)
+  each_same =
+      happens_agree (λ e. Same e.whom.number) (open_after p) m fits (λ past what. mine past)
+      (each_weaker (λ o. Same o.opener.number) (λ o. (what : Happening) → Same o.opener.number) (λ o k what. k)
+      (open_after p) theirs)
+
+  agree : AgreeOn Same (plays R (scene_of s now) (events_at s now)) (plays R (stage R p) (happens (open_after p) m))
+  unfolding Same scene_of stage
+  agree =
+      rw events_same (plays_agree R Same (scene_of s now) (stage R p) (happens (open_after p) m) live_same (λ i h. h) each_same)
+
+  slots_same : (let a = plays R (stage R p) (happens (open_after p) m) in let b = plays R (scene_of s now)
+      (events_at s now) in slots_of a.scene.known a.scene.live ≡ slots_of b.scene.known b.scene.live)
+  unfolding stage open_after
+  slots_same =
+      let a = plays R (stage R p) (happens (open_after p) m) in
+      let b = plays R (scene_of s now) (events_at s now) in
+      let same : Each (λ o. Same o.opener.number) a.scene.live =
+      subst (Each (λ o. Same o.opener.number)) (sym (plays_live R (stage R p) (happens (open_after p) m))) (then_same) in
+      slots_agree a.scene.known b.scene.known a.scene.live
+      (each_weaker (λ o. Same o.opener.number) (λ o. a.scene.known o.opener.number ≡ b.scene.known o.opener.number)
+      (λ o k. sym (agree.known o.opener.number k)) a.scene.live same)
+      ∙ ap (slots_of b.scene.known) (sym agree.live)
+    where
+      then_same : Each (λ o. Same o.opener.number) (opened (open_after p) (happens (open_after p) m))
+      then_same = opened_each (λ whom. Same whom.number) (open_after p) (happens (open_after p) m) theirs each_same
+
+  named_same : is_named now ≡ true → length m.payload < size m.header → opener_of (plays R (stage R p) (happens (open_after p) m)).scene.live m ≡ other_of s now
+  unfolding now stage s
+  named_same named less =
+      let both = and_parts (is_fragment m.header) (nat_le 4 (length m.payload)) named in
+      let four : 4 ≤ length m.payload = leb-true 4 (length m.payload) both.1 in
+      let quiet : (plays R (stage R p) (happens (open_after p) m)).scene.live ≡ open_after p =
+      plays_live R (stage R p) (happens (open_after p) m) ∙ quiet_one (open_after p) m less (inr both.0) in
+      ap (λ (live : List Open). opener_of live m) quiet ∙ sym (elim (cases_eq (length m.payload) 4) [
+        | inl e ↦ same_name e (fragment_named m.header both.0)
+        | inr e ↦ shows.past_is (omega (arith, four, e)) both.0
+      ])
+
+  unnamed_same : is_named now ≡ false → (plays R (stage R p) (happens (open_after p) m)).scene.known m.number
+      ≡ (plays R (scene_of s now) (events_at s now)).scene.known m.number
+  unfolding now
+  unnamed_same named = sym (agree.known m.number (mine (not_past m (unfold has_named in named))))
+
+  played_is : (whole : List Message) (t : Totals) → m.number ≡ suc (length whole)
+      → t ≡ record {
+        messages = m.number;
+        faults = s.totals.faults + fault_count
+            (plays R (scene_of s now) (events_at s now)).lines;
+        octets = place m;
+      }
+      → shape t (settle whole m) (plays R (stage R p) (happens (open_after p) m)).scene ≡ (played s now (plays R (scene_of s now) (events_at s now))).state
+  unfolding settle shape played now
+  played_is whole t number et = go (nat_lt (length m.payload) (size m.header)) refl
+    where
+      a : Play
+      a = plays R (stage R p) (happens (open_after p) m)
+
+      b : Play
+      b = plays R (scene_of s now) (events_at s now)
+
+      go : (c : Bool) → nat_lt (length m.payload) (size m.header) ≡ c
+          → shape t (if c then record {
+            whole = whole;
+            current = Some m;
+            held = [];
+            stop = None;
+          } else record { whole = whole ++ m ∷ []; current = None; held = []; stop = None }) a.scene ≡ record {
+            totals = record { messages = m.number; faults = s.totals.faults + fault_count b.lines; octets = place m };
+            stop = None;
+            held = if c then m.header else [];
+            left = size m.header - length m.payload;
+            slots = slots_of b.scene.known b.scene.live;
+            own = if c then own_for b.scene.known b.scene.live now else None;
+            owner = if c then owner_for b.scene.known b.scene.live now (other_of s now) else None;
+          }
+      go true e =
+          let less = ltb-true (length m.payload) (size m.header) e in
+          let live' = sym agree.live in
+          let own' = own_agree a.scene.known b.scene.known a.scene.live b.scene.live now live' unnamed_same in
+          let owner' =
+          owner_agree a.scene.known b.scene.known a.scene.live b.scene.live now (opener_of a.scene.live m)
+          (other_of s now) live' unnamed_same (λ named. named_same named less) in
+          λ j. record {
+            totals = et j;
+            stop = None;
+            held = m.header;
+            left = size m.header - length m.payload;
+            slots = slots_same j;
+            own = own' j;
+            owner = owner' j;
+          }
+      go false e =
+          let none : 0 ≡ size m.header - length m.payload = omega (arith, ltb-false (length m.payload) (size m.header) e) in
+          λ j. record { totals = et j; stop = None; held = []; left = none j; slots = slots_same j; own = None; owner = None }
+
+-- ---- The step.
+
+read_settled : (p : List ℕ) (whole : List Message) (m : Message) → read_of p (settle whole m).stop ≡ length p
+unfolding read_of
+read_settled p whole m = rw (settle_stop whole m) refl
+
+totals : ℕ → ℕ → ℕ → Totals
+totals a b n = record { messages = a; faults = b; octets = n }
+
+counts_by : (R : Reading) (p : List ℕ) (m : Message) (ls : List Line)
+    → totals m.number (fault_count (lines R p) + fault_count ls) (place m) ≡ totals m.number
+    ((state_of R p).totals.faults + fault_count ls) (place m)
+unfolding state_of tally
+counts_by R p m ls = refl
+
+counted : (whole : List Message) (m : Message) → m.number ≡ suc (length whole) → length (messages (settle whole m)) ≡ m.number
+counted whole m number = ap length (settled_messages whole m) ∙ (omega (arith, length_push whole m) ∙ sym number)
+
+-- the totals once the octet of m is done with
+pub tally_settled : (R : Reading) (p : List ℕ) (x : ℕ) (m : Message) → m.number ≡ suc (length (cut p).whole)
+    → (let play = plays R (stage R p) (happens (open_after p) m) in Adds R p (p ++ x ∷ [])
+    (settle (cut p).whole m) play.lines play.scene)
+    → (let play = plays R (stage R p) (happens (open_after p) m) in tally R (p ++ x ∷ [])
+    ≡ record { messages = m.number; faults = fault_count (lines R p) + fault_count play.lines; octets = suc (length p) })
+tally_settled R p x m number adds =
+    let p' = p ++ x ∷ [] in
+    let whole = (cut p).whole in
+    tally_by R p' (settle whole m) m.number _ (suc (length p)) adds.cut_is
+    (adds.sound.starts ∙ (ap (λ (c : Cut). length (messages c)) adds.cut_is ∙ counted whole m number))
+    (ap fault_count adds.lines ∙ count_append (lines R p) _) (read_settled p' whole m ∙ omega (arith, length_push p x))
+
+module _ (R : Reading) (causal : IsCausal R) (laws : IsInTurn R) (p : List ℕ) (x : ℕ) (sound : IsSound R p) (alive : IsAlive R p) where
+  of_steps : (now : Now) → (cut p).stop ≡ None → IsOf R p x now
+      → Steps R p (p ++ x ∷ []) (played (state_of R p) now
+      (plays R (scene_of (state_of R p) now) (events_at (state_of R p) now)))
+  unfolding s now totals played
+  of_steps now st h =
+      subst (λ (n : Now). Steps R p (p ++ x ∷ [])
+      (played (state_of R p) n (plays R (scene_of (state_of R p) n) (events_at (state_of R p) n)))) h.is_now
+      (go (shows R p x sound alive h.m st h.number_is h.from))
+    where
+      go : Shows R p h.m → Steps R p (p ++ x ∷ [])
+          (played (state_of R p) (now_of h.m) (plays R (scene_of (state_of R p) (now_of h.m))
+          (events_at (state_of R p) (now_of h.m))))
+      go shown =
+          let m = h.m in
+          let p' = p ++ x ∷ [] in
+          let whole = (cut p).whole in
+          let s = state_of R p in
+          let play = plays R (scene_of s (now_of m)) (events_at s (now_of m)) in
+          let same = agree R p m h.fits shown in
+          let faults : fault_count (lines R p) + fault_count (plays R (stage R p) (happens (open_after p) m)).lines
+          ≡ fault_count (lines R p) + fault_count play.lines =
+          ap (λ (l : List Line). fault_count (lines R p) + fault_count l) (sym same.lines) in
+          let t = tally_settled R p x m h.number_is h.adds ∙ (λ j. totals m.number (faults j) (sym h.place_is j)) in
+          record {
+            state = state_is R p' _ (settle whole m) _ t h.adds.cut_is h.adds.stage
+                ∙ played_is R p m h.fits shown whole _ h.number_is (counts_by R p m play.lines);
+            lines = h.adds.lines ∙ ap (λ (l : List Line). lines R p ++ l) (sym same.lines);
+          }
+
+  steps_by : (o : Octet) → Then R p x o → Steps R p (p ++ x ∷ []) (step_by R (state_of R p) o)
+  steps_by Behind h = behind_steps R p x h.0 h.1 h.2
+  steps_by (Ends fault) h = ends_steps R p x fault h.0 h.1
+  steps_by (Held front) h = held_steps R p x front h.0 h.1 h.2
+  steps_by (Of now) h = of_steps now h.0 h.1
+
+  pub steps : Steps R p (p ++ x ∷ []) (step R (state_of R p) x)
+  unfolding step
+  steps = rw (octet_is R p x sound) (steps_by (octet_of (cut p) (length p) x) (then_is R causal laws p x sound))

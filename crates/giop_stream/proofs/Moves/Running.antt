@@ -1,0 +1,276 @@
+-- Octets that are of a message's contents alone, all at once: what is known of the stream with them, and that the code does
+-- their steps.
+use Rattle.std.proofs.Common.{◌≡◌, ℕ, suc, ◌+◌, ◌-◌, ◌^◌, ◌<◌, ◌≤◌, Bool, true, false, List, [], ◌∷◌, ◌++◌, length, get_or, refl, sym, ap, subst, ◌∙◌, append_assoc, append-nil, length-append, Option, Some, None, Result, Ok, Err, arith}
+use mir.Val.{bool_byte}
+use Rattle.std.specs.Prelude.{OnOk}
+use Rattle.std.specs.Result.{OkIff, result_unwrap_or}
+use Rattle.std.proofs.lemmas.Bool.{le-ltb, ne_eqb}
+use Rattle.std.proofs.lemmas.List.{length_push, get_or_push}
+use Rattle.giop_print.specs.Output.{OutLog, Writes}
+use Rattle.giop_sig.specs.Table.{Table}
+use Rattle.giop_message.specs.Headers.{size}
+use Rattle.giop_message.specs.Signatures.{Kept as Listed, said_by}
+use Rattle.giop_message.specs.MessageReading.{message_reading}
+use Rattle.giop_message.specs.Reading.{Reading, IsCausal, IsInTurn}
+use Rattle.giop_message.proofs.MessageLaws.{is_causal}
+use Rattle.giop_stream.specs.declared.slots.Slots.{Slots}
+use Rattle.giop_stream.specs.Framing.{Message, Cut, with_payload, limit, cut, messages, read_of}
+use Rattle.giop_stream.specs.Events.{Takes, Title, Open, Rising, happens, at_octet, changed, open_after}
+use Rattle.giop_stream.specs.Lines.{lines}
+use Rattle.giop_stream.specs.Text.{lines_text}
+use Rattle.giop_stream.specs.Stream.{start_count, fault_count, tally}
+use Rattle.giop_stream.specs.Plays.{Scene, Play, plays, scene_at, stage, with_octet}
+use Rattle.giop_stream.specs.Keeping.{Keeps, play_to}
+use Rattle.giop_stream.specs.Playing.{one_if}
+use Rattle.giop_stream.specs.Runs.{run_play}
+use Rattle.giop_stream.specs.Whose.{Knows, whose, whose_in}
+use Rattle.giop_stream.specs.Remembering.{Memory}
+use Rattle.giop_stream.specs.Engine.{State, state_of}
+use Rattle.giop_stream.specs.Step.{runs}
+use Rattle.giop_stream.specs.Showing.{IsReached, Shows, Does}
+use Rattle.giop_stream.specs.Octet.{header_of, come_of}
+use Rattle.giop_stream.proofs.Cuts.Cutting.{next, of_parts, parts_by, cut_grows, next_payload}
+use Rattle.giop_stream.proofs.Cuts.CutFrom.{settle}
+use Rattle.giop_stream.proofs.Happening.Grown.{count_append}
+use Rattle.giop_stream.proofs.Happening.Soundness.{CurrentFits}
+use Rattle.giop_stream.proofs.Happening.StepCases.{place_more}
+use Rattle.giop_stream.proofs.Happening.StepCases.{if_some}
+use Rattle.giop_stream.proofs.Keep.Taken.{whose_elsewhere}
+use Rattle.giop_stream.proofs.Keep.Parts.{in_turn, octet_does, whose_next}
+use Rattle.giop_stream.proofs.Moves.OneOctet.{Adds, paid_is}
+use Rattle.giop_stream.proofs.Moves.NextOctet.{read_all}
+use Rattle.giop_stream.proofs.Moves.EngineAlive.{sound}
+use Rattle.giop_stream.proofs.Moves.Held.{shows_by}
+use Rattle.giop_stream.proofs.Moves.Doing.{does_run, runs_on, all_read, knows_at, faults_at, header_is, come_is, number_is, size_few}
+use Rattle.giop_stream.proofs.Moves.Settling.{goes_on}
+
+-- ---- One of them.
+
+-- So many octets more are of the contents of this message alone: its request id has come, and none of them is its last.
+pub record Within (p : List ℕ) (m : Message) (n : ℕ) : Type 0 where
+  pub free : (cut p).stop ≡ None
+  pub current : (cut p).current ≡ Some m
+  pub named : 4 ≤ length m.payload
+  pub before_last : length m.payload + n < size m.header
+  pub room : length p + n ≤ limit
+
+within_grows : (p : List ℕ) (m : Message) (x n : ℕ) → Within p m (suc n) → cut (p ++ x ∷ []) ≡ of_parts (cut p).whole (Some (with_octet m x)) [] None
+within_grows p m x n h =
+    cut_grows p x
+    ∙ (ap (next (length p) x) (parts_by (cut p) (Some m) None h.current h.free)
+    ∙ (next_payload (cut p).whole m (cut p).held (length p) x (le-ltb limit (suc (length p)) (omega (arith, h.room)))
+    ∙ goes_on (cut p).whole (with_octet m x) (omega (arith, h.before_last, length_push m.payload x))))
+
+within_on : (p : List ℕ) (m : Message) (x n : ℕ) → Within p m (suc n) → Within (p ++ x ∷ []) (with_octet m x) n
+unfolding of_parts
+within_on p m x n h =
+    let grown = within_grows p m x n h in
+    record {
+      free = ap (λ (d : Cut). d.stop) grown;
+      current = ap (λ (d : Cut). d.current) grown;
+      named = omega (arith, h.named, length_push m.payload x);
+      before_last = omega (arith, h.before_last, length_push m.payload x);
+      room = omega (arith, h.room, length_push p x);
+    }
+
+-- it does nothing but come to the message whose it is,
+comes_alone : (live : List Open) (m : Message) → 4 < length m.payload → length m.payload < size m.header → happens live m ≡ at_octet live m
+unfolding happens
+comes_alone live m past less =
+    rw (
+      ne_eqb (length m.payload) 0 (λ e. omega (arith, past, e)),
+      ne_eqb (length m.payload) 4
+          (λ e. omega (arith, past, e)),
+      ne_eqb (length m.payload) (size m.header) (λ e. omega (arith, less, e)),
+    )
+    (append-nil (at_octet live m))
+
+-- whose the next one is too
+whose_on : (live : List Open) (m : Message) (x : ℕ) → 4 ≤ length m.payload → whose live (with_octet m x) ≡ whose live m
+whose_on live m x named =
+    whose_elsewhere live (with_octet m x) (ne_eqb (length (m.payload ++ x ∷ [])) 4
+    (λ e. omega (arith, named, length_push m.payload x, e))) ∙ whose_next live m x
+
+module _ (C : Table) (l : Listed) where
+  takes_live : (at : ℕ) (c : Scene) (w : Option Title) (x : ℕ) → (play_to C l at c w (Takes x)).scene.live ≡ c.live
+  unfolding scene_at changed
+  takes_live at c None x = refl
+  takes_live at c (Some w) x = refl
+
+  module _ (p : List ℕ) (m : Message) (x n : ℕ) (h : Within p m (suc n)) where
+    at_hand : CurrentFits (length p) (cut p) m
+    at_hand =
+        if_some (CurrentFits (length p) (cut p)) (cut p).current m h.current
+        ((sound (message_reading C l) (is_causal (said_by C l)) (in_turn C l) p).fits h.free).current
+
+    -- what the octet does to the message whose it is
+    abbrev taken : Play
+    taken = play_to C l (suc (length p)) (stage (message_reading C l) p) (whose (open_after p) m) (Takes x)
+
+    octet_takes : plays (message_reading C l) (stage (message_reading C l) p) (happens (open_after p) (with_octet m x)) ≡ taken
+    unfolding stage
+    octet_takes =
+        let last : get_or (m.payload ++ x ∷ []) (length (m.payload ++ x ∷ []) - 1) 0 ≡ x =
+        get_or_push m.payload x 0 (length (m.payload ++ x ∷ []) - 1) (omega (arith, length_push m.payload x)) in
+        let alone =
+        comes_alone (open_after p) (with_octet m x) (omega (arith, h.named, length_push m.payload x))
+        (omega (arith, h.before_last, length_push m.payload x)) in
+        rw (alone, ← whose_next (open_after p) m x)
+        (octet_does C l (stage (message_reading C l) p) (with_octet m x) x (suc (length p)) last
+        (place_more m x (length p) at_hand.place_is))
+
+    octet_adds : Adds (message_reading C l) p (p ++ x ∷ []) (settle (cut p).whole (with_octet m x)) taken.lines taken.scene
+    octet_adds =
+        let so = sound (message_reading C l) (is_causal (said_by C l)) (in_turn C l) p in
+        let room = le-ltb limit (suc (length p)) (omega (arith, h.room)) in
+        rw octet_takes at (paid_is (message_reading C l) (is_causal (said_by C l)) (in_turn C l) p x so m h.free h.current room)
+
+    octet_whose : whose (open_after (p ++ x ∷ [])) (with_octet m x) ≡ whose (open_after p) m
+    unfolding stage
+    octet_whose =
+        let live : open_after (p ++ x ∷ []) ≡ open_after p =
+        ap (λ (c : Scene). c.live) octet_adds.stage
+        ∙ takes_live (suc (length p)) (stage (message_reading C l) p) (whose (open_after p) m) x in
+        ap (λ (open' : List Open). whose open' (with_octet m x)) live ∙ whose_on (open_after p) m x h.named
+
+-- ---- All of them.
+
+-- what they make of the stream p, in which this message is the current one
+pub record IsRun (C : Table) (l : Listed) (p : List ℕ) (m : Message) (q : List ℕ) : Type 0 where
+  pub within : Within (p ++ q) (with_payload m (m.payload ++ q)) 0
+  pub lines : lines (message_reading C l) (p ++ q) ≡ lines
+      (message_reading C l) p ++ (run_play C l (length p) (stage (message_reading C l) p) (whose (open_after p) m) q).lines
+  pub stage : stage (message_reading C l) (p ++ q) ≡ (run_play C l (length p) (stage (message_reading C l) p) (whose (open_after p) m) q).scene
+  pub whose : whose (open_after (p ++ q)) (with_payload m (m.payload ++ q)) ≡ whose (open_after p) m
+
+module _ (C : Table) (l : Listed) where
+  pub run_is : (q p : List ℕ) (m : Message) → Within p m (length q) → IsRun C l p m q
+  unfolding run_play
+  run_is [] p m h =
+      let R = message_reading C l in
+      let same = append-nil p in
+      let none = append-nil m.payload in
+      record {
+        within = subst (λ (z : List ℕ). Within (p ++ []) (with_payload m z) 0) (sym none) (subst (λ (r : List ℕ). Within r m 0) (sym same) h);
+        lines = ap (lines R) same ∙ sym (append-nil (lines R p));
+        stage = ap (stage R) same;
+        whose = λ j. whose (open_after (same j)) (with_payload m (none j));
+      }
+  run_is (x ∷ q) p m h =
+      let R = message_reading C l in
+      let p' = p ++ x ∷ [] in
+      let more = run_is q p' (with_octet m x) (within_on p m x (length q) h) in
+      let all : p' ++ q ≡ p ++ x ∷ q = append_assoc p (x ∷ []) q in
+      let payload : (m.payload ++ x ∷ []) ++ q ≡ m.payload ++ x ∷ q = append_assoc m.payload (x ∷ []) q in
+      let at : length p' ≡ suc (length p) = omega (arith, length_push p x) in
+      let one = octet_adds C l p m x (length q) h in
+      let who = octet_whose C l p m x (length q) h in
+      record {
+        within = subst (λ (z : List ℕ). Within (p ++ x ∷ q) (with_payload m z) 0) payload
+            (subst (λ (r : List ℕ). Within r (with_payload m ((m.payload ++ x ∷ []) ++ q)) 0) all more.within);
+        lines = ap (lines R) (sym all) ∙ (more.lines
+            ∙ ((λ j. one.lines j ++ (run_play C l (at j) (one.stage j) (who j) q).lines) ∙ append_assoc (lines R p) _ _));
+        stage = ap (stage R) (sym all) ∙ (more.stage ∙ (λ j. (run_play C l (at j) (one.stage j) (who j) q).scene));
+        whose = (λ j. whose (open_after (sym all j)) (with_payload m (sym payload j))) ∙ (more.whose ∙ who);
+      }
+
+-- ---- What the fields show with them.
+
+-- a fault, as the code counts it
+pub one_byte : (b : Bool) → bool_byte b ≡ one_if b
+one_byte true = refl
+one_byte false = refl
+
+-- so many octets as a size counts fit a number of 32 bits
+pub number_fits : {E : Type 0} (r : Result ℕ E) (n other : ℕ) → n < 2 ^ 32 → OkIff r (n < 2 ^ 32) n → result_unwrap_or r other ≡ n
+number_fits (Ok k) n other less h = h.1
+number_fits (Err e) n other less h = absurd (h less)
+
+-- the current message is the one that started last
+started_last : (R : Reading) → IsCausal R → IsInTurn R → (p : List ℕ) (m : Message) → (cut p).stop ≡ None
+    → (cut p).current ≡ Some m → start_count (lines R p) ≡ m.number
+unfolding messages
+started_last R causal laws p m free current =
+    let so = sound R causal laws p in
+    let at_hand = if_some (CurrentFits (length p) (cut p)) (cut p).current m current (so.fits free).current in
+    let count : length (messages (cut p)) ≡ length (cut p).whole + 1 = rw current (length_push (cut p).whole m) in
+    omega (arith, so.starts, count, at_hand.number_is)
+
+module _ (C : Table) (l : Listed) (s : State) (reached : IsReached C l s) (m : Memory) (h : Shows C l m s)
+    (free : m.stopped ≡ None) (c : Message) (current : (cut reached.stream).current ≡ Some c) (q : List ℕ) (named : 4 ≤ m.come)
+    (before_last : m.come + length q < size m.header) (room : m.totals.octets + length q ≤ 2 ^ 48) where
+  abbrev R : Reading
+  R = message_reading C l
+
+  abbrev p : List ℕ
+  p = reached.stream
+
+  all : m.totals.octets ≡ length p
+  all = all_read C l s reached m h free
+
+  begins : Within p c (length q)
+  unfolding limit
+  begins =
+      let come = come_is C l s reached m h free c current in
+      record {
+        free = runs_on C l s reached m h free;
+        current = current;
+        named = omega (arith, named, come);
+        before_last = omega (arith, before_last, come, ap size (header_is C l s reached m h free c current));
+        room = omega (arith, room, all);
+      }
+
+  -- there is room to count them
+  pub run_fits : m.come + length q < 2 ^ 32
+  run_fits = omega (arith, before_last, size_few C l s reached m h free c current)
+
+  run : IsRun C l p c q
+  run = run_is C l q p c begins
+
+  -- their play
+  abbrev pub ran : Play
+  ran = run_play C l m.totals.octets (stage R p) (whose (open_after p) c) q
+
+  grows_by_run : lines R (p ++ q) ≡ lines R p ++ ran.lines
+  grows_by_run = rw all run.lines
+
+  -- what the slots keep before them
+  pub run_keeps : Keeps C l m.slots (stage R p) (whose (open_after p) c)
+  run_keeps = subst (λ (o : Option Message). Keeps C l m.slots (stage R p) (whose_in (open_after p) o)) current (knows_at C l s reached m h free)
+
+  pub run_rises : Rising (stage R p).live
+  unfolding stage
+  run_rises = (sound R (is_causal (said_by C l)) (in_turn C l) p).rising
+
+  pub run_does : {A E : Type 0} (result : Result A E) (before after : OutLog) (f : Memory)
+      → Writes result before after (lines_text ran.lines) → OnOk result (Shows C l f (state_of R (p ++ q)))
+      → Does C l result before after f (runs R s q)
+  run_does result before after f text shows = does_run C l s reached m h q ran.lines result before after f grows_by_run text shows
+
+  knows_so : (slots : Slots) → Keeps C l slots ran.scene (whose (open_after p) c) → Knows C l slots (p ++ q)
+  knows_so slots k =
+      let scene : ran.scene ≡ stage R (p ++ q) = rw all (sym run.stage) in
+      let who : whose (open_after p) c ≡ whose_in (open_after (p ++ q)) (cut (p ++ q)).current =
+      sym (ap (whose_in (open_after (p ++ q))) run.within.current ∙ run.whose) in
+      subst (Keeps C l slots (stage R (p ++ q))) who (subst (λ (s : Scene). Keeps C l slots s (whose (open_after p) c)) scene k)
+
+  pub run_shows : (b : Memory) → b.totals.messages ≡ m.totals.messages
+      → b.totals.faults ≡ m.totals.faults + fault_count ran.lines → b.totals.octets ≡ m.totals.octets + length q
+      → b.stopped ≡ m.stopped → b.header ≡ m.header → b.come ≡ m.come + length q
+      → Keeps C l b.slots ran.scene (whose (open_after p) c)
+      → Shows C l b (state_of R (p ++ q))
+  unfolding tally
+  run_shows b messages faults octets stopped header come keeps =
+      let then = run.within.current in
+      let started : b.totals.messages ≡ start_count (lines R (p ++ q)) =
+      messages ∙ (sym (number_is C l s reached m h free c current)
+      ∙ sym (started_last R (is_causal (said_by C l)) (in_turn C l) (p ++ q)
+      (with_payload c (c.payload ++ q)) run.within.free then)) in
+      let grown : fault_count (lines R (p ++ q)) ≡ fault_count (lines R p) + fault_count ran.lines =
+      ap fault_count grows_by_run ∙ count_append (lines R p) ran.lines in
+      let faulted : b.totals.faults ≡ fault_count (lines R (p ++ q)) = omega (arith, faults, grown, faults_at C l s reached m h) in
+      let read : b.totals.octets ≡ read_of (p ++ q) (cut (p ++ q)).stop =
+      omega (arith, octets, all, length-append p q) ∙ sym (read_all (p ++ q) run.within.free) in
+      shows_by C l (p ++ q) b (cut (p ++ q)) refl run.within.free (λ j. record { messages = started j; faults = faulted j; octets = read j }) (stopped ∙ free)
+      (header ∙ (header_is C l s reached m h free c current ∙ ap (λ (o : Option Message). header_of o (cut (p ++ q)).held) (sym then)))
+      (omega (arith, come, come_is C l s reached m h free c current, length-append c.payload q) ∙ ap come_of (sym then)) (knows_so b.slots keeps)

@@ -1,0 +1,6 @@
+-- What is saved of a stream, and what is loaded.
+pub mod Saved
+pub mod SavedSizes
+pub mod Loaded
+pub mod LoadedFields
+pub mod LoadRanges

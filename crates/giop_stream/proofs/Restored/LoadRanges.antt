@@ -1,0 +1,194 @@
+-- What is remembered of a stream lies in the ranges of a checkpoint's fixed part, and is what an engine may remember.
+use Rattle.std.proofs.Common.{◌≡◌, ℕ, ◌+◌, ◌*◌, ◌-◌, ◌^◌, ◌<◌, ◌≤◌, Bool, true, false, List, [], ◌∷◌, ◌++◌, length, refl, sym, ◌∙◌, Option, Some, None, arith}
+use Rattle.std.specs.Prelude.{nat_lt, if◌then◌else◌, IfSome}
+use Rattle.std.proofs.lemmas.Bool.{ltb-true, ltb-false}
+use Rattle.giop_cdr.specs.Numbers.{AreOctets}
+use Rattle.giop_sig.specs.Table.{Table}
+use Rattle.giop_message.specs.declared.message.Message.{Message as Kept_message}
+use Rattle.giop_message.specs.Headers.{size}
+use Rattle.giop_message.specs.Reading.{Reading, IsCausal, IsInTurn}
+use Rattle.giop_message.specs.Signatures.{Kept as Listed, said_by}
+use Rattle.giop_message.specs.MessageReading.{message_reading}
+use Rattle.giop_message.proofs.MessageLaws.{is_causal}
+use Rattle.giop_checkpoint.specs.declared.fault.StreamFault.{StreamFault}
+use Rattle.giop_checkpoint.specs.declared.fixed.Place.TheVariants.{Header, Payload}
+use Rattle.giop_checkpoint.specs.Fixed.{PlaceHasRange, IsAmong, HasRange}
+use Rattle.giop_stream.specs.declared.slots.Payload.{Payload as Whose}
+use Rattle.giop_stream.specs.declared.slots.Payload.TheVariants as payload
+use Rattle.giop_stream.specs.Headers.{offence}
+use Rattle.giop_stream.specs.Framing.{Message, Cut, cut, limit, read_of, fault_of}
+use Rattle.giop_stream.specs.Events.{place, open_after}
+use Rattle.giop_stream.specs.State.{slots_of, octets_of}
+use Rattle.giop_stream.specs.Stream.{tally}
+use Rattle.giop_stream.specs.Octet.{Octet, Behind, Ends, Held, Of, header_of, octet_of}
+use Rattle.giop_stream.specs.Engine.{unless, state_of}
+use Rattle.giop_stream.specs.Remembering.{Memory}
+use Rattle.giop_stream.specs.Checkpoint.{place_of, owner_of, count_own, fixed_of, Spells}
+use Rattle.giop_stream.proofs.Lists.{by_growth}
+use Rattle.giop_stream.proofs.Cuts.Start.{cut_nothing}
+use Rattle.giop_stream.proofs.Cuts.Cutting.{stopped_at, of_parts, settle_stop}
+use Rattle.giop_stream.proofs.Happening.Soundness.{CurrentFits, Fits}
+use Rattle.giop_stream.proofs.Moves.OneOctet.{Then, then_is}
+use Rattle.giop_stream.proofs.Cuts.OfOctets.{HeaderOctets, header_octets, size_fits}
+use Rattle.giop_stream.proofs.Moves.EngineAlive.{sound, few_open}
+use Rattle.giop_stream.proofs.Keep.Parts.{in_turn}
+use Rattle.giop_stream.proofs.Keep.SlotLists.{slots_many, are_as_many}
+use Rattle.giop_stream.proofs.Cuts.Counts.{octets_few, octets_free, messages_few}
+use Rattle.giop_stream.proofs.Happening.FaultsBound.{stop_count, one_stop, tally_faults}
+
+-- ---- The place and the owner are in their ranges.
+
+among : (b : Bool) (k many more : ℕ) → nat_lt k many ≡ b → IsAmong (many + more) (if b then Some k else None)
+among true k many more e = omega (arith, ltb-true k many e)
+among false k many more e = tt
+
+owner_among : (w : Whose) (many : ℕ) (own : Option Kept_message) → IsAmong (many + count_own own) (owner_of w many own)
+owner_among payload.Own many None = tt
+owner_among payload.Own many (Some m) = omega arith
+owner_among (payload.Open k) many own = among (nat_lt k many) k many (count_own own) refl
+owner_among payload.Nobody many own = tt
+
+-- a header of 12 octets at most, whose size has 32 bits where it is whole
+record IsHeader (header : List ℕ) : Type 0 where
+  most : length header ≤ 12
+  small : length header ≡ 12 → size header < 2 ^ 32
+
+place_by : (b : Bool) (header : List ℕ) (come : ℕ) → IsHeader header → nat_lt (length header) 12 ≡ b
+    → PlaceHasRange (if b then Header (record { items = header }) else Payload header (size header - come))
+place_by true header come h e = omega (arith, ltb-true (length header) 12 e)
+place_by false header come h e =
+    let twelve : length header ≡ 12 = omega (arith, h.most, ltb-false (length header) 12 e) in
+    (twelve, omega (arith, h.small twelve))
+
+place_range : (stopped : Option StreamFault) (header : List ℕ) (come : ℕ) → IsHeader header
+    → PlaceHasRange (place_of stopped header come)
+place_range (Some fault) header come h = tt
+place_range None header come h = place_by (nat_lt (length header) 12) header come h refl
+
+one_own : (own : Option Kept_message) → count_own own ≤ 1
+one_own None = omega arith
+one_own (Some m) = omega arith
+
+-- ---- A stream fault is at an octet of the stream.
+
+abbrev Late : Option (ℕ × StreamFault) → Type 0
+Late None = Unit {0}
+Late (Some found) = 0 < found.0
+
+read_late : (p : List ℕ) (stop : Option (ℕ × StreamFault)) → Late stop → stop_count stop ≤ read_of p stop
+unfolding read_of stop_count
+read_late p None h = omega arith
+read_late p (Some found) h = omega (arith, h)
+
+-- ---- The header that is held of a stream.
+
+IsWithin : ℕ → List ℕ → Type 0
+IsWithin n header = IsHeader header × (length header ≤ n)
+
+header_fits : (n : ℕ) (c : Cut) → Fits n c → HeaderOctets c → IsWithin n (header_of c.current c.held)
+unfolding IsWithin place
+header_fits n c fits octets = go c.current fits.current octets
+  where
+    go : (o : Option Message) → IfSome o (CurrentFits n c) → IfSome o (λ m. AreOctets m.header × (offence m.header ≡ None))
+        → IsWithin n (header_of o c.held)
+    go None f h =
+        (record { most = omega (arith, fits.short); small = λ no. absurd (omega (arith, fits.short, no)) }, fits.held)
+    go (Some m) f h =
+        let within : length m.header ≤ n = omega (arith, f.twelve, f.place_is) in
+        (record { most = omega (arith, f.twelve); small = λ twelve. size_fits m.header h.0 twelve }, within)
+
+module _ (R : Reading) (causal : IsCausal R) (laws : IsInTurn R) where
+  late_by : (p : List ℕ) (x : ℕ) (o : Octet) → Then R p x o → Late (cut p).stop → Late (cut (p ++ x ∷ [])).stop
+  unfolding stopped_at of_parts
+  late_by p x Behind h ih = rw h.2.cut_is ih
+  late_by p x (Ends fault) h ih = rw h.1.cut_is (omega arith)
+  late_by p x (Held front) h ih = rw h.2.cut_is tt
+  late_by p x (Of now) h ih = rw (h.1.adds.cut_is, settle_stop (cut p).whole h.1.m) tt
+
+  late : (p : List ℕ) → Late (cut p).stop
+  unfolding of_parts
+  late = by_growth (λ p. Late (cut p).stop) (rw cut_nothing tt)
+      (λ p x. late_by p x (octet_of (cut p) (length p) x) (then_is R causal laws p x (sound R causal laws p)))
+
+  module _ (p : List ℕ) (octets : AreOctets p) where
+    held_by : (stop : Option (ℕ × StreamFault)) → (cut p).stop ≡ stop
+        → IsWithin (read_of p stop) (unless stop [] (header_of (cut p).current (cut p).held))
+    unfolding IsWithin read_of
+    held_by (Some found) e = (record { most = omega arith; small = λ no. absurd (omega (arith, no)) }, omega arith)
+    held_by None e = header_fits (length p) (cut p) ((sound R causal laws p).fits e) (header_octets p octets)
+
+    header_within : IsWithin (tally R p).octets (state_of R p).held
+    unfolding tally state_of
+    header_within = held_by (cut p).stop refl
+
+  late_octets : (p : List ℕ) → stop_count (cut p).stop ≤ (tally R p).octets
+  unfolding tally
+  late_octets p = read_late p (cut p).stop (late p)
+
+  few_faults : (p : List ℕ) → (tally R p).faults ≤ 3 * (tally R p).octets
+  few_faults p = omega (arith, tally_faults R causal laws p, messages_few R causal laws p, late_octets p)
+
+-- ---- What a checkpoint spells.
+
+free_stop : (stop : Option (ℕ × StreamFault)) → fault_of stop ≡ None → stop ≡ None
+free_stop None e = refl
+free_stop (Some found) e = absurd cc
+
+-- what a stream's engine remembers, of any stream
+pub record AreTotals (m : Memory) : Type 0 where
+  pub running : m.stopped ≡ None → m.totals.octets ≤ 2 ^ 48
+  pub messages : m.totals.messages ≤ m.totals.octets
+  pub faults : m.totals.faults ≤ 3 * m.totals.octets
+  pub held : length m.header ≤ m.totals.octets
+
+module _ (octets p : List ℕ) (C : Table) (l : Listed) (s : Spells octets C l p) where
+  abbrev R : Reading
+  R = message_reading C l
+
+  causal : IsCausal R
+  causal = is_causal (said_by C l)
+
+  laws : IsInTurn R
+  laws = in_turn C l
+
+  totals_are : s.memory.totals ≡ tally R p
+  unfolding state_of
+  totals_are = s.shows.totals
+
+  free : s.memory.stopped ≡ None → (cut p).stop ≡ None
+  unfolding state_of
+  free none = free_stop (cut p).stop (sym s.shows.stopped ∙ none)
+
+  pub few_slots : length s.memory.slots.slots.items ≤ 16
+  unfolding state_of
+  few_slots =
+      let K = octets_of R p in
+      let many = are_as_many C l s.memory.slots.slots.items (slots_of K (open_after p)) s.shows.slots in
+      omega (arith, many, slots_many K (open_after p), few_open p)
+
+  header_is : IsWithin s.memory.totals.octets s.memory.header
+  header_is = rw (totals_are, s.shows.header) (header_within R causal laws p s.stream)
+
+  pub may_be_again : AreTotals s.memory
+  unfolding IsWithin limit
+  may_be_again = record {
+    running = λ none. rw totals_are (octets_free R p (free none));
+    messages = rw totals_are (omega (arith, messages_few R causal laws p));
+    faults = rw totals_are (few_faults R causal laws p);
+    held = header_is.1;
+  }
+
+  pub fixed_range : HasRange (fixed_of C l s.memory)
+  unfolding fixed_of IsWithin limit
+  fixed_range =
+      let most = octets_few R p in
+      let twelfth = messages_few R causal laws p in
+      let m = s.memory in
+      record {
+        records = omega (arith, few_slots, one_own m.slots.own);
+        octets = rw totals_are (omega (arith, most));
+        messages = rw totals_are (omega (arith, most, twelfth));
+        faults = rw totals_are (omega (arith, most, twelfth, tally_faults R causal laws p, one_stop (cut p).stop));
+        place = place_range m.stopped m.header m.come header_is.0;
+        owner = owner_among m.slots.payload (length m.slots.slots.items) m.slots.own;
+      }

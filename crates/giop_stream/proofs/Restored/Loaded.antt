@@ -1,0 +1,487 @@
+-- What is read of a checkpoint's records is what was written.
+use Rattle.std.proofs.Common.{◌≡◌, ℕ, suc, ◌+◌, ◌-◌, ◌*◌, get_or, ◌<◌, ◌≤◌, Bool, true, List, [], ◌∷◌, ◌++◌, length, flat_map, replicate, arith, Option, Some, None, inl, inr, ◌⊎◌, refl, sym, ap, ◌∙◌, subst, append_assoc, append-nil}
+use Rattle.std.specs.Prelude.{is_some, IsSomeAnd}
+use Rattle.std.specs.List.{AllByRecursion as Each}
+use Rattle.std.proofs.lemmas.List.{drop_at, length-append}
+use Rattle.giop_sig.specs.Table.{Table}
+use Rattle.giop_message.specs.declared.message.Message.{Message}
+use Rattle.giop_message.specs.Holding.{Follows}
+use Rattle.giop_message.specs.Signatures.{Kept as Listed}
+use Rattle.giop_message.specs.Stored.{Stored}
+use Rattle.giop_checkpoint.specs.declared.fault.LoadFault.{LoadFault}
+use Rattle.giop_checkpoint.specs.declared.fault.LoadFault.TheVariants as refusals
+use Rattle.giop_checkpoint.specs.declared.fixed.Counts.{Counts}
+use Rattle.giop_checkpoint.specs.declared.fixed.Fixed.{Fixed}
+use Rattle.giop_checkpoint.specs.declared.record.Record.{Record}
+use Rattle.giop_checkpoint.specs.declared.record.FirstRecord.{FirstRecord}
+use Rattle.giop_checkpoint.specs.declared.record.Standing.TheVariants as standings
+use Rattle.giop_checkpoint.specs.declared.sizes.TheConstants.{FRAME_SIZE}
+use Rattle.giop_checkpoint.specs.Fixed.{HasRange, fixed_octets}
+use Rattle.giop_checkpoint.specs.Records.{Entry, EntryHasRange, AreRecords, used, kind_octets, own_octets, entry_octets}
+use Rattle.giop_checkpoint.specs.Refusals.{Refused, Passes}
+use Rattle.giop_stream.specs.declared.slots.Slot.{Slot}
+use Rattle.giop_stream.specs.declared.slots.Slots.{Slots}
+use Rattle.giop_stream.specs.Events.{Title}
+use Rattle.giop_stream.specs.State.{Slot as Held}
+use Rattle.giop_stream.specs.Engine.{Own}
+use Rattle.giop_stream.specs.Keeping.{IsReady, IsKept, IsSlot, AreSlots}
+use Rattle.giop_stream.specs.Remembering.{Memory}
+use Rattle.giop_stream.specs.Showing.{IsOwn}
+use Rattle.giop_stream.specs.Checkpoint.{IsStored, IsHeld, AreEntries, standing_of, counts_of, fixed_of, checkpoint_octets, Spells, IsRefused}
+use Rattle.giop_stream.specs.Reloading.{IsEntry, pushed, IsOpenEntry, IsCurrentEntry, AreLeft, HasAdded}
+use Rattle.giop_stream.proofs.Keep.SlotLists.{are_as_many}
+use Rattle.giop_stream.proofs.Restored.LoadRanges.{fixed_range}
+use Rattle.giop_stream.proofs.Restored.SavedSizes.{entry_long, entries_count, entries_range}
+
+-- ---- what a record says
+
+number_in : (first : FirstRecord) (e : Entry) → IsEntry first e → first.«record».number ≡ e.record_is.number
+number_in first e entry = ap (λ (r : Record). r.number) entry.own
+
+header_in : (first : FirstRecord) (e : Entry) → IsEntry first e → first.«record».header ≡ e.record_is.header
+header_in first e entry = ap (λ (r : Record). r.header) entry.own
+
+standing_in : (first : FirstRecord) (e : Entry) → IsEntry first e →
+    first.«record».standing ≡ e.record_is.standing
+standing_in first e entry = ap (λ (r : Record). r.standing) entry.own
+
+stored_in : (m : Message) (e : Entry) (first : FirstRecord) → IsHeld m e → IsEntry first e →
+    Stored m first.message first.frames.now
+stored_in m e first is entry =
+    let P : List ℕ → Type 0 = λ xs. Stored m xs first.frames.now in
+    let Q : List ℕ → Type 0 = λ xs. Stored m e.message xs in
+    subst P (sym entry.message) (subst Q (sym entry.frames) is.stored)
+
+open_id : (a b : ℕ) → standings.Open a ≡ standings.Open b → a ≡ b
+open_id a b e = cc
+
+over_id : (a b : ℕ) → standings.Over a ≡ standings.Over b → a ≡ b
+over_id a b e = cc
+
+over_not_open : (a b : ℕ) → standings.Over a ≡ standings.Open b → ⊥
+over_not_open a b e = cc
+
+open_not_over : (a b : ℕ) → standings.Open a ≡ standings.Over b → ⊥
+open_not_over a b e = cc
+
+current_none : (m : Option Message) (id : ℕ) → standing_of m id ≡ standings.Current → ⊥
+current_none None id e = cc
+current_none (Some m) id e = cc
+
+-- ---- a message
+
+-- a message of this record's octets is restored, and follows what the stored one follows
+abbrev pub Restores : Table → ℕ → FirstRecord → Option Message → Type 0
+Restores C octets first found =
+    (m : Message) (l : Listed) (n : ℕ) (h xs : List ℕ) → IsReady C (octets + 1) (Some m) →
+    m.number ≡ first.«record».number → m.header ≡ first.«record».header →
+    Stored m first.message first.frames.now → Follows C l n h m xs →
+    IsSomeAnd found (λ e. Follows C l n h e xs)
+
+module _ (C : Table) (l : Listed) (first : FirstRecord) where
+  -- what is known of the entry of an open message, and of the octets that have come of that
+  record IsOf (e : Entry) (w : Title) (message : Option Message) (come : Option (List ℕ)) (id : ℕ) : Type 0 where
+    entry : IsEntry first e
+    standing : first.«record».standing ≡ standing_of message id
+    stored : IsStored message e
+    kept : IsKept C l message w come
+    number : w.number ≡ first.«record».number
+    header : w.header ≡ first.«record».header
+
+  -- and of such a message, restored
+  abbrev IsAgain : Title → Option Message → Option (List ℕ) → Type 0
+  IsAgain w found come = (is_some found ≡ true) × IsKept C l found w come
+
+  is_again : (w : Title) (xs : List ℕ) (found : Option Message) →
+      IsSomeAnd found (λ m. Follows C l w.number w.header m xs) → IsAgain w found (Some xs)
+  is_again w xs None h = absurd h
+  is_again w xs (Some m) h = (refl, h)
+
+  -- nothing is stored of a message that is over
+  abbrev IsNothing : Title → Option (List ℕ) → Type 0
+  IsNothing w come = (first.frames.now ≡ []) × (first.message ≡ replicate 224 0) × IsKept C l None w come
+
+  over_by : (e : Entry) (w : Title) (message : Option Message) (come : Option (List ℕ)) (kid id : ℕ) →
+      IsOf e w message come kid → first.«record».standing ≡ standings.Over id → (kid ≡ id) × IsNothing w come
+  over_by e w None None kid id is over =
+      (over_id kid id (sym is.standing ∙ over), (is.entry.frames ∙ is.stored.1, is.entry.message ∙ is.stored.0, tt))
+  over_by e w None (Some xs) kid id is over = absurd is.kept
+  over_by e w (Some m) come kid id is over = absurd (open_not_over kid id (sym is.standing ∙ over))
+
+module _ (C : Table) (l : Listed) (octets : ℕ) (first : FirstRecord) where
+  pub current_again : (o : Own) (found : Option Message) → IsCurrentEntry C l (octets + 1) first o →
+      Restores C octets first found → (is_some found ≡ true) × IsOwn C l found (Some o)
+  current_again o found is again =
+      shown found (again is.message l o.title.number o.title.header o.octets is.ready
+      (sym is.entry_is.number_is ∙ sym (number_in first is.entry is.read))
+      (sym is.entry_is.header_is ∙ sym (header_in first is.entry is.read))
+      (stored_in is.message is.entry first is.entry_is.message is.read) is.own_is)
+    where
+      shown : (r : Option Message) → IsSomeAnd r (λ m. Follows C l o.title.number o.title.header m o.octets) →
+          (is_some r ≡ true) × IsOwn C l r (Some o)
+      shown None h = absurd h
+      shown (Some x) h = (refl, h)
+
+  open_by : (e : Entry) (w : Title) (found message : Option Message) (come : Option (List ℕ)) (kid id : ℕ) →
+      IsOf C l first e w message come kid → first.«record».standing ≡ standings.Open id →
+      IsReady C (octets + 1) message → Restores C octets first found → (kid ≡ id) × IsAgain C l first w found come
+  open_by e w found None come kid id is opened ready again =
+      absurd (over_not_open kid id (sym is.standing ∙ opened))
+  open_by e w found (Some m) None kid id is opened ready again = absurd is.kept
+  open_by e w found (Some m) (Some xs) kid id is opened ready again = (
+    open_id kid id (sym is.standing ∙ opened),
+    is_again C l first w xs found (again m l w.number w.header xs ready (is.kept.same_number ∙ is.number)
+        (is.kept.same_header ∙ is.header) (stored_in m e first is.stored is.entry) is.kept),
+  )
+
+module _ (C : Table) (l : Listed) (at : ℕ) (first : FirstRecord) (held : Held) where
+  of_slot : (is : IsOpenEntry C l at first held) →
+      IsOf C l first is.entry held.open_as.opener is.kept.message held.octets is.kept.id
+  of_slot is = record {
+    entry = is.read;
+    standing = standing_in first is.entry is.read ∙ is.entry_is.standing;
+    stored = is.entry_is.message;
+    kept = is.slot_is.message;
+    number = sym is.slot_is.number ∙ sym is.entry_is.number ∙ sym (number_in first is.entry is.read);
+    header = sym is.slot_is.header ∙ sym is.entry_is.header ∙ sym (header_in first is.entry is.read);
+  }
+
+  -- the slot of a record, where its message is right
+  slot_again : (id : ℕ) (found : Option Message) (is : IsOpenEntry C l at first held) → is.kept.id ≡ id →
+      IsKept C l found held.open_as.opener held.octets → IsSlot C l (pushed first id found) held
+  slot_again id found is same kept = record {
+    number = number_in first is.entry is.read ∙ is.entry_is.number ∙ is.slot_is.number;
+    header = header_in first is.entry is.read ∙ is.entry_is.header ∙ is.slot_is.header;
+    id = sym same ∙ is.slot_is.id;
+    message = kept;
+  }
+
+  pub over_again : (id : ℕ) → IsOpenEntry C l at first held → first.«record».standing ≡ standings.Over id →
+      (first.frames.now ≡ []) × (first.message ≡ replicate 224 0) × IsSlot C l (pushed first id None) held
+  over_again id is over =
+      let made = over_by C l first is.entry held.open_as.opener is.kept.message held.octets is.kept.id id (of_slot is) over in
+      (made.1.0, made.1.1, slot_again id None is made.0 made.1.2)
+
+  -- ---- which of them a record is of
+
+  pub open_not_current : IsOpenEntry C l at first held → first.«record».standing ≡ standings.Current → ⊥
+  open_not_current is e =
+      current_none is.kept.message is.kept.id (sym is.entry_is.standing ∙ sym (standing_in first is.entry is.read) ∙ e)
+
+pub open_again : (C : Table) (l : Listed) (octets : ℕ) (first : FirstRecord) (held : Held) (id : ℕ) (found : Option Message) →
+    IsOpenEntry C l (octets + 1) first held → first.«record».standing ≡ standings.Open id →
+    Restores C octets first found → (is_some found ≡ true) × IsSlot C l (pushed first id found) held
+open_again C l octets first held id found is opened again =
+    let made = open_by C l octets first is.entry held.open_as.opener found is.kept.message held.octets is.kept.id id
+    (of_slot C l (octets + 1) first held is) opened is.ready again in
+    (made.1.0, slot_again C l (octets + 1) first held id found is made.0 made.1.1)
+
+module _ (C : Table) (l : Listed) (at : ℕ) (first : FirstRecord) (o : Own) (id : ℕ) where
+  standing_now : IsCurrentEntry C l at first o → standings.Current ≡ first.«record».standing
+  standing_now is = sym (standing_in first is.entry is.read ∙ is.entry_is.standing_is)
+
+  pub current_not_open : IsCurrentEntry C l at first o → first.«record».standing ≡ standings.Open id → ⊥
+  current_not_open is e = let never : standings.Current ≡ standings.Open id = standing_now is ∙ e in cc
+
+  pub current_not_over : IsCurrentEntry C l at first o → first.«record».standing ≡ standings.Over id → ⊥
+  current_not_over is e = let never : standings.Current ≡ standings.Over id = standing_now is ∙ e in cc
+
+-- ---- the open messages that were added
+
+module _ (C : Table) (l : Listed) where
+  pub added_one : (before after : Slots) (kept : Slot) (held : Held) →
+      after.slots.items ≡ before.slots.items ++ kept ∷ [] → IsSlot C l kept held →
+      HasAdded C l before after (held ∷ [])
+  added_one before after kept held put is = record { kept = kept ∷ []; are = (is, tt); put = put }
+
+  added_none : (before after : Slots) → after.slots.items ≡ before.slots.items → HasAdded C l before after []
+  added_none before after same = record { kept = []; are = tt; put = same ∙ sym (append-nil before.slots.items) }
+
+  slots_join : (ks more : List Slot) (hs others : List Held) → AreSlots C l ks hs → AreSlots C l more others →
+      AreSlots C l (ks ++ more) (hs ++ others)
+  slots_join [] more [] others are also = also
+  slots_join [] more (h ∷ hs) others are also = absurd are
+  slots_join (k ∷ ks) more [] others are also = absurd are
+  slots_join (k ∷ ks) more (h ∷ hs) others are also = (are.0, slots_join ks more hs others are.1 also)
+
+  added_more : (before mid after : Slots) (h : Held) (hs : List Held) → HasAdded C l before mid (h ∷ []) →
+      HasAdded C l mid after hs → HasAdded C l before after (h ∷ hs)
+  added_more before mid after h hs one more = record {
+    kept = one.kept ++ more.kept;
+    are = slots_join one.kept more.kept (h ∷ []) hs one.are more.are;
+    put = more.put
+        ∙ ap (λ (xs : List Slot). xs ++ more.kept) one.put
+        ∙ append_assoc before.slots.items one.kept more.kept;
+  }
+
+  added_long : (before mid : Slots) (h : Held) → HasAdded C l before mid (h ∷ []) →
+      length mid.slots.items ≡ length before.slots.items + 1
+  added_long before mid h one =
+      omega (
+        arith,
+        ap length one.put,
+        length-append before.slots.items one.kept,
+        are_as_many C l one.kept (h ∷ []) one.are,
+      )
+
+-- ---- the first of the records that are left
+
+-- the record that was read first is this entry's, and these are the octets behind it
+abbrev pub IsRead : FirstRecord → Entry → List ℕ → Type 0
+IsRead first e rest =
+    (first.«record» ≡ e.record_is) × (first.message ≡ e.message) × (first.frames.now ≡ e.frames) × (first.rest.now ≡ rest)
+
+-- an open message's
+pub record FrontOpen (C : Table) (l : Listed) (at count : ℕ) (first : FirstRecord) (held : List Held) (own : Option Own)
+    : Type 0 where
+  pub here : Held
+  pub others : List Held
+  pub held_are : held ≡ here ∷ others
+  pub is : IsOpenEntry C l at first here
+  pub left : AreLeft C l at (count - 1) first.rest.now others own
+
+-- or the current one's
+pub record FrontOwn (C : Table) (l : Listed) (at count : ℕ) (first : FirstRecord) (held : List Held) (own : Option Own)
+    : Type 0 where
+  pub here : Own
+  pub no_held : held ≡ []
+  pub own_here : own ≡ Some here
+  pub is : IsCurrentEntry C l at first here
+  pub last : count - 1 ≡ 0
+
+-- what is left, by its parts
+record Parts (C : Table) (l : Listed) (at count : ℕ) (octets : List ℕ) (kept : List Slot) (held : List Held)
+    (current : Option Message) (own : Option Own) (entries : List Entry) : Type 0 where
+  entries_are : AreEntries kept current entries
+  count_is : count ≡ length entries
+  octets_are : octets ≡ flat_map entry_octets entries
+  slots_are : AreSlots C l kept held
+  own_is : IsOwn C l current own
+  each_ready : Each (λ slot. IsReady C at slot.message) kept
+  own_ready : IsReady C at current
+
+module _ (C : Table) (l : Listed) (at count : ℕ) (octets : List ℕ) where
+  parts_of : (held : List Held) (own : Option Own) (left : AreLeft C l at count octets held own) →
+      Parts C l at count octets left.kept held left.current own left.entries
+  parts_of held own left = record {
+    entries_are = left.entries_are;
+    count_is = left.count_is;
+    octets_are = left.octets_are;
+    slots_are = left.slots_are;
+    own_is = left.own_is;
+    each_ready = left.each_ready;
+    own_ready = left.own_ready;
+  }
+
+  pub front_found : (held : List Held) (own : Option Own) → AreLeft C l at count octets held own → (count ≡ 0 → ⊥) →
+      ((e : Entry) (rest : List ℕ) → EntryHasRange e → octets ≡ entry_octets e ++ rest → ⊥) → ⊥
+  front_found held own left some read =
+      go left.entries left.count_is left.octets_are (entries_range left.kept left.current left.entries left.entries_are)
+    where
+      go : (es : List Entry) → count ≡ length es → octets ≡ flat_map entry_octets es → Each EntryHasRange es → ⊥
+      go [] many spelled range = some many
+      go (e ∷ es) many spelled range = read e (flat_map entry_octets es) range.0 spelled
+
+  none_by : (slots : Slots) → slots.own ≡ None → count ≡ 0 → (kept : List Slot) (held : List Held)
+      (current : Option Message) (own : Option Own) (entries : List Entry) →
+      Parts C l at count octets kept held current own entries →
+      HasAdded C l slots slots held × IsOwn C l slots.own own
+  none_by slots bare none [] [] None own [] is =
+      (added_none C l slots slots refl, subst (λ (m : Option Message). IsOwn C l m own) (sym bare) is.own_is)
+  none_by slots bare none [] [] None own (e ∷ es) is = absurd is.entries_are
+  none_by slots bare none [] [] (Some m) own [] is = absurd is.entries_are
+  none_by slots bare none [] [] (Some m) own (e ∷ es) is = absurd (omega (arith, none, is.count_is))
+  none_by slots bare none [] (h ∷ hs) current own es is = absurd is.slots_are
+  none_by slots bare none (k ∷ ks) [] current own es is = absurd is.slots_are
+  none_by slots bare none (k ∷ ks) (h ∷ hs) current own [] is = absurd is.entries_are
+  none_by slots bare none (k ∷ ks) (h ∷ hs) current own (e ∷ es) is = absurd (omega (arith, none, is.count_is))
+
+  pub all_none : (slots : Slots) (held : List Held) (own : Option Own) → AreLeft C l at count octets held own →
+      count ≡ 0 → slots.own ≡ None → HasAdded C l slots slots held × IsOwn C l slots.own own
+  all_none slots held own left none bare =
+      none_by slots bare none left.kept held left.current own left.entries (parts_of held own left)
+
+  module _ (first : FirstRecord) (some : count ≡ 0 → ⊥)
+      (read : (e : Entry) (rest : List ℕ) → EntryHasRange e → octets ≡ entry_octets e ++ rest → IsRead first e rest) where
+    entry_read : (e : Entry) (es : List Entry) → EntryHasRange e → octets ≡ flat_map entry_octets (e ∷ es) → IsEntry first e
+    entry_read e es range spelled =
+        let is : IsRead first e (flat_map entry_octets es) = read e (flat_map entry_octets es) range spelled in
+        record { own = is.0; message = is.1; frames = is.2 }
+
+    front_own : (m : Message) (o : Own) (e : Entry) (es : List Entry) → Parts C l at count octets [] [] (Some m) (Some o) (e ∷ es) →
+        FrontOwn C l at count first [] (Some o)
+    front_own m o e es is =
+        let none : length es ≡ 0 = ap length is.entries_are.1 in
+        record {
+          here = o;
+          no_held = refl;
+          own_here = refl;
+          is = record {
+            message = m;
+            entry = e;
+            entry_is = is.entries_are.0;
+            read = entry_read e es is.entries_are.0.range is.octets_are;
+            own_is = is.own_is;
+            ready = is.own_ready;
+          };
+          last = omega (arith, is.count_is, none);
+        }
+
+    front_open : (k : Slot) (ks : List Slot) (h : Held) (hs : List Held) (current : Option Message) (own : Option Own)
+        (e : Entry) (es : List Entry) → Parts C l at count octets (k ∷ ks) (h ∷ hs) current own (e ∷ es) →
+        FrontOpen C l at count first (h ∷ hs) own
+    front_open k ks h hs current own e es is = record {
+      here = h;
+      others = hs;
+      held_are = refl;
+      is = record {
+        kept = k;
+        entry = e;
+        entry_is = is.entries_are.0;
+        read = entry_read e es is.entries_are.0.range is.octets_are;
+        slot_is = is.slots_are.0;
+        ready = is.each_ready.0;
+      };
+      left = record {
+        kept = ks;
+        current = current;
+        entries = es;
+        entries_are = is.entries_are.1;
+        count_is = omega (arith, is.count_is);
+        octets_are = (read e (flat_map entry_octets es) is.entries_are.0.range is.octets_are).3;
+        slots_are = is.slots_are.1;
+        own_is = is.own_is;
+        each_ready = is.each_ready.1;
+        own_ready = is.own_ready;
+      };
+    }
+
+    front_by : (kept : List Slot) (held : List Held) (current : Option Message) (own : Option Own) (entries : List Entry) →
+        Parts C l at count octets kept held current own entries →
+        FrontOpen C l at count first held own ⊎ FrontOwn C l at count first held own
+    front_by [] [] None own [] is = absurd (some is.count_is)
+    front_by [] [] None own (e ∷ es) is = absurd is.entries_are
+    front_by [] [] (Some m) own [] is = absurd is.entries_are
+    front_by [] [] (Some m) None (e ∷ es) is = absurd is.own_is
+    front_by [] [] (Some m) (Some o) (e ∷ es) is = inr (front_own m o e es is)
+    front_by [] (h ∷ hs) current own es is = absurd is.slots_are
+    front_by (k ∷ ks) [] current own es is = absurd is.slots_are
+    front_by (k ∷ ks) (h ∷ hs) current own [] is = absurd is.entries_are
+    front_by (k ∷ ks) (h ∷ hs) current own (e ∷ es) is = inl (front_open k ks h hs current own e es is)
+
+    pub front_is : (held : List Held) (own : Option Own) → AreLeft C l at count octets held own →
+        FrontOpen C l at count first held own ⊎ FrontOwn C l at count first held own
+    front_is held own left = front_by left.kept held left.current own left.entries (parts_of held own left)
+
+-- ---- all records
+
+-- all that was left was added
+abbrev pub IsAll : Table → Listed → Bool → Slots → Slots → List Held → Option Own → Type 0
+IsAll C l result before after held own = (result ≡ true) × HasAdded C l before after held × IsOwn C l after.own own
+
+room_here : (n : ℕ) (held : List Held) (h : Held) (hs : List Held) → n + length held ≤ 16 → held ≡ h ∷ hs →
+    n + suc (length hs) ≤ 16
+room_here n held h hs room e = omega (arith, room, ap length e)
+
+module _ (C : Table) (l : Listed) (at count : ℕ) (first : FirstRecord) (before mid : Slots) (added : Bool)
+    (slot : (held : Held) → IsOpenEntry C l at first held → length before.slots.items < 16 →
+    (added ≡ true) × HasAdded C l before mid (held ∷ []) × (mid.own ≡ before.own))
+    (current : (own : Own) → IsCurrentEntry C l at first own →
+    (added ≡ true) × (mid.slots ≡ before.slots) × IsOwn C l mid.own (Some own)) where
+  pub front_added : (held : List Held) (own : Option Own) →
+      FrontOpen C l at count first held own ⊎ FrontOwn C l at count first held own →
+      length before.slots.items + length held ≤ 16 → added ≡ true
+  front_added held own (inl f) room =
+      (slot f.here f.is (omega (arith, room_here (length before.slots.items) held f.here f.others room f.held_are))).0
+  front_added held own (inr f) room = (current f.here f.is).0
+
+  module _ (after : Slots) (result : Bool)
+      (none : count - 1 ≡ 0 → (result ≡ true) × (after ≡ mid))
+      (again : (hs : List Held) (o : Option Own) → AreLeft C l at (count - 1) first.rest.now hs o →
+      length mid.slots.items + length hs ≤ 16 → mid.own ≡ None → IsAll C l result mid after hs o) where
+    pub all_again : (held : List Held) (own : Option Own) →
+        FrontOpen C l at count first held own ⊎ FrontOwn C l at count first held own →
+        length before.slots.items + length held ≤ 16 → before.own ≡ None → IsAll C l result before after held own
+    all_again held own (inl f) room bare =
+        let few = room_here (length before.slots.items) held f.here f.others room f.held_are in
+        let one = slot f.here f.is (omega (arith, few)) in
+        let space : length mid.slots.items + length f.others ≤ 16 = omega (arith, few, added_long C l before mid f.here one.1) in
+        let more = again f.others own f.left space (one.2 ∙ bare) in
+        let all = added_more C l before mid after f.here f.others one.1 more.1 in
+        (more.0, subst (λ (hs : List Held). HasAdded C l before after hs) (sym f.held_are) all, more.2)
+    all_again held own (inr f) room bare =
+        let one = current f.here f.is in
+        let done = none f.last in
+        let same : after.slots ≡ before.slots = ap (λ (s : Slots). s.slots) done.1 ∙ one.1 in
+        let empty = added_none C l before after (ap (λ s. s.items) same) in (
+          done.0,
+          subst (λ (hs : List Held). HasAdded C l before after hs) (sym f.no_held) empty,
+          subst (λ (o : Option Own). IsOwn C l after.own o) (sym f.own_here)
+              (subst (λ (s : Slots). IsOwn C l s.own (Some f.here)) (sym done.1) one.2),
+        )
+
+-- ---- the octets of entries are whole records
+
+first_of : (e : Entry) (rest : List ℕ) → get_or (entry_octets e ++ rest) 0 0 ≡ e.record_is.frames
+unfolding own_octets kind_octets
+first_of e rest = refl
+
+pub records_are : (es : List Entry) → Each EntryHasRange es → AreRecords (length es) (flat_map entry_octets es)
+records_are [] h = refl
+records_are (e ∷ es) h =
+    let rest : List ℕ = flat_map entry_octets es in
+    let s : List ℕ = entry_octets e ++ rest in
+    let size : length (entry_octets e) ≡ used s =
+    entry_long e h.0 ∙ ap (λ (n : ℕ). 256 + FRAME_SIZE * n) (sym (first_of e rest)) in
+    let P : List ℕ → Type 0 = λ xs. AreRecords (length es) xs in (
+      omega (arith, size, length-append (entry_octets e) rest),
+      subst P (sym (drop_at (entry_octets e) rest (used s) size)) (records_are es h.1),
+    )
+
+-- ---- a checkpoint
+
+fixed_counts : (C : Table) (l : Listed) (m : Memory) → (fixed_of C l m).counts ≡ counts_of C l
+unfolding fixed_of
+fixed_counts C l m = refl
+
+module _ (octets p : List ℕ) (C : Table) (l : Listed) (s : Spells octets C l p) where
+  fixed_records : AreRecords (fixed_of C l s.memory).records (flat_map entry_octets s.entries)
+  unfolding fixed_of
+  fixed_records =
+      let slots = s.memory.slots.slots.items in
+      let own = s.memory.slots.own in
+      let P : ℕ → Type 0 = λ n. AreRecords n (flat_map entry_octets s.entries) in
+      subst P (entries_count slots own s.entries s.entries_are)
+      (records_are s.entries (entries_range slots own s.entries s.entries_are))
+
+  fixed_front : octets ≡ fixed_octets (fixed_of C l s.memory) ++ flat_map entry_octets s.entries
+  unfolding checkpoint_octets
+  fixed_front = s.octets_are
+
+  -- what is said of any fixed part and records that were written is so of these
+  pub parts_read : (P : Fixed → List ℕ → Type 0) (counts : Counts) → counts ≡ counts_of C l →
+      ((f : Fixed) (records : List ℕ) → f.counts ≡ counts → HasRange f → AreRecords f.records records →
+      octets ≡ fixed_octets f ++ records → P f records) →
+      P (fixed_of C l s.memory) (flat_map entry_octets s.entries)
+  parts_read P counts same again =
+      again (fixed_of C l s.memory) (flat_map entry_octets s.entries) (fixed_counts C l s.memory ∙ sym same)
+      (fixed_range octets p C l s) fixed_records fixed_front
+
+-- ---- what is no checkpoint
+
+pub refused_is : (c : Counts) (s : List ℕ) (why : LoadFault) → Refused c s why → IsRefused c s why
+refused_is c s refusals.Magic (inl never) = never
+refused_is c s refusals.Magic (inr never) = absurd never.1
+refused_is c s refusals.Version (inl never) = never
+refused_is c s refusals.Version (inr never) = absurd never.1
+refused_is c s refusals.Catalogue (inl never) = never
+refused_is c s refusals.Catalogue (inr never) = absurd never.1
+refused_is c s refusals.Length never = never
+refused_is c s refusals.State (inl never) = absurd never
+refused_is c s refusals.State (inr never) = (never.0, inl never.1)
+
+pub refused_state : (c now : Counts) (s : List ℕ) (f : Fixed) (records : List ℕ) → c ≡ now → Passes c s f records →
+    IsRefused now s refusals.State
+refused_state c now s f records same passes =
+    let whole = subst (λ xs. AreRecords f.records xs) passes.rest passes.lengths in
+    subst (λ x. IsRefused x s refusals.State) same (passes.ours, inr (f, passes.state, whole))

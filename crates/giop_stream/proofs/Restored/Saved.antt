@@ -1,0 +1,221 @@
+-- What is written of the messages is their entries.
+use Rattle.std.proofs.Common.{◌≡◌, ℕ, zero, suc, ◌+◌, ◌<◌, ◌≤◌, get_or, List, [], ◌∷◌, ◌++◌, length, take, flat_map, replicate, Option, Some, None, refl, sym, ap, subst, ◌∙◌, append_assoc, append-nil, arith}
+use Rattle.std.specs.List.{AllByRecursion as Each}
+use Rattle.std.proofs.lemmas.List.{take_all}
+use Rattle.std.proofs.lemmas.Grind.{take_at_read}
+use Rattle.giop_message.specs.declared.message.Message.{Message}
+use Rattle.giop_checkpoint.specs.declared.record.Record.{Record}
+use Rattle.giop_checkpoint.specs.Records.{Entry, RecordHasRange, own_octets, entry_octets}
+use Rattle.giop_checkpoint.proofs.Puts.{then}
+use Rattle.giop_sig.specs.Table.{Table}
+use Rattle.giop_message.specs.Holding.{Fits}
+use Rattle.giop_message.specs.Signatures.{Kept as Listed}
+use Rattle.giop_checkpoint.specs.Fixed.{fixed_octets}
+use Rattle.giop_stream.specs.declared.slots.Slot.{Slot}
+use Rattle.giop_stream.specs.Keeping.{IsReady}
+use Rattle.giop_stream.specs.Holding.{Holds}
+use Rattle.giop_stream.specs.Remembering.{Memory, EngineMemory}
+use Rattle.giop_checkpoint.specs.declared.record.Standing.TheVariants as standings
+use Rattle.giop_stream.proofs.Restored.SavedSizes.{HasRoom, whole_long, whole_within}
+use Rattle.giop_stream.specs.Checkpoint.{standing_of, IsHeld, IsStored, IsOpen, IsKept, IsCurrent, IsPutOne, IsPut, AreOpen, AreEntries, fixed_of, checkpoint_octets, IsPutWhole, Saves}
+
+pub flat_append : (xs ys : List Entry) → flat_map entry_octets (xs ++ ys) ≡ flat_map entry_octets xs ++ flat_map entry_octets ys
+flat_append [] ys = refl
+flat_append (x ∷ xs) ys =
+    ap (λ (zs : List ℕ). entry_octets x ++ zs) (flat_append xs ys) ∙ sym (append_assoc (entry_octets x) (flat_map entry_octets xs) (flat_map entry_octets ys))
+
+pub flat_one : (e : Entry) → flat_map entry_octets (e ∷ []) ≡ entry_octets e
+flat_one e = append-nil (entry_octets e)
+
+-- an open message more
+pub entries_push : (slots : List Slot) (slot : Slot) (es : List Entry) (e : Entry) → AreOpen slots es → IsOpen slot e
+    → AreOpen (slots ++ slot ∷ []) (es ++ e ∷ [])
+entries_push [] slot [] e are is = (is, tt)
+entries_push [] slot (f ∷ es) e are is = absurd are
+entries_push (s ∷ slots) slot [] e are is = absurd are
+entries_push (s ∷ slots) slot (f ∷ es) e are is = (are.0, entries_push slots slot es e are.1 is)
+
+-- and then the current one
+pub entries_own : (slots : List Slot) (m : Message) (es : List Entry) (e : Entry) → AreOpen slots es → IsCurrent m e → AreEntries slots (Some m) (es ++ e ∷ [])
+entries_own [] m [] e are is = (is, refl)
+entries_own [] m (f ∷ es) e are is = absurd are
+entries_own (s ∷ slots) m [] e are is = absurd are
+entries_own (s ∷ slots) m (f ∷ es) e are is = (are.0, entries_own slots m es e are.1 is)
+
+pub put_none : (before : List ℕ) → IsPut before before (AreOpen [])
+put_none before = record { entries = []; are = tt; put = sym (append-nil before) }
+
+pub put_more : (slots : List Slot) (slot : Slot) (before between after : List ℕ) → IsPut before between (AreOpen slots) → IsPutOne between after (IsOpen slot)
+    → IsPut before after (AreOpen (slots ++ slot ∷ []))
+put_more slots slot before between after some one = record {
+  entries = some.entries ++ one.entry ∷ [];
+  are = entries_push slots slot some.entries one.entry some.are one.is;
+  put = then before between after (flat_map entry_octets some.entries) (entry_octets one.entry) some.put one.put
+      ∙ ap (λ (xs : List ℕ). before ++ xs) (sym
+      (flat_append some.entries (one.entry ∷ [])
+      ∙ ap (λ (xs : List ℕ). flat_map entry_octets some.entries ++ xs) (flat_one one.entry)));
+}
+
+-- over is written as zeros, behind its own octets
+pub over_is : (slot : Slot) (r : Record) (before between after : List ℕ) → slot.message ≡ None → RecordHasRange r
+    → r.frames ≡ 0 → r.standing ≡ standings.Over slot.id → r.number ≡ slot.number → r.header ≡ slot.header
+    → between ≡ before ++ own_octets r → after ≡ between ++ replicate 224 0 → IsPutOne before after (IsOpen slot)
+over_is slot r before between after none range few standing number header put zeros = record {
+  entry = record { record_is = r; message = replicate 224 0; frames = [] };
+  is = record {
+    range = record { own = range; message = refl; frames = omega (arith, few) };
+    standing = standing ∙ ap (λ (m : Option Message). standing_of m slot.id) (sym none);
+    number = number;
+    header = header;
+    message = stored_over slot.message none;
+  };
+  put = then before between after (own_octets r) (replicate 224 0) put zeros
+      ∙ ap (λ (xs : List ℕ). before ++ xs) (sym (append-nil (own_octets r ++ replicate 224 0)));
+}
+  where
+    stored_over : (m : Option Message) → m ≡ None → IsStored m (record { record_is = r; message = replicate 224 0; frames = [] })
+    stored_over None e = (refl, refl)
+    stored_over (Some m) e = absurd (let no : Some m ≡ None = e in cc)
+
+-- one that is kept
+pub open_is : (slot : Slot) (m : Message) (before after : List ℕ) → slot.message ≡ Some m
+    → IsPutOne before after (IsKept (standings.Open slot.id) slot.number slot.header m)
+    → IsPutOne before after (IsOpen slot)
+open_is slot m before after some put = record {
+  entry = put.entry;
+  is = record {
+    range = put.is.range;
+    standing = put.is.standing_is ∙ ap (λ (n : Option Message). standing_of n slot.id) (sym some);
+    number = put.is.number_is;
+    header = put.is.header_is;
+    message = stored_kept slot.message some;
+  };
+  put = put.put;
+}
+  where
+    some_is : (x y : Message) → Some x ≡ Some y → x ≡ y
+    some_is x y e = cc
+
+    stored_kept : (n : Option Message) → n ≡ Some m → IsStored n put.entry
+    stored_kept None e = absurd (let no : None ≡ Some m = e in cc)
+    stored_kept (Some n) e = subst (λ x. IsHeld x put.entry) (sym (some_is n m e)) put.is.message
+
+-- three parts, written in turn
+pub kept_put : (before a b after : List ℕ) (e : Entry) → a ≡ before ++ own_octets e.record_is → b ≡ a ++ e.message
+    → after ≡ b ++ e.frames → after ≡ before ++ entry_octets e
+kept_put before a b after e first second third =
+    then before b after (own_octets e.record_is ++ e.message) e.frames (then before a b (own_octets e.record_is) e.message first second) third
+
+pub ready_fits : (C : Table) (at : ℕ) (o : Option Message) (m : Message) → o ≡ Some m → IsReady C at o → Fits C m
+ready_fits C at None m e ready = absurd (let no : None ≡ Some m = e in cc)
+ready_fits C at (Some n) m e ready = let P : Message → Type 0 = λ x. Fits C x in subst P (same n m e) ready.0
+  where
+    same : (x y : Message) → Some x ≡ Some y → x ≡ y
+    same x y e = cc
+
+-- ---- the whole
+
+pub whole_is : (C : Table) (l : Listed) (m : Memory) (fixed after : List ℕ) → m.slots.own ≡ None → fixed ≡ fixed_octets (fixed_of C l m)
+    → IsPut fixed after (AreOpen m.slots.slots.items) → IsPutWhole C l m after
+unfolding checkpoint_octets
+whole_is C l m fixed after none e p = record {
+  entries = p.entries;
+  are = own_none m.slots.own none;
+  put = p.put ∙ ap (λ (xs : List ℕ). xs ++ flat_map entry_octets p.entries) e;
+}
+  where
+    own_none : (o : Option Message) → o ≡ None → AreEntries m.slots.slots.items o p.entries
+    own_none None e = p.are
+    own_none (Some x) e = absurd (let no : Some x ≡ None = e in cc)
+
+pub whole_own : (C : Table) (l : Listed) (m : Memory) (x : Message) (fixed between after : List ℕ) → m.slots.own ≡ Some x
+    → fixed ≡ fixed_octets (fixed_of C l m)
+    → IsPut fixed between (AreOpen m.slots.slots.items) → IsPutOne between after (IsCurrent x) → IsPutWhole C l m after
+unfolding checkpoint_octets
+whole_own C l m x fixed between after some e p one = record {
+  entries = p.entries ++ one.entry ∷ [];
+  are = own_some m.slots.own some;
+  put = one.put
+      ∙ ap (λ (xs : List ℕ). xs ++ entry_octets one.entry) (p.put ∙ ap (λ (xs : List ℕ). xs ++ flat_map entry_octets p.entries) e)
+      ∙ append_assoc (fixed_octets (fixed_of C l m)) (flat_map entry_octets p.entries) (entry_octets one.entry)
+      ∙ ap (λ (xs : List ℕ). fixed_octets (fixed_of C l m) ++ xs)
+      (sym (flat_append p.entries (one.entry ∷ [])
+      ∙ ap (λ (xs : List ℕ). flat_map entry_octets p.entries ++ xs) (flat_one one.entry)));
+}
+  where
+    same : (y : Message) → Some y ≡ Some x → y ≡ x
+    same y e = cc
+
+    own_some : (o : Option Message) → o ≡ Some x → AreEntries m.slots.slots.items o (p.entries ++ one.entry ∷ [])
+    own_some None e = absurd (let no : None ≡ Some x = e in cc)
+    own_some (Some y) e =
+        let P : Message → Type 0 = λ z. AreEntries m.slots.slots.items (Some z) (p.entries ++ one.entry ∷ []) in
+        subst P (sym (same y e)) (entries_own m.slots.slots.items x p.entries one.entry p.are one.is)
+
+-- ---- the loop over the open messages
+
+pub put_read : (slots : List Slot) (i : ℕ) (slot : Slot) (before between after : List ℕ) → i < length slots
+    → slot ≡ get_or slots i slot → IsPut before between (AreOpen (take i slots)) → IsPutOne between after (IsOpen slot)
+    → IsPut before after (AreOpen (take (i + 1) slots))
+put_read slots i slot before between after low is some one =
+    let P : List Slot → Type 0 = λ xs. IsPut before after (AreOpen xs) in
+    subst P (ap (λ (x : Slot). take i slots ++ x ∷ []) is ∙ sym (take_at_read slots i slot low).1) (put_more (take i slots) slot before between after some one)
+
+pub put_all : (slots : List Slot) (i : ℕ) (before after : List ℕ) → length slots ≤ i
+    → IsPut before after (AreOpen (take i slots)) → IsPut before after (AreOpen slots)
+put_all slots i before after high some = let P : List Slot → Type 0 = λ xs. IsPut before after (AreOpen xs) in subst P (take_all i slots high) some
+
+pub ready_at : (C : Table) (at : ℕ) (slots : List Slot) (i : ℕ) (slot : Slot) → i < length slots
+    → slot ≡ get_or slots i slot → Each (λ s. IsReady C at s.message) slots → IsReady C at slot.message
+ready_at C at slots i slot low is ready = let P : Slot → Type 0 = λ s. IsReady C at s.message in subst P (sym is) (read slots i low ready)
+  where
+    read : (xs : List Slot) (j : ℕ) → j < length xs → Each (λ s. IsReady C at s.message) xs → IsReady C at (get_or xs j slot).message
+    read [] j low ready = absurd (omega (arith, low))
+    read (x ∷ xs) zero low ready = ready.0
+    read (x ∷ xs) (suc j) low ready = read xs j (omega (arith, low)) ready.1
+
+pub put_same : (C : Table) (at : ℕ) (slots same : List Slot) (before after : List ℕ) → slots ≡ same
+    → ((C : Table) (at : ℕ) → Each (λ s. IsReady C at s.message) slots → IsPut before after (AreOpen slots))
+    → Each (λ s. IsReady C at s.message) same → IsPut before after (AreOpen same)
+put_same C at slots same before after e put ready =
+    let P : List Slot → Type 0 = λ xs. Each (λ s. IsReady C at s.message) xs in
+    let Q : List Slot → Type 0 = λ xs. IsPut before after (AreOpen xs) in
+    subst Q e (put C at (subst P (sym e) ready))
+
+pub current_is : (m : Message) (number : ℕ) (header before after : List ℕ) → number ≡ m.number → header ≡ m.header
+    → IsPutOne before after (IsKept standings.Current number header m) → IsPutOne before after (IsCurrent m)
+current_is m number header before after n h put = record {
+  entry = put.entry;
+  is = record {
+    range = put.is.range;
+    standing_is = put.is.standing_is;
+    number_is = put.is.number_is
+        ∙ n;
+    header_is = put.is.header_is ∙ h;
+    message = put.is.message;
+  };
+  put = put.put;
+}
+
+-- ---- an engine's checkpoint
+
+pub saved_is : (e v : EngineMemory) (n : ℕ) (octets written p : List ℕ) → e ≡ v → Holds e p →
+    IsPutWhole v.table v.listed v.stream written → HasRoom v.table v.listed v.stream →
+    n ≡ length written → take n octets ≡ written → Saves n octets e.table e.listed p
+saved_is e v n octets written p same holds put room long front =
+    let whole = subst (λ x. IsPutWhole x.table x.listed x.stream written) (sym same) put in
+    let here = subst (λ x. HasRoom x.table x.listed x.stream) (sym same) room in
+    let size = long ∙ whole_long e.table e.listed e.stream written whole here in
+    record {
+      spells = record {
+        memory = e.stream;
+        entries = whole.entries;
+        octets_are = front ∙ whole.put;
+        entries_are = whole.are;
+        stream = holds.octets;
+        shows = holds.shows;
+        ready = here.ready;
+      };
+      size = size;
+      within = omega (arith, size, whole_within e.table e.listed e.stream written whole here);
+    }

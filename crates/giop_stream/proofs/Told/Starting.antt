@@ -1,0 +1,185 @@
+-- How many start lines an octet has: one at a header's last octet, and none at any other.
+use Rattle.std.proofs.Common.{◌≡◌, ℕ, suc, ◌+◌, ◌<◌, true, false, List, [], ◌∷◌, ◌++◌, length, refl, ap, Option, Some, None, arith, length-append}
+use Rattle.std.specs.Prelude.{nat_lt, ◌==◌, if◌then◌else◌, flat_map, ◌||◌, ◌&&◌}
+use Rattle.std.specs.List.{filter, AllByRecursion as Each}
+use Rattle.std.proofs.lemmas.Bool.{ne_eqb, eq-eqb}
+use Rattle.std.proofs.lemmas.List.Elements.{filter-append}
+use Rattle.giop_stream.specs.declared.fault.ImposedFault.{ImposedFault}
+use Rattle.giop_message.specs.Headers.{size, is_fragment}
+use Rattle.giop_stream.specs.Framing.{Message}
+use Rattle.giop_stream.specs.Kinds.{refused}
+use Rattle.giop_stream.specs.Events.{Happening, Begins, Takes, Opens, Continues, Cancelled, Imposed, Closes, Event, Open, title, place, id, own, about, opener_of, imposed, at_octet, at_id, at_end, happens, joined, now_of, header_acts, octet_acts, Now}
+use Rattle.giop_message.specs.Reading.{Saying, Value, Call, Rest, Fault, End, Reading}
+use Rattle.giop_stream.specs.Lines.{Start, Content, Started, Said, Goes_on, Ended_by, Faulted, Stopped, Line, has_class, line, tells, classes, by_class, is_last_of, standing}
+use Rattle.giop_stream.specs.Stream.{is_start, start_count}
+use Rattle.giop_stream.specs.State.{Kept}
+use Rattle.giop_stream.specs.Machine.{utters_kept, taking, utters, now_written}
+use Rattle.giop_stream.proofs.Happening.Walking.{IsLater, of_later, either}
+use Rattle.giop_stream.proofs.Lists.{each_append, each_map, filter_drops, each_weaker}
+use Rattle.giop_stream.proofs.Told.Telling.{classes_each, standing_each}
+
+NoStart : Line → Type 0
+NoStart l = is_start l.content ≡ false
+
+none_count : (ls : List Line) → Each NoStart ls → start_count ls ≡ 0
+unfolding start_count NoStart
+none_count ls h = rw (filter_drops (λ l. is_start l.content) ls h) refl
+
+pub start_append : (xs ys : List Line) → start_count (xs ++ ys) ≡ start_count xs + start_count ys
+unfolding start_count
+start_append xs ys =
+    rw (filter-append (λ l. is_start l.content) xs ys) (length-append (filter (λ l. is_start l.content) xs) (filter (λ l. is_start l.content) ys))
+
+-- what a reading says is no start
+said_none : (e : Event) (s : Saying) (text : List ℕ) → NoStart (line e (Said s text))
+unfolding NoStart line
+said_none e s text = refl
+
+takes_none : (R : Reading) (e : Event) (so_far all : List ℕ) (x : ℕ) → Each NoStart (tells R e so_far all (Takes x))
+unfolding tells
+takes_none R e so_far all x =
+    each_map NoStart (λ r. line e (Said r.saying r.text)) (λ r. said_none e r.saying r.text)
+    (filter (λ r. r.at == suc (length so_far)) (R.reads e.whom.header all))
+
+closes_none : (R : Reading) (e : Event) (so_far all : List ℕ) → Each NoStart (tells R e so_far all Closes)
+unfolding tells
+closes_none R e so_far all = each_map NoStart (λ l. line e (Said l.0 l.1)) (λ l. said_none e l.0 l.1) (R.closes e.whom.header so_far)
+
+Quiet : Event → Type 0
+Quiet e = (R : Reading) (so_far all : List ℕ) → Each NoStart (tells R e so_far all e.what)
+
+kept_none : (R : Reading) (e : Event) (o : Option (List ℕ)) → Quiet e → Each NoStart (utters_kept R e o)
+unfolding utters_kept Quiet
+kept_none R e None h = tt
+kept_none R e (Some xs) h = h R xs (xs ++ joined e.whom.number (e ∷ []))
+
+utters_none : (R : Reading) (K : Kept) (es : List Event) → Each Quiet es → Each NoStart (utters R K es)
+unfolding utters
+utters_none R K [] h = tt
+utters_none R K (e ∷ es) h =
+    each_append NoStart (utters_kept R e (K e.whom.number)) (utters R (taking K (e ∷ [])) es)
+    (kept_none R e (K e.whom.number) h.0) (utters_none R (taking K (e ∷ [])) es h.1)
+
+-- ---- What tells no start, and so what each part of an octet does but the first.
+
+-- a happening that tells no start, whatever the message
+Calm : Happening → Type 0
+Calm what = (R : Reading) (e : Event) (so_far all : List ℕ) → Each NoStart (tells R e so_far all what)
+
+quiet_own : (now : Now) (what : Happening) → Calm what → Each Quiet (own now what)
+unfolding own Quiet Calm
+quiet_own now what h = (λ R so_far all. h R _ so_far all, tt)
+
+quiet_about : (now : Now) (o : Option Open) (what : Happening) → Calm what → Each Quiet (about now o what)
+unfolding about Quiet Calm
+quiet_about now None what h = tt
+quiet_about now (Some o) what h = (λ R so_far all. h R _ so_far all, tt)
+
+calm_takes : (x : ℕ) → Calm (Takes x)
+unfolding Calm
+calm_takes x R e so_far all = takes_none R e so_far all x
+
+calm : (what : Happening) → IsLater what → Calm what
+unfolding Calm tells NoStart line
+calm Begins h = absurd h
+calm (Takes x) h = absurd h
+calm (Opens i) h = λ R e so_far all. tt
+calm (Continues i) h = λ R e so_far all. (refl, tt)
+calm (Cancelled j) h = λ R e so_far all. (refl, tt)
+calm (Imposed fault) h = λ R e so_far all. (refl, tt)
+calm Closes h = λ R e so_far all. closes_none R e so_far all
+
+quiet_imposed : (now : Now) (w : Option ImposedFault) → Each Quiet (imposed now w)
+quiet_imposed now None = tt
+quiet_imposed now (Some fault) = quiet_own now (Imposed fault) (calm (Imposed fault) tt)
+
+quiet_octet : (now : Now) (other : Option Open) → Each Quiet (octet_acts now other)
+unfolding octet_acts
+quiet_octet now other =
+    either (Each Quiet) (is_fragment now.whom.header && nat_lt 4 now.come) _ _
+    (quiet_about now other (Takes now.octet) (calm_takes now.octet)) (quiet_own now (Takes now.octet) (calm_takes now.octet))
+
+-- what an octet does behind its first part
+later_part : List Open → Message → List Event
+later_part live m = (if length m.payload == 4 then at_id live m else []) ++ (if length m.payload == size m.header then at_end live m else [])
+
+quiet_later : (live : List Open) (m : Message) → Each Quiet (later_part live m)
+unfolding later_part
+quiet_later live m =
+    of_later (Each Quiet) (record { none = tt; both = each_append Quiet }) live (now_of m) (id m) (opener_of live m) (record {
+      mine = λ what later. quiet_own (now_of m) what (calm what later);
+      theirs = λ what later. quiet_about (now_of m) (opener_of live m) what (calm what later);
+    })
+
+pub none_later : (R : Reading) (K : Kept) (live : List Open) (m : Message) → 0 < length m.payload → start_count (now_written R K (happens live m)) ≡ 0
+unfolding now_written by_class happens later_part
+none_later R K live m h =
+    let es : List Event = at_octet live m ++ later_part live m in
+    let quiet : Each Quiet es = each_append Quiet (at_octet live m) (later_part live m) (quiet_octet (now_of m) (opener_of live m)) (quiet_later live m) in
+    let all : Each NoStart (utters R K es) = utters_none R K es quiet in
+    rw (ne_eqb (length m.payload) 0 (λ e. omega arith))
+    (none_count (standing (λ i. false) (flat_map (λ class. filter (has_class class) (utters R K es)) classes))
+    (standing_each NoStart (λ i. false) (flat_map (λ class. filter (has_class class) (utters R K es)) classes)
+    (classes_each NoStart (utters R K es) classes all)))
+
+-- the start line comes before all others
+no_start_class : (ls : List Line) → Each NoStart ls → filter (has_class Start) ls ≡ []
+unfolding NoStart
+no_start_class ls h = filter_drops (has_class Start) ls (each_weaker NoStart (λ l. has_class Start l ≡ false) (λ l k. go l.content k) ls h)
+  where
+    go : (c : Content) → is_start c ≡ false → has_class Start (record { place = 0; number = 0; content = c }) ≡ false
+    go (Started header) k = absurd cc
+    go (Said Value text) k = refl
+    go (Said Call text) k = refl
+    go (Said Rest text) k = refl
+    go (Said Fault text) k = refl
+    go (Said End text) k = refl
+    go (Goes_on i) k = refl
+    go (Ended_by j) k = refl
+    go (Faulted fault) k = refl
+    go (Stopped fault) k = refl
+
+start_first : (l : Line) (header : List ℕ) (ls : List Line) → l.content ≡ Started header → Each NoStart ls → by_class (l ∷ ls) ≡ l ∷ by_class ls
+unfolding by_class classes
+start_first l header ls e h = rw (e, no_start_class ls h) refl
+
+begun : (R : Reading) (K : Kept) (m : Message) (e : Event) (xs : List ℕ) (rest : List Event) → e.whom ≡ title m
+    → e.what ≡ Begins → K m.number ≡ Some xs → utters R K (e ∷ rest) ≡ line e (Started m.header) ∷ utters R
+    (taking K (e ∷ [])) rest
+unfolding utters utters_kept tells
+begun R K m e xs rest w b k = rw (w, b, k) refl
+
+first_start : (e : Event) (header : List ℕ) → is_start (line e (Started header)).content ≡ true
+unfolding line
+first_start e header = refl
+
+by_class_each : (ls : List Line) → Each NoStart ls → Each NoStart (by_class ls)
+unfolding by_class
+by_class_each ls h = classes_each NoStart ls classes h
+
+one_counted : (l : Line) (ls : List Line) → is_start l.content ≡ true
+    → Each NoStart (standing (λ i. false || is_last_of i l) ls) → start_count (standing (λ i. false) (l ∷ ls)) ≡ 1
+unfolding standing start_count
+one_counted l ls k h = rw k (ap suc (none_count (standing (λ i. false || is_last_of i l) ls) h))
+
+first_of_all : (e : Event) (header : List ℕ) (more : List Line) → Each NoStart more
+    → by_class (line e (Started header) ∷ more) ≡ line e (Started header) ∷ by_class more
+unfolding line
+first_of_all e header more h = start_first (record { place = e.place; number = e.whom.number; content = Started header }) header more refl h
+
+pub one_first : (R : Reading) (K : Kept) (live : List Open) (m : Message) (xs : List ℕ) → m.payload ≡ []
+    → K m.number ≡ Some xs → start_count (now_written R K (happens live m)) ≡ 1
+unfolding now_written happens header_acts own later_part
+one_first R K live m xs pay known =
+    let e : Event = record { place = place m; whom = title m; what = Begins } in
+    let rest : List Event = imposed (now_of m) (refused m.header) ++ later_part live m in
+    let more : List Line = utters R (taking K (e ∷ [])) rest in
+    let none : Each NoStart more =
+    utters_none R (taking K (e ∷ [])) rest (each_append Quiet (imposed (now_of m) (refused m.header)) (later_part live m)
+    (quiet_imposed (now_of m) (refused m.header)) (quiet_later live m)) in
+    let empty : length m.payload ≡ 0 = rw pay refl in
+    let said : utters R K (e ∷ rest) ≡ line e (Started m.header) ∷ more = begun R K m e xs rest refl refl known in
+    let calm : Each NoStart (standing (λ i. false || is_last_of i (line e (Started m.header))) (by_class more)) =
+    standing_each NoStart (λ i. false || is_last_of i (line e (Started m.header))) (by_class more) (by_class_each more none) in
+    rw (eq-eqb (length m.payload) 0 empty, said, first_of_all e m.header more none)
+    (one_counted (line e (Started m.header)) (by_class more) (first_start e m.header) calm)

@@ -1,0 +1,3 @@
+-- Worked streams, by computation.
+pub mod Rows
+pub mod EngineRows
