@@ -78,7 +78,7 @@ fn expect_no_headers(rt: &impl Abort, catalogue: &Catalogue) -> Result<(), Fail>
 }
 
 #[test]
-fn builtin_has_depth_7_and_counts_nothing(rt: HostRuntime) -> Result<(), Fail> {
+fn builtin_has_depth_9_and_counts_nothing(rt: HostRuntime) -> Result<(), Fail> {
     expect_empty(&rt, &Catalogue::builtin(rt.alloc())?);
     Ok(())
 }
@@ -95,13 +95,13 @@ fn empty_differs(catalogue: &Catalogue) -> &'static str {
         operations: 0,
         exceptions: 0,
     };
-    if catalogue.depth() != 7 {
+    if catalogue.depth() != 9 {
         return "the depth";
     }
     if catalogue.counts() != none {
         return "the counts";
     }
-    if !catalogue.has(TypeId(36)) || catalogue.has(TypeId(37)) {
+    if !catalogue.has(TypeId(40)) || catalogue.has(TypeId(41)) {
         return "the types";
     }
     if catalogue.has_operation(OpId(0)) {
@@ -119,16 +119,46 @@ fn what_a_request_is_made_of(rt: HostRuntime) -> Result<(), Fail> {
 fn expect_request(rt: &(impl Abort + AllocGlobal), catalogue: &Catalogue) -> Result<(), Fail> {
     let request = catalogue.header(2, 0).ok_or("a request")?;
     let contexts = inner(rt, catalogue, request, 5);
-    let context = inner(rt, catalogue, contexts, 0);
-    expect_row(
-        rt,
-        catalogue,
-        context,
-        "context_id ulong, context_data octets",
-    )?;
+    expect_context(rt, catalogue, inner(rt, catalogue, contexts, 0))?;
     let reserved = inner(rt, catalogue, request, 2);
     expect_row(rt, catalogue, inner(rt, catalogue, reserved, 2), "octet")?;
     expect_target(rt, catalogue, inner(rt, catalogue, request, 3))
+}
+
+fn expect_context(
+    rt: &(impl Abort + AllocGlobal),
+    catalogue: &Catalogue,
+    context: TypeId,
+) -> Result<(), Fail>
+    requires { context.0 < length catalogue.now.types }
+{
+    let want = "context_id ulong, context_data encapsulation, context_data octets";
+    expect_row(rt, catalogue, context, want)?;
+    let code_sets = inner(rt, catalogue, inner(rt, catalogue, context, 1), 0);
+    expect_row(
+        rt,
+        catalogue,
+        code_sets,
+        "char_data ulong, wchar_data ulong",
+    )
+}
+
+fn expect_profile(
+    rt: &(impl Abort + AllocGlobal),
+    catalogue: &Catalogue,
+    profile: TypeId,
+) -> Result<(), Fail>
+    requires { profile.0 < length catalogue.now.types }
+{
+    let want = "tag ulong, profile_data encapsulation, profile_data octets";
+    expect_row(rt, catalogue, profile, want)?;
+    let iiop = inner(rt, catalogue, inner(rt, catalogue, profile, 1), 0);
+    expect_row(
+        rt,
+        catalogue,
+        iiop,
+        "major octet, minor octet, host string, port ushort, object_key octets",
+    )
 }
 
 fn expect_target(
@@ -143,10 +173,9 @@ fn expect_target(
         rt,
         catalogue,
         target,
-        "object_key octets, profile struct, ior struct",
+        "object_key octets, profile tagged, ior struct",
     )?;
-    let profile = inner(rt, catalogue, target, 1);
-    expect_row(rt, catalogue, profile, "tag ulong, profile_data octets")?;
+    expect_profile(rt, catalogue, inner(rt, catalogue, target, 1))?;
     let address = inner(rt, catalogue, target, 2);
     expect_row(
         rt,
@@ -169,8 +198,11 @@ fn expect_bodies(rt: &(impl Abort + AllocGlobal), catalogue: &Catalogue) -> Resu
     expect_row(rt, catalogue, system, want)?;
     let ior = catalogue.fixed(Fixed::Forward);
     expect_row(rt, catalogue, ior, "type_id string, profiles sequence")?;
-    let profile = inner(rt, catalogue, inner(rt, catalogue, ior, 1), 0);
-    expect_row(rt, catalogue, profile, "tag ulong, profile_data octets")?;
+    expect_profile(
+        rt,
+        catalogue,
+        inner(rt, catalogue, inner(rt, catalogue, ior, 1), 0),
+    )?;
     expect_row(rt, catalogue, catalogue.fixed(Fixed::Addressing), "short")
 }
 
@@ -201,7 +233,7 @@ fn selection_differs(catalogue: &Catalogue, request: TypeId, target: TypeId) -> 
     if !catalogue.has(request) || !catalogue.has(target) {
         return "the types";
     }
-    if !switches_on_short(catalogue, target) {
+    if !switches_on(catalogue, target, Prim::Short) {
         return "the discriminator's type";
     }
     if catalogue.select(request, Number::Signed(0)) != Selected::Nothing {
@@ -215,14 +247,55 @@ fn selection_differs(catalogue: &Catalogue, request: TypeId, target: TypeId) -> 
     ""
 }
 
-/// Whether a type is a union whose discriminator is a short.
-fn switches_on_short(catalogue: &Catalogue, t: TypeId) -> bool
+/// Whether a type is a union or tagged, and its discriminator is such a number.
+fn switches_on(catalogue: &Catalogue, t: TypeId, prim: Prim) -> bool
     requires { t.0 < length catalogue.now.types }
 {
     match catalogue.shape(t) {
-        Shape::Union(_) => catalogue.shape(catalogue.switch_type(t)) == Shape::Prim(Prim::Short),
+        Shape::Union(_) => catalogue.shape(catalogue.switch_type(t)) == Shape::Prim(prim),
+        Shape::Tagged => catalogue.shape(catalogue.switch_type(t)) == Shape::Prim(prim),
         _ => false,
     }
+}
+
+#[test]
+fn one_number_says_that_an_encapsulation_stands_behind_it(rt: HostRuntime) -> Result<(), Fail> {
+    expect_tags(&rt, &Catalogue::builtin(rt.alloc())?)
+}
+
+fn expect_tags(rt: &impl Abort, catalogue: &Catalogue) -> Result<(), Fail> {
+    let request = catalogue.header(2, 0).ok_or("a request")?;
+    let context = inner(rt, catalogue, inner(rt, catalogue, request, 5), 0);
+    let profile = inner(rt, catalogue, inner(rt, catalogue, request, 3), 1);
+    let differs = tag_differs(catalogue, context, profile);
+    assert!(rt; differs.is_empty(), "{differs}");
+    Ok(())
+}
+
+/// A number, and which part it selects of a service context and of a tagged profile.
+static TAGS: [(u64, u32, u32); 4] = [(0, 2, 1), (1, 1, 2), (2, 2, 2), (4_294_967_295, 2, 2)];
+
+/// What the numbers of a service context and of a tagged profile select otherwise.
+fn tag_differs(catalogue: &Catalogue, context: TypeId, profile: TypeId) -> &'static str
+    requires context { context.0 < length catalogue.now.types }
+    requires profile { profile.0 < length catalogue.now.types }
+{
+    if !switches_on(catalogue, context, Prim::ULong) {
+        return "the type of a context's number";
+    }
+    if !switches_on(catalogue, profile, Prim::ULong) {
+        return "the type of a profile's number";
+    }
+    for (number, of_context, of_profile) in &TAGS {
+        let number = Number::Unsigned(*number);
+        if catalogue.select(context, number) != Selected::Case(*of_context) {
+            return "a context";
+        }
+        if catalogue.select(profile, number) != Selected::Case(*of_profile) {
+            return "a profile";
+        }
+    }
+    ""
 }
 
 #[test]

@@ -201,27 +201,27 @@ static FEATURES: &[u8] = b"signatures 1;\n\
 #[test]
 fn the_naming_service_is_accepted(rt: HostRuntime) -> Result<(), Fail> {
     let told = told_of_file(rt.alloc(), NAMING)?;
-    assert!(rt; told.as_str() == "4 18 6 7", "{told}");
+    assert!(rt; told.as_str() == "4 18 6 9", "{told}");
     Ok(())
 }
 
 #[test]
 fn the_event_service_is_accepted(rt: HostRuntime) -> Result<(), Fail> {
     let told = told_of_file(rt.alloc(), EVENT)?;
-    assert!(rt; told.as_str() == "0 6 1 7", "{told}");
+    assert!(rt; told.as_str() == "0 6 1 9", "{told}");
     Ok(())
 }
 
 #[test]
 fn the_notification_service_is_accepted(rt: HostRuntime) -> Result<(), Fail> {
     let told = told_of_file(rt.alloc(), NOTIFICATION)?;
-    assert!(rt; told.as_str() == "7 90 17 7", "{told}");
+    assert!(rt; told.as_str() == "7 90 17 9", "{told}");
     Ok(())
 }
 
 #[test]
 fn each_feature_is_accepted(rt: HostRuntime) -> Result<(), Fail> {
     let told = told_of_file(rt.alloc(), FEATURES)?;
-    assert!(rt; told.as_str() == "4 7 2 7", "{told}");
+    assert!(rt; told.as_str() == "4 7 2 9", "{told}");
     Ok(())
 }

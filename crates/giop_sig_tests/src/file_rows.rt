@@ -3,31 +3,32 @@
 /// Files that are accepted: how many types, operations and exceptions they have, and their depth.
 pub static ACCEPTED: &[u8] = b"\
     1 0 0 24|signatures 1;\nstruct A { sequence<sequence<sequence<sequence<sequence<sequence<sequence<sequence<sequence<sequence<sequence<sequence<sequence<sequence<sequence<sequence<sequence<sequence<sequence<sequence<sequence<sequence<long>>>>>>>>>>>>>>>>>>>>>> m; };\n=\
-    1 0 0 7|signatures 1;\nstruct A { long x[1]; };=\
-    1 0 0 7|signatures 1;\nstruct A { long x[4294967295]; };=\
-    1 0 0 7|signatures 1;\nunion U switch (short) { case -1: long a; };=\
-    1 0 0 7|signatures 1;\nunion U switch (short) { case -32768: long a; };=\
-    1 0 0 7|signatures 1;\nunion U switch (short) { case 32767: long a; };=\
-    1 0 0 7|signatures 1;\nunion U switch (char) { case 255: long a; };=\
-    1 0 0 7|signatures 1;\nunion U switch (ushort) { case 65535: long a; };=\
-    1 0 0 7|signatures 1;\nunion U switch (long) { case -2147483648: long a; };=\
-    1 0 0 7|signatures 1;\nunion U switch (ulong) { case 4294967295: long a; };=\
-    1 0 0 7|signatures 1;\nunion U switch (boolean) { case true: long a; };=\
-    2 0 0 7|signatures 1;\nenum E { a }; union U switch (E) { case a: long x; };=\
-    1 0 0 7|signatures 1;\nunion U switch (short) { default: long c; };=\
-    1 0 0 7|signatures 1;\nunion U switch (short) { case 1: default: case 2: long c; };=\
-    1 0 0 7|signatures 1;\n// // \xff comment\nstruct A { long x; }; // no end=\
-    1 0 0 7|signatures 1;\nstruct A { long x; };\r\n\t =\
-    0 0 1 7|signatures 1;\nexception E \"r\" { };=\
-    0 0 1 7|signatures 1;\nexception E \"a//b\" { };=\
-    1 1 0 7|signatures 1;\nstruct f { long a; }; operation f f(in f f);=\
-    2 0 0 7|signatures 1;\nenum E { a }; enum F { a };=\
-    1 0 0 7|signatures 1;\nstruct A { string<4294967295> s; };=\
-    1 0 0 7|signatures 1;\nstruct A { sequence<sequence<octet>,2> s[3]; };=\
-    0 0 0 7|signatures 1;=\
-    0 0 0 7|signatures 1;\n=\
-    0 0 0 7|\n\nsignatures 1;=\
-    0 0 0 7|// c\nsignatures 1;";
+    1 0 0 24|signatures 1;\nstruct A { sequence<sequence<sequence<sequence<sequence<sequence<sequence<sequence<sequence<sequence<sequence<sequence<sequence<sequence<sequence<sequence<sequence<Object>>>>>>>>>>>>>>>>> m; };=\
+    1 0 0 9|signatures 1;\nstruct A { long x[1]; };=\
+    1 0 0 9|signatures 1;\nstruct A { long x[4294967295]; };=\
+    1 0 0 9|signatures 1;\nunion U switch (short) { case -1: long a; };=\
+    1 0 0 9|signatures 1;\nunion U switch (short) { case -32768: long a; };=\
+    1 0 0 9|signatures 1;\nunion U switch (short) { case 32767: long a; };=\
+    1 0 0 9|signatures 1;\nunion U switch (char) { case 255: long a; };=\
+    1 0 0 9|signatures 1;\nunion U switch (ushort) { case 65535: long a; };=\
+    1 0 0 9|signatures 1;\nunion U switch (long) { case -2147483648: long a; };=\
+    1 0 0 9|signatures 1;\nunion U switch (ulong) { case 4294967295: long a; };=\
+    1 0 0 9|signatures 1;\nunion U switch (boolean) { case true: long a; };=\
+    2 0 0 9|signatures 1;\nenum E { a }; union U switch (E) { case a: long x; };=\
+    1 0 0 9|signatures 1;\nunion U switch (short) { default: long c; };=\
+    1 0 0 9|signatures 1;\nunion U switch (short) { case 1: default: case 2: long c; };=\
+    1 0 0 9|signatures 1;\n// // \xff comment\nstruct A { long x; }; // no end=\
+    1 0 0 9|signatures 1;\nstruct A { long x; };\r\n\t =\
+    0 0 1 9|signatures 1;\nexception E \"r\" { };=\
+    0 0 1 9|signatures 1;\nexception E \"a//b\" { };=\
+    1 1 0 9|signatures 1;\nstruct f { long a; }; operation f f(in f f);=\
+    2 0 0 9|signatures 1;\nenum E { a }; enum F { a };=\
+    1 0 0 9|signatures 1;\nstruct A { string<4294967295> s; };=\
+    1 0 0 9|signatures 1;\nstruct A { sequence<sequence<octet>,2> s[3]; };=\
+    0 0 0 9|signatures 1;=\
+    0 0 0 9|signatures 1;\n=\
+    0 0 0 9|\n\nsignatures 1;=\
+    0 0 0 9|// c\nsignatures 1;";
 
 /// Files that are refused: the line, and the word of the rule that is broken.
 pub static REFUSED: &[u8] = b"\
@@ -35,6 +36,7 @@ pub static REFUSED: &[u8] = b"\
     3 duplicate|signatures 1;\nenum A { x };\nenum A { y };=\
     2 empty|signatures 1;\nstruct A { };=\
     2 depth|signatures 1;\nstruct A { sequence<sequence<sequence<sequence<sequence<sequence<sequence<sequence<sequence<sequence<sequence<sequence<sequence<sequence<sequence<sequence<sequence<sequence<sequence<sequence<sequence<sequence<sequence<long>>>>>>>>>>>>>>>>>>>>>>> m; };\n=\
+    2 depth|signatures 1;\nstruct A { sequence<sequence<sequence<sequence<sequence<sequence<sequence<sequence<sequence<sequence<sequence<sequence<sequence<sequence<sequence<sequence<sequence<sequence<Object>>>>>>>>>>>>>>>>>> m; };=\
     2 label|signatures 1;\nunion U switch (short) { case 40000: long a; };=\
     2 token|signatures 1;\nstruct A { long #; };=\
     1 syntax|=\

@@ -17,7 +17,7 @@ fn expect_told(rt: &(impl Abort + AllocGlobal), text: &[u8], want: &str) -> Resu
 fn a_file_has_at_most_1048576_octets(rt: HostRuntime) -> Result<(), Fail> {
     let mut text = Vec::from_slice(rt.alloc(), b"signatures 1;")?;
     add_spaces(1_048_576 - 13, &mut text)?;
-    expect_told(&rt, &text, "0 0 0 7")?;
+    expect_told(&rt, &text, "0 0 0 9")?;
     text.push(b' ')?;
     expect_told(&rt, &text, "1 limit")
 }
@@ -41,7 +41,7 @@ fn operations(alloc: Global, count: u32) -> Result<String, Fail> {
 #[test]
 fn a_file_has_at_most_4096_operations(rt: HostRuntime) -> Result<(), Fail> {
     let text = operations(rt.alloc(), 4096)?;
-    expect_told(&rt, text.as_bytes(), "0 4096 0 7")
+    expect_told(&rt, text.as_bytes(), "0 4096 0 9")
 }
 
 #[test]

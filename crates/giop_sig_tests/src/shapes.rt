@@ -1,4 +1,4 @@
-//! How a type reads: its members or cases in order, each with the outermost form of its type.
+//! How a type reads: its members, cases or tagged parts in order, each with the outermost form of its type.
 ghost use Rattle.std.specs.Prelude.{ℕ, ◌<◌, length};
 ghost use Rattle.giop_sig.specs.Types.{shape_in, HasMember, HasPlace};
 ghost use Rattle.giop_sig.specs.Trees.{tree};
@@ -84,18 +84,19 @@ fn add_parts(
     Ok(())
 }
 
-/// Adds the members or cases of a type.
+/// Adds the members, cases or tagged parts of a type.
 fn add_row(catalogue: &Catalogue, t: TypeId, row: &mut Vec<u8>) -> Result<(), AllocError>
     requires { t.0 < length catalogue.now.types }
 {
     match catalogue.shape(t) {
         Shape::Members(count) => add_parts(catalogue, t, count, row),
         Shape::Union(count) => add_parts(catalogue, t, count, row),
+        Shape::Tagged => add_parts(catalogue, t, 3, row),
         _ => add_kind(catalogue, t, row),
     }
 }
 
-/// Whether a type has these members or cases.
+/// Whether a type has these members, cases or tagged parts.
 pub fn expect_row(
     rt: &(impl Abort + AllocGlobal),
     catalogue: &Catalogue,
@@ -126,6 +127,11 @@ pub fn inner(rt: &impl Abort, catalogue: &Catalogue, t: TypeId, place: u32) -> T
         }
         Shape::Sequence(_) => catalogue.part(t, place),
         Shape::Array(_) => catalogue.part(t, place),
+        Shape::Encapsulation => catalogue.part(t, place),
+        Shape::Tagged => {
+            assert!(rt; place < 3);
+            catalogue.part(t, place)
+        }
         _ => panic!(rt; "no parts"),
     }
 }
