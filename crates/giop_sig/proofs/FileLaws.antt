@@ -12,7 +12,7 @@ use Rattle.giop_tokens.specs.Readers.{misplaced, word_at, number_at, mark_at, ke
 use Rattle.giop_tokens.proofs.ReaderLaws.{bind_ok, ok_is, Takes, word_again, number_again, mark_again, keyword_again, end_again, end_other, word_takes, number_takes, mark_takes, keyword_takes}
 use Rattle.giop_sig.specs.Grammar.{TypeExpr, Item, UnionCase, spell_type, spell_names, spell_items, spell_cases, spell_params, spell_return, Declaration, Enumeration, Structure, Choice, Raise, Call, spell, spell_all, SignatureFile, is_version, spell_file}
 use Rattle.giop_sig.specs.Scopes.{Scope, first_scope, declare, scope_after, table}
-use Rattle.giop_sig.specs.Validity.{Kind, OfDeclaration, IsShallow, HasItsWords, Each, IsValid, Spells, Refuses}
+use Rattle.giop_sig.specs.Validity.{Kind, OfDeclaration, IsShallow, HasItsWords, Each, Rule, IsValid, Spells, IsBroken, Refuses}
 use Rattle.giop_sig.specs.ItemReading.{Declared, structure_at, raise_at}
 use Rattle.giop_sig.specs.CallReading.{operation_at}
 use Rattle.giop_sig.specs.EnumReading.{enumeration_at}
@@ -126,7 +126,9 @@ run_over : (n : ℕ) (s : Scope) (text : List ℕ) → end_at text ≡ Ok true �
 unfolding declarations_run
 run_over n s text h = rw h refl
 
-declarations_read : UnionReads → (ds : List Declaration) (n : ℕ) (s : Scope) (text : List ℕ) → length ds < n → 0 < size s → Each HasItsWords s ds → AreTokens text (spell_all ds) → FileOut s ds (declarations_run n s text)
+declarations_read : UnionReads → (ds : List Declaration) (n : ℕ) (s : Scope) (text : List ℕ)
+    → length ds < n → 0 < size s → Each HasItsWords s ds → AreTokens text (spell_all ds)
+    → FileOut s ds (declarations_run n s text)
 unfolding Each
 declarations_read union [] zero s text lt some free h = absurd (omega arith)
 declarations_read union (d ∷ ds) zero s text lt some free h = absurd (omega arith)
@@ -137,7 +139,8 @@ declarations_read union (d ∷ ds) (suc n) s text lt some free h =
 
 -- ---- the whole file
 
-version_again : (text : List ℕ) (n : ℕ) (more : List Token) (h : AreTokens text (number n ∷ more)) → is_version n ≡ true → version_at text ≡ Ok (n, h.0)
+version_again : (text : List ℕ) (n : ℕ) (more : List Token) (h : AreTokens text (number n ∷ more))
+    → is_version n ≡ true → version_at text ≡ Ok (n, h.0)
 unfolding version_at
 version_again text n more h is = rw (number_again text n more h, is) refl
 
@@ -146,18 +149,21 @@ unfolding builtin_types
 built_in version = lit< tt
 
 -- what reading gives of a file
-pub file_reads : UnionReads → (text : List ℕ) (file : SignatureFile) → Spells text file → FileOut (first_scope file.version) file.declarations (file_at text)
+pub file_reads : UnionReads → (text : List ℕ) (file : SignatureFile) → Spells text file
+    → FileOut (first_scope file.version) file.declarations (file_at text)
 unfolding file_at head_at
 file_reads union text file spells =
     let h = spells.tokens in
     let ds = file.declarations in
+    let tail = mark marks.Semicolon ∷ spell_all ds in
     let few = tokens_few (spell_file file) text h in
     rw (
-      keyword_again (codes "signatures") text (number file.version ∷ mark marks.Semicolon ∷ spell_all ds) h,
-      version_again h.0 file.version (mark marks.Semicolon ∷ spell_all ds) h.2 spells.version,
+      keyword_again (codes "signatures") text (number file.version ∷ tail) h,
+      version_again h.0 file.version tail h.2 spells.version,
       mark_again marks.Semicolon (h.2).0 (spell_all ds) (h.2).2,
     )
-    (declarations_read union ds (length text) (first_scope file.version) ((h.2).2).0 (omega (arith, few, spelled_few ds)) (built_in file.version) spells.words ((h.2).2).2)
+    (declarations_read union ds (length text) (first_scope file.version) ((h.2).2).0
+    (omega (arith, few, spelled_few ds)) (built_in file.version) spells.words ((h.2).2).2)
 
 -- ---- what was read
 
@@ -177,77 +183,103 @@ end_from text e =
     end_none text (t.0).0 (t.0).1 t.1 (ok_is (is_end (t.0).0) true t.2)
 
 -- the scope behind a declaration that was read is that of what it spells
-declared_is : UnionReads → (s : Scope) (d : Declaration) (text : List ℕ) (more : List Token) (x : Declared) → 0 < size s → HasItsWords s d → AreTokens text (spell d more) → declaration_at s text ≡ Ok x → x.0 ≡ declare s d
+declared_is : UnionReads
+    → (s : Scope) (d : Declaration) (text : List ℕ) (more : List Token) (x : Declared) → 0 < size s
+    → HasItsWords s d → AreTokens text (spell d more) → declaration_at s text ≡ Ok x
+    → x.0 ≡ declare s d
 declared_is union s d text more x some words h e =
-    let o : DeclarationOut s d more (Ok x) = subst (DeclarationOut s d more) e (declaration_reads union d s text more some words h) in
+    let reads = declaration_reads union d s text more some words h in
+    let o : DeclarationOut s d more (Ok x) = subst (DeclarationOut s d more) e reads in
     ap (λ (y : Declared). y.0) (o.out).is
 
-more_words : (s t : Scope) (d : Declaration) (ds : List Declaration) → 0 < size s → t ≡ declare s d → (0 < size t → Each HasItsWords t ds) → Each HasItsWords (declare s d) ds
-more_words s t d ds some is words = subst (λ u. Each HasItsWords u ds) is (words (omega (arith, declare_longer s d, ap size is)))
+more_words : (s t : Scope) (d : Declaration) (ds : List Declaration) → 0 < size s → t ≡ declare s d
+    → (0 < size t → Each HasItsWords t ds) → Each HasItsWords (declare s d) ds
+more_words s t d ds some is words =
+    subst (λ u. Each HasItsWords u ds) is (words (omega (arith, declare_longer s d, ap size is)))
 
-over_by : (n : ℕ) (s : Scope) (text : List ℕ) (t : Scope) (v : Bool) → end_at text ≡ Ok v → cond v (Ok s) (declaration_at s text >>= λ d. declarations_run n d.0 d.1) ≡ Ok t → UnionReads → UnionTakes
-    → ((s : Scope) (text : List ℕ) → declarations_run n s text ≡ Ok t → TakenAll s text) → TakenAll s text
+over_by : (n : ℕ) (s : Scope) (text : List ℕ) (t : Scope) (v : Bool) → end_at text ≡ Ok v
+    → cond v (Ok s) (declaration_at s text >>= λ d. declarations_run n d.0 d.1) ≡ Ok t → UnionReads
+    → UnionTakes
+    → ((s : Scope) (text : List ℕ) → declarations_run n s text ≡ Ok t → TakenAll s text)
+    → TakenAll s text
 unfolding Each
-over_by n s text t true over e reads takes on = record { declarations = []; words = λ some. tt; tokens = end_from text over }
+over_by n s text t true over e reads takes on =
+    record { declarations = []; words = λ some. tt; tokens = end_from text over }
 over_by n s text t false over e reads takes on =
     let d = bind_ok (declaration_at s text) (λ d. declarations_run n d.0 d.1) t e in
     let k = declaration_takes takes s text d.0 d.1 in
     let rest = on (d.0).0 (d.0).1 d.2 in
-    let tokens : AreTokens text (spell k.declaration (spell_all rest.declarations)) = k.took.front (spell_all rest.declarations) rest.tokens in
+    let more = spell_all rest.declarations in
+    let tokens : AreTokens text (spell k.declaration more) = k.took.front more rest.tokens in
     record {
       declarations = k.declaration ∷ rest.declarations;
       words = λ some. (
         k.took.free,
-        more_words s (d.0).0 k.declaration rest.declarations some (declared_is reads s k.declaration text (spell_all rest.declarations) d.0 some k.took.free tokens d.1) rest.words,
+        more_words s (d.0).0 k.declaration rest.declarations some
+            (declared_is reads s k.declaration text more d.0 some k.took.free tokens d.1) rest.words,
       );
       tokens = tokens;
     }
 
-declarations_take : UnionReads → UnionTakes → (n : ℕ) (s : Scope) (text : List ℕ) (t : Scope) → declarations_run n s text ≡ Ok t → TakenAll s text
+declarations_take : UnionReads → UnionTakes → (n : ℕ) (s : Scope) (text : List ℕ) (t : Scope)
+    → declarations_run n s text ≡ Ok t → TakenAll s text
 unfolding declarations_run
 declarations_take reads takes zero s text t e = absurd cc
 declarations_take reads takes (suc n) s text t e =
     let o = bind_ok (end_at text) (λ over. cond over (Ok s) (declaration_at s text >>= λ d. declarations_run n d.0 d.1)) t e in
-    over_by n s text t o.0 o.1 o.2 reads takes (λ s text run. declarations_take reads takes n s text t run)
+    over_by n s text t o.0 o.1 o.2 reads takes
+    (λ s text run. declarations_take reads takes n s text t run)
 
 -- the version that a file begins with
 record TakenHead (text : List ℕ) (x : ℕ × List ℕ) : Type 0 where
   pub version : is_version x.0 ≡ true
-  pub front : (more : List Token) → AreTokens x.1 more → AreTokens text (word (codes "signatures") ∷ number x.0 ∷ mark marks.Semicolon ∷ more)
+  pub front : (more : List Token) → AreTokens x.1 more
+      → AreTokens text (word (codes "signatures") ∷ number x.0 ∷ mark marks.Semicolon ∷ more)
 
-version_by : (text : List ℕ) (n x : ℕ × List ℕ) (v : Bool) → is_version n.0 ≡ v → cond v (Ok (n.0, n.1)) (Err (misplaced text)) ≡ Ok x → (is_version n.0 ≡ true) × (n ≡ x)
+version_by : (text : List ℕ) (n x : ℕ × List ℕ) (v : Bool) → is_version n.0 ≡ v
+    → cond v (Ok (n.0, n.1)) (Err (misplaced text)) ≡ Ok x → (is_version n.0 ≡ true) × (n ≡ x)
 version_by text n x true h e = (h, ok_is n x e)
 version_by text n x false h e = absurd cc
 
-version_takes : (text : List ℕ) (x : ℕ × List ℕ) → version_at text ≡ Ok x → (is_version x.0 ≡ true) × Takes text (number x.0) x.1
+version_takes : (text : List ℕ) (x : ℕ × List ℕ) → version_at text ≡ Ok x
+    → (is_version x.0 ≡ true) × Takes text (number x.0) x.1
 unfolding version_at
 version_takes text x e =
     let n = bind_ok (number_at text) (λ n. cond (is_version n.0) (Ok (n.0, n.1)) (Err (misplaced text))) x e in
     let is = version_by text n.0 x (is_version (n.0).0) refl n.2 in
-    subst (λ (y : ℕ × List ℕ). (is_version y.0 ≡ true) × Takes text (number y.0) y.1) is.1 (is.0, number_takes text n.0 n.1)
+    subst (λ (y : ℕ × List ℕ). (is_version y.0 ≡ true) × Takes text (number y.0) y.1) is.1
+    (is.0, number_takes text n.0 n.1)
 
 head_takes : (text : List ℕ) (x : ℕ × List ℕ) → head_at text ≡ Ok x → TakenHead text x
 unfolding head_at
 head_takes text x e =
-    let k = bind_ok (keyword_at (codes "signatures") text) (λ k. version_at k >>= λ v. mark_at marks.Semicolon v.1 >>= λ r. Ok (v.0, r)) x e in
+    let k = bind_ok (keyword_at (codes "signatures") text)
+    (λ k. version_at k >>= λ v. mark_at marks.Semicolon v.1 >>= λ r. Ok (v.0, r)) x e in
     let v = bind_ok (version_at k.0) (λ v. mark_at marks.Semicolon v.1 >>= λ r. Ok (v.0, r)) x k.2 in
     let r = bind_ok (mark_at marks.Semicolon (v.0).1) (λ r. Ok ((v.0).0, r)) x v.2 in
     let is = version_takes k.0 v.0 v.1 in
     subst (TakenHead text) (ok_is ((v.0).0, r.0) x r.2) (record {
       version = is.0;
       front = λ more m.
-          let tail : AreTokens (v.0).1 (mark marks.Semicolon ∷ more) = mark_takes marks.Semicolon (v.0).1 r.0 r.1 more m in
-          keyword_takes (codes "signatures") text k.0 k.1 (number (v.0).0 ∷ mark marks.Semicolon ∷ more) (is.1 (mark marks.Semicolon ∷ more) tail);
+          let tail = mark marks.Semicolon ∷ more in
+          keyword_takes (codes "signatures") text k.0 k.1 (number (v.0).0 ∷ tail)
+          (is.1 tail (mark_takes marks.Semicolon (v.0).1 r.0 r.1 more m));
     })
 
-pub file_takes : UnionReads → UnionTakes → (text : List ℕ) (t : Scope) → length text ≤ 1048576 → file_at text ≡ Ok t → (file : SignatureFile) × Spells text file
+pub file_takes : UnionReads → UnionTakes → (text : List ℕ) (t : Scope) → length text ≤ 1048576
+    → file_at text ≡ Ok t → (file : SignatureFile) × Spells text file
 unfolding file_at
 file_takes reads takes text t short e =
     let h = bind_ok (head_at text) (λ h. declarations_run (length text) (first_scope h.0) h.1) t e in
     let head = head_takes text h.0 h.1 in
     let all = declarations_take reads takes (length text) (first_scope (h.0).0) (h.0).1 t h.2 in (
       record { version = (h.0).0; declarations = all.declarations },
-      record { short = short; tokens = head.front (spell_all all.declarations) all.tokens; version = head.version; words = all.words (built_in (h.0).0) },
+      record {
+        short = short;
+        tokens = head.front (spell_all all.declarations) all.tokens;
+        version = head.version;
+        words = all.words (built_in (h.0).0);
+      },
     )
 
 -- ---- in the words of the contract
@@ -258,7 +290,8 @@ each_shallow [] s le = tt
 each_shallow (d ∷ ds) s le = (omega (arith, scope_deeper (declare s d) ds), each_shallow ds (declare s d) le)
 
 -- what was read is the table of a valid file
-pub file_valid : UnionReads → (text : List ℕ) (t : Scope) (file : SignatureFile) → Spells text file → file_at text ≡ Ok t → deepest t ≤ 24 → IsValid file × (t.table ≡ table file)
+pub file_valid : UnionReads → (text : List ℕ) (t : Scope) (file : SignatureFile) → Spells text file
+    → file_at text ≡ Ok t → deepest t ≤ 24 → IsValid file × (t.table ≡ table file)
 file_valid union text t file spells e shallow =
     let s = first_scope file.version in
     let ds = file.declarations in
@@ -283,20 +316,29 @@ file_few reads takes text t short e =
     let o : FileOut s ds (Ok t) = subst (FileOut s ds) e (file_reads reads text f.0 f.1) in
     omega (arith, ap size o.0, tokens_few (spell_file f.0) text (f.1).tokens, types_few s ds)
 
-refuses : (k : Kind) (file : SignatureFile) → BrokenIn k (first_scope file.version) file.declarations → Refuses k file
+is_broken : (k : Kind) (file : SignatureFile)
+    → (b : BrokenIn k (first_scope file.version) file.declarations)
+    → (Rule k (scope_after (first_scope file.version) b.before) b.broken → ⊥) → IsBroken k file
+is_broken k file b breaks =
+    record { before = b.before; broken = b.broken; after = b.after; all = b.all; breaks = breaks }
+
+refuses : (k : Kind) (file : SignatureFile)
+    → BrokenIn k (first_scope file.version) file.declarations → Refuses k file
 refuses kinds.Token file b = b.breaks
 refuses kinds.Syntax file b = b.breaks
 refuses kinds.OutOfMemory file b = tt
-refuses kinds.Depth file b = record { before = b.before; broken = b.broken; after = b.after; all = b.all; breaks = λ le. let deep = b.breaks in omega arith }
-refuses kinds.UnknownType file b = record { before = b.before; broken = b.broken; after = b.after; all = b.all; breaks = b.breaks }
-refuses kinds.Duplicate file b = record { before = b.before; broken = b.broken; after = b.after; all = b.all; breaks = b.breaks }
-refuses kinds.Limit file b = record { before = b.before; broken = b.broken; after = b.after; all = b.all; breaks = b.breaks }
-refuses kinds.Label file b = record { before = b.before; broken = b.broken; after = b.after; all = b.all; breaks = b.breaks }
-refuses kinds.Empty file b = record { before = b.before; broken = b.broken; after = b.after; all = b.all; breaks = b.breaks }
+refuses kinds.Depth file b = is_broken kinds.Depth file b (λ le. let deep = b.breaks in omega arith)
+refuses kinds.UnknownType file b = is_broken kinds.UnknownType file b b.breaks
+refuses kinds.Duplicate file b = is_broken kinds.Duplicate file b b.breaks
+refuses kinds.Limit file b = is_broken kinds.Limit file b b.breaks
+refuses kinds.Label file b = is_broken kinds.Label file b b.breaks
+refuses kinds.Empty file b = is_broken kinds.Empty file b b.breaks
 
 -- a text that spells a file is refused for a rule that one of its declarations breaks
-pub file_refuses : UnionReads → (text : List ℕ) (e : Refusal) (file : SignatureFile) → Spells text file → file_at text ≡ Err e → Refuses e.kind file
+pub file_refuses : UnionReads → (text : List ℕ) (e : Refusal) (file : SignatureFile)
+    → Spells text file → file_at text ≡ Err e → Refuses e.kind file
 file_refuses union text e file spells h =
     let s = first_scope file.version in
-    let o : FileOut s file.declarations (Err e) = subst (FileOut s file.declarations) h (file_reads union text file spells) in
+    let ds = file.declarations in
+    let o : FileOut s ds (Err e) = subst (FileOut s ds) h (file_reads union text file spells) in
     refuses e.kind file o

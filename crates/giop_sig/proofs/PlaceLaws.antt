@@ -32,7 +32,8 @@ place_deeper s (Text (Some n)) = node_deeper s (nodes.text (Some n))
 place_deeper s Reference = omega arith
 place_deeper s (Named w) = omega arith
 place_deeper s (SequenceOf e bound) = omega (arith, place_deeper s e, node_deeper (place s e).0 (sequence_node bound (place s e).1))
-place_deeper s (EncapsulationOf e) = omega (arith, place_deeper s e, node_deeper (place s e).0 (nodes.encapsulation (place s e).1))
+place_deeper s (EncapsulationOf e) =
+    omega (arith, place_deeper s e, node_deeper (place s e).0 (nodes.encapsulation (place s e).1))
 
 pub place_longer : (s : Scope) (e : TypeExpr) → size s ≤ size (place s e).0
 unfolding place
@@ -42,7 +43,8 @@ place_longer s (Text (Some n)) = node_longer s (nodes.text (Some n))
 place_longer s Reference = omega arith
 place_longer s (Named w) = omega arith
 place_longer s (SequenceOf e bound) = omega (arith, place_longer s e, node_longer (place s e).0 (sequence_node bound (place s e).1))
-place_longer s (EncapsulationOf e) = omega (arith, place_longer s e, node_longer (place s e).0 (nodes.encapsulation (place s e).1))
+place_longer s (EncapsulationOf e) =
+    omega (arith, place_longer s e, node_longer (place s e).0 (nodes.encapsulation (place s e).1))
 
 pub place_names : (s : Scope) (e : TypeExpr) → (place s e).0.names ≡ s.names
 unfolding place
@@ -204,7 +206,8 @@ unfolding depth
 sequence_depth f bound n k true is leaf le = let z = leaf (eqb-true n 0 is) in omega arith
 sequence_depth f bound n k false is leaf le = omega arith
 
-held_depth : (f : ℕ → Ty) (n k : ℕ) → k ≤ depth (f n) → suc k ≤ depth (grow f (nodes.encapsulation n))
+held_depth : (f : ℕ → Ty) (n k : ℕ) → k ≤ depth (f n)
+    → suc k ≤ depth (grow f (nodes.encapsulation n))
 unfolding depth
 held_depth f n k le = omega arith
 
@@ -222,11 +225,14 @@ nest_depth s (SequenceOf e bound) some =
 nest_depth s (EncapsulationOf e) some =
     let types = (place s e).0.table.types in
     let node = nodes.encapsulation (place s e).1 in
-    let more : suc (nest e) ≤ depth (grow (type_in types) node) = held_depth (type_in types) (place s e).1 (nest e) (nest_depth s e some) in
+    let more : suc (nest e) ≤ depth (grow (type_in types) node)
+    = held_depth (type_in types) (place s e).1 (nest e) (nest_depth s e some) in
     omega (arith, more, ap depth (tree_added types node))
 
 -- a node that was added is no deeper than the deepest
-last_within : (s : Scope) (node : Node) → depth (type_in (with_node s node).0.table.types (with_node s node).1) ≤ deepest (with_node s node).0
+last_within : (s : Scope) (node : Node)
+    → depth (type_in (with_node s node).0.table.types (with_node s node).1)
+    ≤ deepest (with_node s node).0
 last_within s node =
     let types = s.table.types in
     let last : length types < length (types ++ node ∷ []) = omega (arith, length-append types (node ∷ [])) in
@@ -239,5 +245,9 @@ nest_deepest s (Base p) some lt = absurd (omega arith)
 nest_deepest s (Text bound) some lt = absurd (omega arith)
 nest_deepest s Reference some lt = absurd (omega arith)
 nest_deepest s (Named w) some lt = absurd (omega arith)
-nest_deepest s (SequenceOf e bound) some lt = omega (arith, nest_depth s (SequenceOf e bound) some, last_within (place s e).0 (sequence_node bound (place s e).1))
-nest_deepest s (EncapsulationOf e) some lt = omega (arith, nest_depth s (EncapsulationOf e) some, last_within (place s e).0 (nodes.encapsulation (place s e).1))
+nest_deepest s (SequenceOf e bound) some lt =
+    let p = place s e in
+    omega (arith, nest_depth s (SequenceOf e bound) some, last_within p.0 (sequence_node bound p.1))
+nest_deepest s (EncapsulationOf e) some lt =
+    let p = place s e in
+    omega (arith, nest_depth s (EncapsulationOf e) some, last_within p.0 (nodes.encapsulation p.1))

@@ -43,13 +43,22 @@ flat_map None = refl
 flat_map (Some t) = refl
 
 -- what is found by a key, in the names of a scope
-pub name_found : (s : Scope) (version : ℕ) (t : Table) (es : List (ArrayVec ℕ × Option TypeId)) (key : ArrayVec ℕ) (w : List ℕ) → scope_view version t es ≡ s → key.items ≡ w → lookup (bytes_eq w) s.names.known ≡ option_map number_of_id (lookup (key_is key) es)
+pub name_found : (s : Scope) (version : ℕ) (t : Table) (es : List (ArrayVec ℕ × Option TypeId))
+    (key : ArrayVec ℕ) (w : List ℕ)
+    → scope_view version t es ≡ s → key.items ≡ w
+    → lookup (bytes_eq w) s.names.known ≡ option_map number_of_id (lookup (key_is key) es)
 name_found s version t es key w view same = ap (λ (x : Scope). lookup (bytes_eq w) x.names.known) (sym view) ∙ ap (λ v. lookup (bytes_eq v) (map name_view es)) (sym same) ∙ view_found key es
 
-pub name_declared : (s : Scope) (version : ℕ) (t : Table) (es : List (ArrayVec ℕ × Option TypeId)) (key : ArrayVec ℕ) (w : List ℕ) → scope_view version t es ≡ s → key.items ≡ w → is_some (lookup (key_is key) es) ≡ is_some (lookup (bytes_eq w) s.names.known)
+pub name_declared : (s : Scope) (version : ℕ) (t : Table) (es : List (ArrayVec ℕ × Option TypeId))
+    (key : ArrayVec ℕ) (w : List ℕ)
+    → scope_view version t es ≡ s → key.items ≡ w
+    → is_some (lookup (key_is key) es) ≡ is_some (lookup (bytes_eq w) s.names.known)
 name_declared s version t es key w view same = sym (some_map number_of_id (lookup (key_is key) es)) ∙ ap is_some (sym (name_found s version t es key w view same))
 
-pub name_typed : (s : Scope) (version : ℕ) (t : Table) (es : List (ArrayVec ℕ × Option TypeId)) (key : ArrayVec ℕ) (w : List ℕ) → scope_view version t es ≡ s → key.items ≡ w → number_of_id (flat (lookup (key_is key) es)) ≡ named s.names w
+pub name_typed : (s : Scope) (version : ℕ) (t : Table) (es : List (ArrayVec ℕ × Option TypeId))
+    (key : ArrayVec ℕ) (w : List ℕ)
+    → scope_view version t es ≡ s → key.items ≡ w
+    → number_of_id (flat (lookup (key_is key) es)) ≡ named s.names w
 name_typed s version t es key w view same = flat_map (lookup (key_is key) es) ∙ ap flat (sym (name_found s version t es key w view same))
 
 -- ---- scopes that grow
@@ -64,7 +73,9 @@ type_stays : (types more : List Node) (o : Option ℕ) → IsKnownType types o �
 type_stays types more None is = tt
 type_stays types more (Some i) is = known_stays types more i is
 
-names_stay : (types more : List Node) (names : List (List ℕ × Option ℕ)) → AllByRecursion (IsDeclaredName types) names → AllByRecursion (IsDeclaredName (types ++ more)) names
+names_stay : (types more : List Node) (names : List (List ℕ × Option ℕ))
+    → AllByRecursion (IsDeclaredName types) names
+    → AllByRecursion (IsDeclaredName (types ++ more)) names
 names_stay types more [] all = tt
 names_stay types more (e ∷ es) all = (record { short = (all.0).short; type = type_stays types more e.1 (all.0).type }, names_stay types more es all.1)
 
@@ -76,7 +87,8 @@ scope_grows s n is = record {
 }
 
 -- the fields after a type is added
-pub grown_draft : (version : ℕ) (t new : Table) (es : List (ArrayVec ℕ × Option TypeId)) (n : Node) → IsScope (scope_view version t es) → new ≡ with_type t n
+pub grown_draft : (version : ℕ) (t new : Table) (es : List (ArrayVec ℕ × Option TypeId)) (n : Node)
+    → IsScope (scope_view version t es) → new ≡ with_type t n
     → IsScope (scope_view version new es)
 grown_draft version t new es n is put = subst (λ u. IsScope (scope_view version u es)) (sym put) (scope_grows (scope_view version t es) n is)
 
@@ -100,7 +112,9 @@ none_before f None e = refl
 none_before f (Some x) e = absurd cc
 
 -- the fields after a new name is put
-pub put_name : (s : Scope) (version : ℕ) (t : Table) (es new : List (ArrayVec ℕ × Option TypeId)) (key : ArrayVec ℕ) (v : Option TypeId) (w : List ℕ) → scope_view version t es ≡ s → key.items ≡ w → lookup (bytes_eq w) s.names.known ≡ None
+pub put_name : (s : Scope) (version : ℕ) (t : Table) (es new : List (ArrayVec ℕ × Option TypeId))
+    (key : ArrayVec ℕ) (v : Option TypeId) (w : List ℕ)
+    → scope_view version t es ≡ s → key.items ≡ w → lookup (bytes_eq w) s.names.known ≡ None
     → new ≡ insert_entry key_is es key v → scope_view version t new ≡ with_name s w (number_of_id v)
 put_name s version t es new key v w view same none is =
     let fresh : lookup (key_is key) es ≡ None = none_before number_of_id (lookup (key_is key) es) (sym (name_found s version t es key w view same) ∙ none) in
@@ -108,7 +122,9 @@ put_name s version t es new key v w view same none is =
     ap (scope_view version t) last ∙ ap (λ ns. record { table = t; names = record { version = version; known = ns } }) (map-append name_view es ((key, v) ∷ []))
     ∙ ap (λ (x : Scope). with_name x key.items (number_of_id v)) view ∙ ap (λ n. with_name s n (number_of_id v)) same
 
-all_last : (types : List Node) (names : List (List ℕ × Option ℕ)) (e : List ℕ × Option ℕ) → AllByRecursion (IsDeclaredName types) names → IsDeclaredName types e → AllByRecursion (IsDeclaredName types) (names ++ e ∷ [])
+all_last : (types : List Node) (names : List (List ℕ × Option ℕ)) (e : List ℕ × Option ℕ)
+    → AllByRecursion (IsDeclaredName types) names → IsDeclaredName types e
+    → AllByRecursion (IsDeclaredName types) (names ++ e ∷ [])
 all_last types [] e all is = (is, tt)
 all_last types (n ∷ ns) e all is = (all.0, all_last types ns e all.1 is)
 

@@ -165,18 +165,27 @@ no_encapsulation prims.Double = refl
 abbrev pub placed : Scope → TypeExpr → List ℕ → TypeRead
 placed s e rest = ((place s e).0, (place s e).1, rest)
 
--- too few words of fuel are another reason, for a type of that many levels
+-- why a type is refused: a rule is broken, or there are too few words for one of that many levels
+abbrev pub Stuck : ℕ → Scope → TypeExpr → Refusal → Type 0
+Stuck left s e x =
+    Breaks x.kind (λ k. OfType k s.names e) (place s e).0.table.types
+    ⊎ ((x.kind ≡ kinds.Depth) × (left ≤ nest e))
+
 pub record TypeOut (left : ℕ) (s : Scope) (e : TypeExpr) (more : List Token) (r : Result TypeRead Refusal) : Type 0 where
-  pub out : MatchResult r (Good (placed s e) (λ k. OfType k s.names e) more) (λ x. Breaks x.kind (λ k. OfType k s.names e) (place s e).0.table.types ⊎ ((x.kind ≡ kinds.Depth) × (left ≤ nest e)))
+  pub out : MatchResult r (Good (placed s e) (λ k. OfType k s.names e) more) (Stuck left s e)
 
 type_by : (left : ℕ) (s : Scope) (e : TypeExpr) (more : List Token) (r : Result TypeRead Refusal) → Out (placed s e) (λ k. OfType k s.names e) (place s e).0.table.types more r → TypeOut left s e more r
 type_by left s e more (Ok x) o = record { out = o.out }
 type_by left s e more (Err x) o = record { out = inl o.out }
 
-base_reads : (at : ℕ) (inner : List ℕ → Result TypeRead Refusal) (s : Scope) (p : Primitive) (text rest : List ℕ) (more : List Token) → AreTokens rest more
-    → Out (placed s (Base p)) (λ k. OfType k s.names (Base p)) (place s (Base p)).0.table.types more (type_after at inner s text (base_word p) rest)
+base_reads : (at : ℕ) (inner : List ℕ → Result TypeRead Refusal) (s : Scope) (p : Primitive)
+    (text rest : List ℕ) (more : List Token)
+    → AreTokens rest more
+    → Out (placed s (Base p)) (λ k. OfType k s.names (Base p))
+    (place s (Base p)).0.table.types more (type_after at inner s text (base_word p) rest)
 unfolding OfType place leaf_at
-base_reads at inner s p text rest more m = rw (no_sequence p, no_encapsulation p, base_word_of p) (good rest m (λ k. tt))
+base_reads at inner s p text rest more m =
+    rw (no_sequence p, no_encapsulation p, base_word_of p) (good rest m (λ k. tt))
 
 text_type_reads : (at : ℕ) (s : Scope) (o : Option ℕ) (rest : List ℕ) (more : List Token) → AreTokens rest more → ((k : Kind) → OfBound k o)
     → Out {X = TypeRead} (λ rest. ((place_text s o).0, (place_text s o).1, rest)) (λ k. OfBound k o) (place_text s o).0.table.types more (text_type at s o >>= λ t. Ok (t.0, t.1, rest))
@@ -223,11 +232,21 @@ named_reads : (s : Scope) (text w rest : List ℕ) (more : List Token) → IsFre
 unfolding named_type OfType place
 named_reads s text w rest more free m = rw free (long_reads s text w rest more (ltb 64 (length w)) refl free m)
 
-name_reads : (at : ℕ) (inner : List ℕ → Result TypeRead Refusal) (s : Scope) (text w rest : List ℕ) (more : List Token) → IsFree w → AreTokens rest more
-    → Out (placed s (Named w)) (λ k. OfType k s.names (Named w)) (place s (Named w)).0.table.types more (type_after at inner s text w rest)
+name_reads : (at : ℕ) (inner : List ℕ → Result TypeRead Refusal) (s : Scope)
+    (text w rest : List ℕ) (more : List Token)
+    → IsFree w → AreTokens rest more
+    → Out (placed s (Named w)) (λ k. OfType k s.names (Named w))
+    (place s (Named w)).0.table.types more (type_after at inner s text w rest)
 unfolding is_reserved leaf_at
 name_reads at inner s text w rest more free m =
-    rw (is_not w (codes "sequence") free refl, is_not w (codes "encapsulation") free refl, no_base w free, is_not w (codes "string") free refl, is_not w (codes "Object") free refl) (named_reads s text w rest more free m)
+    rw (
+      is_not w (codes "sequence") free refl,
+      is_not w (codes "encapsulation") free refl,
+      no_base w free,
+      is_not w (codes "string") free refl,
+      is_not w (codes "Object") free refl,
+    )
+    (named_reads s text w rest more free m)
 
 -- a sequence behind its element
 closed_reads : (at : ℕ) (s : Scope) (e : TypeExpr) (o : Option ℕ) (rest : List ℕ) (more : List Token) → AreTokens rest (spell_most o (mark marks.CloseAngle ∷ more)) → ((k : Kind) → OfType k s.names e) → (apart : Apart marks.Comma (mark marks.CloseAngle ∷ more))
@@ -252,18 +271,24 @@ version_keeps names has kinds.Empty = tt
 version_keeps names has kinds.OutOfMemory = tt
 
 -- an encapsulation behind what it holds
-held_reads : (at : ℕ) (s : Scope) (e : TypeExpr) (rest : List ℕ) (more : List Token) → has_encapsulations s.names ≡ true → AreTokens rest (mark marks.CloseAngle ∷ more) → ((k : Kind) → OfType k s.names e)
-    → Out (placed s (EncapsulationOf e)) (λ k. OfType k s.names (EncapsulationOf e)) (place s (EncapsulationOf e)).0.table.types more (behind_held at (placed s e rest))
+held_reads : (at : ℕ) (s : Scope) (e : TypeExpr) (rest : List ℕ) (more : List Token)
+    → has_encapsulations s.names ≡ true → AreTokens rest (mark marks.CloseAngle ∷ more)
+    → ((k : Kind) → OfType k s.names e)
+    → Out (placed s (EncapsulationOf e)) (λ k. OfType k s.names (EncapsulationOf e))
+    (place s (EncapsulationOf e)).0.table.types more (behind_held at (placed s e rest))
 unfolding OfType place
 held_reads at s e rest more has m keeps =
     rw (mark_again marks.CloseAngle rest more m)
-    (added_bind at (place s e).0 (nodes.encapsulation (place s e).1) (λ t. Ok (t.0, t.1, m.0)) (omega arith) (good m.0 m.2 (λ k. (version_keeps s.names has k, keeps k))))
+    (added_bind at (place s e).0 (nodes.encapsulation (place s e).1) (λ t. Ok (t.0, t.1, m.0))
+    (omega arith) (good m.0 m.2 (λ k. (version_keeps s.names has k, keeps k))))
 
-sequence_deeper : (s : Scope) (e : TypeExpr) (o : Option ℕ) → deepest (place s e).0 ≤ deepest (place s (SequenceOf e o)).0
+sequence_deeper : (s : Scope) (e : TypeExpr) (o : Option ℕ)
+    → deepest (place s e).0 ≤ deepest (place s (SequenceOf e o)).0
 unfolding place
 sequence_deeper s e o = node_deeper (place s e).0 (sequence_node o (place s e).1)
 
-held_deeper : (s : Scope) (e : TypeExpr) → deepest (place s e).0 ≤ deepest (place s (EncapsulationOf e)).0
+held_deeper : (s : Scope) (e : TypeExpr)
+    → deepest (place s e).0 ≤ deepest (place s (EncapsulationOf e)).0
 unfolding place
 held_deeper s e = node_deeper (place s e).0 (nodes.encapsulation (place s e).1)
 
@@ -273,18 +298,27 @@ record Nests (s : Scope) (e whole : TypeExpr) : Type 0 where
   pub rules : (k : Kind) → OfType k s.names whole → OfType k s.names e
   pub deeper : deepest (place s e).0 ≤ deepest (place s whole).0
 
-inner_by : (left : ℕ) (s : Scope) (e whole : TypeExpr) (x : Refusal) → Nests s e whole → Breaks x.kind (λ k. OfType k s.names e) (place s e).0.table.types ⊎ ((x.kind ≡ kinds.Depth) × (left ≤ nest e))
-    → Breaks x.kind (λ k. OfType k s.names whole) (place s whole).0.table.types ⊎ ((x.kind ≡ kinds.Depth) × (suc left ≤ nest whole))
-inner_by left s e whole x is (inl b) = inl (lift x.kind (λ k. OfType k s.names e) (λ k. OfType k s.names whole) (place s e).0.table.types (place s whole).0.table.types is.rules is.deeper b)
+inner_by : (left : ℕ) (s : Scope) (e whole : TypeExpr) (x : Refusal) → Nests s e whole
+    → Stuck left s e x
+    → Stuck (suc left) s whole x
+inner_by left s e whole x is (inl b) =
+    inl (lift x.kind (λ k. OfType k s.names e) (λ k. OfType k s.names whole)
+    (place s e).0.table.types (place s whole).0.table.types is.rules is.deeper b)
 inner_by left s e whole x is (inr d) = inr (d.0, let n = d.1 in omega (arith, is.levels))
 
-nested_by : (left : ℕ) (s : Scope) (e whole : TypeExpr) (tail more : List Token) (r : Result TypeRead Refusal) (h : TypeRead → Result TypeRead Refusal) → Nests s e whole → TypeOut left s e tail r
-    → ((rest : List ℕ) → AreTokens rest tail → ((k : Kind) → OfType k s.names e) → Out (placed s whole) (λ k. OfType k s.names whole) (place s whole).0.table.types more (h (placed s e rest)))
+nested_by : (left : ℕ) (s : Scope) (e whole : TypeExpr) (tail more : List Token)
+    (r : Result TypeRead Refusal) (h : TypeRead → Result TypeRead Refusal)
+    → Nests s e whole → TypeOut left s e tail r
+    → ((rest : List ℕ) → AreTokens rest tail → ((k : Kind) → OfType k s.names e)
+    → Out (placed s whole) (λ k. OfType k s.names whole) (place s whole).0.table.types more
+    (h (placed s e rest)))
     → TypeOut (suc left) s whole more (r >>= h)
 nested_by left s e whole tail more (Ok x) h is t on =
     let g = t.out in
-    subst (λ (y : TypeRead). TypeOut (suc left) s whole more (h y)) (sym g.is) (type_by (suc left) s whole more (h (placed s e g.rest)) (on g.rest g.tokens g.keeps))
-nested_by left s e whole tail more (Err x) h is t on = record { out = inner_by left s e whole x is t.out }
+    subst (λ (y : TypeRead). TypeOut (suc left) s whole more (h y)) (sym g.is)
+    (type_by (suc left) s whole more (h (placed s e g.rest)) (on g.rest g.tokens g.keeps))
+nested_by left s e whole tail more (Err x) h is t on =
+    record { out = inner_by left s e whole x is t.out }
 
 reference_reads : (s : Scope) (rest : List ℕ) (more : List Token) → AreTokens rest more → Out (placed s Reference) (λ k. OfType k s.names Reference) (place s Reference).0.table.types more (Ok (s, IOR, rest))
 unfolding OfType place
@@ -303,16 +337,30 @@ type_out at (suc left) s Reference text more free apart h = rw (word_again text 
 type_out at (suc left) s (Named w) text more free apart h = rw (word_again text w more h) (type_by (suc left) s (Named w) more _ (name_reads at (type_at at left s) s text w h.0 more free h.2))
 type_out at (suc left) s (SequenceOf e o) text more free apart h =
     let tail = spell_most o (mark marks.CloseAngle ∷ more) in
-    rw (word_again text (codes "sequence") (mark marks.OpenAngle ∷ spell_type e tail) h, mark_again marks.OpenAngle h.0 (spell_type e tail) h.2)
-    (nested_by left s e (SequenceOf e o) tail more (type_at at left s (h.2).0) (behind_element at) (record { levels = refl; rules = λ k w. w.0; deeper = sequence_deeper s e o })
-    (type_out at left s e (h.2).0 tail free.0 (most_apart o more) (h.2).2) (λ rest m keeps. closed_reads at s e o rest more m keeps refl))
+    let nests : Nests s e (SequenceOf e o)
+    = record { levels = refl; rules = λ k w. w.0; deeper = sequence_deeper s e o } in
+    rw (
+      word_again text (codes "sequence") (mark marks.OpenAngle ∷ spell_type e tail) h,
+      mark_again marks.OpenAngle h.0 (spell_type e tail) h.2,
+    )
+    (nested_by left s e (SequenceOf e o) tail more (type_at at left s (h.2).0) (behind_element at) nests
+    (type_out at left s e (h.2).0 tail free.0 (most_apart o more) (h.2).2)
+    (λ rest m keeps. closed_reads at s e o rest more m keeps refl))
 type_out at (suc left) s (EncapsulationOf e) text more free apart h =
     let tail = mark marks.CloseAngle ∷ more in
-    rw (word_again text (codes "encapsulation") (mark marks.OpenAngle ∷ spell_type e tail) h, free.0, mark_again marks.OpenAngle h.0 (spell_type e tail) h.2)
-    (nested_by left s e (EncapsulationOf e) tail more (type_at at left s (h.2).0) (behind_held at) (record { levels = refl; rules = λ k w. w.1; deeper = held_deeper s e })
-    (type_out at left s e (h.2).0 tail free.1 refl (h.2).2) (λ rest m keeps. held_reads at s e rest more free.0 m keeps))
+    let nests : Nests s e (EncapsulationOf e)
+    = record { levels = refl; rules = λ k w. w.1; deeper = held_deeper s e } in
+    rw (
+      word_again text (codes "encapsulation") (mark marks.OpenAngle ∷ spell_type e tail) h,
+      free.0,
+      mark_again marks.OpenAngle h.0 (spell_type e tail) h.2,
+    )
+    (nested_by left s e (EncapsulationOf e) tail more (type_at at left s (h.2).0) (behind_held at) nests
+    (type_out at left s e (h.2).0 tail free.1 refl (h.2).2)
+    (λ rest m keeps. held_reads at s e rest more free.0 m keeps))
 
-deep_by : (s : Scope) (e : TypeExpr) (x : Refusal) → 0 < size s → Breaks x.kind (λ k. OfType k s.names e) (place s e).0.table.types ⊎ ((x.kind ≡ kinds.Depth) × (25 ≤ nest e)) → Breaks x.kind (λ k. OfType k s.names e) (place s e).0.table.types
+deep_by : (s : Scope) (e : TypeExpr) (x : Refusal) → 0 < size s → Stuck 25 s e x
+    → Breaks x.kind (λ k. OfType k s.names e) (place s e).0.table.types
 deep_by s e x some (inl b) = b
 deep_by s e x some (inr d) = let n = d.1 in subst (λ k. Breaks k (λ k. OfType k s.names e) (place s e).0.table.types) (sym d.0) (omega (arith, nest_deepest s e some (omega arith)))
 

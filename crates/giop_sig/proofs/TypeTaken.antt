@@ -30,7 +30,7 @@ use Rattle.giop_sig.specs.Scopes.{has_encapsulations, Scope, Placed, named, base
 use Rattle.giop_sig.specs.Validity.{OfBound, OfType}
 use Rattle.giop_sig.specs.ScopeViews.{IsKnown, IsKnownType, IsDeclaredName, IsScope}
 use Rattle.giop_sig.specs.Outcomes.{refused}
-use Rattle.giop_sig.specs.TypeReading.{too_deep, added, size_at, size_within, enclosed_at, size_behind, most_at, TypeRead, base_of, text_type, text_at, sequence_at, held_at, encapsulation_at, found_type, named_type, leaf_after, leaf_at, type_after, type_at}
+use Rattle.giop_sig.specs.TypeReading.{too_deep, added, size_at, size_within, enclosed_at, size_behind, most_at, TypeRead, base_of, text_type, text_at, behind_element, sequence_at, behind_held, held_at, encapsulation_at, found_type, named_type, leaf_after, leaf_at, type_after, type_at}
 use Rattle.giop_sig.proofs.ScopeLaws.{known_stays, scope_grows}
 use Rattle.giop_sig.proofs.ReadingLaws.{Took}
 
@@ -233,16 +233,19 @@ sequence_made at s text w rest inner r y b p t same o k most c put = record {
 sequence_took : (at : ℕ) (element : List ℕ → Result TypeRead Refusal) (s : Scope) (text w rest : List ℕ) (x : TypeRead) → ((inner : List ℕ) (y : TypeRead) → element inner ≡ Ok y → TakenType s inner y)
     → Takes text (word w) rest → w ≡ codes "sequence" → sequence_at at element rest ≡ Ok x → TakenType s text x
 sequence_took at element s text w rest x takes t same e =
-    let i = bind_ok (mark_at marks.OpenAngle rest) (λ inner. element inner >>= λ e. most_at e.2 >>= λ b. mark_at marks.CloseAngle b.1 >>= λ r. added at e.0 (sequence_node b.0 e.1) >>= λ t. Ok (t.0, t.1, r)) x e in
-    let y = bind_ok (element i.0) (λ e. most_at e.2 >>= λ b. mark_at marks.CloseAngle b.1 >>= λ r. added at e.0 (sequence_node b.0 e.1) >>= λ t. Ok (t.0, t.1, r)) x i.2 in
+    let i = bind_ok (mark_at marks.OpenAngle rest) (λ inner. element inner >>= behind_element at) x e in
+    let y = bind_ok (element i.0) (behind_element at) x i.2 in
     let b = bind_ok (most_at (y.0).2) (λ b. mark_at marks.CloseAngle b.1 >>= λ r. added at (y.0).0 (sequence_node b.0 (y.0).1) >>= λ t. Ok (t.0, t.1, r)) x y.2 in
     let r = bind_ok (mark_at marks.CloseAngle (b.0).1) (λ r. added at (y.0).0 (sequence_node (b.0).0 (y.0).1) >>= λ t. Ok (t.0, t.1, r)) x b.2 in
     let p = bind_ok (added at (y.0).0 (sequence_node (b.0).0 (y.0).1)) (λ t. Ok (t.0, t.1, r.0)) x r.2 in
     subst (TakenType s text) (ok_is ((p.0).0, (p.0).1, r.0) x p.2)
     (sequence_made at s text w rest i.0 r.0 y.0 b.0 p.0 t same i.1 (takes i.0 y.0 y.1) (most_takes (y.0).2 b.0 b.1) r.1 p.1)
 
-held_made : (at : ℕ) (s : Scope) (text w rest inner r : List ℕ) (y : TypeRead) (p : Placed) → has_encapsulations s.names ≡ true → Takes text (word w) rest → w ≡ codes "encapsulation" → mark_at marks.OpenAngle rest ≡ Ok inner
-    → TakenType s inner y → mark_at marks.CloseAngle y.2 ≡ Ok r → added at y.0 (nodes.encapsulation y.1) ≡ Ok p → TakenType s text (p.0, p.1, r)
+held_made : (at : ℕ) (s : Scope) (text w rest inner r : List ℕ) (y : TypeRead) (p : Placed)
+    → has_encapsulations s.names ≡ true → Takes text (word w) rest → w ≡ codes "encapsulation"
+    → mark_at marks.OpenAngle rest ≡ Ok inner
+    → TakenType s inner y → mark_at marks.CloseAngle y.2 ≡ Ok r
+    → added at y.0 (nodes.encapsulation y.1) ≡ Ok p → TakenType s text (p.0, p.1, r)
 unfolding OfType
 held_made at s text w rest inner r y p has t same o k c put = record {
   expr = EncapsulationOf k.expr;
@@ -251,29 +254,37 @@ held_made at s text w rest inner r y p has t same o k c put = record {
     front = λ more m.
         let closed = mark marks.CloseAngle ∷ more in
         let held = k.took.front closed (mark_takes marks.CloseAngle y.2 r c more m) in
-        subst (λ v. Takes text (word v) rest) same t (mark marks.OpenAngle ∷ spell_type k.expr closed) (mark_takes marks.OpenAngle rest inner o (spell_type k.expr closed) held);
+        let opened = mark_takes marks.OpenAngle rest inner o (spell_type k.expr closed) held in
+        subst (λ v. Takes text (word v) rest) same t (mark marks.OpenAngle ∷ spell_type k.expr closed) opened;
   };
   grows = grows_on s y.0 p.0 k.grows (added_grows at y.0 (nodes.encapsulation y.1) p put);
   sound = λ is. let h = k.sound is in sound_added at y.0 (nodes.encapsulation y.1) p put h.scope tt;
 }
 
-encapsulation_took : (at : ℕ) (held : List ℕ → Result TypeRead Refusal) (s : Scope) (text w rest : List ℕ) (x : TypeRead) (v : Bool) → ((inner : List ℕ) (y : TypeRead) → held inner ≡ Ok y → TakenType s inner y)
-    → Takes text (word w) rest → w ≡ codes "encapsulation" → has_encapsulations s.names ≡ v → cond v (held_at at held rest) (Err (misplaced text)) ≡ Ok x → TakenType s text x
+encapsulation_took : (at : ℕ) (held : List ℕ → Result TypeRead Refusal) (s : Scope)
+    (text w rest : List ℕ) (x : TypeRead) (v : Bool)
+    → ((inner : List ℕ) (y : TypeRead) → held inner ≡ Ok y → TakenType s inner y)
+    → Takes text (word w) rest → w ≡ codes "encapsulation" → has_encapsulations s.names ≡ v
+    → cond v (held_at at held rest) (Err (misplaced text)) ≡ Ok x → TakenType s text x
 encapsulation_took at held s text w rest x false takes t same has e = absurd cc
 encapsulation_took at held s text w rest x true takes t same has e =
-    let i = bind_ok (mark_at marks.OpenAngle rest) (λ inner. held inner >>= λ h. mark_at marks.CloseAngle h.2 >>= λ r. added at h.0 (nodes.encapsulation h.1) >>= λ t. Ok (t.0, t.1, r)) x e in
-    let y = bind_ok (held i.0) (λ h. mark_at marks.CloseAngle h.2 >>= λ r. added at h.0 (nodes.encapsulation h.1) >>= λ t. Ok (t.0, t.1, r)) x i.2 in
-    let r = bind_ok (mark_at marks.CloseAngle (y.0).2) (λ r. added at (y.0).0 (nodes.encapsulation (y.0).1) >>= λ t. Ok (t.0, t.1, r)) x y.2 in
+    let i = bind_ok (mark_at marks.OpenAngle rest) (λ inner. held inner >>= behind_held at) x e in
+    let y = bind_ok (held i.0) (behind_held at) x i.2 in
+    let r = bind_ok (mark_at marks.CloseAngle (y.0).2)
+    (λ r. added at (y.0).0 (nodes.encapsulation (y.0).1) >>= λ t. Ok (t.0, t.1, r)) x y.2 in
     let p = bind_ok (added at (y.0).0 (nodes.encapsulation (y.0).1)) (λ t. Ok (t.0, t.1, r.0)) x r.2 in
-    subst (TakenType s text) (ok_is ((p.0).0, (p.0).1, r.0) x p.2) (held_made at s text w rest i.0 r.0 y.0 p.0 has t same i.1 (takes i.0 y.0 y.1) r.1 p.1)
+    subst (TakenType s text) (ok_is ((p.0).0, (p.0).1, r.0) x p.2)
+    (held_made at s text w rest i.0 r.0 y.0 p.0 has t same i.1 (takes i.0 y.0 y.1) r.1 p.1)
 
 -- a name that was found is a type's
-found_known : (types : List Node) (names : List (List ℕ × Option ℕ)) (w : List ℕ) (k : ℕ) (v : Bool) (e : List ℕ × Option ℕ) → bytes_eq w e.0 ≡ v → IsDeclaredName types e → (flat (lookup (bytes_eq w) names) ≡ Some k → IsKnown types k)
+found_known : (types : List Node) (names : List (List ℕ × Option ℕ)) (w : List ℕ) (k : ℕ) (v : Bool)
+    (e : List ℕ × Option ℕ) → bytes_eq w e.0 ≡ v → IsDeclaredName types e → (flat (lookup (bytes_eq w) names) ≡ Some k → IsKnown types k)
     → flat (cond v (Some e.1) (lookup (bytes_eq w) names)) ≡ Some k → IsKnown types k
 found_known types names w k true e same is rest h = subst (IsKnownType types) h is.type
 found_known types names w k false e same is rest h = rest h
 
-named_known : (types : List Node) (names : List (List ℕ × Option ℕ)) (w : List ℕ) (k : ℕ) → AllByRecursion (IsDeclaredName types) names → flat (lookup (bytes_eq w) names) ≡ Some k → IsKnown types k
+named_known : (types : List Node) (names : List (List ℕ × Option ℕ)) (w : List ℕ) (k : ℕ)
+    → AllByRecursion (IsDeclaredName types) names → flat (lookup (bytes_eq w) names) ≡ Some k → IsKnown types k
 named_known types [] w k all h = absurd cc
 named_known types (e ∷ es) w k all h = found_known types es w k (bytes_eq w e.0) e refl all.0 (named_known types es w k all.1) h
 
@@ -284,7 +295,8 @@ found_by s text w rest x (Some n) o free t e = subst (TakenType s text) (ok_is (
   expr = Named w;
   took = record { free = free; front = t };
   grows = grows_none s;
-  sound = λ is. record { scope = is; known = named_known s.table.types s.names.known w n is.names o };
+  sound = λ is.
+      record { scope = is; known = named_known s.table.types s.names.known w n is.names o };
 })
 
 named_by : (s : Scope) (text w rest : List ℕ) (x : TypeRead) (a b : Bool) → is_reserved w ≡ a → Takes text (word w) rest → cond a (Err (misplaced text)) (cond b (Err (refused kinds.Limit text)) (found_type s text rest (named s.names w))) ≡ Ok x → TakenType s text x
@@ -296,10 +308,13 @@ named_took : (s : Scope) (text w rest : List ℕ) (x : TypeRead) → Takes text 
 unfolding named_type
 named_took s text w rest x t e = named_by s text w rest x (is_reserved w) (ltb 64 (length w)) refl t e
 
-leaf_by : (at : ℕ) (s : Scope) (text w rest : List ℕ) (x : TypeRead) → Takes text (word w) rest → (a b : Bool) → bytes_eq w (codes "string") ≡ a → bytes_eq w (codes "Object") ≡ b
-    → cond a (text_at at s rest) (cond b (Ok (s, IOR, rest)) (named_type s text w rest)) ≡ Ok x → TakenType s text x
+leaf_by : (at : ℕ) (s : Scope) (text w rest : List ℕ) (x : TypeRead) → Takes text (word w) rest
+    → (a b : Bool) → bytes_eq w (codes "string") ≡ a → bytes_eq w (codes "Object") ≡ b
+    → cond a (text_at at s rest) (cond b (Ok (s, IOR, rest)) (named_type s text w rest)) ≡ Ok x
+    → TakenType s text x
 unfolding OfType builtin_types
-leaf_by at s text w rest x t true b p q e = text_took at s text w rest x t ((bytes_eq-Decides w (codes "string")).0 p) e
+leaf_by at s text w rest x t true b p q e =
+    text_took at s text w rest x t ((bytes_eq-Decides w (codes "string")).0 p) e
 leaf_by at s text w rest x t false true p q e = subst (TakenType s text) (ok_is (s, IOR, rest) x e) (record {
   expr = Reference;
   took = record { free = tt; front = subst (λ v. Takes text (word v) rest) ((bytes_eq-Decides w (codes "Object")).0 q) t };
@@ -308,18 +323,30 @@ leaf_by at s text w rest x t false true p q e = subst (TakenType s text) (ok_is 
 })
 leaf_by at s text w rest x t false false p q e = named_took s text w rest x t e
 
-leaf_took : (at : ℕ) (s : Scope) (text w rest : List ℕ) (x : TypeRead) (o : Option ℕ) → Takes text (word w) rest → base_of w ≡ o → leaf_after at s text w rest o ≡ Ok x → TakenType s text x
-leaf_took at s text w rest x (Some k) t b e = subst (TakenType s text) (ok_is (s, k, rest) x e) (base_took s text w rest k t (base_from w k b))
-leaf_took at s text w rest x None t b e = leaf_by at s text w rest x t (bytes_eq w (codes "string")) (bytes_eq w (codes "Object")) refl refl e
+leaf_took : (at : ℕ) (s : Scope) (text w rest : List ℕ) (x : TypeRead) (o : Option ℕ)
+    → Takes text (word w) rest → base_of w ≡ o → leaf_after at s text w rest o ≡ Ok x
+    → TakenType s text x
+leaf_took at s text w rest x (Some k) t b e =
+    subst (TakenType s text) (ok_is (s, k, rest) x e) (base_took s text w rest k t (base_from w k b))
+leaf_took at s text w rest x None t b e =
+    leaf_by at s text w rest x t (bytes_eq w (codes "string")) (bytes_eq w (codes "Object")) refl refl e
 
-after_took : (at : ℕ) (inner : List ℕ → Result TypeRead Refusal) (s : Scope) (text w rest : List ℕ) (x : TypeRead) → ((text : List ℕ) (y : TypeRead) → inner text ≡ Ok y → TakenType s text y)
-    → Takes text (word w) rest → (a b : Bool) → bytes_eq w (codes "sequence") ≡ a → bytes_eq w (codes "encapsulation") ≡ b
-    → cond a (sequence_at at inner rest) (cond b (encapsulation_at at inner s text rest) (leaf_at at s text w rest)) ≡ Ok x → TakenType s text x
+after_took : (at : ℕ) (inner : List ℕ → Result TypeRead Refusal) (s : Scope)
+    (text w rest : List ℕ) (x : TypeRead)
+    → ((text : List ℕ) (y : TypeRead) → inner text ≡ Ok y → TakenType s text y)
+    → Takes text (word w) rest → (a b : Bool) → bytes_eq w (codes "sequence") ≡ a
+    → bytes_eq w (codes "encapsulation") ≡ b
+    → cond a (sequence_at at inner rest) (cond b (encapsulation_at at inner s text rest)
+    (leaf_at at s text w rest)) ≡ Ok x
+    → TakenType s text x
 unfolding leaf_at
-after_took at inner s text w rest x takes t true b p q e = sequence_took at inner s text w rest x takes t ((bytes_eq-Decides w (codes "sequence")).0 p) e
+after_took at inner s text w rest x takes t true b p q e =
+    sequence_took at inner s text w rest x takes t ((bytes_eq-Decides w (codes "sequence")).0 p) e
 after_took at inner s text w rest x takes t false true p q e =
-    encapsulation_took at inner s text w rest x (has_encapsulations s.names) takes t ((bytes_eq-Decides w (codes "encapsulation")).0 q) refl e
-after_took at inner s text w rest x takes t false false p q e = leaf_took at s text w rest x (base_of w) t refl e
+    let same = (bytes_eq-Decides w (codes "encapsulation")).0 q in
+    encapsulation_took at inner s text w rest x (has_encapsulations s.names) takes t same refl e
+after_took at inner s text w rest x takes t false false p q e =
+    leaf_took at s text w rest x (base_of w) t refl e
 
 pub type_takes : (at left : ℕ) (s : Scope) (text : List ℕ) (x : TypeRead) → type_at at left s text ≡ Ok x → TakenType s text x
 unfolding type_at
@@ -327,4 +354,5 @@ type_takes at zero s text x e = absurd cc
 type_takes at (suc left) s text x e =
     let a = bind_ok (word_at text) (λ w. type_after at (type_at at left s) s text w.0 w.1) x e in
     let w = (a.0).0 in
-    after_took at (type_at at left s) s text w (a.0).1 x (λ inner y h. type_takes at left s inner y h) (word_takes text a.0 a.1) (bytes_eq w (codes "sequence")) (bytes_eq w (codes "encapsulation")) refl refl a.2
+    after_took at (type_at at left s) s text w (a.0).1 x (λ inner y h. type_takes at left s inner y h)
+    (word_takes text a.0 a.1) (bytes_eq w (codes "sequence")) (bytes_eq w (codes "encapsulation")) refl refl a.2

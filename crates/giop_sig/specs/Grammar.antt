@@ -56,7 +56,8 @@ spell_type (Text bound) more = word (codes "string") ∷ spell_bound bound more
 spell_type Reference more = word (codes "Object") ∷ more
 spell_type (Named w) more = word w ∷ more
 spell_type (SequenceOf e bound) more = word (codes "sequence") ∷ mark marks.OpenAngle ∷ spell_type e (spell_most bound (mark marks.CloseAngle ∷ more))
-spell_type (EncapsulationOf e) more = word (codes "encapsulation") ∷ mark marks.OpenAngle ∷ spell_type e (mark marks.CloseAngle ∷ more)
+spell_type (EncapsulationOf e) more =
+    word (codes "encapsulation") ∷ mark marks.OpenAngle ∷ spell_type e (mark marks.CloseAngle ∷ more)
 
 -- ---- items: members, cases and parameters
 

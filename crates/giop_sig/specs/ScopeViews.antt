@@ -12,7 +12,8 @@ abbrev pub name_view : ArrayVec ℕ × Option TypeId → List ℕ × Option ℕ
 name_view e = (e.0.items, option_map (λ t. t.0) e.1)
 
 abbrev pub scope_view : ℕ → Table → List (ArrayVec ℕ × Option TypeId) → Scope
-scope_view version t es = record { table = t; names = record { version = version; known = map name_view es } }
+scope_view version t es =
+    record { table = t; names = record { version = version; known = map name_view es } }
 
 -- a type that others can have for a part
 abbrev pub IsKnown : List Node → ℕ → Type 0

@@ -18,8 +18,8 @@ use Rattle.giop_sig.specs.Builtin.{builtin_table}
 use Rattle.giop_sig.specs.RequestList.{flat}
 use Rattle.giop_sig.specs.Grammar.{TypeExpr, Base, Text, Reference, Named, SequenceOf, EncapsulationOf, Item, Value, Plain, Below, Truth, Enumerator, Label, Default, Of, UnionCase, Param, Declaration, Enumeration, Structure, Choice, Raise, Call, SignatureFile}
 
--- What the words of a file mean as types: the file's version, and the names of enums, structs and unions, each with its
--- type's number, and of exceptions, with none.
+-- What the words of a file mean as types: the file's version, and the names of enums, structs and
+-- unions, each with its type's number, and of exceptions, with none.
 pub record Names : Type 0 where
   pub version : ℕ
   pub known : List (List ℕ × Option ℕ)
@@ -210,7 +210,8 @@ place_return s (Some e) = ((place s e).0, part (codes "return") (place s e).1 �
 -- ---- declarations
 
 abbrev pub with_name : Scope → List ℕ → Option ℕ → Scope
-with_name s w number = record s { names = record (s.names) { known = s.names.known ++ (w, number) ∷ [] } }
+with_name s w number =
+    record s { names = record (s.names) { known = s.names.known ++ (w, number) ∷ [] } }
 
 -- an enum, struct or union of a new name
 abbrev pub with_named : List ℕ → Placed → Scope

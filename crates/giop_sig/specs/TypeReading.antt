@@ -119,8 +119,10 @@ held_at at held rest = do
   behind_held at h
 
 -- an encapsulation, where the file may have one; its word is the first of the text
-abbrev pub encapsulation_at : ℕ → (List ℕ → Result TypeRead Refusal) → Scope → List ℕ → List ℕ → Result TypeRead Refusal
-encapsulation_at at held s text rest = if has_encapsulations s.names then held_at at held rest else Err (misplaced text)
+abbrev pub encapsulation_at : ℕ → (List ℕ → Result TypeRead Refusal) → Scope → List ℕ → List ℕ
+    → Result TypeRead Refusal
+encapsulation_at at held s text rest =
+    if has_encapsulations s.names then held_at at held rest else Err (misplaced text)
 
 abbrev pub found_type : Scope → List ℕ → List ℕ → Option ℕ → Result TypeRead Refusal
 found_type s text rest None = Err (refused kinds.UnknownType text)
@@ -142,10 +144,12 @@ leaf_after at s text w rest None =
 unfoldable pub leaf_at : ℕ → Scope → List ℕ → List ℕ → List ℕ → Result TypeRead Refusal
 leaf_at at s text w rest = leaf_after at s text w rest (base_of w)
 
-abbrev pub type_after : ℕ → (List ℕ → Result TypeRead Refusal) → Scope → List ℕ → List ℕ → List ℕ → Result TypeRead Refusal
+abbrev pub type_after : ℕ → (List ℕ → Result TypeRead Refusal) → Scope → List ℕ → List ℕ → List ℕ
+    → Result TypeRead Refusal
 type_after at inner s text w rest =
     if bytes_eq w (codes "sequence") then sequence_at at inner rest else
-    (if bytes_eq w (codes "encapsulation") then encapsulation_at at inner s text rest else leaf_at at s text w rest)
+    (if bytes_eq w (codes "encapsulation") then encapsulation_at at inner s text rest else
+    leaf_at at s text w rest)
 
 -- a type of at most so many words
 unfoldable pub type_at : ℕ → ℕ → Scope → List ℕ → Result TypeRead Refusal

@@ -101,7 +101,8 @@ impl Catalogue {
     /// types. A refusal tells the first rule that is broken, and its line; nothing is kept after it.
     pub fn parse(alloc: Global, text: &[u8]) -> Result<Catalogue, SigFault>
         // The text spells a valid file, and this is its table.
-        ensures ok { IfOk result (λ c. (file : SignatureFile) × Spells text.now file × IsValid file × (c ≡ table file)) }
+        ensures ok { IfOk result (λ c.
+            (file : SignatureFile) × Spells text.now file × IsValid file × (c ≡ table file)) }
         // It adds no more types than the text has octets.
         ensures few { IfOk result (λ c. length c.types ≤ length builtin_types + length text.now) }
         // Of a text that spells a file, the refusal is that of a rule which one of its declarations breaks, unless memory

@@ -193,7 +193,8 @@ fn behind_held<'a>(
     text: &'a [u8],
 ) -> Result<(TypeId, &'a [u8]), Stop>
     requires { IsKnown draft.old.table.types held.0 }
-    ensures { Gives (λ x. (draft.new, x.0.0, x.1.now)) result (behind_held at (draft.old, held.0, text.now)) }
+    ensures { Gives (λ x. (draft.new, x.0.0, x.1.now)) result
+        (behind_held at (draft.old, held.0, text.now)) }
 {
     let rest = mark(text, Mark::CloseAngle)?;
     let t = draft.add(at, Entry::Encapsulation(held))?;
@@ -216,7 +217,8 @@ fn leaf_at<'a>(
     name: &[u8],
     rest: &'a [u8],
 ) -> Result<(TypeId, &'a [u8]), Stop>
-    ensures { Gives (λ x. (draft.new, x.0.0, x.1.now)) result (leaf_at at draft.old text.now name.now rest.now) }
+    ensures { Gives (λ x. (draft.new, x.0.0, x.1.now)) result
+        (leaf_at at draft.old text.now name.now rest.now) }
 {
     if let Some(base) = base_of(name) {
         return Ok((base, rest));
