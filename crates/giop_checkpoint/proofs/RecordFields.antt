@@ -4,6 +4,7 @@ use Rattle.std.proofs.lemmas.List.{drop-drop, length-append, take_at}
 use Rattle.giop_octets.specs.Fields.{four, eight}
 use Rattle.giop_octets.proofs.FieldLaws.{four_long, eight_long, behind}
 use Rattle.giop_checkpoint.specs.declared.record.Record.{Record}
+use Rattle.giop_checkpoint.specs.declared.sizes.TheConstants.{FRAME_SIZE}
 use Rattle.giop_checkpoint.specs.declared.record.Standing.{Standing}
 use Rattle.giop_checkpoint.specs.declared.record.Standing.TheVariants.{Current, Open, Over}
 use Rattle.giop_checkpoint.specs.Records.{Entry, EntryHasRange, RecordHasRange, StandingHasRange, standing_octet, id_of, kind_octets, own_octets, entry_octets}
@@ -66,8 +67,8 @@ record_same r s a b c d = rw (a, b, c, d) refl
 pub record Front (e : Entry) (s rest : List ℕ) : Type 0 where
   pub own : take 32 s ≡ own_octets e.record_is
   pub message : take 224 (drop 32 s) ≡ e.message
-  pub frames : take (24 * e.record_is.frames) (drop 224 (drop 32 s)) ≡ e.frames
-  pub rest_is : drop (24 * e.record_is.frames) (drop 224 (drop 32 s)) ≡ rest
+  pub frames : take (FRAME_SIZE * e.record_is.frames) (drop 224 (drop 32 s)) ≡ e.frames
+  pub rest_is : drop (FRAME_SIZE * e.record_is.frames) (drop 224 (drop 32 s)) ≡ rest
 
 front_is : (at size : ℕ) (s field rest : List ℕ) → drop at s ≡ field ++ rest → length field ≡ size → take size (drop at s) ≡ field
 front_is at size s field rest e long = ap (take size) e ∙ take_at field rest size long
@@ -82,13 +83,13 @@ front_of e s rest h is =
     record {
       own = front_is 0 32 s own _ whole (own_long e.record_is h.own);
       message = front_is 32 224 s e.message _ at_32 h.message;
-      frames = ap (take (24 * e.record_is.frames)) (drop-drop 224 32 s) ∙ front_is 256 (24 * e.record_is.frames) s e.frames rest at_frames h.frames;
-      rest_is = ap (drop (24 * e.record_is.frames)) (drop-drop 224 32 s) ∙ (drop-drop (24 * e.record_is.frames) 256 s ∙ behind 256 (24 * e.record_is.frames) s e.frames rest at_frames h.frames);
+      frames = ap (take (FRAME_SIZE * e.record_is.frames)) (drop-drop 224 32 s) ∙ front_is 256 (FRAME_SIZE * e.record_is.frames) s e.frames rest at_frames h.frames;
+      rest_is = ap (drop (FRAME_SIZE * e.record_is.frames)) (drop-drop 224 32 s) ∙ (drop-drop (FRAME_SIZE * e.record_is.frames) 256 s ∙ behind 256 (FRAME_SIZE * e.record_is.frames) s e.frames rest at_frames h.frames);
     }
 
 -- what is read behind a record's own octets, where it is this record
-pub by_frames : (n m : ℕ) (s t u : List ℕ) → n ≡ m → s ≡ t → take (24 * m) t ≡ u → take (24 * n) s ≡ u
+pub by_frames : (n m : ℕ) (s t u : List ℕ) → n ≡ m → s ≡ t → take (FRAME_SIZE * m) t ≡ u → take (FRAME_SIZE * n) s ≡ u
 by_frames n m s t u a b h = rw (a, b) h
 
-pub past_frames : (n m : ℕ) (s t u : List ℕ) → n ≡ m → s ≡ t → drop (24 * m) t ≡ u → drop (24 * n) s ≡ u
+pub past_frames : (n m : ℕ) (s t u : List ℕ) → n ≡ m → s ≡ t → drop (FRAME_SIZE * m) t ≡ u → drop (FRAME_SIZE * n) s ≡ u
 past_frames n m s t u a b h = rw (a, b) h

@@ -65,9 +65,10 @@ fn the_fixed_part_is_written_at_stated_octets(rt: HostRuntime) -> Result<(), Fai
 }
 
 /// An octet that is set to a value, and what is answered then.
-const REFUSED: [(usize, u8, LoadFault); 14] = [
+const REFUSED: [(usize, u8, LoadFault); 15] = [
     (0, 0x46, LoadFault::Magic),
     (7, 0x51, LoadFault::Magic),
+    (11, 1, LoadFault::Version),
     (11, 9, LoadFault::Version),
     (15, 1, LoadFault::Catalogue),
     (27, 1, LoadFault::Catalogue),

@@ -7,7 +7,7 @@ use Rattle.giop_decode.specs.declared.leaf.Leaf.TheVariants as innermost
 use Rattle.giop_decode.specs.declared.memory.Memory.{Memory}
 use Rattle.giop_decode.specs.declared.memory.Buffer.{Buffer}
 use Rattle.giop_decode.specs.declared.memory.Buffer.TheVariants as buffers
-use Rattle.giop_decode.specs.Stored.{order_octet, root_octet, leaf_octets, buffer_octet, kept_name, name_octets, memory_octets, fixed_octets, frame_octets, HasRange}
+use Rattle.giop_decode.specs.Stored.{order_octet, root_octet, leaf_octets, buffer_octet, kept_name, name_octets, memory_octets, fixed_octets, frame_size, frame_octets, HasRange}
 use Rattle.giop_octets.specs.Fields.{four, eight, optional, held}
 use Rattle.giop_octets.proofs.FieldLaws.{eight_long, optional_long, held_long, behind}
 
@@ -21,7 +21,7 @@ leaf_long (innermost.Number of) = refl
 leaf_long (innermost.Content of total offset) = refl
 leaf_long (innermost.Opening of count) = refl
 
-pub frame_long : (f : Frame) → length (frame_octets f) ≡ 24
+pub frame_long : (f : Frame) → length (frame_octets f) ≡ frame_size
 unfolding four
 frame_long f = refl
 

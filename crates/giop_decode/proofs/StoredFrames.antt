@@ -1,12 +1,12 @@
 -- The frames of a stored decoder, and its innermost part, are read as they were written.
-use Rattle.std.proofs.Common.{◌≡◌, ℕ, ◌+◌, ◌^◌, ◌<◌, ◌≤◌, List, [], ◌∷◌, ◌++◌, length, drop, replicate, Option, refl, sym, ap, ◌∙◌, append_assoc, arith, length-append}
+use Rattle.std.proofs.Common.{◌≡◌, ℕ, ◌+◌, ◌*◌, ◌^◌, ◌<◌, ◌≤◌, List, [], ◌∷◌, ◌++◌, length, drop, replicate, Option, refl, sym, ap, ◌∙◌, append_assoc, arith, length-append}
 use Rattle.std.specs.List.{AllByRecursion}
 use Rattle.std.proofs.lemmas.List.{append-nil}
 use Rattle.giop_cdr.specs.declared.order.Order.{Order}
 use Rattle.giop_decode.specs.declared.frame.Frame.{Frame}
 use Rattle.giop_decode.specs.declared.leaf.Leaf.{Leaf as Innermost}
 use Rattle.giop_decode.specs.declared.leaf.Leaf.TheVariants as innermost
-use Rattle.giop_decode.specs.Stored.{leaf_octets, inside_octet, frame_octets, frames_octets, FrameHasRange, LeafHasRange}
+use Rattle.giop_decode.specs.Stored.{leaf_octets, inside_octet, frame_size, frame_octets, frames_octets, FrameHasRange, LeafHasRange}
 use Rattle.giop_decode.proofs.StoredFields.{frame_long, further}
 use Rattle.giop_octets.specs.Fields.{four}
 use Rattle.giop_octets.proofs.FieldLaws.{four_long, behind}
@@ -84,11 +84,11 @@ pub record Left (all items : List Frame) (own : Frame) (octets : List ℕ) : Typ
   pub octets_are : octets ≡ frames_octets (left ++ own ∷ [])
   pub all_are : all ≡ items ++ left
 
-two_long : (g h : Frame) (gs : List Frame) → 48 ≤ length (frames_octets (g ∷ gs ++ h ∷ []))
+two_long : (g h : Frame) (gs : List Frame) → 2 * frame_size ≤ length (frames_octets (g ∷ gs ++ h ∷ []))
 two_long g h [] = omega (arith, length-append (frame_octets g) (frame_octets h ++ []), length-append (frame_octets h) [], frame_long g, frame_long h)
 two_long g h (k ∷ gs) = omega (arith, length-append (frame_octets g) (frames_octets (k ∷ gs ++ h ∷ [])), two_long k h gs, frame_long g)
 
-pub frame_more : (all items new : List Frame) (own f : Frame) (octets after : List ℕ) → Left all items own octets → 48 ≤ length octets → after ≡ drop 24 octets → new ≡ items ++ f ∷ []
+pub frame_more : (all items new : List Frame) (own f : Frame) (octets after : List ℕ) → Left all items own octets → 2 * frame_size ≤ length octets → after ≡ drop frame_size octets → new ≡ items ++ f ∷ []
     → ((g : Frame) (rest : List ℕ) → FrameHasRange g → octets ≡ frame_octets g ++ rest → f ≡ g) → Left all new own after
 frame_more all items new own f octets after l long is pushed read = by_left l.left l.range l.octets_are l.all_are
   where
@@ -97,17 +97,17 @@ frame_more all items new own f octets after l long is pushed read = by_left l.le
     by_left (g ∷ gs) range e a = record {
       left = gs;
       range = range.1;
-      octets_are = is ∙ behind 0 24 octets (frame_octets g) _ e (frame_long g);
+      octets_are = is ∙ behind 0 frame_size octets (frame_octets g) _ e (frame_long g);
       all_are = a ∙ ap (λ (x : Frame). items ++ x ∷ gs) (sym (read g _ range.0 e)) ∙ sym (append_assoc items (f ∷ []) gs) ∙ ap (λ (xs : List Frame). xs ++ gs) (sym pushed);
     }
 
 -- none are left where there is less than two frames, or no room
-pub frames_ended : (all items : List Frame) (own : Frame) (octets : List ℕ) → Left all items own octets → length all < 24 → (48 ≤ length octets → length items ≡ 24) → items ≡ all
+pub frames_ended : (all items : List Frame) (own : Frame) (octets : List ℕ) → Left all items own octets → length all < 24 → (2 * frame_size ≤ length octets → length items ≡ 24) → items ≡ all
 frames_ended all items own octets l few ended = by_left l.left l.octets_are l.all_are
   where
     by_left : (left : List Frame) → octets ≡ frames_octets (left ++ own ∷ []) → all ≡ items ++ left → items ≡ all
     by_left [] e a = sym (a ∙ append-nil items)
     by_left (g ∷ gs) e a =
-        let long : 48 ≤ length octets = omega (arith, ap length e, two_long g own gs) in
+        let long : 2 * frame_size ≤ length octets = omega (arith, ap length e, two_long g own gs) in
         let full : length items ≡ 24 = ended long in
         absurd (omega (arith, full, few, ap length a, length-append items (g ∷ gs)))

@@ -33,6 +33,7 @@ use Rattle.giop_decode.specs.declared.leaf.Leaf.TheVariants as innermost
 use Rattle.giop_decode.specs.declared.memory.Memory.{Memory}
 use Rattle.giop_decode.specs.declared.memory.Buffer.{Buffer}
 use Rattle.giop_decode.specs.declared.memory.Buffer.TheVariants as buffers
+use Rattle.giop_decode.specs.declared.stored.TheConstants.{FRAME_SIZE}
 use Rattle.giop_decode.specs.Turns.{leaf_type, is_inside}
 use Rattle.giop_octets.specs.Fields.{four, eight, optional, held}
 use Rattle.giop_print.specs.declared.path.Root.{Root}
@@ -76,14 +77,16 @@ memory_octets m = optional m.request_id ++ optional m.status ++ buffer_octet m.b
 unfoldable pub fixed_octets : Decoder → Innermost → List ℕ
 fixed_octets d leaf = order_octet d.order ∷ root_octet d.root ∷ eight d.message ++ d.at ∷ leaf_octets leaf ++ held 8 d.carry ++ held 32 d.piece.items ++ memory_octets d.memory ++ replicate 2 0
 
--- the octets of a frame
+-- how many octets a frame has
 abbrev pub frame_size : ℕ
-frame_size = 24
+frame_size = FRAME_SIZE
 
+-- of a frame's own byte order: none, big or little
 abbrev pub inside_octet : Option Order → ℕ
 inside_octet None = 0
 inside_octet (Some order) = 1 + order_octet order
 
+-- the octets of a frame, of which 11 have no use
 abbrev pub frame_octets : Frame → List ℕ
 frame_octets f = four f.of.0 ++ four f.index ++ four f.count ++ inside_octet f.inside ∷ replicate 11 0
 

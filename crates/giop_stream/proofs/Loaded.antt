@@ -15,6 +15,7 @@ use Rattle.giop_checkpoint.specs.declared.fixed.Fixed.{Fixed}
 use Rattle.giop_checkpoint.specs.declared.record.Record.{Record}
 use Rattle.giop_checkpoint.specs.declared.record.FirstRecord.{FirstRecord}
 use Rattle.giop_checkpoint.specs.declared.record.Standing.TheVariants as standings
+use Rattle.giop_checkpoint.specs.declared.sizes.TheConstants.{FRAME_SIZE}
 use Rattle.giop_checkpoint.specs.Fixed.{HasRange, fixed_octets}
 use Rattle.giop_checkpoint.specs.Records.{Entry, EntryHasRange, AreRecords, used, kind_octets, own_octets, entry_octets}
 use Rattle.giop_checkpoint.specs.Refusals.{Refused, Passes}
@@ -431,7 +432,7 @@ records_are (e ∷ es) h =
     let rest : List ℕ = flat_map entry_octets es in
     let s : List ℕ = entry_octets e ++ rest in
     let size : length (entry_octets e) ≡ used s =
-    entry_long e h.0 ∙ ap (λ (n : ℕ). 256 + 24 * n) (sym (first_of e rest)) in
+    entry_long e h.0 ∙ ap (λ (n : ℕ). 256 + FRAME_SIZE * n) (sym (first_of e rest)) in
     let P : List ℕ → Type 0 = λ xs. AreRecords (length es) xs in (
       omega (arith, size, length-append (entry_octets e) rest),
       subst P (sym (drop_at (entry_octets e) rest (used s) size)) (records_are es h.1),

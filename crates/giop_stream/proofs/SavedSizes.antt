@@ -7,6 +7,7 @@ use Rattle.giop_sig.specs.Table.{Table}
 use Rattle.giop_sig.specs.Trees.{depth_of}
 use Rattle.giop_message.specs.declared.message.Message.{Message}
 use Rattle.giop_message.specs.Signatures.{Kept as Listed}
+use Rattle.giop_checkpoint.specs.declared.sizes.TheConstants.{FRAME_SIZE}
 use Rattle.giop_checkpoint.specs.Fixed.{fixed_octets}
 use Rattle.giop_checkpoint.specs.Records.{Entry, EntryHasRange, own_octets, entry_octets}
 use Rattle.giop_checkpoint.proofs.RecordFields.{own_long}
@@ -17,7 +18,7 @@ use Rattle.giop_stream.specs.Checkpoint.{IsStored, AreEntries, fixed_of, count_o
 
 -- ---- records
 
-pub entry_long : (e : Entry) → EntryHasRange e → length (entry_octets e) ≡ 256 + 24 * e.record_is.frames
+pub entry_long : (e : Entry) → EntryHasRange e → length (entry_octets e) ≡ 256 + FRAME_SIZE * e.record_is.frames
 entry_long e h =
     omega (
       arith,
@@ -31,17 +32,17 @@ entry_long e h =
 entries_long : (es : List Entry) → Each EntryHasRange es → length (flat_map entry_octets es) ≡ entries_size es
 entries_long [] h = refl
 entries_long (e ∷ es) h =
-    let here : ℕ = 256 + 24 * e.record_is.frames in
+    let here : ℕ = 256 + FRAME_SIZE * e.record_is.frames in
     length-append (entry_octets e) (flat_map entry_octets es)
     ∙ (ap (λ n. n + length (flat_map entry_octets es)) (entry_long e h.0) ∙ ap (λ n. here + n) (entries_long es h.1))
 
 more_within : (w n here rest : ℕ) → here ≤ w → rest ≤ n * w → here + rest ≤ suc n * w
 more_within w n here rest one others = omega (arith, one, others, suc-mul n w)
 
-entries_within : (d : ℕ) (es : List Entry) → Each (λ e. e.record_is.frames ≤ d) es → entries_size es ≤ length es * (256 + 24 * d)
+entries_within : (d : ℕ) (es : List Entry) → Each (λ e. e.record_is.frames ≤ d) es → entries_size es ≤ length es * (256 + FRAME_SIZE * d)
 entries_within d [] h = omega arith
 entries_within d (e ∷ es) h =
-    more_within (256 + 24 * d) (length es) (256 + 24 * e.record_is.frames) (entries_size es) (omega (arith, h.0)) (entries_within d es h.1)
+    more_within (256 + FRAME_SIZE * d) (length es) (256 + FRAME_SIZE * e.record_is.frames) (entries_size es) (omega (arith, h.0)) (entries_within d es h.1)
 
 -- ---- those of the messages
 
@@ -115,6 +116,6 @@ whole_within C l m written whole room =
     room.ready.each_ready room.ready.own_ready in
     omega (
       arith,
-      many_within (length whole.entries) (256 + 24 * depth_of C.types) (entries_size whole.entries)
+      many_within (length whole.entries) (256 + FRAME_SIZE * depth_of C.types) (entries_size whole.entries)
           (omega (arith, many, room.few, one_own m.slots.own)) (entries_within (depth_of C.types) whole.entries shallow),
     )

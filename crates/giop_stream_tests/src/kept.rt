@@ -1,4 +1,5 @@
-//! Checkpoints that are kept as octets: they are what is saved of a stream, and each later version is to load them.
+//! Checkpoints that are kept as octets: they are what is saved of a stream, and are loaded; one of an older layout is
+//! refused.
 
 ghost use Rattle.giop_stream.specs.Holding.{AreOf};
 
@@ -104,6 +105,17 @@ total messages 0 faults 1 octets 281474976710657\n",
     },
 ];
 
+/// A checkpoint of layout version 1, inside an octet sequence, as it was saved then.
+const OF_VERSION_1: &str =
+    "47494f5044554d50000000010000000000000001000000000000000000000001000000000000005a0000000000000001\
+00000000000000000100000047494f500102000000000068000000000000001a00000000000000000000000000000000\
+0200000000000000000147494f5001020000000000680000000000000000000002000000000000005a01000000070000\
+000200000000000000010201000000250000004000000020000000000000000000062021222324250000000000000000\
+000000000000000000000000000000000000000000000000000000000000000000000000000000000000000000000000\
+000000000000000000000000000000000000000000000000000000000000000000000000000000000000000000000000\
+000000000000000000000000000000000000000000000000000000000000000000000000000000000000000000000000\
+000000000000000000000000000000000000002600000000000000010000000000000025000000000000000000000000";
+
 /// The octets of hexadecimal text, in this room; none where it isn't such text, or doesn't fit.
 fn octets_of<'a>(text: &str, room: &'a mut [u8; 1024]) -> &'a [u8] {
     let (octets, _) = room.split_at_mut((text.len() / 2).min(1024));
@@ -179,6 +191,20 @@ fn a_kept_checkpoint_is_loaded(rt: HostRuntime) -> Result<(), Fail> {
         let known = declared(rt.alloc(), kept.types)?;
         assert!(rt; is_loaded(&known.0, &known.1, kept), "{}", kept.name);
     }
+    Ok(())
+}
+
+#[test]
+fn a_checkpoint_of_version_1_is_refused(rt: HostRuntime) -> Result<(), Fail> {
+    let known = declared(
+        rt.alloc(),
+        b"signatures 1;\noperation void raw(in sequence<octet> o);\n",
+    )?;
+    let mut room = [0; 1024];
+    let checkpoint = octets_of(OF_VERSION_1, &mut room);
+    assert!(rt; checkpoint.len() == 384);
+    let refusal = Engine::load(&known.0, &known.1, checkpoint).err();
+    assert!(rt; refusal == Some(LoadFault::Version));
     Ok(())
 }
 

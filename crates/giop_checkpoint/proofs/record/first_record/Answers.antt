@@ -1,6 +1,7 @@
 use Rattle.std.proofs.Common.{ℕ, ◌+◌, ◌*◌, ap, sym, ◌∙◌, take, drop, length, arith}
 use Rattle.std.proofs.lemmas.List.{drop-drop, length-drop}
 use Rattle.giop_checkpoint.specs.declared.record.Record.{Record}
+use Rattle.giop_checkpoint.specs.declared.sizes.TheConstants.{FRAME_SIZE}
 use Rattle.giop_checkpoint.proofs.RecordFields.{front_of, first_is, by_frames, past_frames}
 use Rattle.giop_checkpoint.proofs.States.{value_of}
 use Rattle.giop_checkpoint.proofs.record.first_record.Goals as goal
@@ -22,7 +23,7 @@ returns-clause-rest c =
     let first = first_is c.in-Some.record s c.in-Some.ensures.range (sym c.split_at.ensures.front ∙ c.in-Some.ensures.own) in
     let behind = c.split_at-2.ensures.back ∙ (ap (drop 224) c.split_at.ensures.back ∙ drop-drop 224 32 s) in
     c.split_at-3.ensures.back
-    ∙ (ap (drop (24 * c.in-Some.record.frames)) behind ∙ (drop-drop (24 * c.in-Some.record.frames) 256 s ∙ ap (λ (n : ℕ). drop (256 + 24 * n) s) (sym first)))
+    ∙ (ap (drop (FRAME_SIZE * c.in-Some.record.frames)) behind ∙ (drop-drop (FRAME_SIZE * c.in-Some.record.frames) 256 s ∙ ap (λ (n : ℕ). drop (256 + FRAME_SIZE * n) s) (sym first)))
 
 pub returns-clause-again : goal.returns-clause-again
 returns-clause-again c e rest h is =

@@ -1,4 +1,4 @@
-use Rattle.std.proofs.Common.{ℕ, List, replicate}
+use Rattle.std.proofs.Common.{replicate}
 use Rattle.giop_decode.proofs.StoredFields.{put_together}
 use Rattle.giop_decode.specs.Stored.{inside_octet}
 use Rattle.giop_octets.specs.Fields.{four}

@@ -1,5 +1,6 @@
 use Rattle.std.proofs.Common.{◌*◌, take, refl, arith}
 use Rattle.std.proofs.lemmas.List.{length-take-le}
+use Rattle.giop_checkpoint.specs.declared.sizes.TheConstants.{FRAME_SIZE}
 use Rattle.giop_checkpoint.specs.Records.{Entry}
 use Rattle.giop_stream.proofs.Saved.{kept_put}
 use Rattle.giop_stream.proofs.saving.write_message.Goals as goal
@@ -10,7 +11,7 @@ returns-clause-put c C fits =
     let entry : Entry = record {
       record_is = record { frames = c.store-count.result; standing = c.args.standing; number = c.args.number; header = c.args.header };
       message = c.store-count.new.fixed;
-      frames = take (24 * c.store-count.result) c.store-count.new.frames;
+      frames = take (FRAME_SIZE * c.store-count.result) c.store-count.new.frames;
     } in
     record {
       entry = entry;
