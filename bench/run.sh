@@ -1,9 +1,12 @@
 #!/bin/sh
-# Octets a second and peak memory of the dumper, beside xxd, over four streams: bench/run.sh [OCTETS [DUMPER]].
+# Octets a second and peak memory of the dumper, beside xxd, over seven streams: bench/run.sh [OCTETS [DUMPER]].
 #   mixed      messages of every type, without a signature file
 #   typed      calls of about 380 octets whose parameters are typed
 #   fragments  calls with octet sequences of 262,144 octets, in Fragments
 #   openers    sixteen calls at a time, whose Fragments come in turn
+#   large      one call with one octet sequence
+#   doubles    calls with sequences of 8,192 doubles
+#   captured   real calls to a naming service, again and again
 # It proves and builds the dumper first, unless one is named, and needs python3, xxd and GNU time. Each figure is the best
 # of five runs: by the clock, and by the processor time that the program took, which says more on a machine that does
 # other work too.
@@ -37,15 +40,15 @@ measure() {
     ' "$work/runs"
 }
 
-for name in mixed typed fragments openers; do
+for name in mixed typed fragments openers large doubles captured; do
     python3 "$top/bench/$name.py" "$octets" >"$work/stream"
     printf '%s: %s octets\n%-10s %12s %12s %9s\n' \
         "$name" "$(wc -c <"$work/stream")" program 'by clock' 'by processor' 'peak KiB'
-    if [ "$name" = mixed ]; then
-        measure "$dumper"
-    else
-        measure "$dumper" --signatures "$top/bench/calls.sig"
-    fi >"$work/figures"
+    case $name in
+        mixed) measure "$dumper" ;;
+        captured) measure "$dumper" --signatures "$top/examples/naming.sig" ;;
+        *) measure "$dumper" --signatures "$top/bench/calls.sig" ;;
+    esac >"$work/figures"
     measure xxd >>"$work/figures"
     cat "$work/figures"
     awk '

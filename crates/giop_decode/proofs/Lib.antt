@@ -19,6 +19,7 @@ mod Surrounding
 mod Turning
 mod PieceLaws
 mod Segments
+mod Standing
 mod Settling
 mod Advancing
 mod Waiting

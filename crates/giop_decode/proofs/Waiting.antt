@@ -29,7 +29,6 @@ held_in d carry piece at = record {
   carry = carry;
   piece = piece;
   memory = d.memory;
-  path = d.path;
 }
 
 -- the octet leaves the innermost part at its place, with what is now held

@@ -26,7 +26,7 @@ use crate::memory::Memory;
 use crate::progress::{Kind, Progress};
 use arrayvec::ArrayVec;
 use giop_cdr::{Carry, Order};
-use giop_print::{Out, OutFault, Path, Root};
+use giop_print::{Out, OutFault, Root};
 use giop_sig::{Catalogue, TypeId};
 
 /// The parts of a value that are begun and not ended, and what was last heard of the value.
@@ -45,8 +45,6 @@ pub struct Decoder {
     pub(crate) carry: Carry,
     pub(crate) piece: ArrayVec<u8, 32>,
     pub(crate) memory: Memory,
-    // Where the path of a line is spelled: nothing of it is kept from one line to the next.
-    pub(crate) path: Path,
 }
 
 impl Decoder {
@@ -76,7 +74,6 @@ impl Decoder {
             carry: Carry::new(),
             piece: ArrayVec::new(),
             memory: Memory::new(),
-            path: Path::new(root),
         };
         if is_empty(catalogue, of) {
             return decoder;
@@ -316,7 +313,6 @@ impl Decoder {
             self.outer.as_slice(),
             of,
             &step.spoken,
-            &mut self.path,
             out,
         )?;
         let named = self.memory.hear(

@@ -7,6 +7,7 @@ mod decoder;
 mod encapsulation;
 mod frame;
 mod heads;
+mod here;
 mod laws;
 mod leaf;
 mod line;

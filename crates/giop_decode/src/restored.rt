@@ -23,7 +23,7 @@ use crate::stored::FRAME_SIZE;
 use arrayvec::ArrayVec;
 use giop_cdr::{Carry, Order};
 use giop_octets::{eight_at, four_at, held_at, octet_at, optional_at};
-use giop_print::{Path, Root};
+use giop_print::Root;
 use giop_sig::{Catalogue, TypeId};
 
 impl Decoder {
@@ -92,7 +92,6 @@ fn parsed(fixed: &[u8; 208], frames: &[u8]) -> Decoder
         carry: carried(carry.as_slice()),
         piece: held_at(fixed, 33),
         memory: memory_at(fixed, 66),
-        path: Path::new(root),
     }
 }
 

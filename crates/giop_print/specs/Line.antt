@@ -1,5 +1,5 @@
 -- What a line that is spelled from its end holds (state).
-use Rattle.std.specs.Prelude.{ℕ, List, ◌++◌, drop, codes, decimal}
+use Rattle.std.specs.Prelude.{◌≡◌, ℕ, ◌+◌, Bool, IsTrue, List, ◌++◌, length, drop, codes, decimal}
 use Rattle.giop_print.specs.declared.line.Line.{Line}
 
 -- what was spelled
@@ -10,6 +10,17 @@ line_text l = drop l.at l.octets
 abbrev pub line_room : Line → ℕ
 line_room l = l.at
 
--- what begins a line of a message: its number, a place and a kind
+-- a line of a message: its number and what follows that
+abbrev pub numbered : ℕ → List ℕ → List ℕ
+numbered message rest = codes "m" ++ (decimal message ++ rest)
+
+-- a line of a message at a place: what the place is followed by, and the rest
 abbrev pub headed : ℕ → List ℕ → List ℕ → List ℕ → List ℕ
-headed message place kind rest = codes "m" ++ (decimal message ++ (codes " " ++ (place ++ (kind ++ rest))))
+headed message place kind rest = numbered message (codes " " ++ (place ++ (kind ++ rest)))
+
+-- what spelling a text before what was spelled of a line did: all of it stands there now, or an end of it
+pub record Spells (whole : Bool) (before after : Line) (text : List ℕ) : Type 0 where
+  pub front : List ℕ
+  pub spelled : line_text after ≡ front ++ line_text before
+  pub room : line_room after + length front ≡ line_room before
+  pub all : IsTrue whole → front ≡ text

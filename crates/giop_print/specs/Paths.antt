@@ -8,6 +8,10 @@ pub record PathText : Type 0 where
   pub text : List ℕ
   pub segments : ℕ
 
+-- the text of a path
+abbrev pub path_text_of : PathText → List ℕ
+path_text_of path = path.text
+
 abbrev pub root_word : Root → List ℕ
 root_word Header = codes "header"
 root_word Exception = codes "exception"

@@ -6,7 +6,7 @@ ghost use Rattle.giop_print.specs.Output.{Writes};
 ghost use Rattle.giop_print.specs.Lines.{encapsulation_line, order_line, inner_rest_line};
 
 use crate::lines::{content_line, kind_line};
-use crate::path::Path;
+use crate::position::Position;
 use crate::sink::{Out, OutFault};
 use crate::value::Piece;
 use crate::words::order_word;
@@ -14,14 +14,14 @@ use giop_cdr::Order;
 use itoa::Buffer;
 
 /// The line of an encapsulation: how many octets it has.
-pub fn encapsulation_line<O: Out>(
+pub fn encapsulation_line<O: Out, P: Position>(
     out: &mut O,
     message: u64,
-    path: &Path,
+    path: &P,
     length: u32,
 ) -> Result<(), OutFault>
     ensures { Writes result (O.log out.old) (O.log out.new)
-        (encapsulation_line message path.now.text length) }
+        (encapsulation_line message (P.spelled path.now) length) }
 {
     let mut digits = Buffer::new();
     let length = digits.format(length).as_bytes();
@@ -29,46 +29,46 @@ pub fn encapsulation_line<O: Out>(
 }
 
 /// The line of an encapsulation's byte order.
-pub fn order_line<O: Out>(
+pub fn order_line<O: Out, P: Position>(
     out: &mut O,
     message: u64,
-    path: &Path,
+    path: &P,
     order: Order,
 ) -> Result<(), OutFault>
     ensures { Writes result (O.log out.old) (O.log out.new)
-        (order_line message path.now.text order) }
+        (order_line message (P.spelled path.now) order) }
 {
     kind_line(out, message, path, b" order ", order_word(order))
 }
 
 /// The line of at most 32 octets that stand at this offset in the rest of an encapsulation.
-pub fn inner_rest_line<O: Out>(
+pub fn inner_rest_line<O: Out, P: Position>(
     out: &mut O,
     message: u64,
-    path: &Path,
+    path: &P,
     offset: u64,
     octets: &[u8],
 ) -> Result<(), OutFault>
     requires { length octets.now ≤ 32 }
     ensures { Writes result (O.log out.old) (O.log out.new)
-        (inner_rest_line message path.now.text offset octets.now) }
+        (inner_rest_line message (P.spelled path.now) offset octets.now) }
 {
     split_inner_rest_line(out, message, path, offset, octets, &[])
 }
 
 /// The line of a part of an encapsulation's rest that came in two: the octets that were held, and those that follow
 /// them, at most 32 in all.
-pub fn split_inner_rest_line<O: Out>(
+pub fn split_inner_rest_line<O: Out, P: Position>(
     out: &mut O,
     message: u64,
-    path: &Path,
+    path: &P,
     offset: u64,
     held: &[u8],
     octets: &[u8],
 ) -> Result<(), OutFault>
     requires { length held.now + length octets.now ≤ 32 }
     ensures { Writes result (O.log out.old) (O.log out.new)
-        (inner_rest_line message path.now.text offset (held.now ++ octets.now)) }
+        (inner_rest_line message (P.spelled path.now) offset (held.now ++ octets.now)) }
 {
     let held = Piece::Octets(held);
     content_line(out, message, path, b" rest @", offset, held, octets, false)

@@ -5,6 +5,7 @@ mod encapsulation_lines;
 mod line;
 mod lines;
 mod path;
+mod position;
 mod sheet;
 mod sink;
 mod text;
@@ -15,12 +16,14 @@ mod written;
 pub use encapsulation_lines::{
     encapsulation_line, inner_rest_line, order_line, split_inner_rest_line,
 };
+pub use line::Line;
 pub use lines::{
     call_line, cancelled_line, continues_line, end_line, fault_line, piece_line, rest_line,
     split_piece_line, split_rest_line, start_line, stream_fault_line, total_line, unfinished_line,
     value_line,
 };
-pub use path::{Path, Root};
+pub use path::{Path, Root, root_word};
+pub use position::Position;
 pub use sheet::Sheet;
 pub use sink::{Out, OutFault, put_all, put_parts};
 pub use value::{Piece, Value};

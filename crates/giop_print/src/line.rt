@@ -1,6 +1,6 @@
 //! A line that is spelled from its end to its front, so that a number is written where it stands.
 
-ghost use Rattle.std.specs.Prelude.{◌≡◌, ◌≤◌, ◌<◌, ◌+◌, ◌*◌, [], ◌∷◌, ◌++◌, length, decimal};
+ghost use Rattle.std.specs.Prelude.{◌≡◌, ◌≤◌, ◌<◌, ◌+◌, ◌-◌, ◌*◌, [], ◌∷◌, ◌++◌, length, drop, decimal};
 ghost use Rattle.std.specs.Fmt.{signed_decimal};
 ghost use Rattle.giop_print.specs.Text.{hex_octet, hex, hex_number, escaped_octet, escaped};
 ghost use Rattle.giop_print.specs.Lines.{piece_octets, split_text};
@@ -29,7 +29,7 @@ impl Line {
 
     /// A line of which nothing is spelled.
     #[inline]
-    pub fn new() -> Line
+    pub(crate) fn new() -> Line
         ensures text { line_text result ≡ [] }
         ensures room { line_room result ≡ 256 }
     {
@@ -41,7 +41,7 @@ impl Line {
 
     /// What was spelled.
     #[inline]
-    pub fn text(&self) -> &[u8]
+    pub(crate) fn text(&self) -> &[u8]
         ensures { result.now ≡ line_text self.now }
     {
         &self.octets[self.at..]
@@ -50,9 +50,21 @@ impl Line {
     /// How many octets more fit.
     #[inline]
     pub fn room(&self) -> usize
-        ensures { result ≡ line_room self.now }
+        ensures value { result ≡ line_room self.now }
+        ensures most { result ≤ 256 }
     {
         self.at
+    }
+
+    /// Lets go of what was spelled last, so that so many octets more fit.
+    #[inline]
+    pub(crate) fn cut(&mut self, room: usize)
+        requires within { line_room self.old ≤ room }
+        requires most { room ≤ 256 }
+        ensures text { line_text self.new ≡ drop (room - line_room self.old) (line_text self.old) }
+        ensures room { line_room self.new ≡ room }
+    {
+        self.at = room;
     }
 
     /// Puts an octet before what was spelled.
@@ -84,14 +96,15 @@ impl Line {
     pub fn put_number(&mut self, n: u64)
         requires { 20 ≤ line_room self.old }
         ensures text { line_text self.new ≡ decimal n ++ line_text self.old }
-        ensures room { line_room self.old ≤ line_room self.new + 20 }
+        ensures room { line_room self.new + length (decimal n) ≡ line_room self.old }
+        ensures most { line_room self.old ≤ line_room self.new + 20 }
     {
         self.at = write_digits(n, &mut self.octets, self.at);
     }
 
     /// Puts a number with its sign before what was spelled.
     #[inline]
-    pub fn put_signed(&mut self, n: i64)
+    pub(crate) fn put_signed(&mut self, n: i64)
         requires { 21 ≤ line_room self.old }
         ensures text { line_text self.new ≡ signed_decimal n ++ line_text self.old }
         ensures room { line_room self.old ≤ line_room self.new + 21 }
@@ -116,7 +129,7 @@ impl Line {
 
     /// Puts two digits for each octet before what was spelled.
     #[tactic(auto, using(crate::proofs::Spelling::spelling_steps))]
-    pub fn put_hex(&mut self, octets: &[u8])
+    pub(crate) fn put_hex(&mut self, octets: &[u8])
         requires { 2 * length octets.now ≤ line_room self.old }
         ensures text { line_text self.new ≡ hex octets.now ++ line_text self.old }
         ensures room { line_room self.new + 2 * length octets.now ≡ line_room self.old }
@@ -147,7 +160,7 @@ impl Line {
 
     /// Puts what stands for the octets between quotes before what was spelled.
     #[tactic(auto, using(crate::proofs::Spelling::spelling_steps))]
-    pub fn put_escaped(&mut self, octets: &[u8])
+    pub(crate) fn put_escaped(&mut self, octets: &[u8])
         requires { 4 * length octets.now ≤ line_room self.old }
         ensures text { line_text self.new ≡ escaped octets.now ++ line_text self.old }
         ensures room { line_room self.old ≤ line_room self.new + 4 * length octets.now }
@@ -161,7 +174,7 @@ impl Line {
 
     /// Puts so many digits of a number, the lowest last, before what was spelled.
     #[tactic(auto, using(crate::proofs::Spelling::spelling_steps))]
-    pub fn put_hex_number(&mut self, n: u64, digits: u8)
+    pub(crate) fn put_hex_number(&mut self, n: u64, digits: u8)
         requires digits { digits ≤ 16 }
         requires room { 16 ≤ line_room self.old }
         ensures text { line_text self.new ≡ hex_number digits n ++ line_text self.old }
@@ -176,7 +189,7 @@ impl Line {
 
     /// Puts what a piece has behind its offset, where `next` follows its octets, before what was spelled: a space and
     /// its text between quotes, or a space and its digits where it has octets.
-    pub fn put_piece(&mut self, piece: Piece<'_>, next: &[u8])
+    pub(crate) fn put_piece(&mut self, piece: Piece<'_>, next: &[u8])
         requires size { length (piece_octets piece) + length next.now ≤ 32 }
         requires room { 131 ≤ line_room self.old }
         ensures text { line_text self.new ≡ split_text piece.entry next.now ++ line_text self.old }

@@ -4,11 +4,11 @@
 ghost use Rattle.std.specs.Prelude.{◌+◌, ◌≤◌, ◌++◌, length};
 ghost use Rattle.giop_cdr.specs.Primitives.{size_of};
 ghost use Rattle.giop_print.specs.Output.{Writes};
-ghost use Rattle.giop_print.specs.Line.{line_text, headed};
+ghost use Rattle.giop_print.specs.Line.{line_text, line_room, numbered, headed, Spells};
 ghost use Rattle.giop_print.specs.Lines.{kind_line, kind_word, spaced, number_text, piece_octets, split_text, more_word, value_line, content_line, piece_line, split_piece_line, rest_line, start_line, call_line, continues_line, cancelled_line, fault_line, end_line, stream_fault_line, unfinished_line, total_line};
 
 use crate::line::Line;
-use crate::path::Path;
+use crate::position::Position;
 use crate::sink::{Out, OutFault, put_all, put_parts};
 use crate::text::quoted_octet;
 use crate::value::{Piece, Value};
@@ -17,14 +17,14 @@ use giop_cdr::{Number, Order, Prim, size};
 use itoa::Buffer;
 
 /// The line of a value: a number, an enum's name or a count.
-pub fn value_line<O: Out>(
+pub fn value_line<O: Out, P: Position>(
     out: &mut O,
     message: u64,
-    path: &Path,
+    path: &P,
     value: Value<'_>,
 ) -> Result<(), OutFault>
     ensures { Writes result (O.log out.old) (O.log out.new)
-        (value_line message path.now.text value.entry) }
+        (value_line message (P.spelled path.now) value.entry) }
 {
     let mut digits = Buffer::new();
     match value {
@@ -39,15 +39,15 @@ pub fn value_line<O: Out>(
 
 /// The line of a primitive's number.
 #[tactic(auto, unfolding(crate::specs::Lines::kind_line))]
-fn number_line<O: Out>(
+fn number_line<O: Out, P: Position>(
     out: &mut O,
     message: u64,
-    path: &Path,
+    path: &P,
     prim: Prim,
     number: Number,
 ) -> Result<(), OutFault>
     ensures { Writes result (O.log out.old) (O.log out.new)
-        (kind_line message path.now.text (spaced (kind_word prim)) (number_text (size_of prim) number)) }
+        (kind_line message (P.spelled path.now) (spaced (kind_word prim)) (number_text (size_of prim) number)) }
 {
     let kind = kind_word(prim);
     let mut line = Line::new();
@@ -59,7 +59,7 @@ fn number_line<O: Out>(
         Number::Truth(truth) => return kind_line(out, message, path, kind, truth_word(truth)),
         Number::Char(octet) => return kind_line(out, message, path, kind, &quoted_octet(octet)),
     }
-    headed_line(out, message, path.text(), kind, &mut line)
+    placed_line(out, message, path, kind, &mut line)
 }
 
 /// How long a text may be that is spelled with its line. Most are shorter.
@@ -67,15 +67,15 @@ const SHORT: usize = 128;
 
 /// The line of a value of a kind, whose word has its spaces.
 #[tactic(auto, unfolding(crate::specs::Lines::kind_line))]
-pub fn kind_line<'a, O: Out>(
+pub fn kind_line<'a, O: Out, P: Position>(
     out: &mut O,
     message: u64,
-    path: &'a Path,
+    path: &'a P,
     kind: &'a [u8],
     text: &'a [u8],
 ) -> Result<(), OutFault>
     ensures { Writes result (O.log out.old) (O.log out.new)
-        (kind_line message path.now.text kind.now text.now) }
+        (kind_line message (P.spelled path.now) kind.now text.now) }
 {
     if text.len() > SHORT {
         return long_kind_line(out, message, path, kind, text);
@@ -83,22 +83,24 @@ pub fn kind_line<'a, O: Out>(
     let mut line = Line::new();
     line.put(b'\n');
     line.put_octets(text);
-    headed_line(out, message, path.text(), kind, &mut line)
+    placed_line(out, message, path, kind, &mut line)
 }
 
 /// The same of any text, in parts.
 #[tactic(auto, unfolding(crate::specs::Lines::kind_line))]
-fn long_kind_line<'a, O: Out>(
+#[inline(never)]
+fn long_kind_line<'a, O: Out, P: Position>(
     out: &mut O,
     message: u64,
-    path: &'a Path,
+    path: &'a P,
     kind: &'a [u8],
     text: &'a [u8],
 ) -> Result<(), OutFault>
     ensures { Writes result (O.log out.old) (O.log out.new)
-        (kind_line message path.now.text kind.now text.now) }
+        (kind_line message (P.spelled path.now) kind.now text.now) }
 {
     let mut message_digits = Buffer::new();
+    let path = path.path();
     put_parts(
         out,
         &[
@@ -113,77 +115,100 @@ fn long_kind_line<'a, O: Out>(
     )
 }
 
-/// How long a kind may be that is spelled with its line. All are shorter.
-const KIND: usize = 32;
-
-/// What begins a line of a message, and the rest of it, in parts.
-fn long_line<'a, O: Out>(
+/// What begins a line of a message at a position, and the rest of it, in parts.
+#[inline(never)]
+fn long_line<'a, O: Out, P: Position>(
     out: &mut O,
     message: u64,
-    place: &'a [u8],
+    path: &'a P,
     kind: &'a [u8],
     rest: &'a [u8],
 ) -> Result<(), OutFault>
     ensures { Writes result (O.log out.old) (O.log out.new)
-        (headed message place.now kind.now rest.now) }
+        (headed message (P.spelled path.now) kind.now rest.now) }
 {
     let mut digits = Buffer::new();
+    let path = path.path();
     put_parts(
         out,
         &[
             b"m",
             digits.format(message).as_bytes(),
             b" ",
-            place,
+            path.text(),
             kind,
             rest,
         ],
     )
 }
 
-/// What begins a line of a message, and the rest of it, which is spelled.
-fn headed_line<O: Out>(
+/// What begins a line of a message at a position, and the rest of it, which is spelled.
+fn placed_line<O: Out, P: Position>(
     out: &mut O,
     message: u64,
-    place: &[u8],
+    path: &P,
     kind: &[u8],
     line: &mut Line,
 ) -> Result<(), OutFault>
     ensures { Writes result (O.log out.old) (O.log out.new)
-        (headed message place.now kind.now (line_text line.old)) }
+        (headed message (P.spelled path.now) kind.now (line_text line.old)) }
 {
-    if kind.len() > KIND || place.len() + KIND + 22 > line.room() {
-        return long_line(out, message, place, kind, line.text());
+    let room = line.room();
+    if spell_place(path, kind, line) && line.room() > NUMBER {
+        line.put(b' ');
+        return numbered_line(out, message, line);
+    }
+    line.cut(room);
+    long_line(out, message, path, kind, line.text())
+}
+
+/// Spells a position and a kind before what was spelled of a line, and answers whether that had room for them.
+#[inline]
+fn spell_place<P: Position>(path: &P, kind: &[u8], line: &mut Line) -> bool
+    ensures { Spells result line.old line.new (P.spelled path.now ++ kind.now) }
+{
+    if kind.len() > line.room() {
+        return false;
     }
     line.put_octets(kind);
-    line.put_octets(place);
-    line.put(b' ');
+    path.spell(line)
+}
+
+/// How many octets the number of a message may take with what stands before it.
+const NUMBER: usize = 21;
+
+/// The number of a message, and the rest of its line, which is spelled.
+#[inline]
+fn numbered_line<O: Out>(out: &mut O, message: u64, line: &mut Line) -> Result<(), OutFault>
+    requires { 21 ≤ line_room line.old }
+    ensures { Writes result (O.log out.old) (O.log out.new) (numbered message (line_text line.old)) }
+{
     line.put_number(message);
     line.put(b'm');
     put_all(out, line.text())
 }
 
 /// The line of a piece of at most 32 octets, which stands at this offset in its content, and whether more comes.
-pub fn piece_line<O: Out>(
+pub fn piece_line<O: Out, P: Position>(
     out: &mut O,
     message: u64,
-    path: &Path,
+    path: &P,
     piece: Piece<'_>,
     offset: u64,
     more: bool,
 ) -> Result<(), OutFault>
     requires { length (piece_octets piece) ≤ 32 }
     ensures { Writes result (O.log out.old) (O.log out.new)
-        (piece_line message path.now.text piece.entry offset more) }
+        (piece_line message (P.spelled path.now) piece.entry offset more) }
 {
     split_piece_line(out, message, path, piece, &[], offset, more)
 }
 
 /// The line of a piece that came in two: the octets that were held, and those that follow them, at most 32 in all.
-pub fn split_piece_line<O: Out>(
+pub fn split_piece_line<O: Out, P: Position>(
     out: &mut O,
     message: u64,
-    path: &Path,
+    path: &P,
     held: Piece<'_>,
     octets: &[u8],
     offset: u64,
@@ -191,7 +216,7 @@ pub fn split_piece_line<O: Out>(
 ) -> Result<(), OutFault>
     requires { length (piece_octets held) + length octets.now ≤ 32 }
     ensures { Writes result (O.log out.old) (O.log out.new)
-        (split_piece_line message path.now.text held.entry octets.now offset more) }
+        (split_piece_line message (P.spelled path.now) held.entry octets.now offset more) }
 {
     content_line(
         out,
@@ -207,10 +232,10 @@ pub fn split_piece_line<O: Out>(
 
 /// The line of a part of a content, which came in two.
 #[tactic(auto, unfolding(crate::specs::Lines::content_line))]
-pub fn content_line<O: Out>(
+pub fn content_line<O: Out, P: Position>(
     out: &mut O,
     message: u64,
-    path: &Path,
+    path: &P,
     word: &[u8],
     offset: u64,
     held: Piece<'_>,
@@ -219,14 +244,14 @@ pub fn content_line<O: Out>(
 ) -> Result<(), OutFault>
     requires { length (piece_octets held) + length octets.now ≤ 32 }
     ensures { Writes result (O.log out.old) (O.log out.new)
-        (content_line message path.now.text word.now offset (split_text held.entry octets.now) (more_word more)) }
+        (content_line message (P.spelled path.now) word.now offset (split_text held.entry octets.now) (more_word more)) }
 {
     let mut line = Line::new();
     line.put(b'\n');
     line.put_octets(more_word(more));
     line.put_piece(held, octets);
     line.put_number(offset);
-    headed_line(out, message, path.text(), word, &mut line)
+    placed_line(out, message, path, word, &mut line)
 }
 
 /// The line of at most 32 octets that stand at this offset in the rest.
@@ -261,7 +286,8 @@ pub fn split_rest_line<O: Out>(
     line.put_hex(held);
     line.put(b' ');
     line.put_number(offset);
-    headed_line(out, message, b"rest @", b"", &mut line)
+    line.put_octets(b" rest @");
+    numbered_line(out, message, &mut line)
 }
 
 /// The line of a header: the minor version, the order, the message type, the size, and whether fragments follow.
@@ -278,27 +304,19 @@ pub fn start_line<O: Out>(
     ensures { Writes result (O.log out.old) (O.log out.new)
         (start_line message minor order kind size more) }
 {
-    let mut message_digits = Buffer::new();
-    let mut minor_digits = Buffer::new();
-    let mut kind_digits = Buffer::new();
-    let mut size_digits = Buffer::new();
-    put_parts(
-        out,
-        &[
-            b"m",
-            message_digits.format(message).as_bytes(),
-            b" start 1.",
-            minor_digits.format(minor).as_bytes(),
-            b" ",
-            order_word(order),
-            b" ",
-            type_word(kind, &mut kind_digits),
-            b" size ",
-            size_digits.format(size).as_bytes(),
-            more_word(more),
-            b"\n",
-        ],
-    )
+    let mut digits = Buffer::new();
+    let mut line = Line::new();
+    line.put(b'\n');
+    line.put_octets(more_word(more));
+    line.put_number(u64::from(size));
+    line.put_octets(b" size ");
+    line.put_octets(type_word(kind, &mut digits));
+    line.put(b' ');
+    line.put_octets(order_word(order));
+    line.put(b' ');
+    line.put_number(u64::from(minor));
+    line.put_octets(b" start 1.");
+    numbered_line(out, message, &mut line)
 }
 
 /// The line of a Request's id and operation.
@@ -327,18 +345,11 @@ pub fn call_line<O: Out>(out: &mut O, message: u64, id: u32, name: &[u8]) -> Res
 pub fn continues_line<O: Out>(out: &mut O, fragment: u64, opener: u64) -> Result<(), OutFault>
     ensures { Writes result (O.log out.old) (O.log out.new) (continues_line fragment opener) }
 {
-    let mut fragment_digits = Buffer::new();
-    let mut opener_digits = Buffer::new();
-    put_parts(
-        out,
-        &[
-            b"m",
-            fragment_digits.format(fragment).as_bytes(),
-            b" continues m",
-            opener_digits.format(opener).as_bytes(),
-            b"\n",
-        ],
-    )
+    let mut line = Line::new();
+    line.put(b'\n');
+    line.put_number(opener);
+    line.put_octets(b" continues m");
+    numbered_line(out, fragment, &mut line)
 }
 
 /// The line of a message and the CancelRequest that cancels it.
@@ -386,11 +397,9 @@ pub fn fault_line<O: Out>(out: &mut O, message: u64, word: &str, place: u64) -> 
 pub fn end_line<O: Out>(out: &mut O, message: u64) -> Result<(), OutFault>
     ensures { Writes result (O.log out.old) (O.log out.new) (end_line message) }
 {
-    let mut message_digits = Buffer::new();
-    put_parts(
-        out,
-        &[b"m", message_digits.format(message).as_bytes(), b" end\n"],
-    )
+    let mut line = Line::new();
+    line.put_octets(b" end\n");
+    numbered_line(out, message, &mut line)
 }
 
 /// The line of the stream's fault: its word, and the number of octets up to the octet that has it.

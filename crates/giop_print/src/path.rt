@@ -72,6 +72,18 @@ impl Path {
         &self.text
     }
 
+    /// Another of the same text.
+    pub(crate) fn copied(&self) -> Path
+        ensures { result ≡ self.now }
+    {
+        let mut text = ArrayVec::new();
+        text.try_extend_from_slice(&self.text).unwrap();
+        Path {
+            text,
+            segments: self.segments,
+        }
+    }
+
     /// How many segments stand after the root.
     pub fn segments(&self) -> usize
         ensures value { result ≡ self.now.segments }
@@ -111,7 +123,7 @@ impl Path {
 }
 
 /// The word of a root.
-fn root_word(root: Root) -> &'static [u8]
+pub fn root_word(root: Root) -> &'static [u8]
     ensures value { result.now ≡ root_word root }
     ensures short { length result.now ≤ 9 }
 {

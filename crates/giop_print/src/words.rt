@@ -9,7 +9,8 @@ use itoa::Buffer;
 
 /// The word of an order.
 pub fn order_word(order: Order) -> &'static [u8]
-    ensures { result.now ≡ order_word order }
+    ensures value { result.now ≡ order_word order }
+    ensures short { length result.now ≤ 6 }
 {
     match order {
         Order::Big => b"big",
@@ -20,7 +21,8 @@ pub fn order_word(order: Order) -> &'static [u8]
 /// The word of a message type, or above 7 its number.
 #[tactic(auto, unfolding(crate::specs::Lines::type_word))]
 pub fn type_word(kind: u8, digits: &mut Buffer) -> &[u8]
-    ensures { result.now ≡ type_word kind }
+    ensures value { result.now ≡ type_word kind }
+    ensures short { length result.now ≤ 15 }
 {
     match kind {
         0 => b"Request",

@@ -92,3 +92,35 @@ fn is_its_line(path: &Path, value: Value, want: &str) -> Result<bool, OutFault> 
     put_all(&mut sample, b"\n")?;
     Ok(sheet.held() == sample.held())
 }
+
+/// A name of 64 octets, the most that a name has.
+const LONG_NAME: &[u8] = b"abcdefghijklmnopqrstuvwxyz0123456789_ABCDEFGHIJKLMNOPQRSTUVWXYZ0";
+
+/// A path of five such names, for which no line that is spelled from its end has room.
+fn long_path() -> Path {
+    let mut path = Path::new(Root::Body);
+    path.push_name(LONG_NAME);
+    path.push_name(LONG_NAME);
+    path.push_name(LONG_NAME);
+    path.push_name(LONG_NAME);
+    path.push_name(LONG_NAME);
+    path
+}
+
+#[test]
+fn a_value_at_a_long_path_has_its_line(rt: HostRuntime) -> Result<(), Fail> {
+    let mut room = [0; 512];
+    let mut sheet = Sheet::new(&mut room);
+    let value = Value::Primitive(Prim::ULong, Number::Unsigned(7));
+    value_line(&mut sheet, 9, &long_path(), value)?;
+    let mut wanted = [0; 512];
+    let mut sample = Sheet::new(&mut wanted);
+    put_all(&mut sample, b"m9 body")?;
+    for _ in 0..5 {
+        put_all(&mut sample, b".")?;
+        put_all(&mut sample, LONG_NAME)?;
+    }
+    put_all(&mut sample, b" ulong 7\n")?;
+    assert!(&rt; sheet.held() == sample.held());
+    Ok(())
+}

@@ -2,7 +2,8 @@ use Rattle.std.proofs.Common.{[], ◌∷◌, ◌++◌}
 use Rattle.giop_decode.specs.Steps.{path_in}
 use Rattle.giop_decode.specs.Turns.{places, switch_seg}
 use Rattle.giop_sig.specs.Trees.{tree}
-use Rattle.giop_decode.proofs.Segments.{said_one, said_none, path_switch}
+use Rattle.giop_decode.proofs.Segments.{said_one, said_none}
+use Rattle.giop_decode.proofs.Standing.{stands_at, switch_at}
 use Rattle.giop_decode.proofs.line.say.Goals as goal
 use Rattle.giop_print.proofs.Writing.{wrote-nil}
 use Rattle.giop_print.specs.Lines.{kind_line}
@@ -17,21 +18,21 @@ pub returns-in-Number : goal.returns-in-Number
 returns-in-Number g c here at lines h =
     let path = path_in [] (places c.args.catalogue.now here c.args.outer.now) in
     let k = rw c.in-Number.is at h in
-    rw (← said_one c.args.message c.args.root at path _ _ lines (c.go_to.ensures.text here) k.1) (c.number_line.ensures k.0)
+    rw (← said_one c.args.message c.args.root at path _ _ lines (stands_at c.args.catalogue.now here c.args.root c.args.outer.now) k.1) (c.number_line.ensures k.0)
 
 pub returns-in-Count : goal.returns-in-Count
 unfolding kind_line
 returns-in-Count g c here at lines h =
     let path = path_in [] (places c.args.catalogue.now here c.args.outer.now) in
     let k = rw c.in-Count.is at h in
-    rw (← said_one c.args.message c.args.root at path _ _ lines (c.go_to-in-Count.ensures.text here) k) c.value_line.ensures
+    rw (← said_one c.args.message c.args.root at path _ _ lines (stands_at c.args.catalogue.now here c.args.root c.args.outer.now) k) c.value_line.ensures
 
 pub returns-in-Piece : goal.returns-in-Piece
 returns-in-Piece g c here at lines h =
     let path = path_in [] (places c.args.catalogue.now here c.args.outer.now) in
     let k = rw c.in-Piece.is at h in
     let w = rw c.deref.ensures.0 at c.octets_line.ensures in
-    rw (← said_one c.args.message c.args.root at path _ _ lines (c.go_to-in-Piece.ensures.text here) k) w
+    rw (← said_one c.args.message c.args.root at path _ _ lines (stands_at c.args.catalogue.now here c.args.root c.args.outer.now) k) w
 
 pub returns-in-Switch : goal.returns-in-Switch
 returns-in-Switch g c here at lines h =
@@ -39,19 +40,18 @@ returns-in-Switch g c here at lines h =
     let k = rw c.in-Switch.is at h in
     let f = rw c.switch_type-switch.ensures.tree at c.number_line-in-Switch.ensures in
     let seg = switch_seg (tree c.args.catalogue.now c.args.of.0) in
-    let text = path_switch c.args.root path seg _ _ (c.go_to-in-Switch.ensures.text here) c.push_switch.ensures.text in
-    rw (← said_one c.args.message c.args.root at (path ++ seg ∷ []) _ _ lines text k.1) (f k.0)
+    rw (← said_one c.args.message c.args.root at (path ++ seg ∷ []) _ _ lines (switch_at c.args.catalogue.now here c.args.root c.args.outer.now seg) k.1) (f k.0)
 
 pub returns-in-Size : goal.returns-in-Size
 unfolding kind_line
 returns-in-Size g c here at lines h =
     let path = path_in [] (places c.args.catalogue.now here c.args.outer.now) in
     let k = rw c.in-Size.is at h in
-    rw (← said_one c.args.message c.args.root at path _ _ lines (c.go_to-in-Size.ensures.text here) k) c.encapsulation_line.ensures
+    rw (← said_one c.args.message c.args.root at path _ _ lines (stands_at c.args.catalogue.now here c.args.root c.args.outer.now) k) c.encapsulation_line.ensures
 
 pub returns-in-Ordered : goal.returns-in-Ordered
 unfolding kind_line
 returns-in-Ordered g c here at lines h =
     let path = path_in [] (places c.args.catalogue.now here c.args.outer.now) in
     let k = rw c.in-Ordered.is at h in
-    rw (← said_one c.args.message c.args.root at path _ _ lines (c.go_to-in-Ordered.ensures.text here) k) c.order_line.ensures
+    rw (← said_one c.args.message c.args.root at path _ _ lines (stands_at c.args.catalogue.now here c.args.root c.args.outer.now) k) c.order_line.ensures

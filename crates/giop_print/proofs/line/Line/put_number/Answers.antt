@@ -6,6 +6,6 @@ pub write_digits-self-requires : goal.write_digits-self-requires
 write_digits-self-requires c =
     (omega (arith, length-decimal-le 20 c.args.n (omega arith) (omega arith) c.ranges.n.fits, c.requires), search rules)
 
-pub returns-clause-room : goal.returns-clause-room
-returns-clause-room c =
+pub returns-clause-most : goal.returns-clause-most
+returns-clause-most c =
     omega (arith, c.write_digits-self.ensures.start, length-decimal-le 20 c.args.n (omega arith) (omega arith) c.ranges.n.fits)
