@@ -3,7 +3,6 @@ use Rattle.std.proofs.Common.{◌≡◌, ℕ, ◌<◌, ◌^◌, false, List, [],
 use Rattle.std.proofs.lemmas.Bool.{ltb-true}
 use Rattle.giop_cdr.specs.declared.order.Order.TheVariants as orders
 use Rattle.giop_print.specs.declared.path.Root.TheVariants as roots
-use Rattle.giop_print.specs.Paths.{root_word}
 use Rattle.giop_octets.specs.Fields.{four, eight}
 use Rattle.giop_sig.specs.Builtin.{builtin_types}
 use Rattle.giop_sig.specs.Fits.{IsFit}
@@ -71,7 +70,6 @@ in_body = record {
     name = record { items = [] };
     buffer = buffers.Begun;
   };
-  path = record { text = root_word roots.Body; segments = 0 };
 }
 
 -- a header of a Request of so many octets, with more to come
