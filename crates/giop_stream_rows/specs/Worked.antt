@@ -1,6 +1,6 @@
 -- How a worked stream is told: its octets in hexadecimal digits, its lines, and the types and requests that it
 -- is read by (meaning).
-use Rattle.std.specs.Prelude.{◌≡◌, ℕ, ◌+◌, ◌-◌, ◌*◌, ◌==◌, nat_lt, if◌then◌else◌, List, [], ◌∷◌, ◌++◌, Some, None, codes}
+use Rattle.std.specs.Prelude.{◌≡◌, ℕ, ◌+◌, ◌-◌, ◌*◌, ◌==◌, nat_lt, if◌then◌else◌, List, [], ◌∷◌, ◌++◌, length, Some, None, codes}
 use Rattle.giop_sig.specs.Table.{Node, members, Operation, Exception, Table, op_id, operation_number}
 use Rattle.giop_sig.specs.Builtin.{builtin_types, member}
 use Rattle.giop_sig.specs.RequestList.{Entry, IsOf}
@@ -39,9 +39,14 @@ pub record Row (R : Reading) (p : List ℕ) (lines end : List (List ℕ)) : Type
 unfoldable pub reading : Table → Kept → Reading
 reading table kept = message_reading table kept
 
--- an operation by the structs of its parameters and of its results, which stand one behind the other
+-- an operation by the structs of its parameters and of its results, which stand one behind the other; the first is counted
+-- from the first type behind the built-in ones
 unfoldable pub called : List ℕ → ℕ → Operation
-called name request = record { name = name; request = request; reply = request + 1 }
+called name request = record {
+  name = name;
+  request = length builtin_types + request;
+  reply = length builtin_types + request + 1;
+}
 
 -- the built-in types and then these, with these operations and exceptions
 unfoldable pub table_of : List Node → List Operation → List Exception → Table
@@ -53,17 +58,17 @@ builtin = table_of [] [] []
 
 -- operation void put(in double d);
 unfoldable pub puts : Table
-puts = table_of (members (member (codes "d") 10 ∷ []) ∷ members [] ∷ []) (called (codes "put") 37 ∷ []) []
+puts = table_of (members (member (codes "d") 10 ∷ []) ∷ members [] ∷ []) (called (codes "put") 0 ∷ []) []
 
 -- operation void big(in ulonglong n); operation void nop();
 unfoldable pub bigs : Table
 bigs = table_of
     (members (member (codes "n") 8 ∷ []) ∷ members [] ∷ members [] ∷ members [] ∷ [])
-    (called (codes "big") 37 ∷ called (codes "nop") 39 ∷ [])
+    (called (codes "big") 0 ∷ called (codes "nop") 2 ∷ [])
     []
 
 unfoldable pub late : Exception
-late = record { repository = codes "IDL:Late:1.0"; members = 37 }
+late = record { repository = codes "IDL:Late:1.0"; members = length builtin_types }
 
 -- exception Late "IDL:Late:1.0" { ushort by; }; operation long ask(in long a, out octet b); operation void nop();
 unfoldable pub asks : Table
@@ -74,7 +79,7 @@ asks = table_of
     ∷ members []
     ∷ members []
     ∷ [])
-    (called (codes "ask") 38 ∷ called (codes "nop") 40 ∷ [])
+    (called (codes "ask") 1 ∷ called (codes "nop") 3 ∷ [])
     (late ∷ [])
 
 unfoldable pub entry : ℕ → List ℕ → Entry
