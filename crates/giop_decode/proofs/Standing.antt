@@ -20,25 +20,35 @@ use Rattle.giop_sig.specs.Types.{Ty}
 use Rattle.giop_sig.specs.declared.types.TypeId.{TypeId}
 
 -- it makes no difference at which offset a part stands
-seg_anywhere : (here : ℕ) (inside : Option Order) (T : Ty) (i count : ℕ) → seg_in (place_in here inside T i count) ≡ seg_in (place_in 0 inside T i count)
+seg_anywhere : (here : ℕ) (inside : Option Order) (T : Ty) (i count : ℕ) →
+    seg_in (place_in here inside T i count) ≡ seg_in (place_in 0 inside T i count)
 seg_anywhere here None T i count = refl
 seg_anywhere here (Some order) T i count = refl
 
-path_anywhere : (C : Table) (here : ℕ) (path : List Seg) (outer : List Frame) → path_in path (places C 0 outer) ≡ path_in path (places C here outer)
+path_anywhere : (C : Table) (here : ℕ) (path : List Seg) (outer : List Frame) →
+    path_in path (places C 0 outer) ≡ path_in path (places C here outer)
 path_anywhere C here path [] = refl
 path_anywhere C here path (f ∷ outer) =
     path_anywhere C here (path ++ seg_in (place C 0 f) ∷ []) outer
-    ∙ ap (λ seg. path_in (path ++ seg ∷ []) (places C here outer)) (sym (seg_anywhere here f.inside (tree C f.of.0) f.index f.count))
+    ∙ ap (λ seg. path_in (path ++ seg ∷ []) (places C here outer)) (sym
+    (seg_anywhere here f.inside (tree C f.of.0) f.index f.count))
 
 -- the path of the innermost part, and of its discriminator
-pub stands_at : (C : Table) (here : ℕ) (root : Root) (outer : List Frame) → path_text root (path_in [] (places C 0 outer) ++ []) ≡ path_text root (path_in [] (places C here outer))
-stands_at C here root outer = ap (path_text root) (append-nil (path_in [] (places C 0 outer)) ∙ path_anywhere C here [] outer)
+pub stands_at : (C : Table) (here : ℕ) (root : Root) (outer : List Frame) →
+    path_text root (path_in [] (places C 0 outer) ++ [])
+    ≡ path_text root (path_in [] (places C here outer))
+stands_at C here root outer = ap (path_text root) (append-nil (path_in [] (places C 0 outer))
+    ∙ path_anywhere C here [] outer)
 
-pub switch_at : (C : Table) (here : ℕ) (root : Root) (outer : List Frame) (seg : Seg) → path_text root (path_in [] (places C 0 outer) ++ seg ∷ []) ≡ path_text root (path_in [] (places C here outer) ++ seg ∷ [])
-switch_at C here root outer seg = ap (λ path. path_text root (path ++ seg ∷ [])) (path_anywhere C here [] outer)
+pub switch_at : (C : Table) (here : ℕ) (root : Root) (outer : List Frame) (seg : Seg) →
+    path_text root (path_in [] (places C 0 outer) ++ seg ∷ [])
+    ≡ path_text root (path_in [] (places C here outer) ++ seg ∷ [])
+switch_at C here root outer seg = ap (λ path. path_text root (path ++ seg ∷ []))
+    (path_anywhere C here [] outer)
 
 -- its text
-frames_spelled : (C : Table) (path : List Seg) (outer : List Frame) → segs_text (path_in path (places C 0 outer)) ≡ segs_text path ++ frames_text C outer
+frames_spelled : (C : Table) (path : List Seg) (outer : List Frame) →
+    segs_text (path_in path (places C 0 outer)) ≡ segs_text path ++ frames_text C outer
 frames_spelled C path [] = sym (append-nil (segs_text path))
 frames_spelled C path (f ∷ outer) =
     let seg = seg_in (place C 0 f) in
@@ -46,32 +56,55 @@ frames_spelled C path (f ∷ outer) =
     ∙ (ap (λ text. text ++ frames_text C outer) (segs_text-append path seg)
     ∙ append_assoc (segs_text path) (seg_text seg) (frames_text C outer))
 
-ends_spelled : (C : Table) (path : List Seg) (switch : Option TypeId) → segs_text (path ++ end_segs C switch) ≡ segs_text path ++ end_text C switch
+ends_spelled : (C : Table) (path : List Seg) (switch : Option TypeId) →
+    segs_text (path ++ end_segs C switch) ≡ segs_text path ++ end_text C switch
 ends_spelled C path None = ap segs_text (append-nil path) ∙ sym (append-nil (segs_text path))
 ends_spelled C path (Some of) = segs_text-append path (switch_seg (tree C of.0))
 
 here_spelled : (C : Table) (root : Root) (outer : List Frame) (switch : Option TypeId) →
-    root_word root ++ (frames_text C outer ++ end_text C switch) ≡ path_text root (path_in [] (places C 0 outer) ++ end_segs C switch)
+    root_word root ++ (frames_text C outer ++ end_text C switch)
+    ≡ path_text root (path_in [] (places C 0 outer) ++ end_segs C switch)
 unfolding path_text
 here_spelled C root outer switch =
-    ap (λ text. root_word root ++ text) (sym (ends_spelled C (path_in [] (places C 0 outer)) switch ∙ ap (λ text. text ++ end_text C switch) (frames_spelled C [] outer)))
+    ap (λ text. root_word root ++ text) (sym (ends_spelled C (path_in []
+    (places C 0 outer)) switch
+    ∙ ap (λ text. text ++ end_text C switch) (frames_spelled C [] outer)))
 
 -- no room for a path, or for what is left of it
 pub spells_nothing : (a : Line) (text : List ℕ) → Spells false a a text
-spells_nothing a text = record { front = []; spelled = refl; room = omega arith; all = λ no. absurd (false≢true no) }
+spells_nothing a text = record {
+  front = [];
+  spelled = refl;
+  room = omega arith;
+  all = λ no.
+      absurd (false≢true no);
+}
 
-pub spells_end : (a b : Line) (end text : List ℕ) → line_text b ≡ end ++ line_text a → line_room b + length end ≡ line_room a → Spells false a b text
-spells_end a b end text e r = record { front = end; spelled = e; room = r; all = λ no. absurd (false≢true no) }
+pub spells_end : (a b : Line) (end text : List ℕ) → line_text b ≡ end ++ line_text a →
+    line_room b + length end ≡ line_room a → Spells false a b text
+spells_end a b end text e r = record {
+  front = end;
+  spelled = e;
+  room = r;
+  all = λ no. absurd
+      (false≢true no);
+}
 
-pub spells_more : (w : Bool) (a b c : Line) (end more text : List ℕ) → line_text b ≡ end ++ line_text a → line_room b + length end ≡ line_room a → Spells w b c more → Spells false a c text
+pub spells_more : (w : Bool) (a b c : Line) (end more text : List ℕ) →
+    line_text b ≡ end ++ line_text a → line_room b + length end ≡ line_room a →
+    Spells w b c more → Spells false a c text
 spells_more w a b c end more text e r s =
-    spells_end a c (s.front ++ end) text (s.spelled ∙ (ap (λ t. s.front ++ t) e ∙ sym (append_assoc s.front end (line_text a))))
+    spells_end a c (s.front ++ end) text (s.spelled ∙ (ap (λ t. s.front ++ t) e
+    ∙ sym (append_assoc s.front end (line_text a))))
     (omega (arith, length-append s.front end, s.room, r))
 
 -- room for all of it
-pub spells_here : (C : Table) (root : Root) (outer : List Frame) (switch : Option TypeId) (w : Bool) (a b c d : Line) (word : List ℕ) →
-    line_text b ≡ end_text C switch ++ line_text a → line_room b + length (end_text C switch) ≡ line_room a →
-    Spells w b c (frames_text C outer) → w ≡ true → word ≡ root_word root → line_text d ≡ word ++ line_text c → line_room d + length word ≡ line_room c →
+pub spells_here : (C : Table) (root : Root) (outer : List Frame) (switch : Option TypeId)
+    (w : Bool) (a b c d : Line) (word : List ℕ) →
+    line_text b ≡ end_text C switch ++ line_text a →
+    line_room b + length (end_text C switch) ≡ line_room a →
+    Spells w b c (frames_text C outer) → w ≡ true → word ≡ root_word root →
+    line_text d ≡ word ++ line_text c → line_room d + length word ≡ line_room c →
     Spells true a d (path_text root (path_in [] (places C 0 outer) ++ end_segs C switch))
 spells_here C root outer switch w a b c d word be br s whole is de dr =
     let frames = frames_text C outer in
@@ -82,31 +115,55 @@ spells_here C root outer switch w a b c d word be br s whole is de dr =
     let d_room : line_room d + length (root_word root) ≡ line_room c = rw is at dr in
     record {
       front = root_word root ++ (frames ++ end);
-      spelled = rw (de, is, c_text, be) (sym (append_assoc (root_word root) (frames ++ end) (line_text a) ∙ ap (λ text. root_word root ++ text) (append_assoc frames end (line_text a))));
-      room = omega (arith, d_room, c_room, br, length-append (root_word root) (frames ++ end), length-append frames end);
+      spelled = rw (de, is, c_text, be) (sym (append_assoc (root_word root) (frames ++ end)
+          (line_text a)
+          ∙ ap (λ text. root_word root ++ text) (append_assoc frames end (line_text a))));
+      room = omega (
+        arith,
+        d_room,
+        c_room,
+        br,
+        length-append (root_word root)
+            (frames ++ end),
+        length-append frames end,
+      );
       all = λ h. here_spelled C root outer switch;
     }
 
 -- the segments of frames, the innermost first
-from_end : {X : Type 0} (xs : List X) (i : ℕ) (d : X) → 0 < i → i ≤ length xs → drop (i - 1) xs ≡ get_or xs (i - 1) d ∷ drop i xs
-from_end xs i d p h = let e : i - 1 + 1 ≡ i = omega arith in rw e at (drop_more xs (i - 1) d (omega arith))
+from_end : {X : Type 0} (xs : List X) (i : ℕ) (d : X) → 0 < i → i ≤ length xs →
+    drop (i - 1) xs ≡ get_or xs (i - 1) d ∷ drop i xs
+from_end xs i d p h = let e : i - 1 + 1 ≡ i = omega arith in rw e at (drop_more xs (i - 1) d
+    (omega arith))
 
 pub frames_none : (C : Table) (outer : List Frame) → frames_text C (drop (length outer) outer) ≡ []
 frames_none C outer = rw (drop_all (length outer) outer (omega arith)) refl
 
 pub frames_more : (C : Table) (outer : List Frame) (i : ℕ) (d : Frame) → 0 < i → i ≤ length outer →
-    frames_text C (drop (i - 1) outer) ≡ seg_text (seg_in (place C 0 (get_or outer (i - 1) d))) ++ frames_text C (drop i outer)
+    frames_text C (drop (i - 1) outer)
+    ≡ seg_text (seg_in (place C 0 (get_or outer (i - 1) d))) ++ frames_text C (drop i outer)
 frames_more C outer i d p h = rw (from_end outer i d p h) refl
 
 pub text_more : (C : Table) (outer : List Frame) (i : ℕ) (d : Frame) (a b : List ℕ) (text : List ℕ) → 0 < i → i ≤ length outer →
-    a ≡ frames_text C (drop i outer) ++ text → b ≡ seg_text (seg_in (place C 0 (get_or outer (i - 1) d))) ++ a → b ≡ frames_text C (drop (i - 1) outer) ++ text
+    a ≡ frames_text C (drop i outer) ++ text →
+    b ≡ seg_text (seg_in (place C 0 (get_or outer (i - 1) d))) ++ a →
+    b ≡ frames_text C (drop (i - 1) outer) ++ text
 text_more C outer i d a b text p h e n =
     let seg = seg_text (seg_in (place C 0 (get_or outer (i - 1) d))) in
-    rw (frames_more C outer i d p h) (n ∙ (ap (λ t. seg ++ t) e ∙ sym (append_assoc seg (frames_text C (drop i outer)) text)))
+    rw (frames_more C outer i d p h) (n ∙ (ap (λ t. seg ++ t) e
+    ∙ sym (append_assoc seg (frames_text C (drop i outer)) text)))
 
-pub room_more : (C : Table) (outer : List Frame) (i : ℕ) (d : Frame) (a b all : ℕ) → 0 < i → i ≤ length outer →
-    a + length (frames_text C (drop i outer)) ≡ all → b + length (seg_text (seg_in (place C 0 (get_or outer (i - 1) d)))) ≡ a →
+pub room_more : (C : Table) (outer : List Frame) (i : ℕ) (d : Frame) (a b all : ℕ) → 0 < i →
+    i ≤ length outer →
+    a + length (frames_text C (drop i outer)) ≡ all → b + length (seg_text (seg_in (place C 0
+    (get_or outer (i - 1) d)))) ≡ a →
     b + length (frames_text C (drop (i - 1) outer)) ≡ all
 room_more C outer i d a b all p h e n =
     let seg = seg_text (seg_in (place C 0 (get_or outer (i - 1) d))) in
-    rw (frames_more C outer i d p h) (omega (arith, e, n, length-append seg (frames_text C (drop i outer))))
+    rw (frames_more C outer i d p h) (omega (
+      arith,
+      e,
+      n,
+      length-append seg (frames_text C
+          (drop i outer)),
+    ))

@@ -40,4 +40,5 @@ pub record Whereabouts : Type 0 where
 
 -- the text of its path; at which offset the parts around it stand makes no difference
 abbrev pub here_text : Whereabouts → List ℕ
-here_text h = path_text h.root (path_in [] (places h.table 0 h.frames) ++ end_segs h.table h.union)
+here_text h =
+    path_text h.root (path_in [] (places h.table 0 h.frames) ++ end_segs h.table h.union)

@@ -1,4 +1,4 @@
-//! Where the innermost part stands: the path that its lines have, spelled from the frames and the catalogue.
+//! Where the innermost part stands: the path of its lines, spelled from the frames and the catalogue.
 
 ghost use Rattle.std.specs.Prelude.{◌≡◌, ℕ, ◌+◌, ◌<◌, ◌≤◌, [], ◌++◌, length};
 ghost use Rattle.giop_decode.specs.Spelling.{seg_text, path_text};
@@ -76,7 +76,8 @@ impl Position for Here<'_> {
 /// The most octets that a segment has, or the word of a root.
 const SEGMENT: usize = 65;
 
-/// Spells the segments of the parts that are begun, the innermost first, and answers whether there was room for them.
+/// Spells the segments of the parts that are begun, the innermost first, and answers whether there was room for
+/// them.
 fn spell_segments(catalogue: &Catalogue, outer: &[Frame], line: &mut Line) -> bool
     requires { AreKnown catalogue.now outer.now }
     ensures { Spells result line.old line.new (frames_text catalogue.now outer.now) }
@@ -97,7 +98,8 @@ fn spell_segments(catalogue: &Catalogue, outer: &[Frame], line: &mut Line) -> bo
 fn spell_segment(catalogue: &Catalogue, frame: Frame, line: &mut Line)
     requires known { IsKnown catalogue.now frame }
     requires room { 65 ≤ line_room line.old }
-    ensures text { line_text line.new ≡ seg_text (seg_in (place catalogue.now 0 frame)) ++ line_text line.old }
+    ensures text { line_text line.new
+        ≡ seg_text (seg_in (place catalogue.now 0 frame)) ++ line_text line.old }
     ensures room { line_room line.new + length (seg_text (seg_in (place catalogue.now 0 frame)))
         ≡ line_room line.old }
 {
@@ -119,7 +121,8 @@ fn spell_end(catalogue: &Catalogue, switch: Option<TypeId>, line: &mut Line)
     requires union { IsSwitch catalogue.now switch }
     requires room { 65 ≤ line_room line.old }
     ensures text { line_text line.new ≡ end_text catalogue.now switch ++ line_text line.old }
-    ensures room { line_room line.new + length (end_text catalogue.now switch) ≡ line_room line.old }
+    ensures room { line_room line.new + length (end_text catalogue.now switch)
+        ≡ line_room line.old }
 {
     match switch {
         None => {}
@@ -132,7 +135,8 @@ fn spell_switch(catalogue: &Catalogue, of: TypeId, line: &mut Line)
     requires known { of.0 < length catalogue.now.types }
     requires union { IsUnion (shape_in (tree catalogue.now of.0)) }
     requires room { 65 ≤ line_room line.old }
-    ensures text { line_text line.new ≡ seg_text (switch_seg (tree catalogue.now of.0)) ++ line_text line.old }
+    ensures text { line_text line.new
+        ≡ seg_text (switch_seg (tree catalogue.now of.0)) ++ line_text line.old }
     ensures room { line_room line.new + length (seg_text (switch_seg (tree catalogue.now of.0)))
         ≡ line_room line.old }
 {

@@ -180,7 +180,7 @@ pub(crate) fn take_octet(
                 };
             }
             let step = take_value(catalogue, order, of, carry);
-            carry.clear();
+            *carry = Carry::new();
             step
         }
         Leaf::Opening { of, count } => take_order(catalogue, of, count, octet),

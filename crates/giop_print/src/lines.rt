@@ -181,7 +181,8 @@ const NUMBER: usize = 21;
 #[inline]
 fn numbered_line<O: Out>(out: &mut O, message: u64, line: &mut Line) -> Result<(), OutFault>
     requires { 21 ≤ line_room line.old }
-    ensures { Writes result (O.log out.old) (O.log out.new) (numbered message (line_text line.old)) }
+    ensures { Writes result (O.log out.old) (O.log out.new)
+        (numbered message (line_text line.old)) }
 {
     line.put_number(message);
     line.put(b'm');

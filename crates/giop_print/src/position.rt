@@ -11,8 +11,8 @@ pub trait Position {
     /// The path's text.
     ghost spelled: { Self → List ℕ };
 
-    /// Spells the path before what was spelled of a line, and answers whether that had room for it: where it hadn't, an
-    /// end of the path may stand there.
+    /// Spells the path before what was spelled of a line, and answers whether that had room for it: where it
+    /// hadn't, an end of the path may stand there.
     fn spell(&self, line: &mut Line) -> bool
         ensures { Spells result line.old line.new (spelled self.now) };
 
