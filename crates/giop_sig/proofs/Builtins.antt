@@ -68,7 +68,9 @@ switch_test types n i = ltb i n && scalar_test (node_in types i)
 
 switch_by : (types : List Node) (n i : ℕ) → switch_test types n i ≡ true → IsSwitch types n i
 unfolding switch_test
-switch_by types n i e = let k = both (ltb i n) (scalar_test (node_in types i)) e in record { below = ltb-true i n k.0; scalar = scalar_by (node_in types i) k.1 }
+switch_by types n i e =
+    let k = both (ltb i n) (scalar_test (node_in types i)) e in
+    record { below = ltb-true i n k.0; scalar = scalar_by (node_in types i) k.1 }
 
 inner_test : List Node → ℕ → ℕ → Bool
 inner_test types n i = ltb i n && takes_test (node_in types i)
@@ -123,7 +125,8 @@ node_test types n (nodes.union switch cases otherwise) = false
 node_test types n (nodes.sequence bound element) = inner_test types n element
 node_test types n (nodes.array count element) = ltb 0 count && inner_test types n element
 node_test types n (nodes.encapsulation held) = inner_test types n held
-node_test types n (nodes.tagged special tag inner other) = switch_test types n tag.type && parts_test types n (tag ∷ inner ∷ other ∷ [])
+node_test types n (nodes.tagged special tag inner other) =
+    switch_test types n tag.type && parts_test types n (tag ∷ inner ∷ other ∷ [])
 
 node_by : (types : List Node) (n : ℕ) (node : Node) → node_test types n node ≡ true → IsFormed types n node
 unfolding node_test

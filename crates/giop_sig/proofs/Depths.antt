@@ -34,7 +34,8 @@ depth_grown tree (nodes.union switch cases otherwise) = ap (λ n. 1 + max 1 n) (
 depth_grown tree (nodes.sequence bound element) = refl
 depth_grown tree (nodes.array count element) = refl
 depth_grown tree (nodes.encapsulation held) = refl
-depth_grown tree (nodes.tagged special tag inner other) = ap (λ n. 1 + max 1 n) (most_same 3 _ _ (λ i lt. ap depth (sym (part_grown tree (nodes.tagged special tag inner other) i lt))))
+depth_grown tree (nodes.tagged special tag inner other) =
+    ap (λ n. 1 + max 1 n) (most_same 3 _ _ (λ i lt. ap depth (sym (part_grown tree (nodes.tagged special tag inner other) i lt))))
 
 -- the depth of a node's tree, at its shape
 pub depth_at_shape : (types : List Node) (node : Node) (s : Shape) → s ≡ shape_of node → depth (grow (type_in types) node) ≡ depth_by s (part_depth types node)

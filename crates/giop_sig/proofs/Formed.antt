@@ -31,7 +31,8 @@ part_formed types n (nodes.prim p) i formed has = absurd has
 part_formed types n (nodes.enumeration names) i formed has = absurd has
 part_formed types n (nodes.text bound) i formed has = absurd has
 part_formed types n (nodes.octets bound) i formed has = absurd has
-part_formed types n (nodes.members parts) i formed has = (part_in types n parts i (recursion_from_All (IsPart types n) parts formed.1) has).inner
+part_formed types n (nodes.members parts) i formed has =
+    (part_in types n parts i (recursion_from_All (IsPart types n) parts formed.1) has).inner
 part_formed types n (nodes.union switch cases otherwise) i formed has =
     let there = part_there (nodes.union switch cases otherwise) i has in
     let is = on_some (IsPart types n) (case_part (slice_get cases i)) there.0 there.1 (case_read (IsPart types n) cases i (recursion_from_All (λ (c : Case). IsPart types n c.part) cases formed.2)) in
@@ -39,7 +40,8 @@ part_formed types n (nodes.union switch cases otherwise) i formed has =
 part_formed types n (nodes.sequence bound element) i formed has = formed
 part_formed types n (nodes.array count element) i formed has = formed.1
 part_formed types n (nodes.encapsulation held) i formed has = formed
-part_formed types n (nodes.tagged special tag inner other) i formed has = (part_in types n (tag ∷ inner ∷ other ∷ []) i (formed.1, (formed.2, (formed.3, tt))) has).inner
+part_formed types n (nodes.tagged special tag inner other) i formed has =
+    (part_in types n (tag ∷ inner ∷ other ∷ []) i (formed.1, (formed.2, (formed.3, tt))) has).inner
 
 -- the names of parts are short
 pub name_short : (types : List Node) (n : ℕ) (node : Node) (i : ℕ) → IsFormed types n node → HasMember (shape_of node) i → length (name_of (part_at node i)) ≤ 64
@@ -47,7 +49,8 @@ name_short types n (nodes.prim p) i formed has = absurd has
 name_short types n (nodes.enumeration names) i formed has = absurd has
 name_short types n (nodes.text bound) i formed has = absurd has
 name_short types n (nodes.octets bound) i formed has = absurd has
-name_short types n (nodes.members parts) i formed has = (part_in types n parts i (recursion_from_All (IsPart types n) parts formed.1) has).short
+name_short types n (nodes.members parts) i formed has =
+    (part_in types n parts i (recursion_from_All (IsPart types n) parts formed.1) has).short
 name_short types n (nodes.union switch cases otherwise) i formed has =
     let there = part_there (nodes.union switch cases otherwise) i has in
     let is = on_some (IsPart types n) (case_part (slice_get cases i)) there.0 there.1 (case_read (IsPart types n) cases i (recursion_from_All (λ (c : Case). IsPart types n c.part) cases formed.2)) in
@@ -55,7 +58,8 @@ name_short types n (nodes.union switch cases otherwise) i formed has =
 name_short types n (nodes.sequence bound element) i formed has = absurd has
 name_short types n (nodes.array count element) i formed has = absurd has
 name_short types n (nodes.encapsulation held) i formed has = absurd has
-name_short types n (nodes.tagged special tag inner other) i formed has = (part_in types n (tag ∷ inner ∷ other ∷ []) i (formed.1, (formed.2, (formed.3, tt))) has).short
+name_short types n (nodes.tagged special tag inner other) i formed has =
+    (part_in types n (tag ∷ inner ∷ other ∷ []) i (formed.1, (formed.2, (formed.3, tt))) has).short
 
 pub switch_formed : (types : List Node) (n : ℕ) (node : Node) → IsFormed types n node → IsUnion (shape_of node) → IsSwitch types n (switch_at node)
 switch_formed types n (nodes.prim p) formed is = absurd is

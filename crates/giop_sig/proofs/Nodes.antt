@@ -65,7 +65,8 @@ part_grown tree (nodes.union switch cases otherwise) i has = let p = case_below 
 part_grown tree (nodes.sequence bound element) i has = refl
 part_grown tree (nodes.array count element) i has = refl
 part_grown tree (nodes.encapsulation held) i has = refl
-part_grown tree (nodes.tagged special tag inner other) i has = let p = read_below (tag ∷ inner ∷ other ∷ []) i has in rw (p.1) refl
+part_grown tree (nodes.tagged special tag inner other) i has =
+    let p = read_below (tag ∷ inner ∷ other ∷ []) i has in rw (p.1) refl
 
 pub name_grown : (tree : ℕ → Ty) (node : Node) (i : ℕ) → HasMember (shape_of node) i → name_of (part_at node i) ≡ name_in (grow tree node) i
 name_grown tree (nodes.prim p) i has = absurd has
@@ -111,4 +112,5 @@ select_grown tree (nodes.union switch cases otherwise) number n e = ap (selected
 select_grown tree (nodes.sequence bound element) number n e = refl
 select_grown tree (nodes.array count element) number n e = refl
 select_grown tree (nodes.encapsulation held) number n e = refl
-select_grown tree (nodes.tagged special tag inner other) number n e = ap (selected_by (selected (nodes.tagged special tag inner other))) (sym e)
+select_grown tree (nodes.tagged special tag inner other) number n e =
+    ap (selected_by (selected (nodes.tagged special tag inner other))) (sym e)

@@ -38,9 +38,11 @@ selected_below types n (nodes.union switch cases otherwise) number i formed e =
 selected_below types n (nodes.sequence bound element) number i formed e = absurd cc
 selected_below types n (nodes.array count element) number i formed e = absurd cc
 selected_below types n (nodes.encapsulation held) number i formed e = absurd cc
-selected_below types n (nodes.tagged special tag inner other) number i formed e = tag_below (same_number (numbers.Unsigned special) number) i e
+selected_below types n (nodes.tagged special tag inner other) number i formed e =
+    tag_below (same_number (numbers.Unsigned special) number) i e
 
-taken_below : (types : List Node) (n : ℕ) (node : Node) (o : Option Number) (i : ℕ) → IsFormed types n node → selected_by (selected node) o ≡ selecteds.Case i → HasMember (shape_of node) i
+taken_below : (types : List Node) (n : ℕ) (node : Node) (o : Option Number) (i : ℕ) → IsFormed types n node
+    → selected_by (selected node) o ≡ selecteds.Case i → HasMember (shape_of node) i
 taken_below types n node None i formed e = absurd cc
 taken_below types n node (Some number) i formed e = selected_below types n node number i formed e
 
@@ -53,8 +55,10 @@ some_part p ps = omega arith
 abbrev InnerSolid : List Node → ℕ → Type 0
 InnerSolid types n = (i : ℕ) → IsInner types n i → IsSolid (type_in types i)
 
-part_solid : (types : List Node) (n : ℕ) (node : Node) (i : ℕ) → IsFormed types n node → InnerSolid types n → HasPlace (shape_of node) i → IsSolid (part_of (grow (type_in types) node) i)
-part_solid types n node i formed inner has = subst IsSolid (part_grown (type_in types) node i has) (inner (type_of (part_at node i)) (part_formed types n node i formed has))
+part_solid : (types : List Node) (n : ℕ) (node : Node) (i : ℕ) → IsFormed types n node → InnerSolid types n
+    → HasPlace (shape_of node) i → IsSolid (part_of (grow (type_in types) node) i)
+part_solid types n node i formed inner has =
+    subst IsSolid (part_grown (type_in types) node i has) (inner (type_of (part_at node i)) (part_formed types n node i formed has))
 
 grown_solid : (types : List Node) (n : ℕ) (node : Node) → IsFormed types n node → TakesOctet node → InnerSolid types n → IsSolid (grow (type_in types) node)
 unfolding IsSolid
@@ -63,7 +67,8 @@ grown_solid types n (nodes.enumeration names) formed takes inner = tt
 grown_solid types n (nodes.text bound) formed takes inner = tt
 grown_solid types n (nodes.octets bound) formed takes inner = tt
 grown_solid types n (nodes.members []) formed takes inner = absurd takes
-grown_solid types n (nodes.members (p ∷ ps)) formed takes inner = (some_part p ps, λ i lt. part_solid types n (nodes.members (p ∷ ps)) i formed inner lt)
+grown_solid types n (nodes.members (p ∷ ps)) formed takes inner =
+    (some_part p ps, λ i lt. part_solid types n (nodes.members (p ∷ ps)) i formed inner lt)
 grown_solid types n (nodes.union switch cases otherwise) formed takes inner = (
   λ k i e. taken_below types n (nodes.union switch cases otherwise) (taken_by (scalar_of (type_in types switch)) k) i formed e,
   λ i lt. part_solid types n (nodes.union switch cases otherwise) i formed inner lt,

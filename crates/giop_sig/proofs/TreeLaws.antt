@@ -10,7 +10,7 @@ use Rattle.giop_cdr.specs.declared.prim.Primitive.TheVariants.{Octet}
 use Rattle.giop_sig.specs.Types.{Choice, Cases, Tag, Ty, Single, Struct, Union, Sequence, Array, Encapsulation, taken_by, switch_of, IsUnion}
 use Rattle.giop_sig.specs.Table.{Node, Part, Case, node_in, shape_of, part_at, switch_at, IsFormed, IsPart, IsScalarNode, case_part, name_of, selected}
 use Rattle.giop_sig.specs.Table as nodes
-use Rattle.giop_sig.specs.Trees.{grow, grown_part, grown_union, octet_type, scalar_of, selected_by, tree_in, trees_after, trees_of, type_in, AreTypes}
+use Rattle.giop_sig.specs.Trees.{grow, grown_part, union_of, grown_union, octet_type, scalar_of, selected_by, tree_in, trees_after, trees_of, type_in, AreTypes}
 
 abbrev SameBelow : ℕ → (ℕ → Ty) → (ℕ → Ty) → Type 0
 SameBelow n f g = (i : ℕ) → i < n → f i ≡ g i
@@ -34,12 +34,11 @@ part_same : (types : List Node) (n : ℕ) (f g : ℕ → Ty) (o : Option Part) �
 part_same types n f g None same h = refl
 part_same types n f g (Some p) same h = same p.type h.inner.below
 
-union_same : (types : List Node) (n : ℕ) (f g : ℕ → Ty) (choice : Choice) (node : Node) → SameBelow n f g → f (switch_at node) ≡ g (switch_at node)
-    → ((i : ℕ) → OnPart (IsPart types n) (part_at node i)) → grown_union f choice node ≡ grown_union g choice node
+union_same : (types : List Node) (n : ℕ) (f g : ℕ → Ty) (choice : Choice) (node : Node) → SameBelow n f g
+    → f (switch_at node) ≡ g (switch_at node) → ((i : ℕ) → OnPart (IsPart types n) (part_at node i)) → grown_union f choice node ≡ grown_union g choice node
 union_same types n f g choice node same switch parts =
-    ap (λ (T : Ty). Union choice (scalar_of T) (λ n. selected_by (selected node) (taken_by (scalar_of T) n)) (λ i. name_of (part_at node i)) (λ i. grown_part f (part_at node i))) switch
-    ∙ ap (Union choice (scalar_of (g (switch_at node))) (λ n. selected_by (selected node) (taken_by (scalar_of (g (switch_at node))) n)) (λ i. name_of (part_at node i)))
-    (fun_ext (λ i. part_same types n f g (part_at node i) same (parts i)))
+    ap (λ T. union_of choice node T (λ i. grown_part f (part_at node i))) switch
+    ∙ ap (union_of choice node (g (switch_at node))) (fun_ext (λ i. part_same types n f g (part_at node i) same (parts i)))
 
 grow_same : (types : List Node) (n : ℕ) (f g : ℕ → Ty) (node : Node) → SameBelow n f g → IsFormed types n node → grow f node ≡ grow g node
 grow_same types n f g (nodes.prim p) same formed = refl
@@ -118,7 +117,8 @@ switch_grown types n (nodes.union switch cases otherwise) formed are le is = sin
 switch_grown types n (nodes.sequence bound element) formed are le is = absurd is
 switch_grown types n (nodes.array count element) formed are le is = absurd is
 switch_grown types n (nodes.encapsulation held) formed are le is = absurd is
-switch_grown types n (nodes.tagged special tag inner other) formed are le is = single_at types tag.type are (let b = formed.0.below in omega arith) formed.0.scalar
+switch_grown types n (nodes.tagged special tag inner other) formed are le is =
+    single_at types tag.type are (let b = formed.0.below in omega arith) formed.0.scalar
 
 -- ---- a table that grows
 

@@ -41,7 +41,8 @@ pub data Node : Type 0 where
   array : ℕ → ℕ → Node
   -- octets with a byte order of their own, that hold a value of a type
   encapsulation : ℕ → Node
-  -- the number behind which the second part stands; the number's own part, and the parts behind this number and any other
+  -- a number that says what stands behind it: the special one; the parts of the number, of what stands behind the special one,
+  -- and of what stands behind each other
   tagged : ℕ → Part → Part → Part → Node
 
 -- the node of a type
@@ -120,7 +121,8 @@ case_or None otherwise = otherwise
 -- what the discriminator's value selects
 abbrev pub selected : Node → Number → Selected
 selected (union switch cases otherwise) n = case_or (case_with n cases) otherwise
-selected (tagged special tag inner other) n = cond (same_number (numbers.Unsigned special) n) (selecteds.Case 1) (selecteds.Case 2)
+selected (tagged special tag inner other) n =
+    cond (same_number (numbers.Unsigned special) n) (selecteds.Case 1) (selecteds.Case 2)
 selected node n = selecteds.Nothing
 
 -- ---- the table
@@ -236,4 +238,5 @@ IsFormed types n (union switch cases otherwise) = IsSwitch types n switch × (le
 IsFormed types n (sequence bound element) = IsInner types n element
 IsFormed types n (array count element) = (0 < count) × IsInner types n element
 IsFormed types n (encapsulation held) = IsInner types n held
-IsFormed types n (tagged special tag inner other) = IsSwitch types n tag.type × IsPart types n tag × IsPart types n inner × IsPart types n other
+IsFormed types n (tagged special tag inner other) =
+    IsSwitch types n tag.type × IsPart types n tag × IsPart types n inner × IsPart types n other

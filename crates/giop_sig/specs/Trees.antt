@@ -30,12 +30,14 @@ abbrev pub selected_by : (Number → Selected) → Option Number → Selected
 selected_by select None = Nothing
 selected_by select (Some number) = select number
 
--- the union that a node is, of the places of a choice
+-- the union of a node's names and selection, by the types of its discriminator and of its cases
+abbrev pub union_of : Choice → Node → Ty → (ℕ → Ty) → Ty
+union_of choice node switch cases =
+    Union choice (scalar_of switch) (λ n. selected_by (selected node) (taken_by (scalar_of switch) n))
+    (λ i. name_of (part_at node i)) cases
+
 abbrev pub grown_union : (ℕ → Ty) → Choice → Node → Ty
-grown_union tree choice node =
-    Union choice (scalar_of (tree (switch_at node)))
-    (λ n. selected_by (selected node) (taken_by (scalar_of (tree (switch_at node))) n))
-    (λ i. name_of (part_at node i)) (λ i. grown_part tree (part_at node i))
+grown_union tree choice node = union_of choice node (tree (switch_at node)) (λ i. grown_part tree (part_at node i))
 
 abbrev pub grow : (ℕ → Ty) → Node → Ty
 grow tree (nodes.prim p) = Single (Plain p)

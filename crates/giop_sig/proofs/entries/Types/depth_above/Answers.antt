@@ -35,7 +35,8 @@ returns-in-Array-clause-depth c =
 
 pub returns-in-Encapsulation-clause-depth : goal.returns-in-Encapsulation-clause-depth
 returns-in-Encapsulation-clause-depth c =
-    ap (λ n. 1 + n) (c.depth_at-in-Encapsulation.ensures.depth ∙ ap (λ i. depth (type_in c.args.self.now i)) c.part-in-Encapsulation.ensures) ∙ sym (depth_at_shape c.args.self.now (node_view c.args.entry.now) _ c.in-Encapsulation.ensures)
+    ap (λ n. 1 + n) (c.depth_at-in-Encapsulation.ensures.depth ∙ ap (λ i. depth (type_in c.args.self.now i)) c.part-in-Encapsulation.ensures)
+    ∙ sym (depth_at_shape c.args.self.now (node_view c.args.entry.now) _ c.in-Encapsulation.ensures)
 
 pub returns-in-Tagged-clause-depth : goal.returns-in-Tagged-clause-depth
 returns-in-Tagged-clause-depth c =
