@@ -2,6 +2,7 @@
 -- joined message has, and its lines (GIOP Message Formats, Fragment Message, CancelRequest Message).
 use Rattle.std.specs.Prelude.{ℕ, ◌+◌, ◌-◌, ◌<◌, Bool, true, false, not, ◌&&◌, ◌||◌, List, [], ◌∷◌, ◌++◌, length, get_or, take, filter, flat_map, Option, Some, None, nat_lt, nat_le, ◌==◌, if◌then◌else◌}
 use Rattle.std.specs.List.{find, AllByRecursion as Each}
+use Rattle.giop_stream.specs.declared.slots.TheConstants.{MOST_OPEN}
 use Rattle.giop_cdr.specs.declared.order.Order.{Order}
 use Rattle.giop_cdr.specs.declared.order.Order.TheVariants.{Big, Little}
 use Rattle.giop_cdr.specs.Numbers.{num}
@@ -84,7 +85,7 @@ octet_acts now other =
 
 -- so many messages are open at most
 abbrev pub most_open : ℕ
-most_open = 16
+most_open = MOST_OPEN
 
 abbrev pub opens : List Open → Now → ℕ → Option Open → List Event
 opens live now id (Some other) = own now (Imposed IdOpen)

@@ -11,6 +11,7 @@ ghost use Rattle.giop_checkpoint.specs.Fixed.{HasRange};
 ghost use Rattle.giop_checkpoint.specs.Records.{AreRecords, entry_octets};
 ghost use Rattle.giop_checkpoint.specs.Refusals.{IsOurs};
 ghost use Rattle.giop_checkpoint.specs.declared.record.Standing.TheVariants as standings;
+ghost use Rattle.giop_stream.specs.Events.{most_open};
 ghost use Rattle.giop_stream.specs.State.{Slot as Held};
 ghost use Rattle.giop_stream.specs.Keeping.{AreReady, IsReady};
 ghost use Rattle.giop_stream.specs.Shown.{shown};
@@ -180,7 +181,7 @@ fn add_all(
     ensures none { count ≡ 0 → (result ≡ true) × (slots.new ≡ slots.old) }
     ensures again { (l : Listed) (held : List Held) (own : Option Own) →
         AreLeft catalogue.now l (octets + 1) count records.now held own →
-        length slots.old.slots.items + length held ≤ 16 → slots.old.own ≡ None →
+        length slots.old.slots.items + length held ≤ most_open → slots.old.own ≡ None →
         (result ≡ true) × HasAdded catalogue.now l slots.old slots.new held
         × IsOwn catalogue.now l slots.new.own own }
 {
@@ -203,7 +204,7 @@ fn add(slots: &mut Slots, catalogue: &Catalogue, octets: u64, first: &FirstRecor
     ensures ready { result ≡ true → AreReady catalogue.now (octets + 1) slots.new }
     ensures one_open { (l : Listed) (held : Held) →
         IsOpenEntry catalogue.now l (octets + 1) first.now held →
-        length slots.old.slots.items < 16 →
+        length slots.old.slots.items < most_open →
         (result ≡ true) × HasAdded catalogue.now l slots.old slots.new (held ∷ [])
         × (slots.new.own ≡ slots.old.own) }
     ensures one_current { (l : Listed) (own : Own) →
@@ -251,7 +252,7 @@ fn add_open(
     ensures own { slots.new.own ≡ slots.old.own }
     ensures again { (l : Listed) (held : Held) →
         IsOpenEntry catalogue.now l (octets + 1) first.now held →
-        first.now.record.standing ≡ standings.Open id → length slots.old.slots.items < 16 →
+        first.now.record.standing ≡ standings.Open id → length slots.old.slots.items < most_open →
         (result ≡ true) × HasAdded catalogue.now l slots.old slots.new (held ∷ []) }
 {
     let message = message_of(catalogue, octets, first);
@@ -264,7 +265,7 @@ fn add_over(slots: &mut Slots, first: &FirstRecord<'_>, id: u32) -> bool
     ensures own { slots.new.own ≡ slots.old.own }
     ensures again { (C : Table) (l : Listed) (n : ℕ) (held : Held) →
         IsOpenEntry C l n first.now held →
-        first.now.record.standing ≡ standings.Over id → length slots.old.slots.items < 16 →
+        first.now.record.standing ≡ standings.Over id → length slots.old.slots.items < most_open →
         (result ≡ true) × HasAdded C l slots.old slots.new (held ∷ []) }
 {
     is_zero(first) && push(slots, first, id, None)
@@ -275,7 +276,7 @@ fn push(slots: &mut Slots, first: &FirstRecord<'_>, id: u32, message: Option<Mes
     ensures ready { (C : Table) (n : ℕ) → AreReady C n slots.old → IsReady C n message →
         AreReady C n slots.new }
     ensures own { slots.new.own ≡ slots.old.own }
-    ensures added { length slots.old.slots.items < 16 → (result ≡ true)
+    ensures added { length slots.old.slots.items < most_open → (result ≡ true)
         × (slots.new.slots.items ≡ slots.old.slots.items ++ pushed first.now id message ∷ []) }
 {
     if slots.slots.is_full() {

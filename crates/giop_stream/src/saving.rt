@@ -7,6 +7,7 @@ ghost use Rattle.arrayvec.specs.ArrayVec.{array_vec_len};
 ghost use Rattle.giop_sig.specs.Table.{Table};
 ghost use Rattle.giop_checkpoint.specs.Fixed.{fixed_octets};
 ghost use Rattle.giop_message.specs.Holding.{Fits};
+ghost use Rattle.giop_stream.specs.Events.{most_open};
 ghost use Rattle.giop_stream.specs.Keeping.{AreReady, IsReady};
 ghost use Rattle.giop_stream.specs.Shown.{shown};
 ghost use Rattle.giop_stream.specs.Checkpoint.{counts_of, place_of, owner_of, count_own, fixed_of, IsOpen, IsKept, IsPutOne, AreOpen, IsPut, IsPutWhole};
@@ -31,7 +32,7 @@ pub fn write(
     requires empty { out.old.items ≡ [] }
     ensures whole { IsPutWhole catalogue.now requests.now (shown framing.now) out.new.items }
     ensures long { length (fixed_octets (fixed_of catalogue.now requests.now (shown framing.now))) ≡ 96 }
-    ensures few { length framing.now.slots.slots.items ≤ 16 }
+    ensures few { length framing.now.slots.slots.items ≤ most_open }
 {
     fixed_part(framing, catalogue, requests).write(out);
     write_open(framing.slots.slots.as_slice(), out);

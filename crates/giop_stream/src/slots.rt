@@ -5,7 +5,7 @@ ghost use Rattle.giop_print.specs.Output.{Writes};
 ghost use Rattle.giop_sig.specs.Table.{Table};
 ghost use Rattle.giop_message.specs.Signatures.{Kept as Listed};
 ghost use Rattle.giop_message.specs.Holding.{AreOf};
-ghost use Rattle.giop_stream.specs.Events.{Title, Imposed, Closes};
+ghost use Rattle.giop_stream.specs.Events.{Title, Imposed, Closes, most_open};
 ghost use Rattle.giop_stream.specs.Plays.{Scene, IsNotOpen};
 
 use crate::fault::ImposedFault;
@@ -14,6 +14,9 @@ use arrayvec::ArrayVec;
 use giop_message::Message;
 use giop_print::{Out, OutFault, cancelled_line, unfinished_line};
 use giop_sig::{Catalogue, Requests};
+
+/// The greatest number of messages that are open at once.
+pub const MOST_OPEN: usize = 16;
 
 /// An open message.
 #[derive(Default, Drop)]
@@ -39,7 +42,7 @@ pub enum Payload {
 /// The open messages, and the message whose payload comes where it isn't one of them.
 #[derive(Drop)]
 pub struct Slots {
-    pub slots: ArrayVec<Slot, 16>,
+    pub slots: ArrayVec<Slot, MOST_OPEN>,
     pub own: Option<Message>,
     pub payload: Payload,
 }
@@ -168,7 +171,7 @@ impl Slots {
 
     /// Makes the message whose payload comes an open one.
     pub fn open(&mut self, number: u64, header: [u8; 12], id: u32)
-        requires { length self.old.slots.items < 16 }
+        requires { length self.old.slots.items < most_open }
         ensures kept { (C : Table) (l : Listed) (c : Scene) (w : Title) (place : ℕ) →
             Keeps C l self.old c (Some w) → self.old.payload ≡ Payload.Own →
             w.number ≡ number → w.header ≡ header →

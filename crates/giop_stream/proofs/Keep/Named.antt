@@ -67,11 +67,11 @@ cancel_named header f = rw f (go (is_opener header) (is_fragment header))
 
 -- ---- Whether there is room.
 
-pub full_is : (n : ℕ) → (n == 16) ≡ true → n ≡ 16
-full_is n e = eqb-true n 16 e
+pub full_is : (n : ℕ) → (n == most_open) ≡ true → n ≡ most_open
+full_is n e = eqb-true n most_open e
 
-pub room_is : (n : ℕ) → (n == 16) ≡ false → n ≤ 16 → n < 16
-room_is n e less = elim (cases_eq n 16) [ inl same ↦ absurd (false≢true (sym e ∙ eq-eqb n 16 same)) | inr other ↦ omega (arith, less, other) ]
+pub room_is : (n : ℕ) → (n == most_open) ≡ false → n ≤ most_open → n < most_open
+room_is n e less = elim (cases_eq n most_open) [ inl same ↦ absurd (false≢true (sym e ∙ eq-eqb n most_open same)) | inr other ↦ omega (arith, less, other) ]
 
 -- ---- A message that becomes open says nothing.
 
@@ -131,7 +131,7 @@ module _ (C : Table) (l : Listed) (s : Slots) (c : Scene) (m : Message) (now : C
   twice r e n f g = let o = hits (opener_named m.header g) r e n in opener_twice (message_reading C l) c c.live m o.0 f g o.1 ∙ rw h.current.place refl
 
   pub no_room : (r : Option ℕ) → r ≡ position_from (λ slot. slot.id == i) 0 s.slots.items → is_some r ≡ false
-      → length s.slots.items ≡ 16 → is_fragment m.header ≡ false → is_opener m.header ≡ true
+      → length s.slots.items ≡ most_open → is_fragment m.header ≡ false → is_opener m.header ≡ true
       → plays (message_reading C l) c (at_id c.live m) ≡ one_play (message_reading C l) c now.place (title m) (Imposed TooManyOpen)
   no_room r e n full f g =
       let many = as_many in
@@ -139,7 +139,7 @@ module _ (C : Table) (l : Listed) (s : Slots) (c : Scene) (m : Message) (now : C
       opener_no_room (message_reading C l) c c.live m f g (misses (opener_named m.header g) r e n) room ∙ rw h.current.place refl
 
   pub opens_one : (r : Option ℕ) → r ≡ position_from (λ slot. slot.id == i) 0 s.slots.items → is_some r ≡ false
-      → length s.slots.items < 16 → is_fragment m.header ≡ false → is_opener m.header ≡ true
+      → length s.slots.items < most_open → is_fragment m.header ≡ false → is_opener m.header ≡ true
       → plays (message_reading C l) c (at_id c.live m) ≡ one_play (message_reading C l) c now.place (title m) (Opens i)
   opens_one r e n few f g =
       let many = as_many in

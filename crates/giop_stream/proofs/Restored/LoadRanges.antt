@@ -17,7 +17,7 @@ use Rattle.giop_stream.specs.declared.slots.Payload.{Payload as Whose}
 use Rattle.giop_stream.specs.declared.slots.Payload.TheVariants as payload
 use Rattle.giop_stream.specs.Headers.{offence}
 use Rattle.giop_stream.specs.Framing.{Message, Cut, cut, limit, read_of, fault_of}
-use Rattle.giop_stream.specs.Events.{place, open_after}
+use Rattle.giop_stream.specs.Events.{place, open_after, most_open}
 use Rattle.giop_stream.specs.State.{slots_of, octets_of}
 use Rattle.giop_stream.specs.Stream.{tally}
 use Rattle.giop_stream.specs.Octet.{Octet, Behind, Ends, Held, Of, header_of, octet_of}
@@ -159,7 +159,7 @@ module _ (octets p : List ℕ) (C : Table) (l : Listed) (s : Spells octets C l p
   unfolding state_of
   free none = free_stop (cut p).stop (sym s.shows.stopped ∙ none)
 
-  pub few_slots : length s.memory.slots.slots.items ≤ 16
+  pub few_slots : length s.memory.slots.slots.items ≤ most_open
   unfolding state_of
   few_slots =
       let K = octets_of R p in

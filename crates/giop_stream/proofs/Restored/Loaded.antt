@@ -21,7 +21,7 @@ use Rattle.giop_checkpoint.specs.Records.{Entry, EntryHasRange, AreRecords, used
 use Rattle.giop_checkpoint.specs.Refusals.{Refused, Passes}
 use Rattle.giop_stream.specs.declared.slots.Slot.{Slot}
 use Rattle.giop_stream.specs.declared.slots.Slots.{Slots}
-use Rattle.giop_stream.specs.Events.{Title}
+use Rattle.giop_stream.specs.Events.{Title, most_open}
 use Rattle.giop_stream.specs.State.{Slot as Held}
 use Rattle.giop_stream.specs.Engine.{Own}
 use Rattle.giop_stream.specs.Keeping.{IsReady, IsKept, IsSlot, AreSlots}
@@ -379,18 +379,18 @@ module _ (C : Table) (l : Listed) (at count : ℕ) (octets : List ℕ) where
 abbrev pub IsAll : Table → Listed → Bool → Slots → Slots → List Held → Option Own → Type 0
 IsAll C l result before after held own = (result ≡ true) × HasAdded C l before after held × IsOwn C l after.own own
 
-room_here : (n : ℕ) (held : List Held) (h : Held) (hs : List Held) → n + length held ≤ 16 → held ≡ h ∷ hs →
-    n + suc (length hs) ≤ 16
+room_here : (n : ℕ) (held : List Held) (h : Held) (hs : List Held) → n + length held ≤ most_open → held ≡ h ∷ hs →
+    n + suc (length hs) ≤ most_open
 room_here n held h hs room e = omega (arith, room, ap length e)
 
 module _ (C : Table) (l : Listed) (at count : ℕ) (first : FirstRecord) (before mid : Slots) (added : Bool)
-    (slot : (held : Held) → IsOpenEntry C l at first held → length before.slots.items < 16 →
+    (slot : (held : Held) → IsOpenEntry C l at first held → length before.slots.items < most_open →
     (added ≡ true) × HasAdded C l before mid (held ∷ []) × (mid.own ≡ before.own))
     (current : (own : Own) → IsCurrentEntry C l at first own →
     (added ≡ true) × (mid.slots ≡ before.slots) × IsOwn C l mid.own (Some own)) where
   pub front_added : (held : List Held) (own : Option Own) →
       FrontOpen C l at count first held own ⊎ FrontOwn C l at count first held own →
-      length before.slots.items + length held ≤ 16 → added ≡ true
+      length before.slots.items + length held ≤ most_open → added ≡ true
   front_added held own (inl f) room =
       (slot f.here f.is (omega (arith, room_here (length before.slots.items) held f.here f.others room f.held_are))).0
   front_added held own (inr f) room = (current f.here f.is).0
@@ -398,14 +398,14 @@ module _ (C : Table) (l : Listed) (at count : ℕ) (first : FirstRecord) (before
   module _ (after : Slots) (result : Bool)
       (none : count - 1 ≡ 0 → (result ≡ true) × (after ≡ mid))
       (again : (hs : List Held) (o : Option Own) → AreLeft C l at (count - 1) first.rest.now hs o →
-      length mid.slots.items + length hs ≤ 16 → mid.own ≡ None → IsAll C l result mid after hs o) where
+      length mid.slots.items + length hs ≤ most_open → mid.own ≡ None → IsAll C l result mid after hs o) where
     pub all_again : (held : List Held) (own : Option Own) →
         FrontOpen C l at count first held own ⊎ FrontOwn C l at count first held own →
-        length before.slots.items + length held ≤ 16 → before.own ≡ None → IsAll C l result before after held own
+        length before.slots.items + length held ≤ most_open → before.own ≡ None → IsAll C l result before after held own
     all_again held own (inl f) room bare =
         let few = room_here (length before.slots.items) held f.here f.others room f.held_are in
         let one = slot f.here f.is (omega (arith, few)) in
-        let space : length mid.slots.items + length f.others ≤ 16 = omega (arith, few, added_long C l before mid f.here one.1) in
+        let space : length mid.slots.items + length f.others ≤ most_open = omega (arith, few, added_long C l before mid f.here one.1) in
         let more = again f.others own f.left space (one.2 ∙ bare) in
         let all = added_more C l before mid after f.here f.others one.1 more.1 in
         (more.0, subst (λ (hs : List Held). HasAdded C l before after hs) (sym f.held_are) all, more.2)

@@ -19,7 +19,7 @@ use Rattle.giop_stream.specs.declared.slots.Slots.{Slots}
 use Rattle.giop_stream.specs.declared.slots.Payload.{Payload as Whose}
 use Rattle.giop_stream.specs.declared.slots.Payload.TheVariants as payload
 use Rattle.giop_stream.specs.Framing.{cut, fault_of}
-use Rattle.giop_stream.specs.Events.{open_after}
+use Rattle.giop_stream.specs.Events.{open_after, most_open}
 use Rattle.giop_stream.specs.State.{Slot as Held, octets_of}
 use Rattle.giop_stream.specs.Engine.{State, Own, unless, state_of}
 use Rattle.giop_stream.specs.Keeping.{AreSlots}
@@ -60,7 +60,7 @@ spells_left octets p C l s fixed records is are =
         (state_of (message_reading C l) p).own
 
 pub room_for : (R : Reading) (p : List ℕ) (bare : Slots) → bare.slots.items ≡ [] →
-    length bare.slots.items + length (state_of R p).slots ≤ 16
+    length bare.slots.items + length (state_of R p).slots ≤ most_open
 unfolding state_of
 room_for R p bare none = omega (arith, ap length none, slots_many (octets_of R p) (open_after p), few_open p)
 

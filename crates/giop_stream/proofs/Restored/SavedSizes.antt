@@ -11,6 +11,7 @@ use Rattle.giop_checkpoint.specs.declared.sizes.TheConstants.{FRAME_SIZE}
 use Rattle.giop_checkpoint.specs.Fixed.{fixed_octets}
 use Rattle.giop_checkpoint.specs.Records.{Entry, EntryHasRange, own_octets, entry_octets}
 use Rattle.giop_checkpoint.proofs.RecordFields.{own_long}
+use Rattle.giop_stream.specs.Events.{most_open}
 use Rattle.giop_stream.specs.declared.slots.Slot.{Slot}
 use Rattle.giop_stream.specs.Keeping.{IsReady, AreReady}
 use Rattle.giop_stream.specs.Remembering.{Memory}
@@ -89,7 +90,7 @@ one_own (Some m) = omega arith
 -- what the code has of its fields: so long a fixed part, at most 16 open messages, and messages that fit the table
 pub record HasRoom (C : Table) (l : Listed) (m : Memory) : Type 0 where
   pub fixed : length (fixed_octets (fixed_of C l m)) ≡ 96
-  pub few : length m.slots.slots.items ≤ 16
+  pub few : length m.slots.slots.items ≤ most_open
   pub ready : AreReady C (m.totals.octets + 1) m.slots
 
 pub whole_long : (C : Table) (l : Listed) (m : Memory) (written : List ℕ) (whole : IsPutWhole C l m written) → HasRoom C l m →
