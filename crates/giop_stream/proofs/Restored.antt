@@ -4,3 +4,4 @@ pub mod SavedSizes
 pub mod Loaded
 pub mod LoadedFields
 pub mod LoadRanges
+pub mod WholeRecords

@@ -1,6 +1,6 @@
 use Rattle.std.proofs.Common.{◌≡◌, subst}
 use Rattle.giop_stream.specs.Checkpoint.{IsRefused}
-use Rattle.giop_stream.proofs.Restored.Loaded.{parts_read, refused_is, refused_state}
+use Rattle.giop_stream.proofs.Restored.WholeRecords.{parts_read, refused_is, refused_state}
 use Rattle.giop_stream.proofs.loading.read.Goals as goal
 
 pub returns-in-Err-clause-refused : goal.returns-in-Err-clause-refused

@@ -1,0 +1,84 @@
+-- The octets of a checkpoint are whole records behind a fixed part, and what refuses them.
+use Rattle.std.proofs.Common.{◌≡◌, ℕ, ◌+◌, ◌*◌, get_or, List, [], ◌∷◌, ◌++◌, length, flat_map, arith, inl, inr, refl, sym, ap, ◌∙◌, subst}
+use Rattle.std.specs.List.{AllByRecursion as Each}
+use Rattle.std.proofs.lemmas.List.{drop_at, length-append}
+use Rattle.giop_sig.specs.Table.{Table}
+use Rattle.giop_message.specs.Signatures.{Kept as Listed}
+use Rattle.giop_checkpoint.specs.declared.fault.LoadFault.{LoadFault}
+use Rattle.giop_checkpoint.specs.declared.fault.LoadFault.TheVariants as refusals
+use Rattle.giop_checkpoint.specs.declared.fixed.Counts.{Counts}
+use Rattle.giop_checkpoint.specs.declared.fixed.Fixed.{Fixed}
+use Rattle.giop_checkpoint.specs.declared.sizes.TheConstants.{FRAME_SIZE}
+use Rattle.giop_checkpoint.specs.Fixed.{HasRange, fixed_octets}
+use Rattle.giop_checkpoint.specs.Records.{Entry, EntryHasRange, AreRecords, used, kind_octets, own_octets, entry_octets}
+use Rattle.giop_checkpoint.specs.Refusals.{Refused, Passes}
+use Rattle.giop_stream.specs.Remembering.{Memory}
+use Rattle.giop_stream.specs.Checkpoint.{counts_of, fixed_of, checkpoint_octets, Spells, IsRefused}
+use Rattle.giop_stream.proofs.Restored.LoadRanges.{fixed_range}
+use Rattle.giop_stream.proofs.Restored.SavedSizes.{entry_long, entries_count, entries_range}
+
+-- ---- the octets of entries are whole records
+
+first_of : (e : Entry) (rest : List ℕ) → get_or (entry_octets e ++ rest) 0 0 ≡ e.record_is.frames
+unfolding own_octets kind_octets
+first_of e rest = refl
+
+pub records_are : (es : List Entry) → Each EntryHasRange es → AreRecords (length es) (flat_map entry_octets es)
+records_are [] h = refl
+records_are (e ∷ es) h =
+    let rest : List ℕ = flat_map entry_octets es in
+    let s : List ℕ = entry_octets e ++ rest in
+    let size : length (entry_octets e) ≡ used s =
+    entry_long e h.0 ∙ ap (λ (n : ℕ). 256 + FRAME_SIZE * n) (sym (first_of e rest)) in
+    let P : List ℕ → Type 0 = λ xs. AreRecords (length es) xs in (
+      omega (arith, size, length-append (entry_octets e) rest),
+      subst P (sym (drop_at (entry_octets e) rest (used s) size)) (records_are es h.1),
+    )
+
+-- ---- a checkpoint
+
+fixed_counts : (C : Table) (l : Listed) (m : Memory) → (fixed_of C l m).counts ≡ counts_of C l
+unfolding fixed_of
+fixed_counts C l m = refl
+
+module _ (octets p : List ℕ) (C : Table) (l : Listed) (s : Spells octets C l p) where
+  fixed_records : AreRecords (fixed_of C l s.memory).records (flat_map entry_octets s.entries)
+  unfolding fixed_of
+  fixed_records =
+      let slots = s.memory.slots.slots.items in
+      let own = s.memory.slots.own in
+      let P : ℕ → Type 0 = λ n. AreRecords n (flat_map entry_octets s.entries) in
+      subst P (entries_count slots own s.entries s.entries_are)
+      (records_are s.entries (entries_range slots own s.entries s.entries_are))
+
+  fixed_front : octets ≡ fixed_octets (fixed_of C l s.memory) ++ flat_map entry_octets s.entries
+  unfolding checkpoint_octets
+  fixed_front = s.octets_are
+
+  -- what is said of any fixed part and records that were written is so of these
+  pub parts_read : (P : Fixed → List ℕ → Type 0) (counts : Counts) → counts ≡ counts_of C l →
+      ((f : Fixed) (records : List ℕ) → f.counts ≡ counts → HasRange f → AreRecords f.records records →
+      octets ≡ fixed_octets f ++ records → P f records) →
+      P (fixed_of C l s.memory) (flat_map entry_octets s.entries)
+  parts_read P counts same again =
+      again (fixed_of C l s.memory) (flat_map entry_octets s.entries) (fixed_counts C l s.memory ∙ sym same)
+      (fixed_range octets p C l s) fixed_records fixed_front
+
+-- ---- what is no checkpoint
+
+pub refused_is : (c : Counts) (s : List ℕ) (why : LoadFault) → Refused c s why → IsRefused c s why
+refused_is c s refusals.Magic (inl never) = never
+refused_is c s refusals.Magic (inr never) = absurd never.1
+refused_is c s refusals.Version (inl never) = never
+refused_is c s refusals.Version (inr never) = absurd never.1
+refused_is c s refusals.Catalogue (inl never) = never
+refused_is c s refusals.Catalogue (inr never) = absurd never.1
+refused_is c s refusals.Length never = never
+refused_is c s refusals.State (inl never) = absurd never
+refused_is c s refusals.State (inr never) = (never.0, inl never.1)
+
+pub refused_state : (c now : Counts) (s : List ℕ) (f : Fixed) (records : List ℕ) → c ≡ now → Passes c s f records →
+    IsRefused now s refusals.State
+refused_state c now s f records same passes =
+    let whole = subst (λ xs. AreRecords f.records xs) passes.rest passes.lengths in
+    subst (λ x. IsRefused x s refusals.State) same (passes.ours, inr (f, passes.state, whole))
