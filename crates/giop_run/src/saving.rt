@@ -13,7 +13,7 @@ pub trait Saves {
     /// The files that were saved, where that is told.
     ghost saved: { Self → Option (List Saved) };
 
-    /// Saves octets in the file of a name. An `Err` leaves that file as it was.
+    /// Saves octets in the file of a name. An `Err` leaves a plain file of that name as it was.
     fn save(&mut self, name: &str, octets: &[u8]) -> io::Result<()>
         ensures { SavesOne result (saved self.old) (saved self.new) name.now octets.now };
 }
