@@ -71,9 +71,9 @@ class Text:
 
 @dataclass(frozen=True)
 class Reference:
-    """An object reference of any interface: a type id and a sequence of tagged profiles."""
+    """An object reference of any interface: a type id and tagged profiles, which may be encapsulations."""
 
-    depth: int = field(default=4, init=False)
+    depth: int = field(default=6, init=False)
 
 
 @dataclass(frozen=True)

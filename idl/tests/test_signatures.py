@@ -156,7 +156,7 @@ class Limits(unittest.TestCase):
 
     def test_levels(self) -> None:
         leaves = [
-            ("long v", "long v", 22), ("string<3> v", "string<3> v", 22), ("Object v", "Object v", 19),
+            ("long v", "long v", 22), ("string<3> v", "string<3> v", 22), ("Object v", "Object v", 17),
             ("sequence<octet> v", "sequence<octet> v", 22), ("sequence<long> v", "sequence<long> v", 21),
             ("long v[2]", "long v[2]", 21), ("octet v[2]", "octet v[2]", 21),
         ]  # fmt: skip
