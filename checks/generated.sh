@@ -9,4 +9,4 @@ cd "$(dirname "$0")/.."
 
 need_giopdump
 need_failing
-env PYTHONDONTWRITEBYTECODE=1 python3 checks/generated.py "$failing" "${1:-60}" "${2:-1}"
+env PYTHONDONTWRITEBYTECODE=1 python3 checks/generated.py "$failing" "${1:-180}" "${2:-1}"

@@ -1,5 +1,5 @@
 -- The step runs: folded over a stream from the fresh state it writes what the definitions say, and what it leaves closes the
--- stream as they do. Each row holds by computation.
+-- stream as they do. Each row holds by computation, over the small reading of `Rows`.
 use Rattle.std.proofs.Common.{◌≡◌, ℕ, List, refl, codes}
 use Rattle.giop_message.specs.Reading.{Reading}
 use Rattle.giop_stream.specs.Text.{lines_text}
