@@ -259,7 +259,7 @@ class RealCapture(unittest.TestCase):
         print(f"real capture: {len(found)} connections, {sum(len(each) for each in found.values())} lines")
         self.assertEqual(len(found), 4)
         self.assertEqual(found, self.by_tcpflow())
-        self.assertNotIn("rest @", done.stdout)
+        self.assertNotRegex(done.stdout, r"(?m)^m\d+ rest @")
         for line in ("body.n[1].id string @0 \"orders\"", "body.why enum missing_node", "body.return boolean true",
                      'exception string @32 "ext/AlreadyBound:1.0"'):
             self.assertIn(line, done.stdout)
