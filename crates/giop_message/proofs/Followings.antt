@@ -19,7 +19,7 @@ use Rattle.giop_message.specs.declared.part.Section.TheVariants as sections
 use Rattle.giop_message.specs.declared.part.Part.{Part}
 use Rattle.giop_message.specs.declared.part.Part.TheVariants as parts
 use Rattle.giop_message.specs.Headers.{order}
-use Rattle.giop_message.specs.Signatures.{Signatures, Kept, said_by}
+use Rattle.giop_message.specs.Signatures.{Signatures, Listed, said_by}
 use Rattle.giop_message.specs.Messages.{Said, Told, tell, calls, tells, Message, Comes, passes, message, told_of, stage_of, root_of, may_call, after, through}
 use Rattle.giop_message.specs.MessageReading.{id_in, first_id, id_said, is_over}
 use Rattle.giop_message.specs.Holding.{due, Decodes, Stands, is_header, in_header, Follows}
@@ -65,12 +65,12 @@ section_over C S number header s section d e =
     ap (λ m. is_over (stage_of m)) e.is ∙ (ap is_over (stage_front e.before (through S header section nothing r))
     ∙ (ap (λ r. is_over (stage_of (through S header section nothing r))) e.reads.is ∙ standing_over S header section C d e.reads.lines _ d.leaf))
 
-pub follows_goes : (C : Table) (kept : Kept) (number : ℕ) (header : List ℕ) (m : Struct_of) (s : List ℕ) → Follows C kept number header m s → is_over (stage_of (message (said_by C kept) header s)) ≡ false
+pub follows_goes : (C : Table) (listed : Listed) (number : ℕ) (header : List ℕ) (m : Struct_of) (s : List ℕ) → Follows C listed number header m s → is_over (stage_of (message (said_by C listed) header s)) ≡ false
 unfolding is_over stage_of
-follows_goes C kept number header m s f = go m.part f.stands
+follows_goes C listed number header m s f = go m.part f.stands
   where
-    go : (p : Part) → Stands C kept number header s p → is_over (stage_of (message (said_by C kept) header s)) ≡ false
-    go (parts.Typed section d) e = section_over C (said_by C kept) number header s section d e
+    go : (p : Part) → Stands C listed number header s p → is_over (stage_of (message (said_by C listed) header s)) ≡ false
+    go (parts.Typed section d) e = section_over C (said_by C listed) number header s section d e
     go (parts.Padding wanted) (told, e) = rw e refl
     go (parts.Rest r) (told, e) = rw e refl
 
@@ -215,14 +215,14 @@ id_heard C S number header s sections.Exception d e in_it = absurd cc
 id_heard C S number header s sections.Body d e in_it = absurd cc
 
 -- what a message answers inside a section
-pub id_read : (C : Table) (kept : Kept) (number : ℕ) (header : List ℕ) (m : Struct_of) (s : List ℕ) → Follows C kept number header m s → (section : Section) (d : Decoder) → m.part ≡ parts.Typed section d →
-    (r : Read) × decoders.Minds (root_of section) d r × (cond (is_header section) (heard_of true r).request_id m.id ≡ id_said (told_of (message (said_by C kept) header s)))
-id_read C kept number header m s f section d is =
-    let e = subst (Stands C kept number header s) is f.stands in
+pub id_read : (C : Table) (listed : Listed) (number : ℕ) (header : List ℕ) (m : Struct_of) (s : List ℕ) → Follows C listed number header m s → (section : Section) (d : Decoder) → m.part ≡ parts.Typed section d →
+    (r : Read) × decoders.Minds (root_of section) d r × (cond (is_header section) (heard_of true r).request_id m.id ≡ id_said (told_of (message (said_by C listed) header s)))
+id_read C listed number header m s f section d is =
+    let e = subst (Stands C listed number header s) is f.stands in
     (read (plain (order header)) [] e.T (12 + length e.front) e.octets, e.reads.minds, go (is_header section) refl)
   where
-    go : (inside : Bool) → is_header section ≡ inside → cond inside (heard_of true (read (plain (order header)) [] (subst (Stands C kept number header s) is f.stands).T (12 + length (subst (Stands C kept number header s) is f.stands).front) (subst (Stands C kept number header s) is f.stands).octets)).request_id m.id ≡ id_said (told_of (message (said_by C kept) header s))
-    go true e = id_heard C (said_by C kept) number header s section d (subst (Stands C kept number header s) is f.stands) (header_only section e)
+    go : (inside : Bool) → is_header section ≡ inside → cond inside (heard_of true (read (plain (order header)) [] (subst (Stands C listed number header s) is f.stands).T (12 + length (subst (Stands C listed number header s) is f.stands).front) (subst (Stands C listed number header s) is f.stands).octets)).request_id m.id ≡ id_said (told_of (message (said_by C listed) header s))
+    go true e = id_heard C (said_by C listed) number header s section d (subst (Stands C listed number header s) is f.stands) (header_only section e)
     go false e = f.id ∙ rw (is, e) refl
 
 -- ---- octets more
@@ -240,19 +240,19 @@ at_more number header m n s more is move = record {
   at = omega (arith, length-append s more, is.at, move.at);
 }
 
-pub is_at : (C : Table) (kept : Kept) (number : ℕ) (header : List ℕ) (m : Struct_of) (s : List ℕ) → Follows C kept number header m s → IsAt number header m s
-is_at C kept number header m s f = record { same_number = f.same_number; same_header = f.same_header; at = f.at }
+pub is_at : (C : Table) (listed : Listed) (number : ℕ) (header : List ℕ) (m : Struct_of) (s : List ℕ) → Follows C listed number header m s → IsAt number header m s
+is_at C listed number header m s f = record { same_number = f.same_number; same_header = f.same_header; at = f.at }
 
-pub follows_on : (C : Table) (kept : Kept) (number : ℕ) (header : List ℕ) (m n : Struct_of) (s more : List ℕ) → Follows C kept number header m s → Moved m n (length more) →
-    n.id ≡ cond (in_header n.part) None (id_said (told_of (message (said_by C kept) header (s ++ more)))) →
-    Stands C kept number header (s ++ more) n.part → Follows C kept number header n (s ++ more)
-follows_on C kept number header m n s more f move id stands =
-    let is = at_more number header m n s more (is_at C kept number header m s f) move in
+pub follows_on : (C : Table) (listed : Listed) (number : ℕ) (header : List ℕ) (m n : Struct_of) (s more : List ℕ) → Follows C listed number header m s → Moved m n (length more) →
+    n.id ≡ cond (in_header n.part) None (id_said (told_of (message (said_by C listed) header (s ++ more)))) →
+    Stands C listed number header (s ++ more) n.part → Follows C listed number header n (s ++ more)
+follows_on C listed number header m n s more f move id stands =
+    let is = at_more number header m n s more (is_at C listed number header m s f) move in
     record { same_number = is.same_number; same_header = is.same_header; id = id; at = is.at; stands = stands }
 
 -- where nothing of an id is said the message keeps what it has
-pub id_kept : (C : Table) (kept : Kept) (number : ℕ) (header : List ℕ) (m : Struct_of) (s more : List ℕ) → Follows C kept number header m s →
-    id_said (due (said_by C kept) header s more) ≡ None → (inside : Bool) → in_header m.part ≡ inside →
-    m.id ≡ cond inside None (id_said (told_of (message (said_by C kept) header (s ++ more))))
-id_kept C kept number header m s more f none inside is =
-    f.id ∙ rw (is) (ap (cond inside None) (sym (id_stays (said_by C kept) header s more none)))
+pub id_kept : (C : Table) (listed : Listed) (number : ℕ) (header : List ℕ) (m : Struct_of) (s more : List ℕ) → Follows C listed number header m s →
+    id_said (due (said_by C listed) header s more) ≡ None → (inside : Bool) → in_header m.part ≡ inside →
+    m.id ≡ cond inside None (id_said (told_of (message (said_by C listed) header (s ++ more))))
+id_kept C listed number header m s more f none inside is =
+    f.id ∙ rw (is) (ap (cond inside None) (sym (id_stays (said_by C listed) header s more none)))

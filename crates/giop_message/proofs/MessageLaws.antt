@@ -12,7 +12,7 @@ use Rattle.giop_message.specs.Headers.{minor, kind, order, has_name}
 use Rattle.giop_message.specs.Reading.{IsCausal, IsEnding, IsNamed, IsOrdered, IsClosing, is_fault}
 use Rattle.giop_message.specs.Reading as said
 use Rattle.giop_message.specs.Text.{said_text}
-use Rattle.giop_message.specs.Signatures.{Signatures, Kept, said_by}
+use Rattle.giop_message.specs.Signatures.{Signatures, Listed, said_by}
 use Rattle.giop_message.specs.Messages.{message, told_of, stage_of, close}
 use Rattle.giop_message.specs.MessageReading.{message_reading, reading_by, id_said, is_over, is_wrong}
 use Rattle.giop_message.specs.Holding.{Follows, due, due_text, closing_text, closes_text, is_short}
@@ -49,8 +49,8 @@ pub id_is_said : (S : Signatures) (header : List ℕ) (T : Ty) → S.header (min
     id_said (told_of (message S header (a ∷ b ∷ c ∷ d ∷ xs))) ≡ Some (num (order header) (a ∷ b ∷ c ∷ d ∷ []))
 id_is_said S header T found begins a b c d xs = named.id_is_said S header T found begins a b c d xs
 
-pub is_named : (C : Table) (kept : Kept) → IsNamed (message_reading C kept)
-is_named C kept = named.is_named (said_by C kept) (named.has_ids C kept)
+pub is_named : (C : Table) (listed : Listed) → IsNamed (message_reading C listed)
+is_named C listed = named.is_named (said_by C listed) (named.has_ids C listed)
 
 -- What is told of more octets, and where a message is over.
 
@@ -62,9 +62,9 @@ pub over_where_faulted : (S : Signatures) (header s : List ℕ) →
     is_over (stage_of (message S header s)) ≡ list_any is_wrong (told_of (message S header s))
 over_where_faulted S header s = faults.over_where_faulted S header s
 
-pub follows_goes : (C : Table) (kept : Kept) (number : ℕ) (header : List ℕ) (m : MessageValue) (s : List ℕ) →
-    Follows C kept number header m s → is_over (stage_of (message (said_by C kept) header s)) ≡ false
-follows_goes C kept number header m s f = followings.follows_goes C kept number header m s f
+pub follows_goes : (C : Table) (listed : Listed) (number : ℕ) (header : List ℕ) (m : MessageValue) (s : List ℕ) →
+    Follows C listed number header m s → is_over (stage_of (message (said_by C listed) header s)) ≡ false
+follows_goes C listed number header m s f = followings.follows_goes C listed number header m s f
 
 -- The text of octets: of two lists one after the other, of none, and behind a fault.
 

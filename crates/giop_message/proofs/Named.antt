@@ -22,7 +22,7 @@ use Rattle.giop_decode.proofs.ReadingLaws.{quiet_parts, part_quiet}
 use Rattle.giop_message.specs.declared.part.Section.TheVariants as sections
 use Rattle.giop_message.specs.Headers.{minor, kind, order, has_more, may_be_fragmented, is_opener, is_fragment, is_cancel, has_name}
 use Rattle.giop_message.specs.Reading.{Value, is_last, IsEnding, IsNamed}
-use Rattle.giop_message.specs.Signatures.{Signatures, Kept, said_by}
+use Rattle.giop_message.specs.Signatures.{Signatures, Listed, said_by}
 use Rattle.giop_message.specs.Messages.{Said, Incomplete, Ends, Told, tell, calls, tells, may_lack, Stage, In_typed, In_padding, In_rest, Over, Message, Comes, with_front, passes, rest_in, rest, is_request, after_header, of_header, message, told_of, stage_of, close}
 use Rattle.giop_message.specs.MessageReading.{saying_of, remark_of, closing_of, reading_by, HasIds, id_in, first_id, id_said}
 use Rattle.giop_message.proofs.Going.{passes_front}
@@ -192,6 +192,6 @@ goes_first header by = go (first_by (minor header == 2) (has_more header) (may_b
 pub begins_with_id : (header : List ℕ) → has_name header ≡ true → IfSome (header_type (minor header) (kind header)) BeginsWithId
 begins_with_id header by = id_first (minor header) (kind header) (goes_first header by)
 
-pub has_ids : (C : Table) (kept : Kept) → HasIds (said_by C kept)
+pub has_ids : (C : Table) (listed : Listed) → HasIds (said_by C listed)
 unfolding said_by
-has_ids C kept = record { begins = λ header by. begins_with_id header by }
+has_ids C listed = record { begins = λ header by. begins_with_id header by }

@@ -10,7 +10,7 @@ use Rattle.giop_message.specs.declared.message.Message.{Message as Struct_of}
 use Rattle.giop_message.specs.declared.part.Part.TheVariants as parts
 use Rattle.giop_message.specs.declared.part.Rest.{Rest}
 use Rattle.giop_message.specs.declared.wanted.Wanted.{Wanted}
-use Rattle.giop_message.specs.Signatures.{Signatures, Kept, said_by}
+use Rattle.giop_message.specs.Signatures.{Signatures, Listed, said_by}
 use Rattle.giop_message.specs.Messages.{Left, Told, tell, BodyType, Stage, In_padding, In_rest, Message, Comes, with_front, body, message, told_of, stage_of}
 use Rattle.giop_message.specs.Steps.{rest_step, message_step, advance, goes_on}
 use Rattle.giop_message.specs.MessageReading.{saying_of, text_of, id_in, first_id, id_said}
@@ -59,9 +59,9 @@ pub no_text : (S : Signatures) (number place : ℕ) (header s more : List ℕ) �
 unfolding due_text told_text
 no_text S number place header s more e = rw e refl
 
-module _ (C : Table) (kept : Kept) (number : ℕ) (header : List ℕ) (m : Struct_of) (s : List ℕ) (f : Follows C kept number header m s) (wanted : Wanted) (is : m.part ≡ parts.Padding wanted) (b : ℕ) where
+module _ (C : Table) (listed : Listed) (number : ℕ) (header : List ℕ) (m : Struct_of) (s : List ℕ) (f : Follows C listed number header m s) (wanted : Wanted) (is : m.part ≡ parts.Padding wanted) (b : ℕ) where
   abbrev S : Signatures
-  S = said_by C kept
+  S = said_by C listed
 
   abbrev T : BodyType
   T = body_type C wanted
@@ -70,7 +70,7 @@ module _ (C : Table) (kept : Kept) (number : ℕ) (header : List ℕ) (m : Struc
   Here = 12 + length s
 
   stands_padded : (told : List Told) × (message S header s ≡ Comes told Here (In_padding T))
-  stands_padded = subst (Stands C kept number header s) is f.stands
+  stands_padded = subst (Stands C listed number header s) is f.stands
 
   pub padding_told : (1 < padding Here 8) → due S header s (b ∷ []) ≡ []
   unfolding told_of
@@ -81,21 +81,21 @@ module _ (C : Table) (kept : Kept) (number : ℕ) (header : List ℕ) (m : Struc
       comes_due S header s b stands_padded.0 Here (In_padding T) (body S header T (Here + 1) []) stands_padded.1 (padding_last S header Here b T h)
       ∙ told_silent (Here + 1) (body S header T (Here + 1) []) (body_silent S header T (Here + 1))
 
-  pub padding_follows : (1 < padding Here 8) → (n : Struct_of) → Moved m n 1 → n.id ≡ m.id → n.part ≡ m.part → Follows C kept number header n (s ++ b ∷ [])
+  pub padding_follows : (1 < padding Here 8) → (n : Struct_of) → Moved m n 1 → n.id ≡ m.id → n.part ≡ m.part → Follows C listed number header n (s ++ b ∷ [])
   padding_follows h n move id part =
-      follows_on C kept number header m n s (b ∷ []) f move (id ∙ rw (part, is) (id_kept C kept number header m s (b ∷ []) f (none_said _ (padding_told h)) false (rw is refl)))
-      (subst (Stands C kept number header (s ++ b ∷ [])) (sym (part ∙ is)) (
+      follows_on C listed number header m n s (b ∷ []) f move (id ∙ rw (part, is) (id_kept C listed number header m s (b ∷ []) f (none_said _ (padding_told h)) false (rw is refl)))
+      (subst (Stands C listed number header (s ++ b ∷ [])) (sym (part ∙ is)) (
         stands_padded.0 ++ [],
         comes_more S header s b stands_padded.0 Here (In_padding T) stands_padded.1
             ∙ (ap (with_front stands_padded.0) (padding_on S header Here b T h) ∙ comes_next stands_padded.0 [] (Here + 1) (12 + length (s ++ b ∷ [])) (In_padding T) (next_at s b)),
       ))
 
   pub last_follows : padding Here 8 ≤ 1 → (k n : Struct_of) → Moved m k 1 →
-      Arrives C kept number header k n (s ++ b ∷ []) (body S header T (12 + length (s ++ b ∷ [])) []) →
-      Moved m n 1 → n.id ≡ m.id → in_header n.part ≡ false → Follows C kept number header n (s ++ b ∷ [])
+      Arrives C listed number header k n (s ++ b ∷ []) (body S header T (12 + length (s ++ b ∷ [])) []) →
+      Moved m n 1 → n.id ≡ m.id → in_header n.part ≡ false → Follows C listed number header n (s ++ b ∷ [])
   last_follows h k n move_k arrives move_n id past =
-      follows_on C kept number header m n s (b ∷ []) f move_n (id ∙ rw past (id_kept C kept number header m s (b ∷ []) f (none_said _ (last_told h)) false (rw is refl)))
-      (arrives (at_more number header m k s (b ∷ []) (is_at C kept number header m s f) move_k) stands_padded.0
+      follows_on C listed number header m n s (b ∷ []) f move_n (id ∙ rw past (id_kept C listed number header m s (b ∷ []) f (none_said _ (last_told h)) false (rw is refl)))
+      (arrives (at_more number header m k s (b ∷ []) (is_at C listed number header m s f) move_k) stands_padded.0
       (comes_more S header s b stands_padded.0 Here (In_padding T) stands_padded.1
       ∙ (ap (with_front stands_padded.0) (padding_last S header Here b T h) ∙ ap (λ n. with_front stands_padded.0 (body S header T n [])) (next_at s b))))
 
@@ -133,7 +133,7 @@ part_goes S header told at offset held b (b' ∷ bs) h =
     ∙ (part_goes S header told (at + 1) offset (held ++ b ∷ []) b' bs (omega (arith, length_one_more held b, h))
     ∙ rw (n, append_assoc held (b ∷ []) (b' ∷ bs)) refl))
 
-module _ (C : Table) (kept : Kept) (number : ℕ) (header : List ℕ) (m : Struct_of) (s : List ℕ) (f : Follows C kept number header m s) (r : Rest) (is : m.part ≡ parts.Rest r)
+module _ (C : Table) (listed : Listed) (number : ℕ) (header : List ℕ) (m : Struct_of) (s : List ℕ) (f : Follows C listed number header m s) (r : Rest) (is : m.part ≡ parts.Rest r)
     (xs : List ℕ) (some : 0 < length xs) (room : length r.held.items + length xs ≤ 32) where
   abbrev At : ℕ
   At = 12 + length s
@@ -141,32 +141,32 @@ module _ (C : Table) (kept : Kept) (number : ℕ) (header : List ℕ) (m : Struc
   abbrev Step : Message
   Step = rest_step r.offset (r.held.items ++ xs) (At + length xs)
 
-  stands_rest : (told : List Told) × (message (said_by C kept) header s ≡ Comes told At (In_rest r.offset r.held.items))
-  stands_rest = subst (Stands C kept number header s) is f.stands
+  stands_rest : (told : List Told) × (message (said_by C listed) header s ≡ Comes told At (In_rest r.offset r.held.items))
+  stands_rest = subst (Stands C listed number header s) is f.stands
 
-  rest_comes : message (said_by C kept) header (s ++ xs) ≡ with_front stands_rest.0 Step
-  rest_comes = message_resumes (said_by C kept) header s xs ∙ (ap (λ m. goes_on (said_by C kept) header m xs) stands_rest.1 ∙ go xs some room)
+  rest_comes : message (said_by C listed) header (s ++ xs) ≡ with_front stands_rest.0 Step
+  rest_comes = message_resumes (said_by C listed) header s xs ∙ (ap (λ m. goes_on (said_by C listed) header m xs) stands_rest.1 ∙ go xs some room)
     where
       go : (xs : List ℕ) → 0 < length xs → length r.held.items + length xs ≤ 32 →
-          goes_on (said_by C kept) header (Comes stands_rest.0 At (In_rest r.offset r.held.items)) xs
+          goes_on (said_by C listed) header (Comes stands_rest.0 At (In_rest r.offset r.held.items)) xs
           ≡ with_front stands_rest.0 (rest_step r.offset (r.held.items ++ xs) (At + length xs))
       go [] some room = absurd (omega arith)
-      go (b ∷ bs) some room = part_goes (said_by C kept) header stands_rest.0 At r.offset r.held.items b bs room
+      go (b ∷ bs) some room = part_goes (said_by C listed) header stands_rest.0 At r.offset r.held.items b bs room
 
-  rest_due : due (said_by C kept) header s xs ≡ told_of Step
+  rest_due : due (said_by C listed) header s xs ≡ told_of Step
   unfolding told_of
-  rest_due = due_is (said_by C kept) header s xs stands_rest.0 (Comes stands_rest.0 At (In_rest r.offset r.held.items)) Step stands_rest.1 rest_comes refl
+  rest_due = due_is (said_by C listed) header s xs stands_rest.0 (Comes stands_rest.0 At (In_rest r.offset r.held.items)) Step stands_rest.1 rest_comes refl
 
-  pub rest_text : (place : ℕ) → due_text (said_by C kept) number place header s xs ≡ told_text m.number place At (told_of Step)
+  pub rest_text : (place : ℕ) → due_text (said_by C listed) number place header s xs ≡ told_text m.number place At (told_of Step)
   unfolding due_text
   rest_text place = ap (told_text number place At) rest_due ∙ ap (λ n. told_text n place At (told_of Step)) (sym f.same_number)
 
-  pub rest_follows : (n : Struct_of) (r' : Rest) → Moved m n (length xs) → n.id ≡ m.id → n.part ≡ parts.Rest r' → stage_of Step ≡ In_rest r'.offset r'.held.items → Follows C kept number header n (s ++ xs)
+  pub rest_follows : (n : Struct_of) (r' : Rest) → Moved m n (length xs) → n.id ≡ m.id → n.part ≡ parts.Rest r' → stage_of Step ≡ In_rest r'.offset r'.held.items → Follows C listed number header n (s ++ xs)
   rest_follows n r' move id part stage =
-      let none : id_said (due (said_by C kept) header s xs) ≡ None = ap id_said rest_due ∙ rest_no_id r.offset (r.held.items ++ xs) (At + length xs) in
+      let none : id_said (due (said_by C listed) header s xs) ≡ None = ap id_said rest_due ∙ rest_no_id r.offset (r.held.items ++ xs) (At + length xs) in
       let e : At + length xs ≡ 12 + length (s ++ xs) = omega (arith, length-append s xs) in
-      follows_on C kept number header m n s xs f move (id ∙ rw part (id_kept C kept number header m s xs f none false (rw is refl)))
-      (subst (Stands C kept number header (s ++ xs)) (sym part) (
+      follows_on C listed number header m n s xs f move (id ∙ rw part (id_kept C listed number header m s xs f none false (rw is refl)))
+      (subst (Stands C listed number header (s ++ xs)) (sym part) (
         stands_rest.0 ++ told_of Step,
         rest_comes ∙ (ap (with_front stands_rest.0) (rest_step_at r.offset (r.held.items ++ xs) (At + length xs) ∙ ap (Comes (told_of Step) (At + length xs)) stage)
             ∙ comes_next stands_rest.0 (told_of Step) (At + length xs) (12 + length (s ++ xs)) (In_rest r'.offset r'.held.items) e),

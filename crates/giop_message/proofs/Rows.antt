@@ -16,7 +16,7 @@ use Rattle.giop_decode.specs.Spelling.{path_text}
 use Rattle.giop_message.specs.Headers.{minor, kind, order}
 use Rattle.giop_message.specs.Reading.{Saying, Value, Call, Rest, Fault, End, Remark, Reading}
 use Rattle.giop_message.specs.Text.{value_said, call_text, rest_text}
-use Rattle.giop_message.specs.Signatures.{Kept, said_by}
+use Rattle.giop_message.specs.Signatures.{Listed, said_by}
 use Rattle.giop_message.specs.Messages.{tell, is_shown, call_of, calls, tells, with_front, passes, rest_in, rest, typed, option_typed, members_of, after_exception, body, type_if, request_body, result_body, reply_body, is_request, body_of, has_body, padded, after_header, of_header, message, may_lack, close, told_of, stage_of}
 use Rattle.giop_message.specs.MessageReading.{saying_of, text_of, reading_by, message_reading}
 
@@ -55,19 +55,19 @@ table = record {
 }
 
 -- 1 ask, 1 ask, 2 nop, 2 ask
-kept : Kept
-kept = (1, Some (op_id 0)) ∷ (2, None) ∷ []
+listed : Listed
+listed = (1, Some (op_id 0)) ∷ (2, None) ∷ []
 
 r : Reading
-unfolding table kept
-r = message_reading table kept
+unfolding table listed
+r = message_reading table listed
 
 says : ℕ → List ℕ → Remark
 says at text = record { at = at; saying = Value; text = text }
 
 -- names what the rows compute with
 rows : ℕ
-unfolding digits num twos_complement padding block number path_text hex hex_number escaped type_in trees_after builtin_types minor kind order value_said call_text rest_text said_by tell is_shown call_of calls tells with_front passes rest_in rest typed option_typed members_of after_exception body type_if request_body result_body reply_body is_request body_of has_body padded after_header of_header message may_lack close told_of stage_of saying_of text_of reading_by called late table kept r says
+unfolding digits num twos_complement padding block number path_text hex hex_number escaped type_in trees_after builtin_types minor kind order value_said call_text rest_text said_by tell is_shown call_of calls tells with_front passes rest_in rest typed option_typed members_of after_exception body type_if request_body result_body reply_body is_request body_of has_body padded after_header of_header message may_lack close told_of stage_of saying_of text_of reading_by called late table listed r says
 rows = 0
 
 -- minor version and type

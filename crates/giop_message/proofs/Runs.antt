@@ -28,7 +28,7 @@ use Rattle.giop_message.specs.declared.part.Section.{Section}
 use Rattle.giop_message.specs.declared.part.Section.TheVariants as sections
 use Rattle.giop_message.specs.declared.part.Part.TheVariants as parts
 use Rattle.giop_message.specs.Headers.{order}
-use Rattle.giop_message.specs.Signatures.{Signatures, Kept, said_by}
+use Rattle.giop_message.specs.Signatures.{Signatures, Listed, said_by}
 use Rattle.giop_message.specs.Messages.{Told, tells, with_front, passes, message, told_of, stage_of, root_of, may_call, after, through}
 use Rattle.giop_message.specs.MessageReading.{id_said, is_over}
 use Rattle.giop_message.specs.Text.{fault_word}
@@ -331,13 +331,13 @@ inside C S number header s section d e fits = record {
   was_short = e.reads.is ∙ ap (λ leaf. decoders.standing_in C d leaf e.reads.lines ((12 + length e.front) + length e.octets)) fits.goes_on;
 }
 
-module _ (C : Table) (kept : Kept) (number : ℕ) (header : List ℕ) (m : Struct_of) (s : List ℕ) (f : Follows C kept number header m s) (section : Section) (d : Decoder)
+module _ (C : Table) (listed : Listed) (number : ℕ) (header : List ℕ) (m : Struct_of) (s : List ℕ) (f : Follows C listed number header m s) (section : Section) (d : Decoder)
     (is : m.part ≡ parts.Typed section d) (fits : decoders.Fits C d) where
   abbrev S : Signatures
-  S = said_by C kept
+  S = said_by C listed
 
   abbrev pub opened : Decodes C S number header s section d
-  opened = subst (Stands C kept number header s) is f.stands
+  opened = subst (Stands C listed number header s) is f.stands
 
   abbrev pub within : Inside S header s section opened.T opened.before opened.front opened.octets
   within = inside C S number header s section d opened fits
@@ -359,10 +359,10 @@ module _ (C : Table) (kept : Kept) (number : ℕ) (header : List ℕ) (m : Struc
 
   -- it goes on
   pub section_on : (xs : List ℕ) (p : Progress) → LastOf xs p → (n : Struct_of) (d' : Decoder) → Moved m n (length xs) → n.id ≡ m.id →
-      n.part ≡ parts.Typed section d' → ReadsWith d' xs → Follows C kept number header n (s ++ xs)
+      n.part ≡ parts.Typed section d' → ReadsWith d' xs → Follows C listed number header n (s ++ xs)
   section_on xs p l n d' move id part reads =
-      follows_on C kept number header m n s xs f move (id ∙ rw part (kept_id xs p l (is_header section) refl))
-      (subst (Stands C kept number header (s ++ xs)) (sym part)
+      follows_on C listed number header m n s xs f move (id ∙ rw part (kept_id xs p l (is_header section) refl))
+      (subst (Stands C listed number header (s ++ xs)) (sym part)
       (decodes S number header s section opened.T opened.before opened.front opened.octets within C xs d' reads))
 
   ended_id : (xs : List ℕ) → LastOf xs progress.Done → (d' : Decoder) → ReadsWith d' xs → (id : Option ℕ) → (inside : Bool) → is_header section ≡ inside →
@@ -374,14 +374,14 @@ module _ (C : Table) (kept : Kept) (number : ℕ) (header : List ℕ) (m : Struc
 
   -- it has ended
   pub section_done : (xs : List ℕ) → LastOf xs progress.Done → (d' : Decoder) → ReadsWith d' xs → (k n : Struct_of) → Moved m k (length xs) → k.id ≡ m.id →
-      Arrives C kept number header k n (s ++ xs) (after S header section (heard_of (is_header_root (root_of section)) (ReadWith xs)) (12 + length (s ++ xs)) []) →
+      Arrives C listed number header k n (s ++ xs) (after S header section (heard_of (is_header_root (root_of section)) (ReadWith xs)) (12 + length (s ++ xs)) []) →
       Moved m n (length xs) → n.id ≡ cond (is_header section) (heard_of true (ReadWith xs)).request_id k.id → in_header n.part ≡ false →
-      Follows C kept number header n (s ++ xs)
+      Follows C listed number header n (s ++ xs)
   section_done xs l d' reads k n move_k id_k arrives move_n id_n past =
       let g = done_comes S number header s section opened.T opened.before opened.front opened.octets within xs l in
       let id = ended_id xs l d' reads n.id (is_header section) refl (id_n ∙ ap (cond (is_header section) (heard_of true (ReadWith xs)).request_id) id_k) in
-      follows_on C kept number header m n s xs f move_n (rw past id)
-      (arrives (at_more number header m k s xs (is_at C kept number header m s f) move_k) g.0 g.1)
+      follows_on C listed number header m n s xs f move_n (rw past id)
+      (arrives (at_more number header m k s xs (is_at C listed number header m s f) move_k) g.0 g.1)
 
   pub minds_header : (xs : List ℕ) (d' : Decoder) → section ≡ sections.Header → decoders.Minds (root_of section) d' (ReadWith xs) → decoders.Minds roots.Header d' (ReadWith xs)
   minds_header xs d' in_it minds = subst (λ sec. decoders.Minds (root_of sec) d' (ReadWith xs)) in_it minds

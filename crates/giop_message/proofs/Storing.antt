@@ -11,7 +11,7 @@ use Rattle.giop_message.specs.declared.part.Part.TheVariants as parts
 use Rattle.giop_message.specs.declared.part.Rest.{Rest}
 use Rattle.giop_message.specs.declared.wanted.Wanted.{Wanted}
 use Rattle.giop_message.specs.declared.wanted.Wanted.TheVariants as wanteds
-use Rattle.giop_message.specs.Signatures.{Kept}
+use Rattle.giop_message.specs.Signatures.{Listed}
 use Rattle.giop_message.specs.Holding.{FitsPart, Fits, in_header, Stands}
 use Rattle.giop_message.specs.Stored.{part_octet, kept_id, own_octets, padding_octets, rest_octets, IsOwnOf, IsPaddingOf, IsRestOf, PartStored, Stored, IsSameRest, GoesOn}
 
@@ -180,9 +180,9 @@ id_on C p q id given said on is was =
     ∙ cond_again (in_header p) None said
     ∙ sym (ap (λ (b : Bool). cond b None said) (same_place C p q on))
 
-pub stands_on : (C : Table) (kept : Kept) (number : ℕ) (header s : List ℕ) (p q : Part)
-    → GoesOn C p q → Stands C kept number header s p → Stands C kept number header s q
-stands_on C kept number header s (parts.Typed section d) (parts.Typed other e) on is =
+pub stands_on : (C : Table) (listed : Listed) (number : ℕ) (header s : List ℕ) (p q : Part)
+    → GoesOn C p q → Stands C listed number header s p → Stands C listed number header s q
+stands_on C listed number header s (parts.Typed section d) (parts.Typed other e) on is =
     rw on.0 record {
       T = is.T;
       before = is.before;
@@ -193,7 +193,7 @@ stands_on C kept number header s (parts.Typed section d) (parts.Typed other e) o
       first = is.first;
       reads = on.1.reads _ _ _ _ _ _ is.reads;
     }
-stands_on C kept number header s (parts.Padding wanted) (parts.Padding other) on is = rw on is
-stands_on C kept number header s (parts.Rest r) (parts.Rest other) on is =
+stands_on C listed number header s (parts.Padding wanted) (parts.Padding other) on is = rw on is
+stands_on C listed number header s (parts.Rest r) (parts.Rest other) on is =
     rw (on.offset, on.held) is
-stands_on C kept number header s p q on is = absurd on
+stands_on C listed number header s p q on is = absurd on

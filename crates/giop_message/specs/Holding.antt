@@ -20,7 +20,7 @@ use Rattle.giop_message.specs.declared.wanted.Wanted.TheVariants as wanteds
 use Rattle.giop_message.specs.Headers.{minor, kind, order}
 use Rattle.giop_message.specs.Reading.{Saying, Remark}
 use Rattle.giop_message.specs.Text.{saying_line}
-use Rattle.giop_message.specs.Signatures.{Signatures, Kept, said_by}
+use Rattle.giop_message.specs.Signatures.{Signatures, Listed, said_by}
 use Rattle.giop_message.specs.Messages.{Speech, Incomplete, Told, BodyType, Untyped, Typed, Raised, In_padding, In_rest, Comes, with_front, through, root_of, message, told_of, stage_of}
 use Rattle.giop_message.specs.MessageReading.{saying_of, text_of, id_said, is_over}
 
@@ -60,8 +60,8 @@ is_short speeches = false
 -- ---- a message and its catalogue
 
 -- what is kept of a list of requests for the operations of this table
-abbrev pub AreOf : Table → Kept → Type 0
-AreOf C kept = (entries : List Entry) × IsOf (operation_number C) entries kept
+abbrev pub AreOf : Table → Listed → Type 0
+AreOf C listed = (entries : List Entry) × IsOf (operation_number C) entries listed
 
 abbrev pub body_type : Table → Wanted → BodyType
 body_type C wanteds.Nothing = Untyped
@@ -110,13 +110,13 @@ pub record Decodes (C : Table) (S : Signatures) (number : ℕ) (header s : List 
   pub reads : decoder.Reads C T (order header) (12 + length front) number (root_of section) d octets
 
 -- where a message of this number and header stands behind these octets, by the part that the next octet belongs to
-abbrev pub Stands : Table → Kept → ℕ → List ℕ → List ℕ → Part → Type 0
-Stands C kept number header s (parts.Typed section d) = Decodes C (said_by C kept) number header s section d
-Stands C kept number header s (parts.Padding wanted) =
-    (told : List Told) × (message (said_by C kept) header s
+abbrev pub Stands : Table → Listed → ℕ → List ℕ → List ℕ → Part → Type 0
+Stands C listed number header s (parts.Typed section d) = Decodes C (said_by C listed) number header s section d
+Stands C listed number header s (parts.Padding wanted) =
+    (told : List Told) × (message (said_by C listed) header s
     ≡ Comes told (12 + length s) (In_padding (body_type C wanted)))
-Stands C kept number header s (parts.Rest r) =
-    (told : List Told) × (message (said_by C kept) header s ≡ Comes told (12 + length s) (In_rest r.offset r.held.items))
+Stands C listed number header s (parts.Rest r) =
+    (told : List Told) × (message (said_by C listed) header s ≡ Comes told (12 + length s) (In_rest r.offset r.held.items))
 
 -- in the header
 abbrev pub is_header : Section → Bool
@@ -131,12 +131,12 @@ in_header (parts.Rest r) = false
 
 -- The message's fields are what its header and these octets behind it come to. While the header is read its decoder
 -- has the request id.
-pub record Follows (C : Table) (kept : Kept) (number : ℕ) (header : List ℕ) (m : Message) (s : List ℕ) : Type 0 where
+pub record Follows (C : Table) (listed : Listed) (number : ℕ) (header : List ℕ) (m : Message) (s : List ℕ) : Type 0 where
   pub same_number : m.number ≡ number
   pub same_header : m.header ≡ header
-  pub id : m.id ≡ cond (in_header m.part) None (id_said (told_of (message (said_by C kept) header s)))
+  pub id : m.id ≡ cond (in_header m.part) None (id_said (told_of (message (said_by C listed) header s)))
   pub at : m.at ≡ 12 + length s
-  pub stands : Stands C kept number header s m.part
+  pub stands : Stands C listed number header s m.part
 
 -- ---- its calls
 
@@ -147,6 +147,6 @@ pub record FaultedAt (S : Signatures) (header s more : List ℕ) (n : ℕ) : Typ
   pub here : is_over (stage_of (message S header (s ++ take n more))) ≡ true
   pub not_before : is_over (stage_of (message S header (s ++ take (n - 1) more))) ≡ false
 
-abbrev pub TookAll : Table → Kept → ℕ → List ℕ → Message → List ℕ → List ℕ → Option ℕ → Type 0
-TookAll C kept number header m s more None = Follows C kept number header m (s ++ more)
-TookAll C kept number header m s more (Some n) = FaultedAt (said_by C kept) header s more n
+abbrev pub TookAll : Table → Listed → ℕ → List ℕ → Message → List ℕ → List ℕ → Option ℕ → Type 0
+TookAll C listed number header m s more None = Follows C listed number header m (s ++ more)
+TookAll C listed number header m s more (Some n) = FaultedAt (said_by C listed) header s more n

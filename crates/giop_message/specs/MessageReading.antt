@@ -11,7 +11,7 @@ use Rattle.giop_sig.specs.Headers.{BeginsWithId}
 use Rattle.giop_message.specs.Headers.{minor, kind, has_name}
 use Rattle.giop_message.specs.Reading.{Saying, Value, Call, Rest, Fault, End, Remark, Reading}
 use Rattle.giop_message.specs.Text.{value_said, call_text, rest_text, fault_word}
-use Rattle.giop_message.specs.Signatures.{Signatures, Kept, said_by}
+use Rattle.giop_message.specs.Signatures.{Signatures, Listed, said_by}
 use Rattle.giop_message.specs.Messages.{Speech, Said, Called, Left, Wrong, Incomplete, Ends, Told, Stage, Over, message, told_of, stage_of, close}
 
 unfoldable pub saying_of : Speech → Saying
@@ -45,8 +45,8 @@ reading_by S = record {
 }
 
 -- by this table and these requests
-abbrev pub message_reading : Table → Kept → Reading
-message_reading C kept = reading_by (said_by C kept)
+abbrev pub message_reading : Table → Listed → Reading
+message_reading C listed = reading_by (said_by C listed)
 
 -- The headers of the messages that the stream knows by their request ids begin with them.
 pub record HasIds (S : Signatures) : Type 0 where

@@ -17,7 +17,7 @@ use Rattle.giop_message.specs.declared.part.Part.{Part}
 use Rattle.giop_message.specs.declared.part.Part.TheVariants as parts
 use Rattle.giop_message.specs.Headers.{minor, order}
 use Rattle.giop_message.specs.Text.{fault_word}
-use Rattle.giop_message.specs.Signatures.{Signatures, Kept, said_by}
+use Rattle.giop_message.specs.Signatures.{Signatures, Listed, said_by}
 use Rattle.giop_message.specs.Messages
 use Rattle.giop_message.specs.Messages.{Told, BodyType, Untyped, is_shown, is_request, has_body, body_of, members_of, type_if, with_front, through, root_of, message}
 use Rattle.giop_message.specs.Holding.{due_text, IsFirst, Stands, Follows, FaultedAt}
@@ -60,18 +60,18 @@ pub record IsAt (number : ℕ) (header : List ℕ) (m : Message) (s : List ℕ) 
   pub at : m.at ≡ 12 + length s
 
 -- a message that comes to these lines and then this stands where that does
-abbrev pub Arrives : Table → Kept → ℕ → List ℕ → Message → Message → List ℕ → Messages.Message → Type 0
-Arrives C kept number header old new s m =
-    IsAt number header old s → (before : List Told) → message (said_by C kept) header s ≡ with_front before m →
-    Stands C kept number header s new.part
+abbrev pub Arrives : Table → Listed → ℕ → List ℕ → Message → Message → List ℕ → Messages.Message → Type 0
+Arrives C listed number header old new s m =
+    IsAt number header old s → (before : List Told) → message (said_by C listed) header s ≡ with_front before m →
+    Stands C listed number header s new.part
 
 -- A message that comes to these lines, and then to a section of this type of which nothing has come, stands in that.
-abbrev pub Enters : Table → Kept → ℕ → List ℕ → Message → Message → List ℕ → Section → Ty → Type 0
-Enters C kept number header old new s section T =
+abbrev pub Enters : Table → Listed → ℕ → List ℕ → Message → Message → List ℕ → Section → Ty → Type 0
+Enters C listed number header old new s section T =
     IsAt number header old s → (before : List Told) → IsFirst header section T before →
-    message (said_by C kept) header s
-    ≡ with_front before (through (said_by C kept) header section nothing (read (plain (order header)) [] T (12 + length s) [])) →
-    Stands C kept number header s new.part
+    message (said_by C listed) header s
+    ≡ with_front before (through (said_by C listed) header section nothing (read (plain (order header)) [] T (12 + length s) [])) →
+    Stands C listed number header s new.part
 
 -- a part that is read as a value
 abbrev pub IsTyped : Part → Type 0
@@ -96,9 +96,9 @@ last_rest_text number (parts.Rest r) = held_text number r.offset r.held.items
 -- ---- one go over a run of octets
 
 -- of which it took so many: the message is over, at the last of them, or follows the longer list
-abbrev pub Went : Table → Kept → ℕ → List ℕ → Message → List ℕ → List ℕ → ℕ → Bool → Type 0
-Went C kept number header m s octets n false = Follows C kept number header m (s ++ take n octets)
-Went C kept number header m s octets n true = FaultedAt (said_by C kept) header s octets n
+abbrev pub Went : Table → Listed → ℕ → List ℕ → Message → List ℕ → List ℕ → ℕ → Bool → Type 0
+Went C listed number header m s octets n false = Follows C listed number header m (s ++ take n octets)
+Went C listed number header m s octets n true = FaultedAt (said_by C listed) header s octets n
 
 -- the lines of the octets that it took; or a front of those of the run, and then a put failed
 abbrev pub WritesRun : {E : Type 0} → Result (ℕ × Bool) E → Signatures → ℕ → ℕ → List ℕ → List ℕ → List ℕ →

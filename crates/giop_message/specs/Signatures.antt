@@ -24,8 +24,8 @@ pub record Signatures : Type 0 where
   pub addressing : Ty
 
 -- what is kept of a request list: the ids, each once, with their operations
-abbrev pub Kept : Type 0
-Kept = List (ℕ × Option OpId)
+abbrev pub Listed : Type 0
+Listed = List (ℕ × Option OpId)
 
 abbrev pub request_type : Table → OpId → Ty
 request_type C o = tree C (operation_at C o.0).request
@@ -33,11 +33,11 @@ request_type C o = tree C (operation_at C o.0).request
 abbrev pub reply_type : Table → OpId → Ty
 reply_type C o = tree C (operation_at C o.0).reply
 
-unfoldable pub said_by : Table → Kept → Signatures
-said_by C kept = record {
+unfoldable pub said_by : Table → Listed → Signatures
+said_by C listed = record {
   header = header_type;
   request = λ name. option_map (request_type C) (operation_in C name);
-  reply = λ id. option_map (reply_type C) (kept_operation kept id);
+  reply = λ id. option_map (reply_type C) (kept_operation listed id);
   members = λ repository. option_map (λ t. tree C t.0) (exception_in C repository);
   exception_id = fixed_type ExceptionId;
   system_exception = fixed_type SystemException;

@@ -32,7 +32,7 @@ pub(crate) fn id_behind(section: Section, decoder: &Decoder, before: Option<u32>
 impl Message {
     ghost use Rattle.giop_sig.specs.Table.{Table};
     ghost use Rattle.giop_message.specs.declared.part.Section.{Section as Within};
-    ghost use Rattle.giop_message.specs.Signatures.{Kept, said_by};
+    ghost use Rattle.giop_message.specs.Signatures.{Listed, said_by};
     ghost use Rattle.giop_message.specs.Headers.{order};
     ghost use Rattle.giop_message.specs.Messages.{body, rest, typed, after};
     ghost use Rattle.giop_message.specs.Holding.{AreOf, IsKnown, Fits, in_header, body_type};
@@ -46,8 +46,8 @@ impl Message {
         ensures at { self.new.at ≡ self.old.at }
         ensures past { in_header self.new.part ≡ false }
         ensures fits { (C : Table) → Fits C self.new }
-        ensures arrives { (C : Table) (kept : Kept) (number : ℕ) (header s : List ℕ) →
-            Arrives C kept number header self.old self.new s (rest (12 + length s) []) }
+        ensures arrives { (C : Table) (listed : Listed) (number : ℕ) (header s : List ℕ) →
+            Arrives C listed number header self.old self.new s (rest (12 + length s) []) }
     {
         self.part = Part::Rest(Rest::new());
     }
@@ -62,8 +62,8 @@ impl Message {
         ensures at { self.new.at ≡ self.old.at }
         ensures within { in_header self.new.part ≡ is_header section }
         ensures fits { Fits catalogue.now self.new }
-        ensures enters { (kept : Kept) (number : ℕ) (header s : List ℕ) →
-            Enters catalogue.now kept number header self.old self.new s section
+        ensures enters { (listed : Listed) (number : ℕ) (header s : List ℕ) →
+            Enters catalogue.now listed number header self.old self.new s section
             (tree catalogue.now of.0) }
     {
         let order = order_of(&self.header);
@@ -81,8 +81,8 @@ impl Message {
         ensures at { self.new.at ≡ self.old.at }
         ensures past { in_header self.new.part ≡ false }
         ensures fits { Fits catalogue.now self.new }
-        ensures arrives { (kept : Kept) (number : ℕ) (header s : List ℕ) →
-            Arrives catalogue.now kept number header self.old self.new s (typed (order header)
+        ensures arrives { (listed : Listed) (number : ℕ) (header s : List ℕ) →
+            Arrives catalogue.now listed number header self.old self.new s (typed (order header)
             (tree catalogue.now of.0) (12 + length s) []) }
     {
         if is_empty(catalogue, of) {
@@ -101,9 +101,9 @@ impl Message {
         ensures at { self.new.at ≡ self.old.at }
         ensures past { in_header self.new.part ≡ false }
         ensures fits { Fits catalogue.now self.new }
-        ensures arrives { (kept : Kept) (number : ℕ) (header s : List ℕ) →
-            Arrives catalogue.now kept number header self.old self.new s (body
-            (said_by catalogue.now kept) header (body_type catalogue.now wanted)
+        ensures arrives { (listed : Listed) (number : ℕ) (header s : List ℕ) →
+            Arrives catalogue.now listed number header self.old self.new s (body
+            (said_by catalogue.now listed) header (body_type catalogue.now wanted)
             (12 + length s) []) }
     {
         match wanted {

@@ -24,7 +24,7 @@ pub struct Message {
 }
 
 impl Message {
-    ghost use Rattle.giop_message.specs.Signatures.{Kept, said_by};
+    ghost use Rattle.giop_message.specs.Signatures.{Listed, said_by};
     ghost use Rattle.giop_sig.specs.Table.{Table};
     ghost use Rattle.giop_message.specs.Messages.{message, told_of, stage_of, close};
     ghost use Rattle.giop_message.specs.Moves.{last_rest_text};
@@ -33,7 +33,7 @@ impl Message {
 
     /// A message of this number whose header has come.
     pub fn start(catalogue: &Catalogue, number: u64, header: [u8; 12]) -> Message
-        ensures follows { (kept : Kept) → Follows catalogue.now kept number header result [] }
+        ensures follows { (listed : Listed) → Follows catalogue.now listed number header result [] }
         ensures fits { Fits catalogue.now result }
         ensures reach { reach result ≡ 12 }
     {
@@ -105,13 +105,13 @@ impl Message {
         out: &mut O,
     ) -> Result<bool, OutFault>
         requires fits { Fits catalogue.now self }
-        ensures writes { (kept : Kept) (number : ℕ) (header s : List ℕ) →
-            Follows catalogue.now kept number header self s →
+        ensures writes { (listed : Listed) (number : ℕ) (header s : List ℕ) →
+            Follows catalogue.now listed number header self s →
             Writes result (O.log out.old) (O.log out.new) (closing_text number place (close
-            (stage_of (message (said_by catalogue.now kept) header s)))) }
-        ensures short { IfOk result (λ short. (kept : Kept) (number : ℕ) (header s : List ℕ) →
-            Follows catalogue.now kept number header self s →
-            short ≡ is_short (close (stage_of (message (said_by catalogue.now kept) header s)))) }
+            (stage_of (message (said_by catalogue.now listed) header s)))) }
+        ensures short { IfOk result (λ short. (listed : Listed) (number : ℕ) (header s : List ℕ) →
+            Follows catalogue.now listed number header self s →
+            short ≡ is_short (close (stage_of (message (said_by catalogue.now listed) header s)))) }
     {
         if self.is_short(catalogue) {
             fault_line(out, self.number, "short", place)?;
@@ -125,9 +125,9 @@ impl Message {
     /// Whether it would close inside its header, a repository id or its body, or without a body that it needs.
     fn is_short(&self, catalogue: &Catalogue) -> bool
         requires { Fits catalogue.now self.now }
-        ensures { (kept : Kept) (number : ℕ) (header s : List ℕ) →
-            Follows catalogue.now kept number header self.now s →
-            result ≡ is_short (close (stage_of (message (said_by catalogue.now kept) header s))) }
+        ensures { (listed : Listed) (number : ℕ) (header s : List ℕ) →
+            Follows catalogue.now listed number header self.now s →
+            result ≡ is_short (close (stage_of (message (said_by catalogue.now listed) header s))) }
     {
         match &self.part {
             Part::Typed(_, _) => true,
@@ -164,9 +164,9 @@ impl Message {
 
     /// The request id of its header, once that has come.
     pub fn request_id(&self) -> Option<u32>
-        ensures { (C : Table) (kept : Kept) (number : ℕ) (header s : List ℕ) →
-            Follows C kept number header self.now s
-            → result ≡ id_said (told_of (message (said_by C kept) header s)) }
+        ensures { (C : Table) (listed : Listed) (number : ℕ) (header s : List ℕ) →
+            Follows C listed number header self.now s
+            → result ≡ id_said (told_of (message (said_by C listed) header s)) }
     {
         match &self.part {
             Part::Typed(section, decoder) => id_behind(*section, decoder, self.id),

@@ -195,7 +195,7 @@ impl Part {
 
 impl Message {
     ghost use Rattle.giop_message.specs.declared.message.Message.{Message as StoredMessage};
-    ghost use Rattle.giop_message.specs.Signatures.{Kept};
+    ghost use Rattle.giop_message.specs.Signatures.{Listed};
     ghost use Rattle.giop_message.specs.Holding.{Fits, Follows};
     ghost use Rattle.giop_message.specs.Stored.{Stored};
 
@@ -217,8 +217,8 @@ impl Message {
         // It follows whatever list the stored one follows.
         ensures follows { IfSome result (λ e. (m : StoredMessage) → Fits catalogue.now m →
             m.number ≡ number → m.header ≡ header → Stored m fixed.now frames.now →
-            (kept : Kept) (n : ℕ) (h s : List ℕ) → Follows catalogue.now kept n h m s →
-            Follows catalogue.now kept n h e s) }
+            (listed : Listed) (n : ℕ) (h s : List ℕ) → Follows catalogue.now listed n h m s →
+            Follows catalogue.now listed n h e s) }
     {
         let at = eight_at(fixed, 1);
         if !is_behind_header(at) {

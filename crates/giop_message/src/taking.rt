@@ -42,7 +42,7 @@ fn call<O: Out>(decoder: &Decoder, number: u64, header: &[u8], out: &mut O) -> R
 }
 
 impl Message {
-    ghost use Rattle.giop_message.specs.Signatures.{Kept, said_by};
+    ghost use Rattle.giop_message.specs.Signatures.{Listed, said_by};
     ghost use Rattle.giop_message.specs.Holding.{AreOf, IsKnown, Fits, Follows, due};
     ghost use Rattle.giop_message.specs.Moves.{Went, WritesRun};
 
@@ -51,12 +51,12 @@ impl Message {
         requires part { self.old.part ≡ Part.Padding wanted }
         requires known { IsKnown catalogue.now wanted }
         requires limit { self.old.at ≤ 2 ^ 48 }
-        ensures told { (kept : Kept) (number : ℕ) (header s : List ℕ) (octet : ℕ) →
-            Follows catalogue.now kept number header self.old s →
-            due (said_by catalogue.now kept) header s (octet ∷ []) ≡ [] }
-        ensures follows { (kept : Kept) (number : ℕ) (header s : List ℕ) (octet : ℕ) →
-            Follows catalogue.now kept number header self.old s →
-            Follows catalogue.now kept number header self.new (s ++ octet ∷ []) }
+        ensures told { (listed : Listed) (number : ℕ) (header s : List ℕ) (octet : ℕ) →
+            Follows catalogue.now listed number header self.old s →
+            due (said_by catalogue.now listed) header s (octet ∷ []) ≡ [] }
+        ensures follows { (listed : Listed) (number : ℕ) (header s : List ℕ) (octet : ℕ) →
+            Follows catalogue.now listed number header self.old s →
+            Follows catalogue.now listed number header self.new (s ++ octet ∷ []) }
         ensures fits { Fits catalogue.now self.new }
         ensures at { self.new.at ≡ self.old.at + 1 }
     {

@@ -3,7 +3,7 @@
 ghost use Rattle.std.specs.Prelude.{◌≡◌, ◌<◌, length, true};
 ghost use Rattle.std.specs.Option.{option_map};
 ghost use Rattle.giop_sig.specs.Trees.{tree};
-ghost use Rattle.giop_message.specs.Signatures.{Kept, said_by};
+ghost use Rattle.giop_message.specs.Signatures.{Listed, said_by};
 ghost use Rattle.giop_decode.specs.Spine.{Read};
 ghost use Rattle.giop_decode.specs.Heard.{heard_of, is_header_root};
 ghost use Rattle.giop_decode.specs.Holding.{Minds};
@@ -73,8 +73,8 @@ fn header_body(
 /// Of an exception, by its repository id.
 #[tactic(auto, unfolding(crate::specs::Messages::members_of, crate::specs::Messages::type_if, crate::specs::Signatures::said_by))]
 fn members_body(catalogue: &Catalogue, repository: Option<&[u8]>) -> Wanted
-    ensures is { (kept : Kept) → body_type catalogue.now result ≡ type_if (members_of
-        (said_by catalogue.now kept) (option_map (λ x. x.now) repository.entry)) }
+    ensures is { (listed : Listed) → body_type catalogue.now result ≡ type_if (members_of
+        (said_by catalogue.now listed) (option_map (λ x. x.now) repository.entry)) }
     ensures known { IsKnown catalogue.now result }
 {
     let Some(repository) = repository else {
@@ -89,8 +89,8 @@ fn members_body(catalogue: &Catalogue, repository: Option<&[u8]>) -> Wanted
 /// Of a Request, by its operation.
 #[tactic(auto, unfolding(crate::specs::Messages::request_body, crate::specs::Messages::type_if, crate::specs::Signatures::said_by))]
 fn request_body(catalogue: &Catalogue, name: Option<&[u8]>) -> Wanted
-    ensures is { (kept : Kept) → body_type catalogue.now result ≡ request_body
-        (said_by catalogue.now kept) (option_map (λ x. x.now) name.entry) }
+    ensures is { (listed : Listed) → body_type catalogue.now result ≡ request_body
+        (said_by catalogue.now listed) (option_map (λ x. x.now) name.entry) }
     ensures known { IsKnown catalogue.now result }
 {
     let Some(name) = name else {

@@ -2,7 +2,7 @@
 use Rattle.std.proofs.Common.{◌≡◌, ℕ, List, [], Option, Some, None, refl, subst}
 use Rattle.std.specs.Prelude.{IfSome, Result}
 use Rattle.giop_sig.specs.Table.{Table}
-use Rattle.giop_message.specs.Signatures.{Kept as Listed}
+use Rattle.giop_message.specs.Signatures.{Listed}
 use Rattle.giop_stream.specs.Holding.{Holds}
 use Rattle.giop_stream.specs.Remembering.{EngineMemory}
 use Rattle.giop_run.specs.declared.fault.RunFault.{RunFault}

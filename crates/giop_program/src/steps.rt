@@ -3,7 +3,7 @@
 
 ghost use Rattle.std.specs.Prelude.{◌≡◌, ◌≢◌, ◌≤◌, ◌⊎◌, ℕ, List, [], false, None, Some, IfSome, IfErr, OnOk, OnErr, option_map};
 ghost use Rattle.clap.specs.Values.{kind_of};
-ghost use Rattle.giop_message.specs.Signatures.{Kept as Listed};
+ghost use Rattle.giop_message.specs.Signatures.{Listed};
 ghost use Rattle.giop_stream.specs.Checkpoint.{counts_of};
 ghost use Rattle.giop_stream.specs.Holding.{AreOf, Holds};
 ghost use Rattle.giop_run.specs.Running.{way_of};

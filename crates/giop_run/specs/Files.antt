@@ -9,7 +9,7 @@ use Rattle.giop_sig.specs.Table.{Table, operation_number}
 use Rattle.giop_sig.specs.FileReading.{text_too_long, IsFirstRefusal}
 use Rattle.giop_sig.specs.Validity.{IsValid, Spells as Declared}
 use Rattle.giop_sig.specs.RequestList.{Entry, Lists, IsOf, IsRefusedAs}
-use Rattle.giop_message.specs.Signatures.{Kept as Listed}
+use Rattle.giop_message.specs.Signatures.{Listed}
 use Rattle.giop_checkpoint.specs.declared.fixed.Counts.{Counts}
 use Rattle.giop_checkpoint.specs.Refusals.{IsOurs}
 use Rattle.giop_stream.specs.Checkpoint.{counts_of, IsRefused, Spells}

@@ -2,7 +2,7 @@
 use Rattle.std.specs.Prelude.{◌≡◌, ℕ, List, [], ◌∷◌, take, Option, None, Some, Result, Ok, Err}
 use Rattle.giop_print.specs.Output.{OutLog}
 use Rattle.giop_sig.specs.Table.{Table}
-use Rattle.giop_message.specs.Signatures.{Kept as Listed}
+use Rattle.giop_message.specs.Signatures.{Listed}
 use Rattle.giop_stream.specs.Holding.{AreOf}
 use Rattle.giop_run.specs.Console.{Dumped}
 use Rattle.giop_run.specs.Files.{Folder, Asked, GoesOn, ReadsBy, Refused, stream_of, way_by}

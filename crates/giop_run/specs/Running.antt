@@ -5,7 +5,7 @@ use Rattle.giop_cdr.specs.Numbers.{AreOctets}
 use Rattle.giop_print.specs.Output.{OutLog, counted, Wrote, WroteFront}
 use Rattle.giop_sig.specs.Table.{Table}
 use Rattle.giop_message.specs.Reading.{Reading}
-use Rattle.giop_message.specs.Signatures.{Kept as Listed}
+use Rattle.giop_message.specs.Signatures.{Listed}
 use Rattle.giop_message.specs.MessageReading.{message_reading}
 use Rattle.giop_stream.specs.Framing.{cut}
 use Rattle.giop_stream.specs.Stream.{closing, final, tally}

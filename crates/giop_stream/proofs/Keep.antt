@@ -13,5 +13,5 @@ pub mod Headed
 pub mod Owning
 pub mod RequestIds
 pub mod Cases
-pub mod ReadingPlays
+pub mod ReadingEffects
 pub mod Adding

@@ -7,7 +7,7 @@ use Rattle.giop_message.specs.declared.message.Message.{Message}
 use Rattle.giop_message.specs.Holding.{Fits}
 use Rattle.giop_message.specs.Headers.{size}
 use Rattle.giop_message.specs.MessageReading.{message_reading}
-use Rattle.giop_message.specs.Signatures.{Kept as Listed}
+use Rattle.giop_message.specs.Signatures.{Listed}
 use Rattle.giop_checkpoint.specs.declared.sizes.TheConstants.{FIXED_SIZE, RECORD_SIZE, MESSAGE_SIZE, FRAME_SIZE, MOST_RECORDS}
 use Rattle.giop_checkpoint.specs.declared.fault.StreamFault.{StreamFault}
 use Rattle.giop_checkpoint.specs.declared.fault.LoadFault.{LoadFault}

@@ -3,7 +3,7 @@ use Rattle.std.specs.Prelude.{◌≡◌, ◌<◌, ℕ, List, [], ◌∷◌, Opti
 use Rattle.std.specs.List.{AllByRecursion as Each}
 use Rattle.giop_sig.specs.Table.{Table}
 use Rattle.giop_message.specs.declared.message.Message.{Message as Kept_message}
-use Rattle.giop_message.specs.Signatures.{Kept as Listed}
+use Rattle.giop_message.specs.Signatures.{Listed}
 use Rattle.giop_message.specs.MessageReading.{message_reading}
 use Rattle.giop_message.specs.Holding.{Follows, Fits, reach}
 use Rattle.giop_stream.specs.declared.slots.Slot.{Slot as Kept_slot}
@@ -13,7 +13,7 @@ use Rattle.giop_stream.specs.declared.slots.Payload.TheVariants.{Own, Open, Nobo
 use Rattle.giop_stream.specs.Events.{Title, Event, Happening}
 use Rattle.giop_stream.specs.Events as events
 use Rattle.giop_stream.specs.State.{Slot, slots_of}
-use Rattle.giop_stream.specs.Plays.{Scene, Play, one_play, no_play}
+use Rattle.giop_stream.specs.Effects.{Tracked, Effect, one_effect, no_effect}
 
 -- A message is kept of which these octets have come, or none where it is over.
 abbrev pub IsKept : Table → Listed → Option Kept_message → Title → Option (List ℕ) → Type 0
@@ -45,7 +45,7 @@ AreSlots C l [] (slot ∷ slots) = ⊥
 AreSlots C l (kept ∷ more) [] = ⊥
 
 -- whose the octets of the payload are
-abbrev pub IsWhose : Table → Listed → Payload → Option Kept_message → Scene → Option Title → Type 0
+abbrev pub IsWhose : Table → Listed → Payload → Option Kept_message → Tracked → Option Title → Type 0
 IsWhose C l Own own c (Some w) = Each (λ o. o.opener.number ≡ w.number → ⊥) c.live × IsKept C l own w (c.known w.number)
 IsWhose C l (Open k) own c (Some w) = (own ≡ None) × ((o : events.Open) × (slice_get c.live k ≡ Some o) × (o.opener ≡ w))
 IsWhose C l Nobody own c None = own ≡ None
@@ -53,7 +53,7 @@ IsWhose C l Own own c None = ⊥
 IsWhose C l (Open k) own c None = ⊥
 IsWhose C l Nobody own c (Some w) = ⊥
 
-pub record Keeps (C : Table) (l : Listed) (s : Slots) (c : Scene) (whose : Option Title) : Type 0 where
+pub record Keeps (C : Table) (l : Listed) (s : Slots) (c : Tracked) (whose : Option Title) : Type 0 where
   pub slots : AreSlots C l s.slots.items (slots_of c.known c.live)
   pub payload : IsWhose C l s.payload s.own c whose
 
@@ -67,7 +67,7 @@ pub record IsBare (s : Slots) : Type 0 where
 abbrev pub event : ℕ → Title → Happening → Event
 event at whom what = record { place = at; whom = whom; what = what }
 
--- and what that makes of the scene, with its lines; nothing where they are nobody's
-abbrev pub play_to : Table → Listed → ℕ → Scene → Option Title → Happening → Play
-play_to C l at c None what = no_play c
-play_to C l at c (Some w) what = one_play (message_reading C l) c at w what
+-- and what that makes of what is tracked, with its lines; nothing where they are nobody's
+abbrev pub effect_to : Table → Listed → ℕ → Tracked → Option Title → Happening → Effect
+effect_to C l at c None what = no_effect c
+effect_to C l at c (Some w) what = one_effect (message_reading C l) c at w what

@@ -8,9 +8,9 @@ pub mod Text
 pub mod Stream
 pub mod State
 pub mod Machine
-pub mod Plays
+pub mod Effects
 pub mod Keeping
-pub mod Playing
+pub mod Performs
 pub mod Runs
 pub mod Whose
 pub mod Remembering

@@ -4,7 +4,7 @@ use Rattle.std.specs.List.{AllByRecursion as Each}
 use Rattle.giop_sig.specs.Types.{Ty}
 use Rattle.giop_sig.specs.Table.{Table}
 use Rattle.giop_sig.specs.Headers.{BeginsWithId, header_type}
-use Rattle.giop_message.specs.Signatures.{Kept as Listed}
+use Rattle.giop_message.specs.Signatures.{Listed}
 use Rattle.giop_message.specs.MessageReading.{message_reading}
 use Rattle.giop_message.specs.Headers.{minor, kind, size, is_fragment, has_name}
 use Rattle.giop_stream.specs.declared.slots.Slots.{Slots}
@@ -12,7 +12,7 @@ use Rattle.giop_stream.specs.declared.slots.Payload.TheVariants.{Own}
 use Rattle.giop_stream.specs.declared.current.Current.{Current}
 use Rattle.giop_stream.specs.Framing.{Message, cut}
 use Rattle.giop_stream.specs.Events.{Title, Event, Open, Rising, id, title, place, opener_of, has_named, goes_past, at_id, at_end, open_after}
-use Rattle.giop_stream.specs.Plays.{Scene, stage, with_octet}
+use Rattle.giop_stream.specs.Effects.{Tracked, stage, with_octet}
 use Rattle.giop_stream.specs.Keeping.{Keeps}
 
 -- the message that an open one began with
@@ -39,7 +39,7 @@ abbrev pub SaysId : List ℕ → Type 0
 SaysId header = (T : Ty) × (header_type (minor header) (kind header) ≡ Some T) × BeginsWithId T
 
 -- The request id of a message is complete: its own octets came, and the message isn't over where it begins with that id.
-pub record IsNamed (C : Table) (l : Listed) (s : Slots) (c : Scene) (m : Message) (now : Current) (i : ℕ) : Type 0 where
+pub record IsNamed (C : Table) (l : Listed) (s : Slots) (c : Tracked) (m : Message) (now : Current) (i : ℕ) : Type 0 where
   pub keeps : Keeps C l s c (Some (title m))
   pub rising : Rising c.live
   pub current : IsCurrent now m
@@ -47,8 +47,8 @@ pub record IsNamed (C : Table) (l : Listed) (s : Slots) (c : Scene) (m : Message
   pub own_comes : has_name m.header ≡ true → s.payload ≡ Own
   pub alive : has_name m.header ≡ true → (xs : List ℕ) × (c.known m.number ≡ Some xs)
 
--- The slots keep this scene at an octet of a message, the last that came.
-pub record IsAt (C : Table) (l : Listed) (s : Slots) (c : Scene) (m : Message) (now : Current) : Type 0 where
+-- The slots keep what is tracked at an octet of a message, the last that came.
+pub record IsAt (C : Table) (l : Listed) (s : Slots) (c : Tracked) (m : Message) (now : Current) : Type 0 where
   pub keeps : Keeps C l s c (whose c.live m)
   pub rising : Rising c.live
   pub current : IsCurrent now m
@@ -72,8 +72,8 @@ whose_after live m = if length m.payload == size m.header then None else whose l
 abbrev pub IsNewest : ℕ → List Open → Type 0
 IsNewest n live = Each (λ o. o.opener.number < n) live
 
--- The slots keep this scene once the octet has been given to the message whose it is.
-pub record IsTaken (C : Table) (l : Listed) (s : Slots) (c : Scene) (m : Message) (now : Current) : Type 0 where
+-- The slots keep what is tracked once the octet has been given to the message whose it is.
+pub record IsTaken (C : Table) (l : Listed) (s : Slots) (c : Tracked) (m : Message) (now : Current) : Type 0 where
   pub keeps : Keeps C l s c (whose_octet c.live m)
   pub rising : Rising c.live
   pub current : IsCurrent now m
@@ -82,8 +82,8 @@ pub record IsTaken (C : Table) (l : Listed) (s : Slots) (c : Scene) (m : Message
   pub alive : has_name m.header ≡ true → length m.payload ≡ 4 → c.known m.number ≡ Some m.payload
   pub says : has_name m.header ≡ true → SaysId m.header
 
--- The slots keep this scene before this octet of a message comes.
-pub record IsNext (C : Table) (l : Listed) (s : Slots) (c : Scene) (m : Message) (now : Current) (x : ℕ) : Type 0 where
+-- The slots keep what is tracked before this octet of a message comes.
+pub record IsNext (C : Table) (l : Listed) (s : Slots) (c : Tracked) (m : Message) (now : Current) (x : ℕ) : Type 0 where
   pub keeps : Keeps C l s c (whose c.live m)
   pub rising : Rising c.live
   pub current : IsCurrent now (with_octet m x)
@@ -92,8 +92,8 @@ pub record IsNext (C : Table) (l : Listed) (s : Slots) (c : Scene) (m : Message)
   pub alive : has_name m.header ≡ true → length m.payload < 4 → c.known m.number ≡ Some m.payload
   pub says : has_name m.header ≡ true → SaysId m.header
 
--- The slots keep this scene before the message begins, whose header is complete.
-pub record IsFirst (C : Table) (l : Listed) (s : Slots) (c : Scene) (who : Option Title) (m : Message) (now : Current) : Type 0 where
+-- The slots keep what is tracked before the message begins, whose header is complete.
+pub record IsFirst (C : Table) (l : Listed) (s : Slots) (c : Tracked) (who : Option Title) (m : Message) (now : Current) : Type 0 where
   pub keeps : Keeps C l s c who
   pub rising : Rising c.live
   pub current : IsCurrent now m

@@ -2,15 +2,15 @@
 
 ghost use Rattle.std.specs.Prelude.{Option, ◌≡◌, ◌+◌, ◌<◌, ◌≤◌, ◌^◌, ℕ, length, true, false, Some, None, OnOk, IfOk, if◌then◌else◌, slice_get};
 ghost use Rattle.giop_sig.specs.Table.{Table};
-ghost use Rattle.giop_message.specs.Signatures.{Kept as Listed};
+ghost use Rattle.giop_message.specs.Signatures.{Listed};
 ghost use Rattle.giop_message.specs.MessageReading.{message_reading};
 ghost use Rattle.giop_message.specs.Holding.{AreOf};
 ghost use Rattle.giop_message.specs.Headers.{size, is_fragment, is_opener, is_cancel};
 ghost use Rattle.giop_stream.specs.Framing.{Message};
 ghost use Rattle.giop_stream.specs.Events.{Title, Open, at_header, at_id, at_end, happens, title, opener_of};
-ghost use Rattle.giop_stream.specs.Plays.{Scene, plays, with_octet};
+ghost use Rattle.giop_stream.specs.Effects.{Tracked, effects, with_octet};
 ghost use Rattle.giop_stream.specs.Keeping.{AreReady};
-ghost use Rattle.giop_stream.specs.Playing.{Plays, one_if, never, all};
+ghost use Rattle.giop_stream.specs.Performs.{TakesEffect, one_if, never, all};
 ghost use Rattle.giop_stream.specs.Whose.{IsNamed, IsFirst, IsNext, IsTaken, IsAt, opener_title, whose_named, whose, whose_after, id_events, end_events};
 
 use crate::current::Current;
@@ -27,11 +27,11 @@ use giop_sig::{Catalogue, Requests};
 
 /// At the request id of a message that opens.
 fn opens<O: Out>(slots: &mut Slots, now: Current, id: u32, out: &mut O) -> Result<bool, OutFault>
-    ensures does { (C : Table) (l : Listed) (c : Scene) (m : Message) →
+    ensures does { (C : Table) (l : Listed) (c : Tracked) (m : Message) →
         IsNamed C l slots.old c m now id →
         is_fragment m.header ≡ false → is_opener m.header ≡ true →
-        Plays C l one_if result (O.log out.old) (O.log out.new) slots.new
-        (plays (message_reading C l) c (at_id c.live m)) (Some (title m)) }
+        TakesEffect C l one_if result (O.log out.old) (O.log out.new) slots.new
+        (effects (message_reading C l) c (at_id c.live m)) (Some (title m)) }
     ensures ready { (C : Table) (n : ℕ) → AreReady C n slots.old → AreReady C n slots.new }
 {
     if slots.find(id).is_some() {
@@ -46,11 +46,11 @@ fn opens<O: Out>(slots: &mut Slots, now: Current, id: u32, out: &mut O) -> Resul
 
 /// At a CancelRequest's request id.
 fn cancels<O: Out>(slots: &mut Slots, now: Current, id: u32, out: &mut O) -> Result<(), OutFault>
-    ensures does { (C : Table) (l : Listed) (c : Scene) (m : Message) →
+    ensures does { (C : Table) (l : Listed) (c : Tracked) (m : Message) →
         IsNamed C l slots.old c m now id →
         is_fragment m.header ≡ false → is_opener m.header ≡ false → is_cancel m.header ≡ true →
-        Plays C l never result (O.log out.old) (O.log out.new) slots.new
-        (plays (message_reading C l) c (at_id c.live m)) (Some (title m)) }
+        TakesEffect C l never result (O.log out.old) (O.log out.new) slots.new
+        (effects (message_reading C l) c (at_id c.live m)) (Some (title m)) }
     ensures ready { (C : Table) (n : ℕ) → AreReady C n slots.old → AreReady C n slots.new }
 {
     let Some(k) = slots.find(id) else {
@@ -64,11 +64,11 @@ fn cancels<O: Out>(slots: &mut Slots, now: Current, id: u32, out: &mut O) -> Res
 
 /// A Fragment of no open message is faulted, and nobody has what follows.
 fn fails<O: Out>(slots: &mut Slots, now: Current, out: &mut O) -> Result<bool, OutFault>
-    ensures does { (C : Table) (l : Listed) (c : Scene) (m : Message) (id : ℕ) →
+    ensures does { (C : Table) (l : Listed) (c : Tracked) (m : Message) (id : ℕ) →
         IsNamed C l slots.old c m now id →
         is_fragment m.header ≡ true → opener_of c.live m ≡ None →
-        Plays C l one_if result (O.log out.old) (O.log out.new) slots.new
-        (plays (message_reading C l) c (at_id c.live m)) None }
+        TakesEffect C l one_if result (O.log out.old) (O.log out.new) slots.new
+        (effects (message_reading C l) c (at_id c.live m)) None }
     ensures ready { (C : Table) (n : ℕ) → AreReady C n slots.old → AreReady C n slots.new }
 {
     let faulted = slots.impose(now.number, ImposedFault::NoOpen, now.place, out);
@@ -80,11 +80,11 @@ fn fails<O: Out>(slots: &mut Slots, now: Current, out: &mut O) -> Result<bool, O
 #[tactic(auto, using(giop_print::proofs::Writing::writes_then, giop_print::proofs::Writing::writes_err))]
 fn passes<O: Out>(slots: &mut Slots, k: usize, now: Current, out: &mut O) -> Result<bool, OutFault>
     requires { k < length slots.old.slots.items }
-    ensures does { (C : Table) (l : Listed) (c : Scene) (m : Message) (id : ℕ) (o : Open) →
+    ensures does { (C : Table) (l : Listed) (c : Tracked) (m : Message) (id : ℕ) (o : Open) →
         IsNamed C l slots.old c m now id →
         is_fragment m.header ≡ true → opener_of c.live m ≡ Some o → slice_get c.live k ≡ Some o →
-        Plays C l one_if result (O.log out.old) (O.log out.new) slots.new
-        (plays (message_reading C l) c (at_id c.live m)) (Some o.opener) }
+        TakesEffect C l one_if result (O.log out.old) (O.log out.new) slots.new
+        (effects (message_reading C l) c (at_id c.live m)) (Some o.opener) }
     ensures ready { (C : Table) (n : ℕ) → AreReady C n slots.old → AreReady C n slots.new }
 {
     let number = slots.slots[k].number;
@@ -104,10 +104,10 @@ fn continues<O: Out>(
     id: u32,
     out: &mut O,
 ) -> Result<bool, OutFault>
-    ensures does { (C : Table) (l : Listed) (c : Scene) (m : Message) →
+    ensures does { (C : Table) (l : Listed) (c : Tracked) (m : Message) →
         IsNamed C l slots.old c m now id → is_fragment m.header ≡ true →
-        Plays C l one_if result (O.log out.old) (O.log out.new) slots.new
-        (plays (message_reading C l) c (at_id c.live m)) (opener_title (opener_of c.live m)) }
+        TakesEffect C l one_if result (O.log out.old) (O.log out.new) slots.new
+        (effects (message_reading C l) c (at_id c.live m)) (opener_title (opener_of c.live m)) }
     ensures ready { (C : Table) (n : ℕ) → AreReady C n slots.old → AreReady C n slots.new }
 {
     match slots.find(id) {
@@ -123,10 +123,10 @@ pub fn named<O: Out>(
     id: u32,
     out: &mut O,
 ) -> Result<bool, OutFault>
-    ensures does { (C : Table) (l : Listed) (c : Scene) (m : Message) →
+    ensures does { (C : Table) (l : Listed) (c : Tracked) (m : Message) →
         IsNamed C l slots.old c m now id →
-        Plays C l one_if result (O.log out.old) (O.log out.new) slots.new
-        (plays (message_reading C l) c (at_id c.live m)) (whose_named c.live m) }
+        TakesEffect C l one_if result (O.log out.old) (O.log out.new) slots.new
+        (effects (message_reading C l) c (at_id c.live m)) (whose_named c.live m) }
     ensures ready { (C : Table) (n : ℕ) → AreReady C n slots.old → AreReady C n slots.new }
 {
     if is_fragment(&now.header) {
@@ -150,10 +150,10 @@ pub fn ends<O: Out>(
     out: &mut O,
 ) -> Result<bool, OutFault>
     requires ready { AreReady catalogue.now (now.place + 1) slots.old }
-    ensures does { (l : Listed) (c : Scene) (m : Message) →
+    ensures does { (l : Listed) (c : Tracked) (m : Message) →
         IsAt catalogue.now l slots.old c m now → length m.payload ≡ size m.header →
-        Plays catalogue.now l one_if result (O.log out.old) (O.log out.new) slots.new
-        (plays (message_reading catalogue.now l) c (at_end c.live m)) None }
+        TakesEffect catalogue.now l one_if result (O.log out.old) (O.log out.new) slots.new
+        (effects (message_reading catalogue.now l) c (at_end c.live m)) None }
     ensures ready { AreReady catalogue.now (now.place + 1) slots.new }
 {
     if is_short(&now.header) {
@@ -170,10 +170,10 @@ pub fn ends<O: Out>(
 
 /// What an octet does where it is the last of a request id.
 fn names<O: Out>(slots: &mut Slots, now: Current, out: &mut O) -> Result<bool, OutFault>
-    ensures does { (C : Table) (l : Listed) (c : Scene) (m : Message) →
+    ensures does { (C : Table) (l : Listed) (c : Tracked) (m : Message) →
         IsTaken C l slots.old c m now →
-        Plays C l one_if result (O.log out.old) (O.log out.new) slots.new
-        (plays (message_reading C l) c (id_events c.live m)) (whose c.live m) }
+        TakesEffect C l one_if result (O.log out.old) (O.log out.new) slots.new
+        (effects (message_reading C l) c (id_events c.live m)) (whose c.live m) }
     ensures ready { (C : Table) (n : ℕ) → AreReady C n slots.old → AreReady C n slots.new }
 {
     if now.come == 4 {
@@ -191,10 +191,10 @@ fn finishes<O: Out>(
     out: &mut O,
 ) -> Result<bool, OutFault>
     requires ready { AreReady catalogue.now (now.place + 1) slots.old }
-    ensures does { (l : Listed) (c : Scene) (m : Message) →
+    ensures does { (l : Listed) (c : Tracked) (m : Message) →
         IsAt catalogue.now l slots.old c m now → length m.payload ≡ now.come →
-        Plays catalogue.now l one_if result (O.log out.old) (O.log out.new) slots.new
-        (plays (message_reading catalogue.now l) c (end_events c.live m)) (whose_after c.live m) }
+        TakesEffect catalogue.now l one_if result (O.log out.old) (O.log out.new) slots.new
+        (effects (message_reading catalogue.now l) c (end_events c.live m)) (whose_after c.live m) }
     ensures ready { AreReady catalogue.now (now.place + 1) slots.new }
 {
     if now.come == size_of(&now.header) {
@@ -223,12 +223,12 @@ pub fn octet<O: Out>(
     requires ready { AreReady catalogue.now now.place slots.old }
     requires of { AreOf catalogue.now requests.now }
     requires limit { now.place ≤ 2 ^ 48 }
-    ensures does { (c : Scene) (m : Message) →
+    ensures does { (c : Tracked) (m : Message) →
         IsNext catalogue.now requests.now slots.old c m now octet →
         (let R = message_reading catalogue.now requests.now in
-        let play = plays R c (happens c.live (with_octet m octet)) in
-        Plays catalogue.now requests.now all result (O.log out.old) (O.log out.new) slots.new
-        play (whose_after play.scene.live (with_octet m octet))) }
+        let effect = effects R c (happens c.live (with_octet m octet)) in
+        TakesEffect catalogue.now requests.now all result (O.log out.old) (O.log out.new) slots.new
+        effect (whose_after effect.tracked.live (with_octet m octet))) }
     ensures few { IfOk result (λ faults. faults ≤ 3) }
     ensures ready { OnOk result (AreReady catalogue.now (now.place + 1) slots.new) }
 {
@@ -248,10 +248,10 @@ fn starts<O: Out>(
     out: &mut O,
 ) -> Result<bool, OutFault>
     requires ready { AreReady catalogue.now now.place slots.old }
-    ensures does { (l : Listed) (c : Scene) (who : Option Title) (m : Message) →
+    ensures does { (l : Listed) (c : Tracked) (who : Option Title) (m : Message) →
         IsFirst catalogue.now l slots.old c who m now →
-        Plays catalogue.now l one_if result (O.log out.old) (O.log out.new) slots.new
-        (plays (message_reading catalogue.now l) c (at_header m)) (Some (title m)) }
+        TakesEffect catalogue.now l one_if result (O.log out.old) (O.log out.new) slots.new
+        (effects (message_reading catalogue.now l) c (at_header m)) (Some (title m)) }
     ensures ready { OnOk result (AreReady catalogue.now (now.place + 1) slots.new) }
 {
     start_line(out, now.number, &now.header)?;
@@ -270,11 +270,11 @@ pub fn header<O: Out>(
     out: &mut O,
 ) -> Result<u8, OutFault>
     requires ready { AreReady catalogue.now now.place slots.old }
-    ensures does { (l : Listed) (c : Scene) (who : Option Title) (m : Message) →
+    ensures does { (l : Listed) (c : Tracked) (who : Option Title) (m : Message) →
         IsFirst catalogue.now l slots.old c who m now →
-        (let play = plays (message_reading catalogue.now l) c (happens c.live m) in
-        Plays catalogue.now l all result (O.log out.old) (O.log out.new) slots.new
-        play (whose_after play.scene.live m)) }
+        (let effect = effects (message_reading catalogue.now l) c (happens c.live m) in
+        TakesEffect catalogue.now l all result (O.log out.old) (O.log out.new) slots.new
+        effect (whose_after effect.tracked.live m)) }
     ensures few { IfOk result (λ faults. faults ≤ 3) }
     ensures ready { OnOk result (AreReady catalogue.now (now.place + 1) slots.new) }
 {

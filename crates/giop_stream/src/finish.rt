@@ -12,7 +12,7 @@ impl Framing {
     ghost use Rattle.giop_print.specs.Output.{Writes};
     ghost use Rattle.giop_print.specs.Lines.{unfinished_line, total_line};
     ghost use Rattle.giop_sig.specs.Table.{Table};
-    ghost use Rattle.giop_message.specs.Signatures.{Kept as Listed};
+    ghost use Rattle.giop_message.specs.Signatures.{Listed};
     ghost use Rattle.giop_stream.specs.Text.{truncated_line};
     ghost use Rattle.giop_stream.specs.Engine.{State};
     ghost use Rattle.giop_stream.specs.Step as one;

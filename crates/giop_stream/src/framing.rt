@@ -37,7 +37,7 @@ pub struct Framing {
 impl Framing {
     ghost use Rattle.giop_print.specs.Output.{Writes};
     ghost use Rattle.giop_sig.specs.Table.{Table};
-    ghost use Rattle.giop_message.specs.Signatures.{Kept as Listed};
+    ghost use Rattle.giop_message.specs.Signatures.{Listed};
     ghost use Rattle.giop_message.specs.MessageReading.{message_reading};
     ghost use Rattle.giop_message.specs.Headers.{size};
     ghost use Rattle.giop_stream.specs.Headers.{wrong};

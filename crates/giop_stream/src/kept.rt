@@ -2,13 +2,13 @@
 
 ghost use Rattle.std.specs.Prelude.{◌≡◌, ◌+◌, ◌≤◌, ◌^◌, ℕ, List, length, Option, None, OnOk, IfOk, if◌then◌else◌};
 ghost use Rattle.giop_sig.specs.Table.{Table};
-ghost use Rattle.giop_message.specs.Signatures.{Kept as Listed};
+ghost use Rattle.giop_message.specs.Signatures.{Listed};
 ghost use Rattle.giop_message.specs.MessageReading.{message_reading};
 ghost use Rattle.giop_message.specs.Holding.{AreOf};
 ghost use Rattle.giop_stream.specs.Events.{Title, Imposed, Closes};
-ghost use Rattle.giop_stream.specs.Plays.{part_of, lines_of};
+ghost use Rattle.giop_stream.specs.Effects.{part_of, lines_of};
 ghost use Rattle.giop_stream.specs.Keeping.{IsKept, IsReady, event};
-ghost use Rattle.giop_stream.specs.Playing.{PlaysPart, Says, one_if};
+ghost use Rattle.giop_stream.specs.Performs.{PartTakesEffect, Says, one_if};
 ghost use Rattle.giop_stream.specs.Runs.{run_part};
 
 use crate::fault::ImposedFault;
@@ -38,7 +38,7 @@ pub fn give<O: Out>(
     requires limit { before + length octets.now ≤ 2 ^ 48 }
     ensures does { (w : Title) (o : Option (List ℕ)) →
         IsKept catalogue.now requests.now message.old w o →
-        PlaysPart catalogue.now requests.now one_if result (O.log out.old) (O.log out.new)
+        PartTakesEffect catalogue.now requests.now one_if result (O.log out.old) (O.log out.new)
         message.new w (run_part catalogue.now requests.now before w o octets.now) }
     ensures ready { OnOk result
         (IsReady catalogue.now (before + length octets.now + 1) message.new) }
@@ -63,7 +63,7 @@ pub fn impose<O: Out>(
 ) -> Result<bool, OutFault>
     ensures does { (C : Table) (l : Listed) (w : Title) (o : Option (List ℕ)) →
         IsKept C l message.old w o → w.number ≡ number →
-        PlaysPart C l one_if result (O.log out.old) (O.log out.new) message.new w
+        PartTakesEffect C l one_if result (O.log out.old) (O.log out.new) message.new w
         (part_of (message_reading C l) (event place w (Imposed fault)) o) }
     ensures ready { (C : Table) (n : ℕ) → IsReady C n message.new }
 {

@@ -10,7 +10,7 @@ ghost use Rattle.giop_stream.specs.Shares.{shares};
 ghost use Rattle.giop_stream.specs.Lines.{Class, has_class, lines};
 ghost use Rattle.giop_stream.specs.Text.{lines_text};
 ghost use Rattle.giop_stream.specs.Stream.{text, tally, final, closing};
-ghost use Rattle.giop_stream.specs.Plays.{Scene, scene_at, octets_then, stays, goes, IsNotOpen, slots_at};
+ghost use Rattle.giop_stream.specs.Effects.{Tracked, tracked_at, octets_then, stays, goes, IsNotOpen, slots_at};
 ghost use Rattle.giop_stream.specs.Engine.{state_of};
 ghost use Rattle.giop_stream.specs.Step.{fresh, step, run, run_state, finish, final_totals};
 
@@ -19,36 +19,36 @@ ghost use Rattle.giop_stream.specs.Step.{fresh, step, run, run_state, finish, fi
 /// What an event does to the slots of the open messages, in their places.
 pub fn each_slot()
     // An octet or a fault changes the slot of its message,
-    ensures stays { (R : Reading) (c : Scene) (e : Event) (k : ℕ) (o : Open) →
+    ensures stays { (R : Reading) (c : Tracked) (e : Event) (k : ℕ) (o : Open) →
         stays e.what ≡ true → Rising c.live → slice_get c.live k ≡ Some o → e.whom ≡ o.opener →
-        slots_at (scene_at R c e)
+        slots_at (tracked_at R c e)
         ≡ slice_set (slots_at c) k (record { open_as = o; octets = octets_then R e (c.known o.opener.number) }) }
     // and none where that isn't open.
-    ensures own { (R : Reading) (c : Scene) (e : Event) →
+    ensures own { (R : Reading) (c : Tracked) (e : Event) →
         stays e.what ≡ true → IsNotOpen e.whom.number c.live →
-        slots_at (scene_at R c e) ≡ slots_at c }
+        slots_at (tracked_at R c e) ≡ slots_at c }
     // A close or a cancel takes the slot away,
-    ensures goes { (R : Reading) (c : Scene) (e : Event) (k : ℕ) (o : Open) →
+    ensures goes { (R : Reading) (c : Tracked) (e : Event) (k : ℕ) (o : Open) →
         goes e.what ≡ true → Rising c.live → slice_get c.live k ≡ Some o → e.whom ≡ o.opener →
-        slots_at (scene_at R c e) ≡ remove (slots_at c) k }
+        slots_at (tracked_at R c e) ≡ remove (slots_at c) k }
     // and none where the message isn't open.
-    ensures closes { (R : Reading) (c : Scene) (e : Event) →
+    ensures closes { (R : Reading) (c : Tracked) (e : Event) →
         goes e.what ≡ true → IsNotOpen e.whom.number c.live →
-        slots_at (scene_at R c e) ≡ slots_at c }
+        slots_at (tracked_at R c e) ≡ slots_at c }
     // A message that becomes open gets the last slot.
-    ensures opens { (R : Reading) (c : Scene) (e : Event) (i : ℕ) →
+    ensures opens { (R : Reading) (c : Tracked) (e : Event) (i : ℕ) →
         e.what ≡ Opens i → IsNotOpen e.whom.number c.live →
         (let o : Open = record { id = i; opener = e.whom } in
-        slots_at (scene_at R c e)
+        slots_at (tracked_at R c e)
         ≡ slots_at c ++ record { open_as = o; octets = c.known e.whom.number } ∷ []) }
     // A Fragment that continues a message changes nothing.
-    ensures continues { (R : Reading) (c : Scene) (e : Event) (n : ℕ) →
-        e.what ≡ Continues n → scene_at R c e ≡ c }
+    ensures continues { (R : Reading) (c : Tracked) (e : Event) (n : ℕ) →
+        e.what ≡ Continues n → tracked_at R c e ≡ c }
     // What is kept of the event's message is that of its octets then; nothing else changes.
-    ensures kept { (R : Reading) (c : Scene) (e : Event) →
-        (scene_at R c e).known e.whom.number ≡ octets_then R e (c.known e.whom.number) }
-    ensures others { (R : Reading) (c : Scene) (e : Event) (i : ℕ) → (i ≡ e.whom.number → ⊥) →
-        (scene_at R c e).known i ≡ c.known i }
+    ensures kept { (R : Reading) (c : Tracked) (e : Event) →
+        (tracked_at R c e).known e.whom.number ≡ octets_then R e (c.known e.whom.number) }
+    ensures others { (R : Reading) (c : Tracked) (e : Event) (i : ℕ) → (i ≡ e.whom.number → ⊥) →
+        (tracked_at R c e).known i ≡ c.known i }
     // The numbers of a stream's open messages rise.
     ensures rising { (p : List ℕ) → Rising (open_after p) }
 {}

@@ -4,7 +4,7 @@ ghost use Rattle.std.specs.Prelude.{◌≡◌, ℕ, List, ◌+◌, ◌<◌, ◌�
 ghost use Rattle.giop_sig.specs.Table.{Table};
 ghost use Rattle.giop_message.specs.Holding.{Follows};
 ghost use Rattle.giop_message.specs.MessageReading.{message_reading};
-ghost use Rattle.giop_message.specs.Signatures.{Kept as Listed};
+ghost use Rattle.giop_message.specs.Signatures.{Listed};
 ghost use Rattle.giop_message.specs.Stored.{Stored};
 ghost use Rattle.giop_message.specs.declared.message.Message.{Message as Kept_message};
 ghost use Rattle.giop_checkpoint.specs.Fixed.{HasRange};

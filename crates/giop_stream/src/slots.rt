@@ -3,10 +3,10 @@
 ghost use Rattle.std.specs.Prelude.{◌≡◌, ◌+◌, ◌≤◌, ◌^◌, ℕ, [], length, Option, Some, None, OnOk, IfOk, if◌then◌else◌};
 ghost use Rattle.giop_print.specs.Output.{Writes};
 ghost use Rattle.giop_sig.specs.Table.{Table};
-ghost use Rattle.giop_message.specs.Signatures.{Kept as Listed};
+ghost use Rattle.giop_message.specs.Signatures.{Listed};
 ghost use Rattle.giop_message.specs.Holding.{AreOf};
 ghost use Rattle.giop_stream.specs.Events.{Title, Imposed, Closes, most_open};
-ghost use Rattle.giop_stream.specs.Plays.{Scene, IsNotOpen};
+ghost use Rattle.giop_stream.specs.Effects.{Tracked, IsNotOpen};
 
 use crate::fault::ImposedFault;
 use crate::kept::{give, impose, shut};
@@ -56,11 +56,11 @@ impl Slots {
     ghost use Rattle.giop_message.specs.Signatures.{said_by};
     ghost use Rattle.giop_message.specs.Messages.{message, told_of};
     ghost use Rattle.giop_message.specs.MessageReading.{id_said};
-    ghost use Rattle.giop_stream.specs.Keeping.{AreSlots, IsKept, Keeps, AreReady, IsBare, play_to};
-    ghost use Rattle.giop_stream.specs.Playing.{Plays, one_if, never};
+    ghost use Rattle.giop_stream.specs.Keeping.{AreSlots, IsKept, Keeps, AreReady, IsBare, effect_to};
+    ghost use Rattle.giop_stream.specs.Performs.{TakesEffect, one_if, never};
     ghost use Rattle.giop_stream.specs.Machine.{left_open};
     ghost use Rattle.giop_stream.specs.State.{Slot as Held};
-    ghost use Rattle.giop_stream.specs.Runs.{run_play};
+    ghost use Rattle.giop_stream.specs.Runs.{run_effect};
 
     /// No message.
     pub fn new() -> Slots
@@ -102,10 +102,10 @@ impl Slots {
         requires ready { AreReady catalogue.now (before + 1) self.old }
         requires of { AreOf catalogue.now requests.now }
         requires limit { before + length octets.now ≤ 2 ^ 48 }
-        ensures does { (c : Scene) (whose : Option Title) →
+        ensures does { (c : Tracked) (whose : Option Title) →
             Keeps catalogue.now requests.now self.old c whose → Rising c.live →
-            Plays catalogue.now requests.now one_if result (O.log out.old) (O.log out.new) self.new
-            (run_play catalogue.now requests.now before c whose octets.now) whose }
+            TakesEffect catalogue.now requests.now one_if result (O.log out.old) (O.log out.new) self.new
+            (run_effect catalogue.now requests.now before c whose octets.now) whose }
         ensures ready { OnOk result
             (AreReady catalogue.now (before + length octets.now + 1) self.new) }
     {
@@ -127,10 +127,10 @@ impl Slots {
         place: u64,
         out: &mut O,
     ) -> Result<bool, OutFault>
-        ensures does { (C : Table) (l : Listed) (c : Scene) (w : Title) →
+        ensures does { (C : Table) (l : Listed) (c : Tracked) (w : Title) →
             Keeps C l self.old c (Some w) → w.number ≡ number → Rising c.live →
-            Plays C l one_if result (O.log out.old) (O.log out.new) self.new
-            (play_to C l place c (Some w) (Imposed fault)) (Some w) }
+            TakesEffect C l one_if result (O.log out.old) (O.log out.new) self.new
+            (effect_to C l place c (Some w) (Imposed fault)) (Some w) }
         ensures ready { (C : Table) (n : ℕ) → AreReady C n self.old → AreReady C n self.new }
     {
         match self.payload {
@@ -151,10 +151,10 @@ impl Slots {
         out: &mut O,
     ) -> Result<bool, OutFault>
         requires ready { AreReady catalogue.now (place + 1) self.old }
-        ensures does { (l : Listed) (c : Scene) (whose : Option Title) →
+        ensures does { (l : Listed) (c : Tracked) (whose : Option Title) →
             Keeps catalogue.now l self.old c whose → Rising c.live →
-            Plays catalogue.now l one_if result (O.log out.old) (O.log out.new) self.new
-            (play_to catalogue.now l place c whose Closes) None }
+            TakesEffect catalogue.now l one_if result (O.log out.old) (O.log out.new) self.new
+            (effect_to catalogue.now l place c whose Closes) None }
         ensures ready { AreReady catalogue.now (place + 1) self.new }
     {
         let payload = self.payload;
@@ -172,10 +172,10 @@ impl Slots {
     /// Makes the message whose payload comes an open one.
     pub fn open(&mut self, number: u64, header: [u8; 12], id: u32)
         requires { length self.old.slots.items < most_open }
-        ensures kept { (C : Table) (l : Listed) (c : Scene) (w : Title) (place : ℕ) →
+        ensures kept { (C : Table) (l : Listed) (c : Tracked) (w : Title) (place : ℕ) →
             Keeps C l self.old c (Some w) → self.old.payload ≡ Payload.Own →
             w.number ≡ number → w.header ≡ header →
-            Keeps C l self.new (play_to C l place c (Some w) (Opens id)).scene (Some w) }
+            Keeps C l self.new (effect_to C l place c (Some w) (Opens id)).tracked (Some w) }
         ensures ready { (C : Table) (n : ℕ) → AreReady C n self.old → AreReady C n self.new }
     {
         let message = self.own.take();
@@ -190,7 +190,7 @@ impl Slots {
 
     /// The payload is of the open message at this place, from now on.
     pub fn pass_on(&mut self, k: usize)
-        ensures kept { (C : Table) (l : Listed) (c : Scene) (whose : Option Title) (o : Open) →
+        ensures kept { (C : Table) (l : Listed) (c : Tracked) (whose : Option Title) (o : Open) →
             Keeps C l self.old c whose → slice_get c.live k ≡ Some o →
             Keeps C l self.new c (Some o.opener) }
         ensures ready { (C : Table) (n : ℕ) → AreReady C n self.old → AreReady C n self.new }
@@ -201,7 +201,7 @@ impl Slots {
 
     /// The payload is no message's, from now on.
     pub fn lose(&mut self)
-        ensures kept { (C : Table) (l : Listed) (c : Scene) (whose : Option Title) →
+        ensures kept { (C : Table) (l : Listed) (c : Tracked) (whose : Option Title) →
             Keeps C l self.old c whose → Keeps C l self.new c None }
         ensures ready { (C : Table) (n : ℕ) → AreReady C n self.old → AreReady C n self.new }
     {
@@ -211,7 +211,7 @@ impl Slots {
 
     /// A message begins.
     pub fn begin(&mut self, catalogue: &Catalogue, number: u64, header: [u8; 12])
-        ensures kept { (l : Listed) (c : Scene) (whose : Option Title) (w : Title) →
+        ensures kept { (l : Listed) (c : Tracked) (whose : Option Title) (w : Title) →
             Keeps catalogue.now l self.old c whose → w.number ≡ number → w.header ≡ header →
             c.known w.number ≡ Some [] → IsNotOpen w.number c.live →
             Keeps catalogue.now l self.new c (Some w) }
@@ -250,11 +250,11 @@ impl Slots {
         place: u64,
         out: &mut O,
     ) -> Result<(), OutFault>
-        ensures does { (C : Table) (l : Listed) (c : Scene) (w : Title) (o : Open) →
+        ensures does { (C : Table) (l : Listed) (c : Tracked) (w : Title) (o : Open) →
             Keeps C l self.old c (Some w) → self.old.payload ≡ Payload.Own →
             slice_get c.live k ≡ Some o → Rising c.live →
-            Plays C l never result (O.log out.old) (O.log out.new) self.new
-            (play_to C l place c (Some o.opener) (Cancelled by)) (Some w) }
+            TakesEffect C l never result (O.log out.old) (O.log out.new) self.new
+            (effect_to C l place c (Some o.opener) (Cancelled by)) (Some w) }
         ensures ready { (C : Table) (n : ℕ) → AreReady C n self.old → AreReady C n self.new }
     {
         match self.slots.pop_at(k) {

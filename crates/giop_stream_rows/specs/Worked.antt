@@ -5,7 +5,7 @@ use Rattle.giop_sig.specs.Table.{Node, members, Operation, Exception, Table, op_
 use Rattle.giop_sig.specs.Builtin.{builtin_types, member}
 use Rattle.giop_sig.specs.RequestList.{Entry, IsOf}
 use Rattle.giop_message.specs.Reading.{Reading}
-use Rattle.giop_message.specs.Signatures.{Kept}
+use Rattle.giop_message.specs.Signatures.{Listed}
 use Rattle.giop_message.specs.MessageReading.{message_reading}
 use Rattle.giop_stream.specs.Stream.{text, closing}
 
@@ -36,7 +36,7 @@ pub record Row (R : Reading) (p : List ℕ) (lines end : List (List ℕ)) : Type
 
 -- ---- What the streams are read by.
 
-unfoldable pub reading : Table → Kept → Reading
+unfoldable pub reading : Table → Listed → Reading
 reading table kept = message_reading table kept
 
 -- an operation by the structs of its parameters and of its results, which stand one behind the other; the first is counted
@@ -90,7 +90,7 @@ unfoldable pub entries : List Entry
 entries = entry 1 (codes "ask") ∷ entry 1 (codes "ask") ∷ entry 2 (codes "nop") ∷ entry 2 (codes "ask") ∷ []
 
 -- what is kept of these: the one operation of the first id, and none of the second
-unfoldable pub kept : Kept
+unfoldable pub kept : Listed
 kept = (1, Some (op_id 0)) ∷ (2, None) ∷ []
 
 -- it answers as the list does, for these declarations

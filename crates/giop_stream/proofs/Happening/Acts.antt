@@ -8,7 +8,7 @@ use Rattle.giop_message.specs.Reading.{Reading}
 use Rattle.giop_stream.specs.Events.{Event, Open, Rising, changed, joined, Now, header_acts, octet_acts, id_acts, end_acts, acts}
 use Rattle.giop_stream.specs.Lines.{is_last_of, standing}
 use Rattle.giop_stream.specs.Machine.{utters_kept, taking, written}
-use Rattle.giop_stream.specs.Plays.{Scene, Play, lines_at, scene_at, plays}
+use Rattle.giop_stream.specs.Effects.{Tracked, Effect, lines_at, tracked_at, effects}
 use Rattle.giop_stream.specs.Step.{numbered}
 use Rattle.giop_stream.proofs.Told.Turns.{unnamed}
 
@@ -55,29 +55,29 @@ module _ (live : List Open) (now : Now) (i j : ℕ) (o q : Option Open) where
     | inr other ↦ elsewhere other (is_fragment now.whom.header) refl (λ f past. k past f)
   ]
 
--- ---- A play goes by what is known of the messages of its events.
+-- ---- An effect goes by what is known of the messages of its events.
 
-pub record AgreeOn (P : ℕ → Type 0) (a b : Play) : Type 0 where
+pub record AgreeOn (P : ℕ → Type 0) (a b : Effect) : Type 0 where
   pub lines : a.lines ≡ b.lines
-  pub live : a.scene.live ≡ b.scene.live
-  pub known : (i : ℕ) → P i → a.scene.known i ≡ b.scene.known i
+  pub live : a.tracked.live ≡ b.tracked.live
+  pub known : (i : ℕ) → P i → a.tracked.known i ≡ b.tracked.known i
 
-pub plays_agree : (R : Reading) (P : ℕ → Type 0) (c d : Scene) (es : List Event) → c.live ≡ d.live
-    → ((i : ℕ) → P i → c.known i ≡ d.known i) → Each (λ e. P e.whom.number) es → AgreeOn P (plays R c es) (plays R d es)
-unfolding plays
-plays_agree R P c d [] l h k = record { lines = refl; live = l; known = h }
-plays_agree R P c d (e ∷ es) l h k =
+pub effects_agree : (R : Reading) (P : ℕ → Type 0) (c d : Tracked) (es : List Event) → c.live ≡ d.live
+    → ((i : ℕ) → P i → c.known i ≡ d.known i) → Each (λ e. P e.whom.number) es → AgreeOn P (effects R c es) (effects R d es)
+unfolding effects
+effects_agree R P c d [] l h k = record { lines = refl; live = l; known = h }
+effects_agree R P c d (e ∷ es) l h k =
     let now : lines_at R c.known e ≡ lines_at R d.known e = unfold lines_at in
     ap (λ (o : Option (List ℕ)). standing (λ i. false) (utters_kept R e o)) (h e.whom.number k.0) in
-    let more = plays_agree R P (scene_at R c e) (scene_at R d e) es (live_then l) (known_then now) k.1 in
+    let more = effects_agree R P (tracked_at R c e) (tracked_at R d e) es (live_then l) (known_then now) k.1 in
     record { lines = λ j. now j ++ more.lines j; live = more.live; known = more.known }
   where
-    live_then : c.live ≡ d.live → (scene_at R c e).live ≡ (scene_at R d e).live
-    live_then l = unfold scene_at in ap (λ (live : List Open). changed live e.whom e.what) l
+    live_then : c.live ≡ d.live → (tracked_at R c e).live ≡ (tracked_at R d e).live
+    live_then l = unfold tracked_at in ap (λ (live : List Open). changed live e.whom e.what) l
 
-    known_then : lines_at R c.known e ≡ lines_at R d.known e → (i : ℕ) → P i → (scene_at R c e).known i ≡ (scene_at R d e).known i
+    known_then : lines_at R c.known e ≡ lines_at R d.known e → (i : ℕ) → P i → (tracked_at R c e).known i ≡ (tracked_at R d e).known i
     known_then now i p =
-        unfold scene_at written taking in λ j. if list_any (is_last_of i) (now j) then None else option_map (λ xs. xs ++ joined i (e ∷ [])) (h i p j)
+        unfold tracked_at written taking in λ j. if list_any (is_last_of i) (now j) then None else option_map (λ xs. xs ++ joined i (e ∷ [])) (h i p j)
 
 -- ---- Among open messages, whose numbers rise, one is found by its number.
 

@@ -11,7 +11,7 @@ use Rattle.giop_message.specs.Reading.{Reading, IsCausal, IsEnding, IsInTurn}
 use Rattle.giop_stream.specs.Events.{Happening, Event, Open, place, happens, opened, events_from, events, open_after}
 use Rattle.giop_stream.specs.Lines.{is_last_of, said}
 use Rattle.giop_stream.specs.Stream.{is_over, heads}
-use Rattle.giop_stream.specs.Plays.{with_octet}
+use Rattle.giop_stream.specs.Effects.{with_octet}
 use Rattle.giop_stream.specs.Octet.{Octet, Behind, Ends, Held, Of}
 use Rattle.giop_stream.specs.State.{octets_of, is_open}
 use Rattle.giop_stream.specs.Machine.{now_written}

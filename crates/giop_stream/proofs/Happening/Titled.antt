@@ -4,7 +4,7 @@ use Rattle.std.specs.List.{AllByRecursion as Each}
 use Rattle.giop_message.specs.Reading.{Reading, IsCausal, IsInTurn}
 use Rattle.giop_stream.specs.Framing.{Message, Cut, cut, messages}
 use Rattle.giop_stream.specs.Events.{Open, id, title, happens, opened, open_after}
-use Rattle.giop_stream.specs.Plays.{Scene, with_octet, stage}
+use Rattle.giop_stream.specs.Effects.{Tracked, with_octet, stage}
 use Rattle.giop_stream.specs.Octet.{Octet, Behind, Ends, Held, Of}
 use Rattle.giop_stream.proofs.Lists.{by_growth, each_append, each_filter, each_weaker}
 use Rattle.giop_stream.proofs.Cuts.Cutting.{of_parts, stopped_at}
@@ -13,7 +13,7 @@ use Rattle.giop_stream.proofs.Told.Beginning.{settled_is}
 use Rattle.giop_stream.proofs.Cuts.Start.{cut_nothing}
 use Rattle.giop_stream.proofs.Happening.Soundness.{IsSound}
 use Rattle.giop_stream.proofs.Moves.OneOctet.{Then, then_is}
-use Rattle.giop_stream.proofs.Moves.EngineStep.{plays_live}
+use Rattle.giop_stream.proofs.Moves.EngineStep.{effects_live}
 use Rattle.giop_stream.proofs.Moves.EngineAlive.{sound}
 
 abbrev pub IsTitled : Message → List Open → Type 0
@@ -50,7 +50,7 @@ module _ (R : Reading) (p : List ℕ) (x : ℕ) (so_far : IsSound R p) (ih : Has
       let one = h.1 in
       let s = settled_is (cut p).whole one.m m (ap (λ (c : Cut). c.current) (sym one.adds.cut_is) ∙ cur) in
       let live : open_after (p ++ x ∷ []) ≡ opened (open_after p) (happens (open_after p) one.m) =
-      ap (λ (c : Scene). c.live) one.adds.stage ∙ plays_live R (stage R p) (happens (open_after p) one.m) in
+      ap (λ (c : Tracked). c.live) one.adds.stage ∙ effects_live R (stage R p) (happens (open_after p) one.m) in
       subst (λ (n : Message). IsTitled n (open_after (p ++ x ∷ []))) (sym s.same)
       (rw live (titled_happens (open_after p) one.m (before one.m h.0 one.number_is one.from)))
 

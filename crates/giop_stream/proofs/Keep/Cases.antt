@@ -10,53 +10,53 @@ use Rattle.giop_stream.specs.Kinds.{may_be_cancelled, refused}
 use Rattle.giop_stream.specs.Events.{Happening, Begins, Takes, Opens, Continues, Cancelled, Imposed, Title, Event, Open, title, place, id, own, about, opener_of, goes_past, at_header, at_octet, most_open, same_order, at_id, now_of, header_acts, octet_acts, id_acts}
 use Rattle.giop_stream.specs.Lines.{Line, line, tells, standing}
 use Rattle.giop_stream.specs.Machine.{utters_kept}
-use Rattle.giop_stream.specs.Plays.{Scene, lines_at, scene_at, lines_of, plays, one_play, no_play, starts, goes_on}
-use Rattle.giop_stream.proofs.Keep.Places.{scene_stays, scene_begins}
+use Rattle.giop_stream.specs.Effects.{Tracked, lines_at, tracked_at, lines_of, effects, one_effect, no_effect, starts, goes_on}
+use Rattle.giop_stream.proofs.Keep.Places.{tracked_stays, tracked_begins}
 
--- ---- Plays of few events.
+-- ---- The effects of few events.
 
-pub plays_none : (R : Reading) (c : Scene) → plays R c [] ≡ no_play c
-unfolding plays
-plays_none R c = refl
+pub effects_none : (R : Reading) (c : Tracked) → effects R c [] ≡ no_effect c
+unfolding effects
+effects_none R c = refl
 
-plays_one : (R : Reading) (c : Scene) (at : ℕ) (whom : Title) (what : Happening)
-    → plays R c (record { place = at; whom = whom; what = what } ∷ []) ≡ one_play R c at whom what
-unfolding plays lines_at lines_of
-plays_one R c at whom what =
+effects_one : (R : Reading) (c : Tracked) (at : ℕ) (whom : Title) (what : Happening)
+    → effects R c (record { place = at; whom = whom; what = what } ∷ []) ≡ one_effect R c at whom what
+unfolding effects lines_at lines_of
+effects_one R c at whom what =
     let e : Event = record { place = at; whom = whom; what = what } in
-    λ j. record { scene = scene_at R c e; lines = append-nil (lines_of R e (c.known whom.number)) j }
+    λ j. record { tracked = tracked_at R c e; lines = append-nil (lines_of R e (c.known whom.number)) j }
 
-pub plays_append : (R : Reading) (c : Scene) (es fs : List Event)
-    → plays R c (es ++ fs) ≡ record {
-      scene = (plays R (plays R c es).scene fs).scene;
-      lines = (plays R c es).lines ++ (plays R
-          (plays R c es).scene fs).lines;
+pub effects_append : (R : Reading) (c : Tracked) (es fs : List Event)
+    → effects R c (es ++ fs) ≡ record {
+      tracked = (effects R (effects R c es).tracked fs).tracked;
+      lines = (effects R c es).lines ++ (effects R
+          (effects R c es).tracked fs).lines;
     }
-unfolding plays
-plays_append R c [] fs = refl
-plays_append R c (e ∷ es) fs =
-    rw (plays_append R (scene_at R c e) es fs)
+unfolding effects
+effects_append R c [] fs = refl
+effects_append R c (e ∷ es) fs =
+    rw (effects_append R (tracked_at R c e) es fs)
     (λ j. record {
-      scene = (plays R (plays R (scene_at R c e) es).scene fs).scene;
+      tracked = (effects R (effects R (tracked_at R c e) es).tracked fs).tracked;
       lines = back (lines_at R c.known e)
-          (plays R (scene_at R c e) es).lines (plays R (plays R (scene_at R c e) es).scene fs).lines j;
+          (effects R (tracked_at R c e) es).lines (effects R (effects R (tracked_at R c e) es).tracked fs).lines j;
     })
   where
     back : (xs ys zs : List Line) → xs ++ (ys ++ zs) ≡ (xs ++ ys) ++ zs
     back xs ys zs = sym (append_assoc xs ys zs)
 
-pub plays_own : (R : Reading) (c : Scene) (m : Message) (what : Happening) → plays R c (own (now_of m) what) ≡ one_play R c (place m) (title m) what
+pub effects_own : (R : Reading) (c : Tracked) (m : Message) (what : Happening) → effects R c (own (now_of m) what) ≡ one_effect R c (place m) (title m) what
 unfolding own
-plays_own R c m what = plays_one R c (place m) (title m) what
+effects_own R c m what = effects_one R c (place m) (title m) what
 
-pub plays_about : (R : Reading) (c : Scene) (m : Message) (o : Open) (what : Happening)
-    → plays R c (about (now_of m) (Some o) what) ≡ one_play R c (place m) o.opener what
+pub effects_about : (R : Reading) (c : Tracked) (m : Message) (o : Open) (what : Happening)
+    → effects R c (about (now_of m) (Some o) what) ≡ one_effect R c (place m) o.opener what
 unfolding about
-plays_about R c m o what = plays_one R c (place m) o.opener what
+effects_about R c m o what = effects_one R c (place m) o.opener what
 
-pub plays_nobody : (R : Reading) (c : Scene) (m : Message) (what : Happening) → plays R c (about (now_of m) None what) ≡ no_play c
+pub effects_nobody : (R : Reading) (c : Tracked) (m : Message) (what : Happening) → effects R c (about (now_of m) None what) ≡ no_effect c
 unfolding about
-plays_nobody R c m what = plays_none R c
+effects_nobody R c m what = effects_none R c
 
 -- ---- A header's last octet.
 
@@ -64,124 +64,124 @@ began : (R : Reading) (m : Message) (xs : List ℕ) → lines_of R (record { pla
 unfolding lines_of utters_kept tells line standing
 began R m xs = refl
 
-begins_first : (R : Reading) (c : Scene) (m : Message) (xs : List ℕ) (es : List Event) → c.known m.number ≡ Some xs
-    → plays R c (own (now_of m) Begins ++ es) ≡ record { scene = (plays R c es).scene; lines = starts m ∷ (plays R c es).lines }
+begins_first : (R : Reading) (c : Tracked) (m : Message) (xs : List ℕ) (es : List Event) → c.known m.number ≡ Some xs
+    → effects R c (own (now_of m) Begins ++ es) ≡ record { tracked = (effects R c es).tracked; lines = starts m ∷ (effects R c es).lines }
 begins_first R c m xs es k =
-    plays_append R c (own (now_of m) Begins) es
-    ∙ rw (plays_own R c m Begins, scene_begins R c (record { place = place m; whom = title m; what = Begins }) refl, k, began R m xs) refl
+    effects_append R c (own (now_of m) Begins) es
+    ∙ rw (effects_own R c m Begins, tracked_begins R c (record { place = place m; whom = title m; what = Begins }) refl, k, began R m xs) refl
 
-pub header_begins : (R : Reading) (c : Scene) (m : Message) (xs : List ℕ) → c.known m.number ≡ Some xs
-    → refused m.header ≡ None → plays R c (at_header m) ≡ record { scene = c; lines = starts m ∷ [] }
+pub header_begins : (R : Reading) (c : Tracked) (m : Message) (xs : List ℕ) → c.known m.number ≡ Some xs
+    → refused m.header ≡ None → effects R c (at_header m) ≡ record { tracked = c; lines = starts m ∷ [] }
 unfolding header_acts
-header_begins R c m xs k e = rw e (begins_first R c m xs [] k ∙ rw (plays_none R c) refl)
+header_begins R c m xs k e = rw e (begins_first R c m xs [] k ∙ rw (effects_none R c) refl)
 
-pub header_refused : (R : Reading) (c : Scene) (m : Message) (xs : List ℕ) (fault : ImposedFault) → c.known m.number ≡ Some xs → refused m.header ≡ Some fault
-    → (let imposed = one_play R c (place m) (title m) (Imposed fault) in plays R c (at_header m)
-    ≡ record { scene = imposed.scene; lines = starts m ∷ imposed.lines })
+pub header_refused : (R : Reading) (c : Tracked) (m : Message) (xs : List ℕ) (fault : ImposedFault) → c.known m.number ≡ Some xs → refused m.header ≡ Some fault
+    → (let imposed = one_effect R c (place m) (title m) (Imposed fault) in effects R c (at_header m)
+    ≡ record { tracked = imposed.tracked; lines = starts m ∷ imposed.lines })
 unfolding header_acts
-header_refused R c m xs fault k e = rw e (begins_first R c m xs (own (now_of m) (Imposed fault)) k ∙ rw (plays_own R c m (Imposed fault)) refl)
+header_refused R c m xs fault k e = rw e (begins_first R c m xs (own (now_of m) (Imposed fault)) k ∙ rw (effects_own R c m (Imposed fault)) refl)
 
 -- ---- An octet of a payload.
 
-pub octet_own : (R : Reading) (c : Scene) (live : List Open) (m : Message) → goes_past m ≡ false
-    → plays R c (at_octet live m) ≡ one_play R c (place m) (title m) (Takes (get_or m.payload (length m.payload - 1) 0))
+pub octet_own : (R : Reading) (c : Tracked) (live : List Open) (m : Message) → goes_past m ≡ false
+    → effects R c (at_octet live m) ≡ one_effect R c (place m) (title m) (Takes (get_or m.payload (length m.payload - 1) 0))
 unfolding octet_acts goes_past
-octet_own R c live m h = rw h (plays_own R c m (Takes (get_or m.payload (length m.payload - 1) 0)))
+octet_own R c live m h = rw h (effects_own R c m (Takes (get_or m.payload (length m.payload - 1) 0)))
 
-pub octet_passed : (R : Reading) (c : Scene) (live : List Open) (m : Message) (o : Open) → goes_past m ≡ true
-    → opener_of live m ≡ Some o → plays R c (at_octet live m) ≡ one_play R c (place m) o.opener
+pub octet_passed : (R : Reading) (c : Tracked) (live : List Open) (m : Message) (o : Open) → goes_past m ≡ true
+    → opener_of live m ≡ Some o → effects R c (at_octet live m) ≡ one_effect R c (place m) o.opener
     (Takes (get_or m.payload (length m.payload - 1) 0))
 unfolding octet_acts goes_past
-octet_passed R c live m o h e = rw (h, e) (plays_about R c m o (Takes (get_or m.payload (length m.payload - 1) 0)))
+octet_passed R c live m o h e = rw (h, e) (effects_about R c m o (Takes (get_or m.payload (length m.payload - 1) 0)))
 
-pub octet_lost : (R : Reading) (c : Scene) (live : List Open) (m : Message) → goes_past m ≡ true → opener_of live m ≡ None
-    → plays R c (at_octet live m) ≡ no_play c
+pub octet_lost : (R : Reading) (c : Tracked) (live : List Open) (m : Message) → goes_past m ≡ true → opener_of live m ≡ None
+    → effects R c (at_octet live m) ≡ no_effect c
 unfolding octet_acts goes_past
-octet_lost R c live m h e = rw (h, e) (plays_nobody R c m (Takes (get_or m.payload (length m.payload - 1) 0)))
+octet_lost R c live m h e = rw (h, e) (effects_nobody R c m (Takes (get_or m.payload (length m.payload - 1) 0)))
 
 -- ---- A request id: of a Fragment,
 
-pub fragment_unknown : (R : Reading) (c : Scene) (live : List Open) (m : Message) → is_fragment m.header ≡ true
-    → opener_of live m ≡ None → plays R c (at_id live m) ≡ one_play R c (place m) (title m) (Imposed NoOpen)
+pub fragment_unknown : (R : Reading) (c : Tracked) (live : List Open) (m : Message) → is_fragment m.header ≡ true
+    → opener_of live m ≡ None → effects R c (at_id live m) ≡ one_effect R c (place m) (title m) (Imposed NoOpen)
 unfolding id_acts
-fragment_unknown R c live m f e = rw (f, e) (plays_own R c m (Imposed NoOpen))
+fragment_unknown R c live m f e = rw (f, e) (effects_own R c m (Imposed NoOpen))
 
 went_on : (R : Reading) (m : Message) (o : Open) (xs : List ℕ)
     → lines_of R (record { place = place m; whom = title m; what = Continues o.opener.number }) (Some xs) ≡ goes_on m o ∷ []
 unfolding lines_of utters_kept tells line standing
 went_on R m o xs = refl
 
-goes_first : (R : Reading) (c : Scene) (m : Message) (o : Open) (xs : List ℕ) (es : List Event) → c.known m.number ≡ Some xs
-    → plays R c (own (now_of m) (Continues o.opener.number) ++ es)
-    ≡ record { scene = (plays R c es).scene; lines = goes_on m o ∷ (plays R c es).lines }
+goes_first : (R : Reading) (c : Tracked) (m : Message) (o : Open) (xs : List ℕ) (es : List Event) → c.known m.number ≡ Some xs
+    → effects R c (own (now_of m) (Continues o.opener.number) ++ es)
+    ≡ record { tracked = (effects R c es).tracked; lines = goes_on m o ∷ (effects R c es).lines }
 goes_first R c m o xs es k =
-    plays_append R c (own (now_of m) (Continues o.opener.number)) es
+    effects_append R c (own (now_of m) (Continues o.opener.number)) es
     ∙ rw (
-      plays_own R c m (Continues o.opener.number),
-      scene_stays R c
+      effects_own R c m (Continues o.opener.number),
+      tracked_stays R c
           (record { place = place m; whom = title m; what = Continues o.opener.number }) o.opener.number refl,
       k,
       went_on R m o xs,
     ) refl
 
-pub fragment_in_order : (R : Reading) (c : Scene) (live : List Open) (m : Message) (o : Open) (xs : List ℕ)
+pub fragment_in_order : (R : Reading) (c : Tracked) (live : List Open) (m : Message) (o : Open) (xs : List ℕ)
     → is_fragment m.header ≡ true → opener_of live m ≡ Some o → c.known m.number ≡ Some xs
     → same_order (order m.header) (order o.opener.header) ≡ true
-    → plays R c (at_id live m) ≡ record { scene = c; lines = goes_on m o ∷ [] }
+    → effects R c (at_id live m) ≡ record { tracked = c; lines = goes_on m o ∷ [] }
 unfolding id_acts
-fragment_in_order R c live m o xs f e k s = rw (f, e, s) (goes_first R c m o xs [] k ∙ rw (plays_none R c) refl)
+fragment_in_order R c live m o xs f e k s = rw (f, e, s) (goes_first R c m o xs [] k ∙ rw (effects_none R c) refl)
 
-pub fragment_out_of_order : (R : Reading) (c : Scene) (live : List Open) (m : Message) (o : Open) (xs : List ℕ)
+pub fragment_out_of_order : (R : Reading) (c : Tracked) (live : List Open) (m : Message) (o : Open) (xs : List ℕ)
     → is_fragment m.header ≡ true → opener_of live m ≡ Some o → c.known m.number ≡ Some xs
     → same_order (order m.header) (order o.opener.header) ≡ false
-    → (let fault = one_play R c (place m) o.opener (Imposed FragmentOrder) in plays R c (at_id live m)
-    ≡ record { scene = fault.scene; lines = goes_on m o ∷ fault.lines })
+    → (let fault = one_effect R c (place m) o.opener (Imposed FragmentOrder) in effects R c (at_id live m)
+    ≡ record { tracked = fault.tracked; lines = goes_on m o ∷ fault.lines })
 unfolding id_acts
 fragment_out_of_order R c live m o xs f e k s =
-    rw (f, e, s) (goes_first R c m o xs (about (now_of m) (Some o) (Imposed FragmentOrder)) k ∙ rw (plays_about R c m o (Imposed FragmentOrder)) refl)
+    rw (f, e, s) (goes_first R c m o xs (about (now_of m) (Some o) (Imposed FragmentOrder)) k ∙ rw (effects_about R c m o (Imposed FragmentOrder)) refl)
 
 -- of a message that has fragments,
 
-pub opener_twice : (R : Reading) (c : Scene) (live : List Open) (m : Message) (o : Open) → is_fragment m.header ≡ false
+pub opener_twice : (R : Reading) (c : Tracked) (live : List Open) (m : Message) (o : Open) → is_fragment m.header ≡ false
     → is_opener m.header ≡ true → opener_of live m ≡ Some o
-    → plays R c (at_id live m) ≡ one_play R c (place m) (title m) (Imposed IdOpen)
+    → effects R c (at_id live m) ≡ one_effect R c (place m) (title m) (Imposed IdOpen)
 unfolding id_acts
-opener_twice R c live m o f h e = rw (f, h, e) (plays_own R c m (Imposed IdOpen))
+opener_twice R c live m o f h e = rw (f, h, e) (effects_own R c m (Imposed IdOpen))
 
-pub opener_no_room : (R : Reading) (c : Scene) (live : List Open) (m : Message) → is_fragment m.header ≡ false
+pub opener_no_room : (R : Reading) (c : Tracked) (live : List Open) (m : Message) → is_fragment m.header ≡ false
     → is_opener m.header ≡ true → opener_of live m ≡ None → most_open ≤ length live
-    → plays R c (at_id live m) ≡ one_play R c (place m) (title m) (Imposed TooManyOpen)
+    → effects R c (at_id live m) ≡ one_effect R c (place m) (title m) (Imposed TooManyOpen)
 unfolding id_acts
-opener_no_room R c live m f h e n = rw (f, h, e, le-leb most_open (length live) n) (plays_own R c m (Imposed TooManyOpen))
+opener_no_room R c live m f h e n = rw (f, h, e, le-leb most_open (length live) n) (effects_own R c m (Imposed TooManyOpen))
 
-pub opener_opens : (R : Reading) (c : Scene) (live : List Open) (m : Message) → is_fragment m.header ≡ false
+pub opener_opens : (R : Reading) (c : Tracked) (live : List Open) (m : Message) → is_fragment m.header ≡ false
     → is_opener m.header ≡ true → opener_of live m ≡ None → length live < most_open
-    → plays R c (at_id live m) ≡ one_play R c (place m) (title m) (Opens (id m))
+    → effects R c (at_id live m) ≡ one_effect R c (place m) (title m) (Opens (id m))
 unfolding id_acts
-opener_opens R c live m f h e n = rw (f, h, e, lt-leb most_open (length live) n) (plays_own R c m (Opens (id m)))
+opener_opens R c live m f h e n = rw (f, h, e, lt-leb most_open (length live) n) (effects_own R c m (Opens (id m)))
 
 -- of a CancelRequest,
 
-pub cancel_closes : (R : Reading) (c : Scene) (live : List Open) (m : Message) (o : Open) → is_fragment m.header ≡ false
+pub cancel_closes : (R : Reading) (c : Tracked) (live : List Open) (m : Message) (o : Open) → is_fragment m.header ≡ false
     → is_opener m.header ≡ false → is_cancel m.header ≡ true → opener_of live m ≡ Some o
-    → may_be_cancelled o.opener.header ≡ true → plays R c (at_id live m) ≡ one_play R c (place m) o.opener (Cancelled m.number)
+    → may_be_cancelled o.opener.header ≡ true → effects R c (at_id live m) ≡ one_effect R c (place m) o.opener (Cancelled m.number)
 unfolding id_acts
-cancel_closes R c live m o f g h e s = rw (f, g, h, e, s) (plays_about R c m o (Cancelled m.number))
+cancel_closes R c live m o f g h e s = rw (f, g, h, e, s) (effects_about R c m o (Cancelled m.number))
 
-pub cancel_spares : (R : Reading) (c : Scene) (live : List Open) (m : Message) (o : Open) → is_fragment m.header ≡ false
+pub cancel_spares : (R : Reading) (c : Tracked) (live : List Open) (m : Message) (o : Open) → is_fragment m.header ≡ false
     → is_opener m.header ≡ false → is_cancel m.header ≡ true → opener_of live m ≡ Some o
-    → may_be_cancelled o.opener.header ≡ false → plays R c (at_id live m) ≡ no_play c
+    → may_be_cancelled o.opener.header ≡ false → effects R c (at_id live m) ≡ no_effect c
 unfolding id_acts
-cancel_spares R c live m o f g h e s = rw (f, g, h, e, s) (plays_none R c)
+cancel_spares R c live m o f g h e s = rw (f, g, h, e, s) (effects_none R c)
 
-pub cancel_misses : (R : Reading) (c : Scene) (live : List Open) (m : Message) → is_fragment m.header ≡ false
-    → is_opener m.header ≡ false → is_cancel m.header ≡ true → opener_of live m ≡ None → plays R c (at_id live m) ≡ no_play c
+pub cancel_misses : (R : Reading) (c : Tracked) (live : List Open) (m : Message) → is_fragment m.header ≡ false
+    → is_opener m.header ≡ false → is_cancel m.header ≡ true → opener_of live m ≡ None → effects R c (at_id live m) ≡ no_effect c
 unfolding id_acts
-cancel_misses R c live m f g h e = rw (f, g, h, e) (plays_none R c)
+cancel_misses R c live m f g h e = rw (f, g, h, e) (effects_none R c)
 
 -- and of any other message.
 
-pub other_id : (R : Reading) (c : Scene) (live : List Open) (m : Message) → is_fragment m.header ≡ false
-    → is_opener m.header ≡ false → is_cancel m.header ≡ false → plays R c (at_id live m) ≡ no_play c
+pub other_id : (R : Reading) (c : Tracked) (live : List Open) (m : Message) → is_fragment m.header ≡ false
+    → is_opener m.header ≡ false → is_cancel m.header ≡ false → effects R c (at_id live m) ≡ no_effect c
 unfolding id_acts
-other_id R c live m f g h = rw (f, g, h) (plays_none R c)
+other_id R c live m f g h = rw (f, g, h) (effects_none R c)

@@ -3,7 +3,7 @@ use Rattle.std.proofs.Common.{◌≡◌, ℕ, ◌<◌, ◌≤◌, Bool, true, fa
 use Rattle.std.specs.Prelude.{◌&&◌, ◌||◌, nat_lt, if◌then◌else◌}
 use Rattle.std.proofs.lemmas.Bool.{and_parts, ltb-true, ltb-false, lt-leb, le-leb}
 use Rattle.giop_sig.specs.Table.{Table}
-use Rattle.giop_message.specs.Signatures.{Kept as Listed}
+use Rattle.giop_message.specs.Signatures.{Listed}
 use Rattle.giop_message.specs.MessageReading.{message_reading}
 use Rattle.giop_message.specs.Headers.{size, has_more, is_fragment, is_opener}
 use Rattle.giop_stream.specs.declared.fault.ImposedFault.TheVariants.{Short}
@@ -12,10 +12,10 @@ use Rattle.giop_stream.specs.declared.current.Current.{Current}
 use Rattle.giop_stream.specs.Framing.{Message}
 use Rattle.giop_stream.specs.Kinds.{is_short, is_followed}
 use Rattle.giop_stream.specs.Events.{Open, Event, Closes, Imposed, title, opener_of, has_named, own, about, at_end, now_of, end_acts}
-use Rattle.giop_stream.specs.Plays.{Scene, plays, one_play, no_play}
-use Rattle.giop_stream.specs.Keeping.{play_to}
+use Rattle.giop_stream.specs.Effects.{Tracked, effects, one_effect, no_effect}
+use Rattle.giop_stream.specs.Keeping.{effect_to}
 use Rattle.giop_stream.specs.Whose.{IsAt, opener_title, whose}
-use Rattle.giop_stream.proofs.Keep.Cases.{plays_none, plays_own, plays_about, plays_nobody}
+use Rattle.giop_stream.proofs.Keep.Cases.{effects_none, effects_own, effects_about, effects_nobody}
 
 -- ---- Whose the octets are.
 
@@ -58,14 +58,14 @@ long_by n o e = ltb-false n 4 (go (nat_lt n 4) o e)
     go true false e = absurd cc
     go false o e = refl
 
-module _ (C : Table) (l : Listed) (s : Slots) (c : Scene) (m : Message) (now : Current) (h : IsAt C l s c m now) where
+module _ (C : Table) (l : Listed) (s : Slots) (c : Tracked) (m : Message) (now : Current) (h : IsAt C l s c m now) where
   header_at : (says : List ℕ → Bool) (r : Bool) → r ≡ says now.header → says m.header ≡ r
   header_at says r e = ap says h.current.header ∙ sym e
 
   pub ends_short : true ≡ is_short now.header
-      → plays (message_reading C l) c (at_end c.live m) ≡ one_play (message_reading C l) c now.place (title m) (Imposed Short)
+      → effects (message_reading C l) c (at_end c.live m) ≡ one_effect (message_reading C l) c now.place (title m) (Imposed Short)
   unfolding end_acts is_short
-  ends_short e = let b = header_at is_short true e in rw b (plays_own (message_reading C l) c m (Imposed Short) ∙ rw h.current.place refl)
+  ends_short e = let b = header_at is_short true e in rw b (effects_own (message_reading C l) c m (Imposed Short) ∙ rw h.current.place refl)
 
   pub own_short : true ≡ is_short now.header → length m.payload ≡ size m.header → whose c.live m ≡ Some (title m)
   unfolding is_short
@@ -75,7 +75,7 @@ module _ (C : Table) (l : Listed) (s : Slots) (c : Scene) (m : Message) (now : C
       let less : length m.payload < 4 = omega (arith, few, last) in
       whose_early c.live m less
 
-  pub ends_followed : false ≡ is_short now.header → true ≡ is_followed now.header → plays (message_reading C l) c (at_end c.live m) ≡ no_play c
+  pub ends_followed : false ≡ is_short now.header → true ≡ is_followed now.header → effects (message_reading C l) c (at_end c.live m) ≡ no_effect c
   unfolding end_acts is_short is_followed
   ends_followed e k =
       let short = header_at is_short false e in
@@ -84,7 +84,7 @@ module _ (C : Table) (l : Listed) (s : Slots) (c : Scene) (m : Message) (now : C
         short,
         followed_by (is_opener m.header) (is_fragment m.header) (has_more m.header)
             (about (now_of m) (opener_of c.live m) Closes) (own (now_of m) Closes) follows,
-      ) (plays_none (message_reading C l) c)
+      ) (effects_none (message_reading C l) c)
 
   ends_last : false ≡ is_short now.header → false ≡ is_followed now.header
       → at_end c.live m ≡ (if is_fragment m.header then about (now_of m) (opener_of c.live m) Closes else own (now_of m) Closes)
@@ -101,14 +101,14 @@ module _ (C : Table) (l : Listed) (s : Slots) (c : Scene) (m : Message) (now : C
       let long : 4 ≤ size m.header = long_by (size m.header) (is_opener m.header) (rw f at short) in
       omega (arith, long, last)
 
-  about_does : (r : Option Open) → plays (message_reading C l) c (about (now_of m) r Closes) ≡ play_to C l now.place c (opener_title r) Closes
-  about_does None = plays_nobody (message_reading C l) c m Closes
-  about_does (Some o) = plays_about (message_reading C l) c m o Closes ∙ rw h.current.place refl
+  about_does : (r : Option Open) → effects (message_reading C l) c (about (now_of m) r Closes) ≡ effect_to C l now.place c (opener_title r) Closes
+  about_does None = effects_nobody (message_reading C l) c m Closes
+  about_does (Some o) = effects_about (message_reading C l) c m o Closes ∙ rw h.current.place refl
 
   pub ends_closed : false ≡ is_short now.header → false ≡ is_followed now.header → length m.payload ≡ size m.header
-      → plays (message_reading C l) c (at_end c.live m) ≡ play_to C l now.place c (whose c.live m) Closes
+      → effects (message_reading C l) c (at_end c.live m) ≡ effect_to C l now.place c (whose c.live m) Closes
   ends_closed e k last = go (is_fragment m.header) refl
     where
-      go : (f : Bool) → is_fragment m.header ≡ f → plays (message_reading C l) c (at_end c.live m) ≡ play_to C l now.place c (whose c.live m) Closes
+      go : (f : Bool) → is_fragment m.header ≡ f → effects (message_reading C l) c (at_end c.live m) ≡ effect_to C l now.place c (whose c.live m) Closes
       go true f = rw (ends_last e k, whose_passed c.live m f (long_enough e f last), f) (about_does (opener_of c.live m))
-      go false f = rw (ends_last e k, whose_plain c.live m f, f) (plays_own (message_reading C l) c m Closes ∙ rw h.current.place refl)
+      go false f = rw (ends_last e k, whose_plain c.live m f, f) (effects_own (message_reading C l) c m Closes ∙ rw h.current.place refl)

@@ -3,7 +3,7 @@ use Rattle.std.proofs.Common.{◌≡◌, ℕ, ◌<◌, ◌≤◌, Bool, true, fa
 use Rattle.std.specs.Prelude.{◌==◌, if◌then◌else◌}
 use Rattle.std.proofs.lemmas.Bool.{eq-eqb, ne_eqb}
 use Rattle.giop_sig.specs.Table.{Table}
-use Rattle.giop_message.specs.Signatures.{Kept as Listed}
+use Rattle.giop_message.specs.Signatures.{Listed}
 use Rattle.giop_message.specs.MessageReading.{message_reading}
 use Rattle.giop_message.specs.Reading.{Reading}
 use Rattle.giop_message.specs.Headers.{size}
@@ -16,16 +16,16 @@ use Rattle.giop_stream.specs.Kinds.{refused}
 use Rattle.giop_stream.specs.Events.{Title, Open, Event, Imposed, title, now_of, at_header, happens, opened}
 use Rattle.giop_stream.specs.Lines.{Line}
 use Rattle.giop_stream.specs.Stream.{fault_count}
-use Rattle.giop_stream.specs.Plays.{Scene, Play, plays, one_play, no_play, then_play, line_play, starts, IsNotOpen}
+use Rattle.giop_stream.specs.Effects.{Tracked, Effect, effects, one_effect, no_effect, then_effect, line_effect, starts, IsNotOpen}
 use Rattle.giop_stream.specs.Keeping.{Keeps, AreReady}
 use Rattle.giop_stream.specs.Whose.{IsFirst, IsAt, whose, whose_after, end_events}
 use Rattle.giop_stream.proofs.Lists.{each_weaker}
 use Rattle.giop_stream.proofs.Happening.Happenings.{quiet_header}
 use Rattle.giop_stream.proofs.Keep.SlotLists.{later_ready, all_later}
-use Rattle.giop_stream.proofs.Keep.Cases.{plays_append, header_begins, header_refused}
+use Rattle.giop_stream.proofs.Keep.Cases.{effects_append, header_begins, header_refused}
 use Rattle.giop_stream.proofs.Keep.Performing.{BeginsSo}
 use Rattle.giop_stream.proofs.Keep.Ending.{whose_early}
-use Rattle.giop_stream.proofs.Keep.Parts.{plays_live}
+use Rattle.giop_stream.proofs.Keep.Parts.{effects_live}
 
 -- what is ready for an octet is ready for a later one
 pub ready_later : (C : Table) (n n' : ℕ) (s : Slots) → n ≤ n' → AreReady C n s → AreReady C n' s
@@ -37,35 +37,35 @@ starts_faults m ls = refl
 
 -- ---- The header's own events, then the end.
 
-module _ (R : Reading) (c : Scene) (m : Message) where
-  abbrev pub begun : Play
-  begun = plays R c (at_header m)
+module _ (R : Reading) (c : Tracked) (m : Message) where
+  abbrev pub begun : Effect
+  begun = effects R c (at_header m)
 
-  abbrev pub ended : Play
-  ended = plays R begun.scene (end_events begun.scene.live m)
+  abbrev pub ended : Effect
+  ended = effects R begun.tracked (end_events begun.tracked.live m)
 
-  pub begun_live : begun.scene.live ≡ c.live
-  begun_live = plays_live R c (at_header m) ∙ quiet_header c.live (now_of m)
+  pub begun_live : begun.tracked.live ≡ c.live
+  begun_live = effects_live R c (at_header m) ∙ quiet_header c.live (now_of m)
 
   parts : length m.payload ≡ 0 → happens c.live m ≡ at_header m ++ end_events c.live m
   unfolding happens end_events
   parts none = rw (eq-eqb (length m.payload) 0 none, ne_eqb (length m.payload) 4 (λ e. omega (arith, none, e))) refl
 
-  pub in_two : length m.payload ≡ 0 → plays R c (happens c.live m) ≡ then_play begun ended
+  pub in_two : length m.payload ≡ 0 → effects R c (happens c.live m) ≡ then_effect begun ended
   in_two none =
-      let ends : end_events c.live m ≡ end_events begun.scene.live m = ap (λ (live : List Open). end_events live m) (sym begun_live) in
-      ap (plays R c) (parts none ∙ ap (λ (es : List Event). at_header m ++ es) ends) ∙ plays_append R c (at_header m) (end_events begun.scene.live m)
+      let ends : end_events c.live m ≡ end_events begun.tracked.live m = ap (λ (live : List Open). end_events live m) (sym begun_live) in
+      ap (effects R c) (parts none ∙ ap (λ (es : List Event). at_header m ++ es) ends) ∙ effects_append R c (at_header m) (end_events begun.tracked.live m)
 
-  pub ended_whose : whose_after begun.scene.live m ≡ whose_after ended.scene.live m
+  pub ended_whose : whose_after begun.tracked.live m ≡ whose_after ended.tracked.live m
   unfolding whose_after end_events opened
   ended_whose = go (length m.payload == size m.header) refl
     where
       go : (b : Bool) → (length m.payload == size m.header) ≡ b
-          → (if b then None else whose begun.scene.live m) ≡ (if b then None else whose ended.scene.live m)
+          → (if b then None else whose begun.tracked.live m) ≡ (if b then None else whose ended.tracked.live m)
       go true e = refl
-      go false e = ap (λ (live : List Open). whose live m) (sym (plays_live R begun.scene (end_events begun.scene.live m) ∙ rw e refl))
+      go false e = ap (λ (live : List Open). whose live m) (sym (effects_live R begun.tracked (end_events begun.tracked.live m) ∙ rw e refl))
 
-module _ (C : Table) (l : Listed) (s : Slots) (c : Scene) (who : Option Title) (m : Message) (now : Current) (h : IsFirst C l s c who m now) where
+module _ (C : Table) (l : Listed) (s : Slots) (c : Tracked) (who : Option Title) (m : Message) (now : Current) (h : IsFirst C l s c who m now) where
   pub apart : IsNotOpen m.number c.live
   apart =
       each_weaker {A = Open} (λ o. o.opener.number < m.number) (λ o. o.opener.number ≡ m.number → ⊥) (λ o less same. omega (arith, less, same)) c.live h.newest
@@ -73,31 +73,31 @@ module _ (C : Table) (l : Listed) (s : Slots) (c : Scene) (who : Option Title) (
   pub none_come : length m.payload ≡ 0
   none_come = ap length h.none_come
 
-  pub begins : None ≡ refused now.header → plays (message_reading C l) c (at_header m) ≡ line_play (starts m) (no_play c)
+  pub begins : None ≡ refused now.header → effects (message_reading C l) c (at_header m) ≡ line_effect (starts m) (no_effect c)
   begins e = header_begins (message_reading C l) c m [] h.unknown (ap refused h.current.header ∙ sym e)
 
   pub refuses : (fault : ImposedFault) → Some fault ≡ refused now.header
-      → plays (message_reading C l) c (at_header m) ≡ line_play (starts m) (one_play (message_reading C l) c now.place (title m) (Imposed fault))
+      → effects (message_reading C l) c (at_header m) ≡ line_effect (starts m) (one_effect (message_reading C l) c now.place (title m) (Imposed fault))
   refuses fault e = header_refused (message_reading C l) c m [] fault h.unknown (ap refused h.current.header ∙ sym e) ∙ rw h.current.place refl
 
   pub starts_text : line_text (starts m) ≡ start_line now.number now.header
   starts_text = rw (h.current.number, h.current.header) refl
 
-  pub starts_first : BeginsSo (starts m) (plays (message_reading C l) c (at_header m)).lines
+  pub starts_first : BeginsSo (starts m) (effects (message_reading C l) c (at_header m)).lines
   starts_first = go (refused now.header) refl
     where
-      go : (r : Option ImposedFault) → r ≡ refused now.header → BeginsSo (starts m) (plays (message_reading C l) c (at_header m)).lines
-      go None e = record { more = _; is = ap (λ (p : Play). p.lines) (begins e) }
-      go (Some fault) e = record { more = _; is = ap (λ (p : Play). p.lines) (refuses fault e) }
+      go : (r : Option ImposedFault) → r ≡ refused now.header → BeginsSo (starts m) (effects (message_reading C l) c (at_header m)).lines
+      go None e = record { more = _; is = ap (λ (p : Effect). p.lines) (begins e) }
+      go (Some fault) e = record { more = _; is = ap (λ (p : Effect). p.lines) (refuses fault e) }
 
-  pub begun_at : (s' : Slots) → Keeps C l s' (begun (message_reading C l) c m).scene (Some (title m))
-      → IsAt C l s' (begun (message_reading C l) c m).scene m now
+  pub begun_at : (s' : Slots) → Keeps C l s' (begun (message_reading C l) c m).tracked (Some (title m))
+      → IsAt C l s' (begun (message_reading C l) c m).tracked m now
   begun_at s' k =
       let live = begun_live (message_reading C l) c m in
       let none = none_come in
       let few : length m.payload < 4 = omega (arith, none) in
       record {
-        keeps = rw (whose_early (begun (message_reading C l) c m).scene.live m few) k;
+        keeps = rw (whose_early (begun (message_reading C l) c m).tracked.live m few) k;
         rising = rw live h.rising;
         current = h.current;
       }

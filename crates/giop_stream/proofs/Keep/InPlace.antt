@@ -9,7 +9,7 @@ use Rattle.giop_stream.specs.Events.{Event, Open, octet, joined}
 use Rattle.giop_stream.specs.Lines.{Line, is_last_of, standing}
 use Rattle.giop_stream.specs.State.{Slot, Kept, slots_of}
 use Rattle.giop_stream.specs.Machine.{utters_kept, taking, written}
-use Rattle.giop_stream.specs.Plays.{Scene, lines_at, scene_at, lines_of, octets_then}
+use Rattle.giop_stream.specs.Effects.{Tracked, lines_at, tracked_at, lines_of, octets_then}
 use Rattle.giop_stream.proofs.Lists.{each_weaker, filter_keeps}
 use Rattle.giop_stream.proofs.Told.Telling.{tells_number, standing_each}
 use Rattle.giop_stream.specs.Events.{Rising}
@@ -34,12 +34,12 @@ same_octets : (o : Option (List ℕ)) → option_map (λ xs. xs ++ []) o ≡ o
 same_octets None = refl
 same_octets (Some xs) = ap Some (append-nil xs)
 
-pub own_then : (R : Reading) (c : Scene) (e : Event) → (scene_at R c e).known e.whom.number ≡ octets_then R e (c.known e.whom.number)
-unfolding scene_at written taking octets_then lines_at lines_of
+pub own_then : (R : Reading) (c : Tracked) (e : Event) → (tracked_at R c e).known e.whom.number ≡ octets_then R e (c.known e.whom.number)
+unfolding tracked_at written taking octets_then lines_at lines_of
 own_then R c e = rw (one_joined e) refl
 
-pub others_then : (R : Reading) (c : Scene) (e : Event) (i : ℕ) → (i ≡ e.whom.number → ⊥) → (scene_at R c e).known i ≡ c.known i
-unfolding scene_at written taking lines_at
+pub others_then : (R : Reading) (c : Tracked) (e : Event) (i : ℕ) → (i ≡ e.whom.number → ⊥) → (tracked_at R c e).known i ≡ c.known i
+unfolding tracked_at written taking lines_at
 others_then R c e i h =
     let mine : Each (λ l. l.number ≡ e.whom.number) (standing (λ i. false) (utters_kept R e (c.known e.whom.number))) =
     standing_each (λ l. l.number ≡ e.whom.number) (λ i. false) (utters_kept R e (c.known e.whom.number))

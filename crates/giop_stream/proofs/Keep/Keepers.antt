@@ -10,7 +10,7 @@ use Rattle.giop_stream.specs.declared.slots.Slot.{Slot as Kept_slot}
 use Rattle.giop_stream.specs.declared.slots.Slots.{Slots}
 use Rattle.giop_stream.specs.declared.slots.Payload.TheVariants as payload
 use Rattle.giop_sig.specs.Table.{Table}
-use Rattle.giop_message.specs.Signatures.{Kept as Listed}
+use Rattle.giop_message.specs.Signatures.{Listed}
 use Rattle.giop_message.specs.MessageReading.{message_reading}
 use Rattle.giop_message.specs.Holding.{Follows}
 use Rattle.giop_print.specs.Output.{OutLog}
@@ -18,9 +18,9 @@ use Rattle.giop_stream.specs.Events.{Title, Open, Happening, Takes, Opens, Impos
 use Rattle.giop_stream.specs.Lines.{tells, standing}
 use Rattle.giop_stream.specs.State.{Slot, slots_of}
 use Rattle.giop_stream.specs.Machine.{utters_kept}
-use Rattle.giop_stream.specs.Plays.{Scene, Play, Part, part_of, scene_at, lines_of, octets_then, one_play, IsNotOpen}
-use Rattle.giop_stream.specs.Keeping.{IsKept, IsSlot, AreSlots, Keeps, event, play_to}
-use Rattle.giop_stream.specs.Playing.{Plays, PlaysPart, Says, one_if}
+use Rattle.giop_stream.specs.Effects.{Tracked, Effect, Part, part_of, tracked_at, lines_of, octets_then, one_effect, IsNotOpen}
+use Rattle.giop_stream.specs.Keeping.{IsKept, IsSlot, AreSlots, Keeps, event, effect_to}
+use Rattle.giop_stream.specs.Performs.{TakesEffect, PartTakesEffect, Says, one_if}
 use Rattle.giop_stream.proofs.Lists.{each_weaker, each_filter, filter_keeps}
 use Rattle.giop_stream.proofs.Keep.Performing.{performs_on, does_nothing}
 use Rattle.giop_stream.proofs.Keep.InPlace.{at_index, own_then, others_then, slot_at, no_slot, slot_gone, slot_comes}
@@ -40,18 +40,18 @@ unfolding changed
 still_imposed fault live whom = refl
 
 -- of an open message, in its slot
-record Place (s : Slots) (c : Scene) (w : Title) (k : ℕ) : Type 0 where
+record Place (s : Slots) (c : Tracked) (w : Title) (k : ℕ) : Type 0 where
   own : s.own ≡ None
   slot : Open
   here : slice_get c.live k ≡ Some slot
   is : slot.opener ≡ w
 
--- A play from this scene that does to one message what this part does, and nothing else.
-pub record Alters (c : Scene) (w : Title) (play : Play) (part : Part) : Type 0 where
-  pub lines : play.lines ≡ part.lines
-  pub live : play.scene.live ≡ c.live
-  pub own : play.scene.known w.number ≡ part.octets
-  pub others : (i : ℕ) → (i ≡ w.number → ⊥) → play.scene.known i ≡ c.known i
+-- An effect, from what is tracked, that does to one message what this part does, and nothing else.
+pub record Alters (c : Tracked) (w : Title) (effect : Effect) (part : Part) : Type 0 where
+  pub lines : effect.lines ≡ part.lines
+  pub live : effect.tracked.live ≡ c.live
+  pub own : effect.tracked.known w.number ≡ part.octets
+  pub others : (i : ℕ) → (i ≡ w.number → ⊥) → effect.tracked.known i ≡ c.known i
 
 -- ---- A message begins, becomes open, and closes.
 
@@ -77,34 +77,34 @@ none_there live n h =
 -- ---- A cancel, of an open message by one whose payload comes.
 
 module _ (C : Table) (l : Listed) where
-  pub still_alters : (at : ℕ) (c : Scene) (w : Title) (what : Happening) → IsStill what
-      → Alters c w (one_play (message_reading C l) c at w what) (part_of (message_reading C l) (event at w what) (c.known w.number))
-  unfolding scene_at part_of
+  pub still_alters : (at : ℕ) (c : Tracked) (w : Title) (what : Happening) → IsStill what
+      → Alters c w (one_effect (message_reading C l) c at w what) (part_of (message_reading C l) (event at w what) (c.known w.number))
+  unfolding tracked_at part_of
   still_alters at c w what still =
       let R = message_reading C l in
       let e = event at w what in
       record { lines = refl; live = still c.live w; own = own_then R c e; others = λ i h. others_then R c e i h }
 
   -- of the message whose payload comes, which isn't open
-  own_parts : (s : Slots) (c : Scene) (w : Title) → s.payload ≡ payload.Own → Keeps C l s c (Some w)
+  own_parts : (s : Slots) (c : Tracked) (w : Title) → s.payload ≡ payload.Own → Keeps C l s c (Some w)
       → IsNotOpen w.number c.live × IsKept C l s.own w (c.known w.number)
   own_parts s c w e k = rw e at k.payload
 
-  own_now : (s : Slots) (own' : Option Message) (c : Scene) (w : Title) (play : Play) (part : Part) → Alters c w play part
+  own_now : (s : Slots) (own' : Option Message) (c : Tracked) (w : Title) (effect : Effect) (part : Part) → Alters c w effect part
       → AreSlots C l s.slots.items (slots_of c.known c.live) → IsNotOpen w.number c.live
-      → IsKept C l own' w part.octets → Keeps C l (record { slots = s.slots; own = own'; payload = payload.Own }) play.scene (Some w)
-  own_now s own' c w play part alters slots apart kept = record {
-    slots = rw (alters.live, no_slot play.scene.known c.known c.live w.number apart alters.others) slots;
+      → IsKept C l own' w part.octets → Keeps C l (record { slots = s.slots; own = own'; payload = payload.Own }) effect.tracked (Some w)
+  own_now s own' c w effect part alters slots apart kept = record {
+    slots = rw (alters.live, no_slot effect.tracked.known c.known c.live w.number apart alters.others) slots;
     payload = (rw alters.live apart, rw alters.own kept);
   }
 
-  place_of : (s : Slots) (c : Scene) (w : Title) (k : ℕ) → s.payload ≡ payload.Open k → Keeps C l s c (Some w) → Place s c w k
+  place_of : (s : Slots) (c : Tracked) (w : Title) (k : ℕ) → s.payload ≡ payload.Open k → Keeps C l s c (Some w) → Place s c w k
   place_of s c w k e h = let p = parts in record { own = p.0; slot = p.1.0; here = p.1.1; is = p.1.2 }
     where
       parts : (s.own ≡ None) × ((o : Open) × (slice_get c.live k ≡ Some o) × (o.opener ≡ w))
       parts = rw e at h.payload
 
-  slot_here : (s : Slots) (c : Scene) (w : Title) (k : ℕ) (x : Kept_slot) → Keeps C l s c (Some w) → (p : Place s c w k)
+  slot_here : (s : Slots) (c : Tracked) (w : Title) (k : ℕ) (x : Kept_slot) → Keeps C l s c (Some w) → (p : Place s c w k)
       → slice_get s.slots.items k ≡ Some x → IsSlot C l x (record { open_as = p.slot; octets = c.known w.number })
   slot_here s c w k x h p e =
       let number : p.slot.opener.number ≡ w.number = ap (λ (t : Title). t.number) p.is in
@@ -113,47 +113,47 @@ module _ (C : Table) (l : Listed) where
       (record { open_as = p.slot; octets = c.known p.slot.opener.number }) h.slots e (slots_get c k p.slot p.here) in
       subst (λ (n : ℕ). IsSlot C l x (record { open_as = p.slot; octets = c.known n })) number one
 
-  slot_now : (s : Slots) (x : Kept_slot) (message : Option Message) (c : Scene) (w : Title) (play : Play) (part : Part)
-      (k : ℕ) → Alters c w play part → Rising c.live → Keeps C l s c (Some w)
+  slot_now : (s : Slots) (x : Kept_slot) (message : Option Message) (c : Tracked) (w : Title) (effect : Effect) (part : Part)
+      (k : ℕ) → Alters c w effect part → Rising c.live → Keeps C l s c (Some w)
       → s.payload ≡ payload.Open k → slice_get s.slots.items k ≡ Some x → IsKept C l message w part.octets
       → Keeps C l (record {
         slots = record { items = slice_set s.slots.items k (record x { message = message }) };
         own = s.own;
         payload = payload.Open k;
-      }) play.scene (Some w)
-  slot_now s x message c w play part k alters rising h e get kept =
+      }) effect.tracked (Some w)
+  slot_now s x message c w effect part k alters rising h e get kept =
       let p = place_of s c w k e h in
       let number : p.slot.opener.number ≡ w.number = ap (λ (t : Title). t.number) p.is in
       let was = slot_here s c w k x h p get in
       let slot : Slot = record { open_as = p.slot; octets = part.octets } in
       let new : IsSlot C l (record x { message = message }) slot = record { number = was.number; header = was.header; id = was.id; message = rw p.is kept } in
-      let slots' = slot_at play.scene.known c.known c.live k p.slot rising p.here (λ i other. alters.others i (λ same. other (same ∙ sym number))) in
-      let later : play.scene.known p.slot.opener.number ≡ part.octets = ap play.scene.known number ∙ alters.own in
+      let slots' = slot_at effect.tracked.known c.known c.live k p.slot rising p.here (λ i other. alters.others i (λ same. other (same ∙ sym number))) in
+      let later : effect.tracked.known p.slot.opener.number ≡ part.octets = ap effect.tracked.known number ∙ alters.own in
       record {
         slots = rw (alters.live, slots', later) (set_slot C l s.slots.items (slots_of c.known c.live) k (record x { message = message }) slot h.slots new);
         payload = (p.own, (p.slot, rw alters.live p.here, p.is));
       }
 
-  -- ---- A call that plays a part of a message, which is the one whose the octets are.
+  -- ---- A call that does a part of a message's, which is the one whose the octets are.
 
   -- that message has the octets
-  pub own_has : (Q : Option Title → Type 0) (s : Slots) (c : Scene) (whose : Option Title) → s.payload ≡ payload.Own
+  pub own_has : (Q : Option Title → Type 0) (s : Slots) (c : Tracked) (whose : Option Title) → s.payload ≡ payload.Own
       → Keeps C l s c whose → ((w : Title) → Keeps C l s c (Some w) → Q (Some w)) → Q whose
   own_has Q s c None e h f = absurd (rw e at h.payload)
   own_has Q s c (Some w) e h f = f w h
 
-  pub slot_has : (Q : Option Title → Type 0) (s : Slots) (c : Scene) (whose : Option Title) (k : ℕ)
+  pub slot_has : (Q : Option Title → Type 0) (s : Slots) (c : Tracked) (whose : Option Title) (k : ℕ)
       → s.payload ≡ payload.Open k → Keeps C l s c whose → ((w : Title) → Keeps C l s c (Some w) → Q (Some w)) → Q whose
   slot_has Q s c None k e h f = absurd (rw e at h.payload)
   slot_has Q s c (Some w) k e h f = f w h
 
-  pub nobody_has : (Q : Option Title → Type 0) (s : Slots) (c : Scene) (whose : Option Title) → s.payload ≡ payload.Nobody
+  pub nobody_has : (Q : Option Title → Type 0) (s : Slots) (c : Tracked) (whose : Option Title) → s.payload ≡ payload.Nobody
       → Keeps C l s c whose → (Keeps C l s c None → Q None) → Q whose
   nobody_has Q s c None e h f = f h
   nobody_has Q s c (Some w) e h f = absurd (rw e at h.payload)
 
   -- what is kept in the slot of an open message
-  in_slot : (s : Slots) (x : Kept_slot) (c : Scene) (w : Title) (k : ℕ) → s.payload ≡ payload.Open k
+  in_slot : (s : Slots) (x : Kept_slot) (c : Tracked) (w : Title) (k : ℕ) → s.payload ≡ payload.Open k
       → slice_get s.slots.items k ≡ Some x → Keeps C l s c (Some w)
       → (w.number ≡ x.number) × IsKept C l x.message w (c.known w.number)
   in_slot s x c w k e get h =
@@ -163,30 +163,30 @@ module _ (C : Table) (l : Listed) where
       (sym number ∙ sym was.number, rw p.is at was.message)
 
   module _ {A E : Type 0} {n : A → ℕ} (r : Result A E) (a b : OutLog) where
-    pub own_plays : (s : Slots) (own' : Option Message) (c : Scene) (w : Title) (play : Play) (part : Part)
-        → s.payload ≡ payload.Own → Keeps C l s c (Some w) → Alters c w play part
-        → (IsKept C l s.own w (c.known w.number) → PlaysPart C l n r a b own' w part)
-        → Plays C l n r a b (record { slots = s.slots; own = own'; payload = s.payload }) play (Some w)
-    own_plays s own' c w play part e h alters f =
+    pub own_effects : (s : Slots) (own' : Option Message) (c : Tracked) (w : Title) (effect : Effect) (part : Part)
+        → s.payload ≡ payload.Own → Keeps C l s c (Some w) → Alters c w effect part
+        → (IsKept C l s.own w (c.known w.number) → PartTakesEffect C l n r a b own' w part)
+        → TakesEffect C l n r a b (record { slots = s.slots; own = own'; payload = s.payload }) effect (Some w)
+    own_effects s own' c w effect part e h alters f =
         let now = own_parts s c w e h in
-        performs_on r a b alters.lines (λ k. rw e (own_now s own' c w play part alters h.slots now.0 k)) (f now.1)
+        performs_on r a b alters.lines (λ k. rw e (own_now s own' c w effect part alters h.slots now.0 k)) (f now.1)
 
     -- of an open message
-    pub slot_plays : (s : Slots) (x : Kept_slot) (message : Option Message) (c : Scene) (w : Title) (play : Play)
+    pub slot_effects : (s : Slots) (x : Kept_slot) (message : Option Message) (c : Tracked) (w : Title) (effect : Effect)
         (part : Part) (k : ℕ) → s.payload ≡ payload.Open k → slice_get s.slots.items k ≡ Some x → Rising c.live
-        → Keeps C l s c (Some w) → Alters c w play part
-        → (w.number ≡ x.number → IsKept C l x.message w (c.known w.number) → PlaysPart C l n r a b message w part)
-        → Plays C l n r a b (record {
+        → Keeps C l s c (Some w) → Alters c w effect part
+        → (w.number ≡ x.number → IsKept C l x.message w (c.known w.number) → PartTakesEffect C l n r a b message w part)
+        → TakesEffect C l n r a b (record {
           slots = record { items = slice_set s.slots.items k (record x { message = message }) };
           own = s.own;
           payload = s.payload;
-        }) play (Some w)
-    slot_plays s x message c w play part k e get rising h alters f =
+        }) effect (Some w)
+    slot_effects s x message c w effect part k e get rising h alters f =
         let was = in_slot s x c w k e get h in
-        performs_on r a b alters.lines (λ kept. rw e (slot_now s x message c w play part k alters rising h e get kept)) (f was.0 was.1)
+        performs_on r a b alters.lines (λ kept. rw e (slot_now s x message c w effect part k alters rising h e get kept)) (f was.0 was.1)
 
   -- there is a slot where an open message is
-  pub no_slot_says : {A : Type 0} (s : Slots) (c : Scene) (whose : Option Title) (k : ℕ) → s.payload ≡ payload.Open k
+  pub no_slot_says : {A : Type 0} (s : Slots) (c : Tracked) (whose : Option Title) (k : ℕ) → s.payload ≡ payload.Open k
       → (k < length s.slots.items → ⊥) → Keeps C l s c whose → A
   no_slot_says s c None k e n h = absurd (rw e at h.payload)
   no_slot_says s c (Some w) k e n h =
@@ -194,7 +194,7 @@ module _ (C : Table) (l : Listed) where
       absurd (n (no_more_slots C l s.slots.items (slots_of c.known c.live) k
       (record { open_as = p.slot; octets = c.known p.slot.opener.number }) h.slots (slots_get c k p.slot p.here)))
 
-  pub begin_keeps : (s : Slots) (m : Message) (c : Scene) (whose : Option Title) (w : Title) (number : ℕ) (header : List ℕ)
+  pub begin_keeps : (s : Slots) (m : Message) (c : Tracked) (whose : Option Title) (w : Title) (number : ℕ) (header : List ℕ)
       → Keeps C l s c whose → Follows C l number header m [] → w.number ≡ number → w.header ≡ header
       → c.known w.number ≡ Some [] → Each (λ o. o.opener.number ≡ w.number → ⊥) c.live
       → Keeps C l (record { slots = s.slots; own = Some m; payload = payload.Own }) c (Some w)
@@ -209,12 +209,12 @@ module _ (C : Table) (l : Listed) where
   opens_then at w i None = refl
   opens_then at w i (Some xs) = ap Some (append-nil xs)
 
-  opened_live : (at : ℕ) (c : Scene) (w : Title) (i : ℕ)
-      → (scene_at (message_reading C l) c (event at w (Opens i))).live ≡ c.live ++ record { id = i; opener = w } ∷ []
-  unfolding scene_at changed
+  opened_live : (at : ℕ) (c : Tracked) (w : Title) (i : ℕ)
+      → (tracked_at (message_reading C l) c (event at w (Opens i))).live ≡ c.live ++ record { id = i; opener = w } ∷ []
+  unfolding tracked_at changed
   opened_live at c w i = refl
 
-  open_now : (s : Slots) (c : Scene) (w : Title) (at number : ℕ) (header : List ℕ) (i : ℕ) → w.number ≡ number
+  open_now : (s : Slots) (c : Tracked) (w : Title) (at number : ℕ) (header : List ℕ) (i : ℕ) → w.number ≡ number
       → w.header ≡ header → Each (λ o. o.opener.number ≡ w.number → ⊥) c.live → IsKept C l s.own w (c.known w.number)
       → AreSlots C l s.slots.items (slots_of c.known c.live)
       → Keeps C l (record {
@@ -229,19 +229,19 @@ module _ (C : Table) (l : Listed) where
         own = None;
         payload = payload.Open (length s.slots.items);
       })
-      (scene_at (message_reading C l) c (event at w (Opens i))) (Some w)
+      (tracked_at (message_reading C l) c (event at w (Opens i))) (Some w)
   open_now s c w at number header i n f apart kept slots =
       let e = event at w (Opens i) in
       let o : Open = record { id = i; opener = w } in
-      let known : (scene_at (message_reading C l) c e).known w.number ≡ c.known w.number =
+      let known : (tracked_at (message_reading C l) c e).known w.number ≡ c.known w.number =
       own_then (message_reading C l) c e ∙ opens_then at w i (c.known w.number) in
-      let same : Each (λ a. (scene_at (message_reading C l) c e).known a.opener.number ≡ c.known a.opener.number) c.live =
+      let same : Each (λ a. (tracked_at (message_reading C l) c e).known a.opener.number ≡ c.known a.opener.number) c.live =
       each_weaker (λ a. a.opener.number ≡ w.number → ⊥)
-      (λ a. (scene_at (message_reading C l) c e).known a.opener.number ≡ c.known a.opener.number)
+      (λ a. (tracked_at (message_reading C l) c e).known a.opener.number ≡ c.known a.opener.number)
       (λ a j. others_then (message_reading C l) c e a.opener.number j) c.live apart in
       let many : length s.slots.items ≡ length c.live = are_as_many C l s.slots.items (slots_of c.known c.live) slots ∙ slots_many c.known c.live in
       record {
-        slots = rw (opened_live at c w i, slot_comes (scene_at (message_reading C l) c e).known c.known c.live o same, known)
+        slots = rw (opened_live at c w i, slot_comes (tracked_at (message_reading C l) c e).known c.known c.live o same, known)
             (push_slot C l s.slots.items (slots_of c.known c.live)
             (record { number = number; header = header; id = i; message = s.own })
             (record { open_as = o; octets = c.known w.number }) slots
@@ -249,7 +249,7 @@ module _ (C : Table) (l : Listed) where
         payload = (refl, (o, rw (opened_live at c w i, many) (get_last c.live o), refl));
       }
 
-  open_keeps : (s : Slots) (c : Scene) (w : Title) (at number : ℕ) (header : List ℕ) (i : ℕ) → s.payload ≡ payload.Own
+  open_keeps : (s : Slots) (c : Tracked) (w : Title) (at number : ℕ) (header : List ℕ) (i : ℕ) → s.payload ≡ payload.Own
       → Keeps C l s c (Some w) → w.number ≡ number → w.header ≡ header
       → Keeps C l (record {
         slots = record {
@@ -263,57 +263,57 @@ module _ (C : Table) (l : Listed) where
         own = None;
         payload = payload.Open (length s.slots.items);
       })
-      (scene_at (message_reading C l) c (event at w (Opens i))) (Some w)
+      (tracked_at (message_reading C l) c (event at w (Opens i))) (Some w)
   open_keeps s c w at number header i e h n f = let p = own_parts s c w e h in open_now s c w at number header i n f p.0 p.1 h.slots
 
-  gone_live : (at : ℕ) (c : Scene) (w : Title) (what : Happening) → IsGone what
-      → (scene_at (message_reading C l) c (event at w what)).live ≡ filter (λ o. not (o.opener.number == w.number)) c.live
-  unfolding scene_at
+  gone_live : (at : ℕ) (c : Tracked) (w : Title) (what : Happening) → IsGone what
+      → (tracked_at (message_reading C l) c (event at w what)).live ≡ filter (λ o. not (o.opener.number == w.number)) c.live
+  unfolding tracked_at
   gone_live at c w what h = h c.live w
 
   -- the slots, where a message that isn't open closes
-  own_gone : (c : Scene) (w : Title) (at : ℕ) (what : Happening) (ks : List Kept_slot) → IsGone what
+  own_gone : (c : Tracked) (w : Title) (at : ℕ) (what : Happening) (ks : List Kept_slot) → IsGone what
       → Each (λ o. o.opener.number ≡ w.number → ⊥) c.live → AreSlots C l ks (slots_of c.known c.live)
-      → AreSlots C l ks (slots_of (scene_at (message_reading C l) c (event at w what)).known (scene_at (message_reading C l) c (event at w what)).live)
+      → AreSlots C l ks (slots_of (tracked_at (message_reading C l) c (event at w what)).known (tracked_at (message_reading C l) c (event at w what)).live)
   own_gone c w at what ks gone apart h =
       let e = event at w what in
       rw (
         gone_live at c w what gone,
         none_there c.live w.number apart,
         no_slot
-            (scene_at (message_reading C l) c e).known c.known c.live w.number apart
+            (tracked_at (message_reading C l) c e).known c.known c.live w.number apart
             (λ i j. others_then (message_reading C l) c e i j),
       ) h
 
   -- and where the one in this slot does
-  pub slot_goes : (c : Scene) (k : ℕ) (o : Open) (at : ℕ) (what : Happening) (ks : List Kept_slot) → IsGone what
+  pub slot_goes : (c : Tracked) (k : ℕ) (o : Open) (at : ℕ) (what : Happening) (ks : List Kept_slot) → IsGone what
       → Rising c.live → slice_get c.live k ≡ Some o → AreSlots C l ks (slots_of c.known c.live)
-      → AreSlots C l (remove ks k) (slots_of (scene_at (message_reading C l) c (event at o.opener what)).known
-      (scene_at (message_reading C l) c (event at o.opener what)).live)
+      → AreSlots C l (remove ks k) (slots_of (tracked_at (message_reading C l) c (event at o.opener what)).known
+      (tracked_at (message_reading C l) c (event at o.opener what)).live)
   slot_goes c k o at what ks gone rising here h =
       let e = event at o.opener what in
       rw (
         gone_live at c o.opener what gone,
         slot_gone
-            (scene_at (message_reading C l) c e).known c.known c.live k o rising here
+            (tracked_at (message_reading C l) c e).known c.known c.live k o rising here
             (λ i j. others_then (message_reading C l) c e i j),
       ) (remove_slot C l ks (slots_of c.known c.live) k h)
 
   -- a call that closes a message
   module _ {A E : Type 0} {n : A → ℕ} (r : Result A E) (a b : OutLog) (at : ℕ) where
-    pub own_closes : (s : Slots) (own' : Option Message) (c : Scene) (whose : Option Title) → s.payload ≡ payload.Own → own' ≡ None → Keeps C l s c whose
+    pub own_closes : (s : Slots) (own' : Option Message) (c : Tracked) (whose : Option Title) → s.payload ≡ payload.Own → own' ≡ None → Keeps C l s c whose
         → ((w : Title) → IsKept C l s.own w (c.known w.number) → Says n r a b (lines_of (message_reading C l) (event at w Closes) (c.known w.number)))
-        → Plays C l n r a b (record { slots = s.slots; own = own'; payload = payload.Nobody }) (play_to C l at c whose Closes) None
+        → TakesEffect C l n r a b (record { slots = s.slots; own = own'; payload = payload.Nobody }) (effect_to C l at c whose Closes) None
     own_closes s own' c None e none h f = absurd (rw e at h.payload)
     own_closes s own' c (Some w) e none h f =
         let now = own_parts s c w e h in
         performs_on r a b refl (λ k. record { slots = own_gone c w at Closes s.slots.items gone_closes now.0 h.slots; payload = none }) (f w now.1)
 
-    pub slot_closes : (s : Slots) (x : Kept_slot) (slots' : ArrayVec Kept_slot) (c : Scene) (whose : Option Title) (k : ℕ)
+    pub slot_closes : (s : Slots) (x : Kept_slot) (slots' : ArrayVec Kept_slot) (c : Tracked) (whose : Option Title) (k : ℕ)
         → s.payload ≡ payload.Open k → slice_get s.slots.items k ≡ Some x → slots'.items ≡ remove s.slots.items k
         → Rising c.live → Keeps C l s c whose
         → ((w : Title) → IsKept C l x.message w (c.known w.number) → Says n r a b (lines_of (message_reading C l) (event at w Closes) (c.known w.number)))
-        → Plays C l n r a b (record { slots = slots'; own = s.own; payload = payload.Nobody }) (play_to C l at c whose Closes) None
+        → TakesEffect C l n r a b (record { slots = slots'; own = s.own; payload = payload.Nobody }) (effect_to C l at c whose Closes) None
     slot_closes s x slots' c None k e get items rising h f = absurd (rw e at h.payload)
     slot_closes s x slots' c (Some w) k e get items rising h f =
         let p = place_of s c w k e h in
@@ -324,38 +324,38 @@ module _ (C : Table) (l : Listed) where
         })
         (f w (in_slot s x c w k e get h).1)
 
-  pub nobody_closes : {E : Type 0} (log : OutLog) (at : ℕ) (s : Slots) (c : Scene) (whose : Option Title) → s.payload ≡ payload.Nobody → Keeps C l s c whose
-      → Plays {E = E} C l one_if (Ok false) log log (record { slots = s.slots; own = s.own; payload = payload.Nobody }) (play_to C l at c whose Closes) None
+  pub nobody_closes : {E : Type 0} (log : OutLog) (at : ℕ) (s : Slots) (c : Tracked) (whose : Option Title) → s.payload ≡ payload.Nobody → Keeps C l s c whose
+      → TakesEffect {E = E} C l one_if (Ok false) log log (record { slots = s.slots; own = s.own; payload = payload.Nobody }) (effect_to C l at c whose Closes) None
   nobody_closes log at s c None e h = does_nothing false log refl (record { slots = h.slots; payload = rw e at h.payload })
   nobody_closes log at s c (Some w) e h = absurd (rw e at h.payload)
 
   -- as the code does it
-  pub open_with : (s : Slots) (slots' : ArrayVec Kept_slot) (c : Scene) (w : Title) (at number : ℕ) (header : List ℕ)
+  pub open_with : (s : Slots) (slots' : ArrayVec Kept_slot) (c : Tracked) (w : Title) (at number : ℕ) (header : List ℕ)
       (i : ℕ) (message own' : Option Message) (k : ℕ)
       → slots'.items ≡ s.slots.items ++ record { number = number; header = header; id = i; message = message } ∷ []
       → message ≡ s.own → own' ≡ None → k ≡ length s.slots.items
       → s.payload ≡ payload.Own → Keeps C l s c (Some w) → w.number ≡ number → w.header ≡ header
-      → Keeps C l (record { slots = slots'; own = own'; payload = payload.Open k }) (scene_at (message_reading C l) c (event at w (Opens i))) (Some w)
+      → Keeps C l (record { slots = slots'; own = own'; payload = payload.Open k }) (tracked_at (message_reading C l) c (event at w (Opens i))) (Some w)
   open_with s slots' c w at number header i message own' k items m o l e h n f =
       let all = open_keeps s c w at number header i e h n f in
       record { slots = rw (items, m) all.slots; payload = rw (o, l) all.payload }
 
-  pub open_slot : (s : Slots) (x : Kept_slot) (c : Scene) (whose : Option Title) (k : ℕ) (o : Open) → Keeps C l s c whose
+  pub open_slot : (s : Slots) (x : Kept_slot) (c : Tracked) (whose : Option Title) (k : ℕ) (o : Open) → Keeps C l s c whose
       → slice_get c.live k ≡ Some o → slice_get s.slots.items k ≡ Some x
       → IsSlot C l x (record { open_as = o; octets = c.known o.opener.number })
   open_slot s x c whose k o h here e =
       slot_of C l s.slots.items (slots_of c.known c.live) k x (record { open_as = o; octets = c.known o.opener.number }) h.slots e (slots_get c k o here)
 
-  pub open_there : {A : Type 0} (s : Slots) (c : Scene) (whose : Option Title) (k : ℕ) (o : Open)
+  pub open_there : {A : Type 0} (s : Slots) (c : Tracked) (whose : Option Title) (k : ℕ) (o : Open)
       → (k < length s.slots.items → ⊥) → Keeps C l s c whose → slice_get c.live k ≡ Some o → A
   open_there s c whose k o n h here =
       absurd (n (no_more_slots C l s.slots.items (slots_of c.known c.live) k
       (record { open_as = o; octets = c.known o.opener.number }) h.slots (slots_get c k o here)))
 
-  pub cancel_keeps : (s : Slots) (slots' : ArrayVec Kept_slot) (c : Scene) (w : Title) (k : ℕ) (o : Open) (at j : ℕ)
+  pub cancel_keeps : (s : Slots) (slots' : ArrayVec Kept_slot) (c : Tracked) (w : Title) (k : ℕ) (o : Open) (at j : ℕ)
       → Keeps C l s c (Some w) → s.payload ≡ payload.Own → slice_get c.live k ≡ Some o → Rising c.live
       → slots'.items ≡ remove s.slots.items k
-      → Keeps C l (record { slots = slots'; own = s.own; payload = s.payload }) (scene_at (message_reading C l) c (event at o.opener (Cancelled j))) (Some w)
+      → Keeps C l (record { slots = slots'; own = s.own; payload = s.payload }) (tracked_at (message_reading C l) c (event at o.opener (Cancelled j))) (Some w)
   cancel_keeps s slots' c w k o at j h e here rising items =
       let p = own_parts s c w e h in
       let ev = event at o.opener (Cancelled j) in

@@ -4,7 +4,7 @@ use Rattle.std.specs.Prelude.{◌==◌, ◌||◌, slice_get, slice_index_or, is_
 use Rattle.std.proofs.lemmas.Bool.{cases_eq, eq-eqb, eqb-true, false≢true}
 use Rattle.std.specs.List.{find, position_from}
 use Rattle.giop_sig.specs.Table.{Table}
-use Rattle.giop_message.specs.Signatures.{Kept as Listed}
+use Rattle.giop_message.specs.Signatures.{Listed}
 use Rattle.giop_message.specs.MessageReading.{message_reading}
 use Rattle.giop_message.specs.Headers.{order, is_fragment, is_opener, is_cancel, has_name}
 use Rattle.giop_stream.specs.declared.fault.ImposedFault.TheVariants.{NoOpen, IdOpen, TooManyOpen, FragmentOrder}
@@ -13,7 +13,7 @@ use Rattle.giop_stream.specs.declared.current.Current.{Current}
 use Rattle.giop_stream.specs.Framing.{Message}
 use Rattle.giop_stream.specs.Events.{Open, Opens, Imposed, Cancelled, title, opener_of, at_id, most_open, same_order}
 use Rattle.giop_stream.specs.State.{slots_of}
-use Rattle.giop_stream.specs.Plays.{Scene, Play, plays, one_play, no_play, line_play, lines_of, goes_on}
+use Rattle.giop_stream.specs.Effects.{Tracked, Effect, effects, one_effect, no_effect, line_effect, lines_of, goes_on}
 use Rattle.giop_stream.specs.Lines.{Line, tells, standing}
 use Rattle.giop_stream.specs.Machine.{utters_kept}
 use Rattle.giop_stream.specs.Text.{line_text}
@@ -31,7 +31,7 @@ use Rattle.giop_stream.proofs.Keep.Naming.{none_open, one_open}
 use Rattle.giop_stream.proofs.Keep.Cases.{opener_twice, opener_no_room, opener_opens, fragment_unknown, fragment_in_order, fragment_out_of_order, cancel_misses, cancel_spares, cancel_closes, other_id}
 
 -- the open message that is found, and where
-pub record IsFound (c : Scene) (m : Message) (k : ℕ) : Type 0 where
+pub record IsFound (c : Tracked) (m : Message) (k : ℕ) : Type 0 where
   pub o : Open
   pub here : slice_get c.live k ≡ Some o
   pub is : opener_of c.live m ≡ Some o
@@ -76,7 +76,7 @@ room_is n e less = elim (cases_eq n most_open) [ inl same ↦ absurd (false≢tr
 -- ---- A message that becomes open says nothing.
 
 module _ (C : Table) (l : Listed) where
-  pub opens_lines : (c : Scene) (m : Message) (at i : ℕ) → (one_play (message_reading C l) c at (title m) (Opens i)).lines ≡ []
+  pub opens_lines : (c : Tracked) (m : Message) (at i : ℕ) → (one_effect (message_reading C l) c at (title m) (Opens i)).lines ≡ []
   unfolding lines_of utters_kept tells standing
   opens_lines c m at i = go (c.known m.number)
     where
@@ -98,7 +98,7 @@ pub whose_other : (live : List Open) (m : Message) → is_fragment m.header ≡ 
 unfolding whose_named
 whose_other live m f = rw f refl
 
-module _ (C : Table) (l : Listed) (s : Slots) (c : Scene) (m : Message) (now : Current) (i : ℕ) (h : IsNamed C l s c m now i) where
+module _ (C : Table) (l : Listed) (s : Slots) (c : Tracked) (m : Message) (now : Current) (i : ℕ) (h : IsNamed C l s c m now i) where
   -- ---- The search.
 
   opener_is : has_name m.header ≡ true → opener_of c.live m ≡ find (λ o. o.id == i) c.live
@@ -127,12 +127,12 @@ module _ (C : Table) (l : Listed) (s : Slots) (c : Scene) (m : Message) (now : C
 
   pub twice : (r : Option ℕ) → r ≡ position_from (λ slot. slot.id == i) 0 s.slots.items → is_some r ≡ true
       → is_fragment m.header ≡ false → is_opener m.header ≡ true
-      → plays (message_reading C l) c (at_id c.live m) ≡ one_play (message_reading C l) c now.place (title m) (Imposed IdOpen)
+      → effects (message_reading C l) c (at_id c.live m) ≡ one_effect (message_reading C l) c now.place (title m) (Imposed IdOpen)
   twice r e n f g = let o = hits (opener_named m.header g) r e n in opener_twice (message_reading C l) c c.live m o.0 f g o.1 ∙ rw h.current.place refl
 
   pub no_room : (r : Option ℕ) → r ≡ position_from (λ slot. slot.id == i) 0 s.slots.items → is_some r ≡ false
       → length s.slots.items ≡ most_open → is_fragment m.header ≡ false → is_opener m.header ≡ true
-      → plays (message_reading C l) c (at_id c.live m) ≡ one_play (message_reading C l) c now.place (title m) (Imposed TooManyOpen)
+      → effects (message_reading C l) c (at_id c.live m) ≡ one_effect (message_reading C l) c now.place (title m) (Imposed TooManyOpen)
   no_room r e n full f g =
       let many = as_many in
       let room : most_open ≤ length c.live = omega (arith, many, full) in
@@ -140,7 +140,7 @@ module _ (C : Table) (l : Listed) (s : Slots) (c : Scene) (m : Message) (now : C
 
   pub opens_one : (r : Option ℕ) → r ≡ position_from (λ slot. slot.id == i) 0 s.slots.items → is_some r ≡ false
       → length s.slots.items < most_open → is_fragment m.header ≡ false → is_opener m.header ≡ true
-      → plays (message_reading C l) c (at_id c.live m) ≡ one_play (message_reading C l) c now.place (title m) (Opens i)
+      → effects (message_reading C l) c (at_id c.live m) ≡ one_effect (message_reading C l) c now.place (title m) (Opens i)
   opens_one r e n few f g =
       let many = as_many in
       let room : length c.live < most_open = omega (arith, many, few) in
@@ -150,15 +150,15 @@ module _ (C : Table) (l : Listed) (s : Slots) (c : Scene) (m : Message) (now : C
   -- ---- A Fragment.
 
   pub unknown : is_fragment m.header ≡ true → opener_of c.live m ≡ None
-      → plays (message_reading C l) c (at_id c.live m) ≡ one_play (message_reading C l) c now.place (title m) (Imposed NoOpen)
+      → effects (message_reading C l) c (at_id c.live m) ≡ one_effect (message_reading C l) c now.place (title m) (Imposed NoOpen)
   unknown f e = fragment_unknown (message_reading C l) c c.live m f e ∙ rw h.current.place refl
 
   pub in_order : (o : Open) → is_fragment m.header ≡ true → opener_of c.live m ≡ Some o → same_order (order m.header) (order o.opener.header) ≡ true
-      → plays (message_reading C l) c (at_id c.live m) ≡ line_play (goes_on m o) (no_play c)
+      → effects (message_reading C l) c (at_id c.live m) ≡ line_effect (goes_on m o) (no_effect c)
   in_order o f e same = let xs = h.alive (fragment_named m.header f) in fragment_in_order (message_reading C l) c c.live m o xs.0 f e xs.1 same
 
   pub out_of_order : (o : Open) → is_fragment m.header ≡ true → opener_of c.live m ≡ Some o → same_order (order m.header) (order o.opener.header) ≡ false
-      → plays (message_reading C l) c (at_id c.live m) ≡ line_play (goes_on m o) (one_play (message_reading C l) c now.place o.opener (Imposed FragmentOrder))
+      → effects (message_reading C l) c (at_id c.live m) ≡ line_effect (goes_on m o) (one_effect (message_reading C l) c now.place o.opener (Imposed FragmentOrder))
   out_of_order o f e other =
       let xs = h.alive (fragment_named m.header f) in
       fragment_out_of_order (message_reading C l) c c.live m o xs.0 f e xs.1 other ∙ rw h.current.place refl
@@ -169,12 +169,12 @@ module _ (C : Table) (l : Listed) (s : Slots) (c : Scene) (m : Message) (now : C
 
   -- which begins all that is written
   pub goes_first : (o : Open) → is_fragment m.header ≡ true → opener_of c.live m ≡ Some o
-      → BeginsSo (goes_on m o) (plays (message_reading C l) c (at_id c.live m)).lines
+      → BeginsSo (goes_on m o) (effects (message_reading C l) c (at_id c.live m)).lines
   goes_first o f e = go (same_order (order m.header) (order o.opener.header)) refl
     where
-      go : (b : Bool) → same_order (order m.header) (order o.opener.header) ≡ b → BeginsSo (goes_on m o) (plays (message_reading C l) c (at_id c.live m)).lines
-      go true same = record { more = _; is = ap (λ (p : Play). p.lines) (in_order o f e same) }
-      go false other = record { more = _; is = ap (λ (p : Play). p.lines) (out_of_order o f e other) }
+      go : (b : Bool) → same_order (order m.header) (order o.opener.header) ≡ b → BeginsSo (goes_on m o) (effects (message_reading C l) c (at_id c.live m)).lines
+      go true same = record { more = _; is = ap (λ (p : Effect). p.lines) (in_order o f e same) }
+      go false other = record { more = _; is = ap (λ (p : Effect). p.lines) (out_of_order o f e other) }
 
   -- the slot of its opener
   pub opener_slot : (k : ℕ) (o : Open) (x : Kept_slot) → slice_get c.live k ≡ Some o → slice_get s.slots.items k ≡ Some x
@@ -189,7 +189,7 @@ module _ (C : Table) (l : Listed) (s : Slots) (c : Scene) (m : Message) (now : C
 
   pub misses_all : (r : Option ℕ) → r ≡ position_from (λ slot. slot.id == i) 0 s.slots.items → is_some r ≡ false
       → is_fragment m.header ≡ false → is_opener m.header ≡ false → is_cancel m.header ≡ true
-      → plays (message_reading C l) c (at_id c.live m) ≡ no_play c
+      → effects (message_reading C l) c (at_id c.live m) ≡ no_effect c
   misses_all r e n f g b = cancel_misses (message_reading C l) c c.live m f g b (misses (cancel_named m.header b) r e n)
 
   -- the header of the open message that is found
@@ -199,12 +199,12 @@ module _ (C : Table) (l : Listed) (s : Slots) (c : Scene) (m : Message) (now : C
 
   pub spares : (o : Open) → is_fragment m.header ≡ false → is_opener m.header ≡ false → is_cancel m.header ≡ true
       → opener_of c.live m ≡ Some o → may_be_cancelled o.opener.header ≡ false
-      → plays (message_reading C l) c (at_id c.live m) ≡ no_play c
+      → effects (message_reading C l) c (at_id c.live m) ≡ no_effect c
   spares o f g b e j = cancel_spares (message_reading C l) c c.live m o f g b e j
 
   pub cancels_one : (o : Open) → is_fragment m.header ≡ false → is_opener m.header ≡ false → is_cancel m.header ≡ true
       → opener_of c.live m ≡ Some o → may_be_cancelled o.opener.header ≡ true
-      → plays (message_reading C l) c (at_id c.live m) ≡ one_play (message_reading C l) c now.place o.opener (Cancelled now.number)
+      → effects (message_reading C l) c (at_id c.live m) ≡ one_effect (message_reading C l) c now.place o.opener (Cancelled now.number)
   cancels_one o f g b e j = cancel_closes (message_reading C l) c c.live m o f g b e j ∙ rw (h.current.place, h.current.number) refl
 
   -- ---- Any message.
@@ -213,5 +213,5 @@ module _ (C : Table) (l : Listed) (s : Slots) (c : Scene) (m : Message) (now : C
   header_is says r e = ap says h.current.header ∙ e
 
   pub no_name : is_fragment now.header ≡ false → is_opener now.header ≡ false → is_cancel now.header ≡ false
-      → plays (message_reading C l) c (at_id c.live m) ≡ no_play c
+      → effects (message_reading C l) c (at_id c.live m) ≡ no_effect c
   no_name f g b = other_id (message_reading C l) c c.live m (header_is is_fragment false f) (header_is is_opener false g) (header_is is_cancel false b)

@@ -5,10 +5,10 @@ use Rattle.std.specs.List.{find, position_from}
 use Rattle.giop_stream.specs.declared.slots.Slot.{Slot as Kept_slot}
 use Rattle.giop_stream.specs.Events.{Open}
 use Rattle.giop_stream.specs.State.{Kept, slots_of}
-use Rattle.giop_stream.specs.Plays.{Scene}
+use Rattle.giop_stream.specs.Effects.{Tracked}
 use Rattle.giop_stream.specs.Keeping.{AreSlots}
 use Rattle.giop_sig.specs.Table.{Table}
-use Rattle.giop_message.specs.Signatures.{Kept as Listed}
+use Rattle.giop_message.specs.Signatures.{Listed}
 
 -- ---- The open message with a request id.
 
@@ -34,7 +34,7 @@ unfolding Found
 found [] i n = refl
 found (a ∷ live) i n = found_by a live i n (a.id == i) refl (found live i (n + 1))
 
-pub record OpenAt (c : Scene) (i k : ℕ) : Type 0 where
+pub record OpenAt (c : Tracked) (i k : ℕ) : Type 0 where
   pub o : Open
   pub here : slice_get c.live k ≡ Some o
   pub is : find (λ o. o.id == i) c.live ≡ Some o
@@ -48,12 +48,12 @@ module _ (C : Table) (l : Listed) where
   ids_found (k ∷ ks) K [] i n h = absurd h
   ids_found (k ∷ ks) K (o ∷ live) i n h = let same = h.0.id in rw same (ap (λ (r : Option ℕ). cond (o.id == i) (Some n) r) (ids_found ks K live i (n + 1) h.1))
 
-  pub none_open : (ks : List Kept_slot) (c : Scene) (i : ℕ) → AreSlots C l ks (slots_of c.known c.live)
+  pub none_open : (ks : List Kept_slot) (c : Tracked) (i : ℕ) → AreSlots C l ks (slots_of c.known c.live)
       → position_from (λ slot. slot.id == i) 0 ks ≡ None → find (λ o. o.id == i) c.live ≡ None
   unfolding Found
   none_open ks c i h e = subst (Found c.live i 0) (sym (ids_found ks c.known c.live i 0 h) ∙ e) (found c.live i 0)
 
-  pub one_open : (ks : List Kept_slot) (c : Scene) (i k : ℕ) → AreSlots C l ks (slots_of c.known c.live)
+  pub one_open : (ks : List Kept_slot) (c : Tracked) (i k : ℕ) → AreSlots C l ks (slots_of c.known c.live)
       → position_from (λ slot. slot.id == i) 0 ks ≡ Some k → OpenAt c i k
   unfolding Found
   one_open ks c i k h e =

@@ -5,13 +5,13 @@ use Rattle.std.specs.List.{find, AllByRecursion as Each}
 use Rattle.std.proofs.lemmas.Bool.{eq-eqb, ne_eqb, or_right}
 use Rattle.giop_sig.specs.Table.{Table}
 use Rattle.giop_message.specs.declared.message.Message.{Message as Kept_message}
-use Rattle.giop_message.specs.Signatures.{Kept as Listed}
+use Rattle.giop_message.specs.Signatures.{Listed}
 use Rattle.giop_stream.specs.declared.slots.Payload.{Payload}
 use Rattle.giop_stream.specs.declared.slots.Payload.TheVariants as payload
 use Rattle.giop_stream.specs.Framing.{Message}
 use Rattle.giop_stream.specs.Events.{Title, Open, title, id, opener_of, has_named, Now, now_of}
 use Rattle.giop_stream.specs.State.{Kept, is_open, slots_of}
-use Rattle.giop_stream.specs.Plays.{Scene}
+use Rattle.giop_stream.specs.Effects.{Tracked}
 use Rattle.giop_stream.specs.Keeping.{IsKept, IsWhose}
 use Rattle.giop_stream.specs.Whose.{opener_title, whose, whose_in}
 use Rattle.giop_stream.specs.Engine.{State, Own, is_named, own_for, owner_for, own_in, owner_in}
@@ -62,7 +62,7 @@ module _ (C : Table) (l : Listed) where
   own_by (Some m) w None k = absurd k
   own_by (Some m) w (Some xs) k = k
 
-  module _ (c : Scene) (own : Option Kept_message) where
+  module _ (c : Tracked) (own : Option Kept_message) where
     -- no own octets come to another message's Fragment
     of_other : (of : Payload) (test : Open → Bool) (o : Option Open) → find test c.live ≡ o → IsWhose C l of own c (opener_title o) → own ≡ None
     of_other payload.Own test None e h = absurd h
@@ -124,12 +124,12 @@ owner_kept K live now other e f = rw (e, f) (go (K now.whom.number))
     go (Some xs) = refl
 
 -- what a state tells of these messages
-pub record Tells (s : State) (c : Scene) (current : Option Message) : Type 0 where
+pub record Tells (s : State) (c : Tracked) (current : Option Message) : Type 0 where
   pub slots : s.slots ≡ slots_of c.known c.live
   pub own : s.own ≡ own_in c.known c.live current
   pub owner : s.owner ≡ owner_in c.known c.live current
 
-module _ (C : Table) (l : Listed) (s : State) (c : Scene) (own : Option Kept_message) where
+module _ (C : Table) (l : Listed) (s : State) (c : Tracked) (own : Option Kept_message) where
   slot_is : (current : Option Message) → Tells s c current → (k : ℕ) (o : Open) → slice_get c.live k ≡ Some o
       → slice_get s.slots k ≡ Some (record { open_as = o; octets = c.known o.opener.number })
   slot_is current e k o here = rw e.slots (slots_get c k o here)

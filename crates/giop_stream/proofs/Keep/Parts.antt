@@ -4,7 +4,7 @@ use Rattle.std.specs.Prelude.{◌==◌, if◌then◌else◌}
 use Rattle.std.proofs.lemmas.Bool.{ne_eqb, eqb-true, le-leb, lt-ltb, cases_lt}
 use Rattle.std.proofs.lemmas.List.{length_push, get_or_push, take-append-le}
 use Rattle.giop_sig.specs.Table.{Table}
-use Rattle.giop_message.specs.Signatures.{Kept as Listed, said_by}
+use Rattle.giop_message.specs.Signatures.{Listed, said_by}
 use Rattle.giop_message.specs.MessageReading.{message_reading}
 use Rattle.giop_message.specs.Reading.{Reading, IsInTurn}
 use Rattle.giop_message.specs.Headers.{size, is_fragment, has_name}
@@ -13,24 +13,24 @@ use Rattle.giop_stream.specs.declared.slots.Slots.{Slots}
 use Rattle.giop_stream.specs.declared.current.Current.{Current}
 use Rattle.giop_stream.specs.Framing.{Message}
 use Rattle.giop_stream.specs.Events.{Takes, Title, Open, Event, title, place, opener_of, has_named, goes_past, id, at_octet, at_id, happens, opened, Rising, now_of, id_acts, end_acts}
-use Rattle.giop_stream.specs.Plays.{Scene, Play, plays, scene_at, then_play, with_octet}
-use Rattle.giop_stream.specs.Keeping.{Keeps, event, play_to}
-use Rattle.giop_stream.specs.Runs.{run_play}
+use Rattle.giop_stream.specs.Effects.{Tracked, Effect, effects, tracked_at, then_effect, with_octet}
+use Rattle.giop_stream.specs.Keeping.{Keeps, event, effect_to}
+use Rattle.giop_stream.specs.Runs.{run_effect}
 use Rattle.giop_stream.specs.Whose.{IsNext, IsTaken, IsAt, IsNewest, opener_title, whose, whose_octet, whose_after, id_events, end_events}
 use Rattle.giop_stream.proofs.Happening.Happenings.{quiet_octet, quiet_continues}
 use Rattle.giop_stream.proofs.Happening.HappeningsKeep.{rising_push, rising_filter, opened_by, kept_id}
 use Rattle.giop_stream.proofs.Keep.InPlace.{own_then}
 use Rattle.giop_stream.proofs.Told.Beginning.{named_then}
-use Rattle.giop_stream.proofs.Keep.Cases.{plays_append, octet_own, octet_passed, octet_lost}
+use Rattle.giop_stream.proofs.Keep.Cases.{effects_append, octet_own, octet_passed, octet_lost}
 use Rattle.giop_stream.proofs.Keep.Ending.{whose_early, whose_plain}
 use Rattle.giop_stream.proofs.Keep.Taken.{whose_own}
 
 -- ---- The open messages between the parts.
 
-pub plays_live : (R : Reading) (c : Scene) (es : List Event) → (plays R c es).scene.live ≡ opened c.live es
-unfolding plays opened scene_at
-plays_live R c [] = refl
-plays_live R c (e ∷ es) = plays_live R (scene_at R c e) es
+pub effects_live : (R : Reading) (c : Tracked) (es : List Event) → (effects R c es).tracked.live ≡ opened c.live es
+unfolding effects opened tracked_at
+effects_live R c [] = refl
+effects_live R c (e ∷ es) = effects_live R (tracked_at R c e) es
 
 -- a Fragment's request id opens and closes nothing
 fragment_still : (live : List Open) (m : Message) → is_fragment m.header ≡ true → opened live (id_events live m) ≡ live
@@ -76,50 +76,50 @@ rising_id live m r newest = go (length m.payload == 4) refl
 
 -- ---- The parts.
 
-module _ (R : Reading) (c : Scene) (m : Message) where
-  abbrev pub first : Play
-  first = plays R c (at_octet c.live m)
+module _ (R : Reading) (c : Tracked) (m : Message) where
+  abbrev pub first : Effect
+  first = effects R c (at_octet c.live m)
 
-  abbrev pub second : Play
-  second = plays R first.scene (id_events first.scene.live m)
+  abbrev pub second : Effect
+  second = effects R first.tracked (id_events first.tracked.live m)
 
-  abbrev pub third : Play
-  third = plays R second.scene (end_events second.scene.live m)
+  abbrev pub third : Effect
+  third = effects R second.tracked (end_events second.tracked.live m)
 
-  pub first_live : first.scene.live ≡ c.live
-  first_live = plays_live R c (at_octet c.live m) ∙ quiet_octet c.live (now_of m) (opener_of c.live m)
+  pub first_live : first.tracked.live ≡ c.live
+  first_live = effects_live R c (at_octet c.live m) ∙ quiet_octet c.live (now_of m) (opener_of c.live m)
 
-  second_live : second.scene.live ≡ opened c.live (id_events c.live m)
-  second_live = plays_live R first.scene (id_events first.scene.live m) ∙ ap (λ (live : List Open). opened live (id_events live m)) first_live
+  second_live : second.tracked.live ≡ opened c.live (id_events c.live m)
+  second_live = effects_live R first.tracked (id_events first.tracked.live m) ∙ ap (λ (live : List Open). opened live (id_events live m)) first_live
 
   parts : (length m.payload ≡ 0 → ⊥) → happens c.live m ≡ at_octet c.live m ++ (id_events c.live m ++ end_events c.live m)
   unfolding happens id_events end_events
   parts some = rw (ne_eqb (length m.payload) 0 some) refl
 
-  pub in_parts : (length m.payload ≡ 0 → ⊥) → plays R c (happens c.live m) ≡ then_play first (then_play second third)
+  pub in_parts : (length m.payload ≡ 0 → ⊥) → effects R c (happens c.live m) ≡ then_effect first (then_effect second third)
   in_parts some =
-      let ids : id_events c.live m ≡ id_events first.scene.live m = ap (λ (live : List Open). id_events live m) (sym first_live) in
-      let ends : end_events c.live m ≡ end_events second.scene.live m = sym (ap (λ (live : List Open). end_events live m) second_live ∙ end_same c.live m) in
-      ap (plays R c) (parts some ∙ (ap (λ (es : List Event). at_octet c.live m ++ (es ++ end_events c.live m)) ids
-      ∙ ap (λ (es : List Event). at_octet c.live m ++ (id_events first.scene.live m ++ es)) ends))
-      ∙ (plays_append R c (at_octet c.live m) (id_events first.scene.live m ++ end_events second.scene.live m)
-      ∙ rw (plays_append R first.scene (id_events first.scene.live m) (end_events second.scene.live m)) refl)
+      let ids : id_events c.live m ≡ id_events first.tracked.live m = ap (λ (live : List Open). id_events live m) (sym first_live) in
+      let ends : end_events c.live m ≡ end_events second.tracked.live m = sym (ap (λ (live : List Open). end_events live m) second_live ∙ end_same c.live m) in
+      ap (effects R c) (parts some ∙ (ap (λ (es : List Event). at_octet c.live m ++ (es ++ end_events c.live m)) ids
+      ∙ ap (λ (es : List Event). at_octet c.live m ++ (id_events first.tracked.live m ++ es)) ends))
+      ∙ (effects_append R c (at_octet c.live m) (id_events first.tracked.live m ++ end_events second.tracked.live m)
+      ∙ rw (effects_append R first.tracked (id_events first.tracked.live m) (end_events second.tracked.live m)) refl)
 
-  pub second_whose : whose first.scene.live m ≡ whose second.scene.live m
+  pub second_whose : whose first.tracked.live m ≡ whose second.tracked.live m
   second_whose = ap (λ (live : List Open). whose live m) first_live ∙ (sym (whose_same c.live m) ∙ ap (λ (live : List Open). whose live m) (sym second_live))
 
-  pub second_rising : Rising c.live → (length m.payload ≡ 4 → IsNewest m.number c.live) → Rising second.scene.live
+  pub second_rising : Rising c.live → (length m.payload ≡ 4 → IsNewest m.number c.live) → Rising second.tracked.live
   second_rising r newest = rw second_live (rising_id c.live m r newest)
 
   -- whose the octets are after the message's last one is nobody's, whatever is open
-  pub third_whose : whose_after second.scene.live m ≡ whose_after third.scene.live m
+  pub third_whose : whose_after second.tracked.live m ≡ whose_after third.tracked.live m
   unfolding whose_after end_events opened
   third_whose = go (length m.payload == size m.header) refl
     where
       go : (b : Bool) → (length m.payload == size m.header) ≡ b
-          → (if b then None else whose second.scene.live m) ≡ (if b then None else whose third.scene.live m)
+          → (if b then None else whose second.tracked.live m) ≡ (if b then None else whose third.tracked.live m)
       go true e = refl
-      go false e = ap (λ (live : List Open). whose live m) (sym (plays_live R second.scene (end_events second.scene.live m) ∙ rw e refl))
+      go false e = ap (λ (live : List Open). whose live m) (sym (effects_live R second.tracked (end_events second.tracked.live m) ∙ rw e refl))
 
 -- ---- Whose an octet is that comes.
 
@@ -140,23 +140,23 @@ module _ (C : Table) (l : Listed) where
   pub in_turn : IsInTurn (message_reading C l)
   in_turn = record { named = is_named C l; ordered = is_ordered (said_by C l); closing = is_closing (said_by C l) }
 
-  about_takes : (c : Scene) (m : Message) (x at : ℕ) (r : Option Open) → goes_past m ≡ true → opener_of c.live m ≡ r
+  about_takes : (c : Tracked) (m : Message) (x at : ℕ) (r : Option Open) → goes_past m ≡ true → opener_of c.live m ≡ r
       → get_or m.payload (length m.payload - 1) 0 ≡ x → place m ≡ at
-      → plays (message_reading C l) c (at_octet c.live m) ≡ play_to C l at c (opener_title r) (Takes x)
+      → effects (message_reading C l) c (at_octet c.live m) ≡ effect_to C l at c (opener_title r) (Takes x)
   about_takes c m x at None past e last here = octet_lost (message_reading C l) c c.live m past e
   about_takes c m x at (Some o) past e last here = octet_passed (message_reading C l) c c.live m o past e ∙ rw (last, here) refl
 
-  pub octet_does : (c : Scene) (m : Message) (x at : ℕ) → get_or m.payload (length m.payload - 1) 0 ≡ x → place m ≡ at
-      → plays (message_reading C l) c (at_octet c.live m) ≡ play_to C l at c (whose_octet c.live m) (Takes x)
+  pub octet_does : (c : Tracked) (m : Message) (x at : ℕ) → get_or m.payload (length m.payload - 1) 0 ≡ x → place m ≡ at
+      → effects (message_reading C l) c (at_octet c.live m) ≡ effect_to C l at c (whose_octet c.live m) (Takes x)
   unfolding whose_octet
   octet_does c m x at last here = go (goes_past m) refl
     where
-      go : (b : Bool) → goes_past m ≡ b → plays (message_reading C l) c (at_octet c.live m) ≡ play_to C l at c
+      go : (b : Bool) → goes_past m ≡ b → effects (message_reading C l) c (at_octet c.live m) ≡ effect_to C l at c
           (if goes_past m then opener_title (opener_of c.live m) else Some (title m)) (Takes x)
       go true past = rw past (about_takes c m x at (opener_of c.live m) past refl last here)
       go false own = rw own (octet_own (message_reading C l) c c.live m own ∙ rw (last, here) refl)
 
-module _ (C : Table) (l : Listed) (s : Slots) (c : Scene) (m : Message) (now : Current) (x : ℕ) (h : IsNext C l s c m now x) where
+module _ (C : Table) (l : Listed) (s : Slots) (c : Tracked) (m : Message) (now : Current) (x : ℕ) (h : IsNext C l s c m now x) where
   last_is : get_or (m.payload ++ x ∷ []) (length (m.payload ++ x ∷ []) - 1) 0 ≡ x
   last_is = get_or_push m.payload x 0 (length (m.payload ++ x ∷ []) - 1) (omega (arith, length_push m.payload x))
 
@@ -167,36 +167,36 @@ module _ (C : Table) (l : Listed) (s : Slots) (c : Scene) (m : Message) (now : C
   unfolding place
   some_place = omega (arith, h.current.place)
 
-  takes_at : first (message_reading C l) c (with_octet m x) ≡ play_to C l now.place c (whose c.live m) (Takes x)
+  takes_at : first (message_reading C l) c (with_octet m x) ≡ effect_to C l now.place c (whose c.live m) (Takes x)
   takes_at = rw (← whose_next c.live m x) (octet_does C l c (with_octet m x) x now.place last_is h.current.place)
 
   -- which is a run of one octet
-  pub takes_play : first (message_reading C l) c (with_octet m x) ≡ run_play C l (now.place - 1) c (whose c.live m) (x ∷ [])
-  unfolding run_play
-  takes_play =
-      let play = play_to C l now.place c (whose c.live m) (Takes x) in
-      takes_at ∙ rw some_place (λ j. record { scene = play.scene; lines = sym (append-nil play.lines) j })
+  pub takes_effect : first (message_reading C l) c (with_octet m x) ≡ run_effect C l (now.place - 1) c (whose c.live m) (x ∷ [])
+  unfolding run_effect
+  takes_effect =
+      let effect = effect_to C l now.place c (whose c.live m) (Takes x) in
+      takes_at ∙ rw some_place (λ j. record { tracked = effect.tracked; lines = sym (append-nil effect.lines) j })
 
   known_is : length m.payload < 4 → has_name m.header ≡ true
-      → (first (message_reading C l) c (with_octet m x)).scene.known m.number ≡ Some (m.payload ++ x ∷ [])
+      → (first (message_reading C l) c (with_octet m x)).tracked.known m.number ≡ Some (m.payload ++ x ∷ [])
   known_is few name =
       let w : whose_octet c.live (with_octet m x) ≡ Some (title m) = whose_own c.live (with_octet m x) (omega (arith, length_push m.payload x)) in
-      let scene : (first (message_reading C l) c (with_octet m x)).scene ≡ scene_at (message_reading C l) c (event now.place (title m) (Takes x)) =
-      ap (λ (p : Play). p.scene) (octet_does C l c (with_octet m x) x now.place last_is h.current.place)
-      ∙ ap (λ (v : Option Title). (play_to C l now.place c v (Takes x)).scene) w in
-      ap (λ (d : Scene). d.known m.number) scene
+      let tracked : (first (message_reading C l) c (with_octet m x)).tracked ≡ tracked_at (message_reading C l) c (event now.place (title m) (Takes x)) =
+      ap (λ (p : Effect). p.tracked) (octet_does C l c (with_octet m x) x now.place last_is h.current.place)
+      ∙ ap (λ (v : Option Title). (effect_to C l now.place c v (Takes x)).tracked) w in
+      ap (λ (d : Tracked). d.known m.number) tracked
       ∙ (own_then (message_reading C l) c (event now.place (title m) (Takes x))
       ∙ rw (h.alive name few) (named_then (message_reading C l) (in_turn C l) now.place (title m) m.payload x name few))
 
-  pub taken_here : (s' : Slots) → Keeps C l s' (run_play C l (now.place - 1) c (whose c.live m) (x ∷ [])).scene
-      (whose c.live m) → IsTaken C l s' (first (message_reading C l) c (with_octet m x)).scene (with_octet m x) now
+  pub taken_here : (s' : Slots) → Keeps C l s' (run_effect C l (now.place - 1) c (whose c.live m) (x ∷ [])).tracked
+      (whose c.live m) → IsTaken C l s' (first (message_reading C l) c (with_octet m x)).tracked (with_octet m x) now
   taken_here s' k =
       let R = message_reading C l in
       let m' = with_octet m x in
-      let live : (first R c m').scene.live ≡ c.live = first_live R c m' in
-      let w : whose_octet (first R c m').scene.live m' ≡ whose c.live m = ap (λ (open' : List Open). whose_octet open' m') live ∙ whose_next c.live m x in
+      let live : (first R c m').tracked.live ≡ c.live = first_live R c m' in
+      let w : whose_octet (first R c m').tracked.live m' ≡ whose c.live m = ap (λ (open' : List Open). whose_octet open' m') live ∙ whose_next c.live m x in
       record {
-        keeps = rw (w, takes_play) k;
+        keeps = rw (w, takes_effect) k;
         rising = rw live h.rising;
         current = h.current;
         come = omega (arith, length_push m.payload x, h.come);
@@ -208,9 +208,9 @@ module _ (C : Table) (l : Listed) (s : Slots) (c : Scene) (m : Message) (now : C
   pub come_is : length (m.payload ++ x ∷ []) ≡ now.come
   come_is = omega (arith, length_push m.payload x, h.come)
 
-  pub named_at : (s' : Slots) → Keeps C l s' (second (message_reading C l) c (with_octet m x)).scene
-      (whose (first (message_reading C l) c (with_octet m x)).scene.live (with_octet m x))
-      → IsAt C l s' (second (message_reading C l) c (with_octet m x)).scene (with_octet m x) now
+  pub named_at : (s' : Slots) → Keeps C l s' (second (message_reading C l) c (with_octet m x)).tracked
+      (whose (first (message_reading C l) c (with_octet m x)).tracked.live (with_octet m x))
+      → IsAt C l s' (second (message_reading C l) c (with_octet m x)).tracked (with_octet m x) now
   named_at s' k =
       let R = message_reading C l in
       let m' = with_octet m x in

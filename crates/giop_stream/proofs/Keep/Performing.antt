@@ -1,4 +1,4 @@
--- What calls do that play events, one after the other.
+-- What calls do of whose events each has its effect, one after the other.
 use Rattle.std.proofs.Common.{◌≡◌, ℕ, ◌+◌, List, [], ◌∷◌, ◌++◌, refl, ◌∙◌, append-nil, Result, Ok, Err, IsErr}
 use Rattle.std.specs.Prelude.{OnOk, IfOk}
 use Rattle.std.proofs.lemmas.Bool.{false≢true}
@@ -9,7 +9,7 @@ use Rattle.giop_print.proofs.Writing.{wrote-nil, wrote-front, writes_then, front
 use Rattle.giop_stream.specs.Lines.{Line}
 use Rattle.giop_stream.specs.Text.{line_text, lines_text}
 use Rattle.giop_stream.specs.Stream.{fault_count}
-use Rattle.giop_stream.specs.Playing.{Performs}
+use Rattle.giop_stream.specs.Performs.{Performs}
 use Rattle.giop_stream.proofs.Happening.Grown.{count_append}
 
 pub text_append : (xs ys : List Line) → lines_text (xs ++ ys) ≡ lines_text xs ++ lines_text ys

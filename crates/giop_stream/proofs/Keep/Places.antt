@@ -8,7 +8,7 @@ use Rattle.giop_stream.specs.Events.{Happening, Begins, Takes, Opens, Continues,
 use Rattle.giop_stream.specs.Lines.{line, tells, is_last_of, standing}
 use Rattle.giop_stream.specs.State.{slots_of}
 use Rattle.giop_stream.specs.Machine.{utters_kept}
-use Rattle.giop_stream.specs.Plays.{Scene, scene_at, lines_of, octets_then, stays, goes, IsNotOpen, slots_at}
+use Rattle.giop_stream.specs.Effects.{Tracked, tracked_at, lines_of, octets_then, stays, goes, IsNotOpen, slots_at}
 use Rattle.giop_stream.proofs.Lists.{each_weaker, filter_keeps}
 use Rattle.giop_stream.proofs.Keep.InPlace.{own_then, others_then, slot_at, no_slot, slot_gone, slot_comes}
 
@@ -33,37 +33,37 @@ goes_live live whom (Cancelled j) h = refl
 goes_live live whom (Imposed fault) h = absurd cc
 goes_live live whom Closes h = refl
 
-live_at : (R : Reading) (c : Scene) (e : Event) → (scene_at R c e).live ≡ changed c.live e.whom e.what
-unfolding scene_at
+live_at : (R : Reading) (c : Tracked) (e : Event) → (tracked_at R c e).live ≡ changed c.live e.whom e.what
+unfolding tracked_at
 live_at R c e = refl
 
 -- the slot of its message changes, where that is open
-pub slot_stays : (R : Reading) (c : Scene) (e : Event) (k : ℕ) (o : Open) → stays e.what ≡ true → Rising c.live
+pub slot_stays : (R : Reading) (c : Tracked) (e : Event) (k : ℕ) (o : Open) → stays e.what ≡ true → Rising c.live
     → slice_get c.live k ≡ Some o → e.whom ≡ o.opener
-    → slots_at (scene_at R c e) ≡ slice_set (slots_at c) k (record { open_as = o; octets = octets_then R e (c.known o.opener.number) })
+    → slots_at (tracked_at R c e) ≡ slice_set (slots_at c) k (record { open_as = o; octets = octets_then R e (c.known o.opener.number) })
 slot_stays R c e k o h rising here w =
     let number : o.opener.number ≡ e.whom.number = ap (λ (t : Title). t.number) (sym w) in
-    let now : (scene_at R c e).known o.opener.number ≡ octets_then R e (c.known o.opener.number) =
-    ap (scene_at R c e).known number ∙ (own_then R c e ∙ ap (λ (n : ℕ). octets_then R e (c.known n)) (sym number)) in
+    let now : (tracked_at R c e).known o.opener.number ≡ octets_then R e (c.known o.opener.number) =
+    ap (tracked_at R c e).known number ∙ (own_then R c e ∙ ap (λ (n : ℕ). octets_then R e (c.known n)) (sym number)) in
     rw (live_at R c e, stays_live c.live e.whom e.what h, ← now)
-    (slot_at (scene_at R c e).known c.known c.live k o rising here (λ i other. others_then R c e i (λ same. other (same ∙ sym number))))
+    (slot_at (tracked_at R c e).known c.known c.live k o rising here (λ i other. others_then R c e i (λ same. other (same ∙ sym number))))
 
 -- and no slot, where it isn't
-pub slots_stay : (R : Reading) (c : Scene) (e : Event) → stays e.what ≡ true → IsNotOpen e.whom.number c.live → slots_at (scene_at R c e) ≡ slots_at c
+pub slots_stay : (R : Reading) (c : Tracked) (e : Event) → stays e.what ≡ true → IsNotOpen e.whom.number c.live → slots_at (tracked_at R c e) ≡ slots_at c
 slots_stay R c e h apart =
     rw (live_at R c e, stays_live c.live e.whom e.what h)
-    (no_slot (scene_at R c e).known c.known c.live e.whom.number apart (λ i other. others_then R c e i other))
+    (no_slot (tracked_at R c e).known c.known c.live e.whom.number apart (λ i other. others_then R c e i other))
 
 -- the slot of an open message goes
-pub slot_leaves : (R : Reading) (c : Scene) (e : Event) (k : ℕ) (o : Open) → goes e.what ≡ true → Rising c.live
-    → slice_get c.live k ≡ Some o → e.whom ≡ o.opener → slots_at (scene_at R c e) ≡ remove (slots_at c) k
+pub slot_leaves : (R : Reading) (c : Tracked) (e : Event) (k : ℕ) (o : Open) → goes e.what ≡ true → Rising c.live
+    → slice_get c.live k ≡ Some o → e.whom ≡ o.opener → slots_at (tracked_at R c e) ≡ remove (slots_at c) k
 slot_leaves R c e k o h rising here w =
     let number : o.opener.number ≡ e.whom.number = ap (λ (t : Title). t.number) (sym w) in
-    let live : (scene_at R c e).live ≡ filter (λ a. not (a.opener.number == o.opener.number)) c.live =
+    let live : (tracked_at R c e).live ≡ filter (λ a. not (a.opener.number == o.opener.number)) c.live =
     live_at R c e ∙ (goes_live c.live e.whom e.what h
     ∙ ap (λ (n : ℕ). filter (λ a. not (a.opener.number == n)) c.live) (sym number)) in
-    ap (slots_of (scene_at R c e).known) live
-    ∙ slot_gone (scene_at R c e).known c.known c.live k o rising here (λ i other. others_then R c e i (λ same. other (same ∙ sym number)))
+    ap (slots_of (tracked_at R c e).known) live
+    ∙ slot_gone (tracked_at R c e).known c.known c.live k o rising here (λ i other. others_then R c e i (λ same. other (same ∙ sym number)))
 
 none_there : (live : List Open) (n : ℕ) → IsNotOpen n live → filter (λ o. not (o.opener.number == n)) live ≡ live
 none_there live n h =
@@ -72,10 +72,10 @@ none_there live n h =
     (λ o j. rw (ne_eqb o.opener.number n j) refl) live h)
 
 -- and none, where the message that closes isn't open
-pub slots_left : (R : Reading) (c : Scene) (e : Event) → goes e.what ≡ true → IsNotOpen e.whom.number c.live → slots_at (scene_at R c e) ≡ slots_at c
+pub slots_left : (R : Reading) (c : Tracked) (e : Event) → goes e.what ≡ true → IsNotOpen e.whom.number c.live → slots_at (tracked_at R c e) ≡ slots_at c
 slots_left R c e h apart =
     rw (live_at R c e, goes_live c.live e.whom e.what h, none_there c.live e.whom.number apart)
-    (no_slot (scene_at R c e).known c.known c.live e.whom.number apart (λ i other. others_then R c e i other))
+    (no_slot (tracked_at R c e).known c.known c.live e.whom.number apart (λ i other. others_then R c e i other))
 
 -- an event that takes nothing, and says nothing that ends its message
 opens_then : (R : Reading) (e : Event) (i : ℕ) (o : Option (List ℕ)) → e.what ≡ Opens i → octets_then R e o ≡ o
@@ -89,18 +89,18 @@ unfolding changed
 opens_live live whom what i h = rw h refl
 
 -- a slot comes
-pub slot_opens : (R : Reading) (c : Scene) (e : Event) (i : ℕ) → e.what ≡ Opens i → IsNotOpen e.whom.number c.live
-    → slots_at (scene_at R c e)
+pub slot_opens : (R : Reading) (c : Tracked) (e : Event) (i : ℕ) → e.what ≡ Opens i → IsNotOpen e.whom.number c.live
+    → slots_at (tracked_at R c e)
     ≡ slots_at c ++ record { open_as = record { id = i; opener = e.whom }; octets = c.known e.whom.number } ∷ []
 slot_opens R c e i h apart =
     let o : Open = record { id = i; opener = e.whom } in
-    let now : (scene_at R c e).known e.whom.number ≡ c.known e.whom.number = own_then R c e ∙ opens_then R e i (c.known e.whom.number) h in
+    let now : (tracked_at R c e).known e.whom.number ≡ c.known e.whom.number = own_then R c e ∙ opens_then R e i (c.known e.whom.number) h in
     let others =
     each_weaker {A = Open} (λ a. a.opener.number ≡ e.whom.number → ⊥)
-    (λ a. (scene_at R c e).known a.opener.number ≡ c.known a.opener.number)
+    (λ a. (tracked_at R c e).known a.opener.number ≡ c.known a.opener.number)
     (λ a j. others_then R c e a.opener.number j) c.live apart in
-    ap (slots_of (scene_at R c e).known) (live_at R c e ∙ opens_live c.live e.whom e.what i h)
-    ∙ (slot_comes (scene_at R c e).known c.known c.live o others ∙ ap (λ (xs : Option (List ℕ)). slots_at c ++ record { open_as = o; octets = xs } ∷ []) now)
+    ap (slots_of (tracked_at R c e).known) (live_at R c e ∙ opens_live c.live e.whom e.what i h)
+    ∙ (slot_comes (tracked_at R c e).known c.known c.live o others ∙ ap (λ (xs : Option (List ℕ)). slots_at c ++ record { open_as = o; octets = xs } ∷ []) now)
 
 quiet_then : (R : Reading) (e : Event) (n : ℕ) (o : Option (List ℕ)) → e.what ≡ Continues n → octets_then R e o ≡ o
 unfolding octets_then lines_of utters_kept tells line standing octet is_last_of
@@ -112,14 +112,14 @@ quiet_then R e n (Some xs) h = rw h (go (e.whom.number == e.whom.number))
     go false = ap Some (append-nil xs)
 
 -- a Fragment that continues a message changes nothing
-pub scene_stays : (R : Reading) (c : Scene) (e : Event) (n : ℕ) → e.what ≡ Continues n → scene_at R c e ≡ c
+pub tracked_stays : (R : Reading) (c : Tracked) (e : Event) (n : ℕ) → e.what ≡ Continues n → tracked_at R c e ≡ c
 unfolding changed
-scene_stays R c e n h = λ j. record { live = live j; known = λ i. known i j }
+tracked_stays R c e n h = λ j. record { live = live j; known = λ i. known i j }
   where
-    live : (scene_at R c e).live ≡ c.live
+    live : (tracked_at R c e).live ≡ c.live
     live = rw (live_at R c e, h) refl
 
-    known : (i : ℕ) → (scene_at R c e).known i ≡ c.known i
+    known : (i : ℕ) → (tracked_at R c e).known i ≡ c.known i
     known i =
         elim (cases_eq i e.whom.number) [
           | inl same ↦ rw same
@@ -137,14 +137,14 @@ begins_then R e (Some xs) h = rw h (go (e.whom.number == e.whom.number))
     go false = ap Some (append-nil xs)
 
 -- nor does a message that begins
-pub scene_begins : (R : Reading) (c : Scene) (e : Event) → e.what ≡ Begins → scene_at R c e ≡ c
+pub tracked_begins : (R : Reading) (c : Tracked) (e : Event) → e.what ≡ Begins → tracked_at R c e ≡ c
 unfolding changed
-scene_begins R c e h = λ j. record { live = live j; known = λ i. known i j }
+tracked_begins R c e h = λ j. record { live = live j; known = λ i. known i j }
   where
-    live : (scene_at R c e).live ≡ c.live
+    live : (tracked_at R c e).live ≡ c.live
     live = rw (live_at R c e, h) refl
 
-    known : (i : ℕ) → (scene_at R c e).known i ≡ c.known i
+    known : (i : ℕ) → (tracked_at R c e).known i ≡ c.known i
     known i =
         elim (cases_eq i e.whom.number) [
           | inl same ↦ rw same

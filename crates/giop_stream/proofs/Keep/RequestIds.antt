@@ -7,7 +7,7 @@ use Rattle.giop_sig.specs.Types.{Ty}
 use Rattle.giop_sig.specs.Table.{Table}
 use Rattle.giop_sig.specs.Headers.{BeginsWithId, header_type}
 use Rattle.giop_message.specs.Headers.{minor, kind, order, has_more, may_be_fragmented, is_opener, is_fragment, is_cancel, has_name}
-use Rattle.giop_message.specs.Signatures.{Kept as Listed, said_by}
+use Rattle.giop_message.specs.Signatures.{Listed, said_by}
 use Rattle.giop_message.specs.Messages.{message, told_of}
 use Rattle.giop_message.specs.MessageReading.{id_said}
 use Rattle.giop_message.proofs.MessageLaws.{begins_with_id, id_is_said}

@@ -5,10 +5,10 @@ use Rattle.std.specs.List.{remove, AllByRecursion as Each}
 use Rattle.giop_message.specs.declared.message.Message.{Message}
 use Rattle.giop_stream.specs.declared.slots.Slot.{Slot as Kept_slot}
 use Rattle.giop_sig.specs.Table.{Table}
-use Rattle.giop_message.specs.Signatures.{Kept as Listed}
+use Rattle.giop_message.specs.Signatures.{Listed}
 use Rattle.giop_stream.specs.Events.{Open}
 use Rattle.giop_stream.specs.State.{Slot, Kept, slots_of}
-use Rattle.giop_stream.specs.Plays.{Scene}
+use Rattle.giop_stream.specs.Effects.{Tracked}
 use Rattle.giop_stream.specs.Keeping.{IsReady, IsSlot, AreSlots}
 
 pub get_some : {A : Type 0} (xs : List A) (k : ℕ) (x : A) → k < length xs → x ≡ slice_index_or xs k x → slice_get xs k ≡ Some x
@@ -16,7 +16,7 @@ get_some [] k x h e = absurd (omega arith)
 get_some {A} (a ∷ xs) zero x h e = ap (λ (y : A). Some y) (sym e)
 get_some (a ∷ xs) (suc k) x h e = get_some xs k x (omega arith) e
 
-pub slots_get : (c : Scene) (k : ℕ) (o : Open) → slice_get c.live k ≡ Some o
+pub slots_get : (c : Tracked) (k : ℕ) (o : Open) → slice_get c.live k ≡ Some o
     → slice_get (slots_of c.known c.live) k ≡ Some (record { open_as = o; octets = c.known o.opener.number })
 unfolding slots_of
 slots_get c k o e = go c.live k e

@@ -4,7 +4,7 @@ use Rattle.std.specs.Prelude.{◌==◌, ◌&&◌, nat_lt, nat_le, if◌then◌el
 use Rattle.std.proofs.lemmas.Bool.{eq-eqb, eqb-true, lt-leb, le-leb, lt-ltb, le-ltb, cases_lt, false≢true}
 use Rattle.std.specs.List.{AllByRecursion as Each}
 use Rattle.giop_sig.specs.Table.{Table}
-use Rattle.giop_message.specs.Signatures.{Kept as Listed, said_by}
+use Rattle.giop_message.specs.Signatures.{Listed, said_by}
 use Rattle.giop_message.specs.Messages.{message, told_of}
 use Rattle.giop_message.specs.MessageReading.{message_reading, id_said}
 use Rattle.giop_message.specs.Headers.{size, is_fragment}
@@ -14,13 +14,13 @@ use Rattle.giop_stream.specs.declared.slots.Payload.TheVariants as payload
 use Rattle.giop_stream.specs.declared.current.Current.{Current}
 use Rattle.giop_stream.specs.Framing.{Message}
 use Rattle.giop_stream.specs.Events.{Title, Open, id, title, opener_of, has_named, goes_past, at_id, at_end}
-use Rattle.giop_stream.specs.Plays.{Scene, plays, no_play}
+use Rattle.giop_stream.specs.Effects.{Tracked, effects, no_effect}
 use Rattle.giop_stream.specs.Keeping.{IsKept, IsWhose, Keeps}
 use Rattle.giop_stream.specs.Whose.{IsNamed, IsTaken, IsAt, IsNewest, opener_title, whose, whose_named, whose_octet, whose_after, id_events, end_events}
 use Rattle.giop_stream.proofs.Keep.RequestIds.{id_is_id}
 use Rattle.giop_stream.proofs.Keep.InPlace.{at_index}
 use Rattle.giop_stream.proofs.Told.Turns.{not_past}
-use Rattle.giop_stream.proofs.Keep.Cases.{plays_none}
+use Rattle.giop_stream.proofs.Keep.Cases.{effects_none}
 
 -- ---- Whose the octets are, where the request id isn't complete at this one.
 
@@ -59,7 +59,7 @@ whose_own live m few = rw (not_past m few) refl
 -- ---- A message that is newer than the open ones has its own octets.
 
 module _ (C : Table) (l : Listed) where
-  pub own_by : (s : Slots) (c : Scene) (w : Title) → IsNewest w.number c.live → Keeps C l s c (Some w) → s.payload ≡ payload.Own
+  pub own_by : (s : Slots) (c : Tracked) (w : Title) → IsNewest w.number c.live → Keeps C l s c (Some w) → s.payload ≡ payload.Own
   own_by s c w newest h = go s.payload refl h.payload
     where
       go : (p : Payload) → s.payload ≡ p → IsWhose C l p s.own c (Some w) → p ≡ payload.Own
@@ -71,7 +71,7 @@ module _ (C : Table) (l : Listed) where
           absurd (omega (arith, less, same))
       go payload.Nobody e k = absurd k
 
-module _ (C : Table) (l : Listed) (s : Slots) (c : Scene) (m : Message) (now : Current) (h : IsTaken C l s c m now) where
+module _ (C : Table) (l : Listed) (s : Slots) (c : Tracked) (m : Message) (now : Current) (h : IsTaken C l s c m now) where
   four_is : (now.come == 4) ≡ true → length m.payload ≡ 4
   four_is e = h.come ∙ eqb-true now.come 4 e
 
@@ -79,9 +79,9 @@ module _ (C : Table) (l : Listed) (s : Slots) (c : Scene) (m : Message) (now : C
   unfolding id_events
   id_here e = rw (eq-eqb (length m.payload) 4 (four_is e)) refl
 
-  pub no_id : (now.come == 4) ≡ false → plays (message_reading C l) c (id_events c.live m) ≡ no_play c
+  pub no_id : (now.come == 4) ≡ false → effects (message_reading C l) c (id_events c.live m) ≡ no_effect c
   unfolding id_events
-  no_id e = rw (h.come, e) (plays_none (message_reading C l) c)
+  no_id e = rw (h.come, e) (effects_none (message_reading C l) c)
 
   -- the request id that the message's own octets say
   pub named_here : (i : ℕ) → ((w : Title) (xs : List ℕ) (j : ℕ) → IsKept C l s.own w (Some xs)
@@ -115,7 +115,7 @@ module _ (C : Table) (l : Listed) (s : Slots) (c : Scene) (m : Message) (now : C
   pub whose_still : (now.come == 4) ≡ false → whose c.live m ≡ whose_octet c.live m
   whose_still e = whose_elsewhere c.live m (ap (λ (n : ℕ). n == 4) h.come ∙ e)
 
-module _ (C : Table) (l : Listed) (s : Slots) (c : Scene) (m : Message) (now : Current) (h : IsAt C l s c m now) (come : length m.payload ≡ now.come) where
+module _ (C : Table) (l : Listed) (s : Slots) (c : Tracked) (m : Message) (now : Current) (h : IsAt C l s c m now) (come : length m.payload ≡ now.come) where
   last_is : (now.come == size now.header) ≡ true → length m.payload ≡ size m.header
   last_is e = come ∙ (eqb-true now.come (size now.header) e ∙ ap size (sym h.current.header))
 
@@ -127,9 +127,9 @@ module _ (C : Table) (l : Listed) (s : Slots) (c : Scene) (m : Message) (now : C
   unfolding whose_after
   after_here e = rw (eq-eqb (length m.payload) (size m.header) (last_is e)) refl
 
-  pub no_end : (now.come == size now.header) ≡ false → plays (message_reading C l) c (end_events c.live m) ≡ no_play c
+  pub no_end : (now.come == size now.header) ≡ false → effects (message_reading C l) c (end_events c.live m) ≡ no_effect c
   unfolding end_events
-  no_end e = rw (come, h.current.header, e) (plays_none (message_reading C l) c)
+  no_end e = rw (come, h.current.header, e) (effects_none (message_reading C l) c)
 
   pub after_still : (now.come == size now.header) ≡ false → whose_after c.live m ≡ whose c.live m
   unfolding whose_after

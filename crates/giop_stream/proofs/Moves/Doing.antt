@@ -9,7 +9,7 @@ use Rattle.giop_print.specs.Output.{OutLog, Writes}
 use Rattle.giop_sig.specs.Table.{Table}
 use Rattle.giop_message.specs.Headers.{size}
 use Rattle.giop_message.specs.Reading.{Reading, IsCausal}
-use Rattle.giop_message.specs.Signatures.{Kept as Listed, said_by}
+use Rattle.giop_message.specs.Signatures.{Listed, said_by}
 use Rattle.giop_message.specs.MessageReading.{message_reading}
 use Rattle.giop_message.proofs.MessageLaws.{is_causal}
 use Rattle.giop_stream.specs.declared.status.Totals.{Totals}
@@ -21,7 +21,7 @@ use Rattle.giop_stream.specs.Events.{happens, open_after}
 use Rattle.giop_stream.specs.Lines.{Line, lines}
 use Rattle.giop_stream.specs.Text.{lines_text}
 use Rattle.giop_stream.specs.Stream.{fault_count, tally}
-use Rattle.giop_stream.specs.Plays.{Scene, Play, plays, stage, with_octet}
+use Rattle.giop_stream.specs.Effects.{Tracked, Effect, effects, stage, with_octet}
 use Rattle.giop_stream.specs.Keeping.{Keeps}
 use Rattle.giop_stream.specs.Whose.{IsNext, IsFirst, IsNewest, Knows, whose_in, whose_after}
 use Rattle.giop_stream.specs.Remembering.{Memory}
@@ -150,28 +150,28 @@ module _ (C : Table) (l : Listed) (s : State) (reached : IsReached C l s) (m : M
 
   -- ---- What they show once the octet of this message is done with.
 
-  abbrev pub play_of : Message → Play
-  play_of n = plays R (stage R p) (happens (stage R p).live n)
+  abbrev pub effect_of : Message → Effect
+  effect_of n = effects R (stage R p) (happens (stage R p).live n)
 
   module _ (x : ℕ) (n : Message) (fits : length n.payload ≤ size n.header) (number : n.number ≡ suc (length (cut p).whole))
-      (adds : Adds R p (p ++ x ∷ []) (settle (cut p).whole n) (play_of n).lines (play_of n).scene) where
-    knows_then : (slots : Slots) → Keeps C l slots (play_of n).scene (whose_after (play_of n).scene.live n) → Knows C l slots (p ++ x ∷ [])
+      (adds : Adds R p (p ++ x ∷ []) (settle (cut p).whole n) (effect_of n).lines (effect_of n).tracked) where
+    knows_then : (slots : Slots) → Keeps C l slots (effect_of n).tracked (whose_after (effect_of n).tracked.live n) → Knows C l slots (p ++ x ∷ [])
     unfolding stage
     knows_then slots keeps =
         let p' = p ++ x ∷ [] in
         let who : whose_after (stage R p').live n ≡ whose_in (open_after p') (cut p').current =
         sym (ap (λ (d : Cut). whose_in (open_after p') d.current) adds.cut_is
         ∙ whose_settled (open_after p') (cut p).whole n fits) in
-        subst (Keeps C l slots (stage R p')) who (subst (λ (d : Scene). Keeps C l slots d (whose_after d.live n)) (sym adds.stage) keeps)
+        subst (Keeps C l slots (stage R p')) who (subst (λ (d : Tracked). Keeps C l slots d (whose_after d.live n)) (sym adds.stage) keeps)
 
     settled_shows : (b f : Memory) (k : ℕ) → f ≡ settled b k → b.totals.messages ≡ n.number
-        → b.totals.faults ≡ m.totals.faults + fault_count (play_of n).lines → b.totals.octets ≡ suc (length p)
+        → b.totals.faults ≡ m.totals.faults + fault_count (effect_of n).lines → b.totals.octets ≡ suc (length p)
         → b.stopped ≡ None → b.header ≡ n.header → b.come ≡ length n.payload → k ≡ size n.header
-        → Keeps C l b.slots (play_of n).scene (whose_after (play_of n).scene.live n) → Shows C l f (state_of R (p ++ x ∷ []))
+        → Keeps C l b.slots (effect_of n).tracked (whose_after (effect_of n).tracked.live n) → Shows C l f (state_of R (p ++ x ∷ []))
     unfolding of_parts stage
     settled_shows b f k e messages faults octets stopped header come sized keeps =
         let p' = p ++ x ∷ [] in
-        let all : b.totals.faults ≡ fault_count (lines R p) + fault_count (play_of n).lines = omega (arith, faults, faults_at) in
+        let all : b.totals.faults ≡ fault_count (lines R p) + fault_count (effect_of n).lines = omega (arith, faults, faults_at) in
         let totals : b.totals ≡ tally R p' =
         (λ j. record { messages = messages j; faults = all j; octets = octets j })
         ∙ sym (tally_settled R p x n number adds) in
@@ -228,7 +228,7 @@ module _ (C : Table) (l : Listed) (s : State) (reached : IsReached C l s) (m : M
     abbrev pub first : Message
     first = beginner (cut p).whole (suc (length p)) ((cut p).held ++ x ∷ [])
 
-    first_adds : Adds R p (p ++ x ∷ []) (settle (cut p).whole first) (play_of first).lines (play_of first).scene
+    first_adds : Adds R p (p ++ x ∷ []) (settle (cut p).whole first) (effect_of first).lines (effect_of first).tracked
     unfolding stage
     first_adds =
         begins_is R causal (in_turn C l) p x so (runs_on ran) cur
@@ -266,14 +266,14 @@ module _ (C : Table) (l : Listed) (s : State) (reached : IsReached C l s) (m : M
         }
 
     pub begun_does : {A E : Type 0} (result : Result A E) (before after : OutLog) (f : Memory)
-        → Writes result before after (lines_text (play_of first).lines) → OnOk result (Shows C l f (state_of R (p ++ x ∷ [])))
+        → Writes result before after (lines_text (effect_of first).lines) → OnOk result (Shows C l f (state_of R (p ++ x ∷ [])))
         → Does C l result before after f (step R s x)
-    begun_does result before after f text shows = does_step x (play_of first).lines result before after f first_adds.lines text shows
+    begun_does result before after f text shows = does_step x (effect_of first).lines result before after f first_adds.lines text shows
 
     pub begun_shows : (b' f : Memory) (k : ℕ) → f ≡ settled b' k → b'.totals.messages ≡ b.totals.messages + 1
-        → b'.totals.faults ≡ b.totals.faults + fault_count (play_of first).lines → b'.totals.octets ≡ b.totals.octets
+        → b'.totals.faults ≡ b.totals.faults + fault_count (effect_of first).lines → b'.totals.octets ≡ b.totals.octets
         → b'.stopped ≡ b.stopped → b'.header ≡ b.header → b'.come ≡ b.come → k ≡ size b.header
-        → Keeps C l b'.slots (play_of first).scene (whose_after (play_of first).scene.live first) → Shows C l f (state_of R (p ++ x ∷ []))
+        → Keeps C l b'.slots (effect_of first).tracked (whose_after (effect_of first).tracked.live first) → Shows C l f (state_of R (p ++ x ∷ []))
     begun_shows b' f k is messages faults octets stopped header come sized keeps =
         settled_shows x first (omega arith) refl first_adds b' f k is
         (omega (arith, messages, messages_was, messages_at, count)) (omega (arith, faults, faults_was))
@@ -307,7 +307,7 @@ module _ (C : Table) (l : Listed) (s : State) (reached : IsReached C l s) (m : M
     size_few = omega (arith, ap size header_is, size_fits c.header right.0 at_hand.twelve)
 
     module _ (x : ℕ) (room : m.totals.octets < 2 ^ 48) where
-      paid : Adds R p (p ++ x ∷ []) (settle (cut p).whole (with_octet c x)) (play_of (with_octet c x)).lines (play_of (with_octet c x)).scene
+      paid : Adds R p (p ++ x ∷ []) (settle (cut p).whole (with_octet c x)) (effect_of (with_octet c x)).lines (effect_of (with_octet c x)).tracked
       unfolding stage
       paid = paid_is R causal (in_turn C l) p x so c (runs_on free) cur (within_limit (length p) (omega (arith, room, all_read free)))
 
@@ -332,16 +332,16 @@ module _ (C : Table) (l : Listed) (s : State) (reached : IsReached C l s) (m : M
       }
 
       pub paid_does : {A E : Type 0} (result : Result A E) (before after : OutLog) (f : Memory)
-          → Writes result before after (lines_text (play_of (with_octet c x)).lines)
+          → Writes result before after (lines_text (effect_of (with_octet c x)).lines)
           → OnOk result (Shows C l f (state_of R (p ++ x ∷ []))) → Does C l result before after f (step R s x)
-      paid_does result before after f text shows = does_step x (play_of (with_octet c x)).lines result before after f paid.lines text shows
+      paid_does result before after f text shows = does_step x (effect_of (with_octet c x)).lines result before after f paid.lines text shows
 
       pub paid_shows : (b f : Memory) (k : ℕ) → f ≡ settled b k → b.totals.messages ≡ m.totals.messages
-          → b.totals.faults ≡ m.totals.faults + fault_count (play_of (with_octet c x)).lines
+          → b.totals.faults ≡ m.totals.faults + fault_count (effect_of (with_octet c x)).lines
           → b.totals.octets ≡ m.totals.octets + 1 → b.stopped ≡ m.stopped → b.header ≡ m.header → b.come ≡ m.come + 1
           → k ≡ size m.header
-          → Keeps C l b.slots (play_of (with_octet c x)).scene
-          (whose_after (play_of (with_octet c x)).scene.live (with_octet c x)) → Shows C l f (state_of R (p ++ x ∷ []))
+          → Keeps C l b.slots (effect_of (with_octet c x)).tracked
+          (whose_after (effect_of (with_octet c x)).tracked.live (with_octet c x)) → Shows C l f (state_of R (p ++ x ∷ []))
       paid_shows b f k is messages faults octets stopped header come sized keeps =
           settled_shows x (with_octet c x) (omega
           (arith, at_hand.lacks, length_push c.payload x)) at_hand.number_is paid b f k is (messages ∙ sym number_is) faults

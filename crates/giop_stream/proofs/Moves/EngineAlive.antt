@@ -8,7 +8,7 @@ use Rattle.giop_message.specs.Reading.{Reading, End, IsCausal, IsInTurn}
 use Rattle.giop_stream.specs.Framing.{Message, Cut, cut, messages}
 use Rattle.giop_stream.specs.Events.{Takes, Event, Rising, title, place, happens, events, open_after, most_open}
 use Rattle.giop_stream.specs.State.{octets_of}
-use Rattle.giop_stream.specs.Plays.{Scene, Play, octets_then, plays, one_play, starts, with_octet, stage}
+use Rattle.giop_stream.specs.Effects.{Tracked, Effect, octets_then, effects, one_effect, starts, with_octet, stage}
 use Rattle.giop_stream.specs.Octet.{Octet, Behind, Ends, Held, Of, octet_of}
 use Rattle.giop_stream.proofs.Lists.{by_growth}
 use Rattle.giop_stream.proofs.Cuts.Cutting.{stopped_at, of_parts}
@@ -28,26 +28,26 @@ known_is R p i = refl
 module _ (R : Reading) (laws : IsInTurn R) (p : List ℕ) (x : ℕ) (sound : IsSound R p) (alive : IsAlive R p) where
   -- what is kept of the message then
   kept_now : (m : Message) → (cut p).stop ≡ None → length m.payload ≤ size m.header → length m.payload < size m.header → m.number ≡ suc (length (cut p).whole) → has_name m.header ≡ true → length m.payload < 4
-      → (((cut p).current ≡ None) × (m.payload ≡ [])) ⊎ ((was : Message) × ((cut p).current ≡ Some was) × (m ≡ with_octet was x)) → (plays R (stage R p) (happens (open_after p) m)).scene.known m.number ≡ Some m.payload
+      → (((cut p).current ≡ None) × (m.payload ≡ [])) ⊎ ((was : Message) × ((cut p).current ≡ Some was) × (m ≡ with_octet was x)) → (effects R (stage R p) (happens (open_after p) m)).tracked.known m.number ≡ Some m.payload
   unfolding messages
   kept_now m st fits lacks number name few (inl (cur, none)) =
       let free : length m.payload ≡ 0 = ap length none in
       let count : length (messages (cut p)) ≡ length (cut p).whole = rw cur (ap length (append-nil (cut p).whole)) in
       let known : octets_of R p m.number ≡ Some [] = sound.unknown m.number (omega (arith, count, number)) in
       let some : 0 < size m.header = omega (arith, lacks, free) in
-      let played : plays R (stage R p) (happens (open_after p) m) ≡ record { scene = stage R p; lines = starts m ∷ [] } = rw (first_octet (open_after p) m free some) (header_begins R (stage R p) m [] (known_is R p m.number ∙ known) (named_accepted m.header name)) in
-      ap (λ (q : Play). q.scene.known m.number) played ∙ (known_is R p m.number ∙ (known ∙ ap Some (sym none)))
+      let stepped : effects R (stage R p) (happens (open_after p) m) ≡ record { tracked = stage R p; lines = starts m ∷ [] } = rw (first_octet (open_after p) m free some) (header_begins R (stage R p) m [] (known_is R p m.number ∙ known) (named_accepted m.header name)) in
+      ap (λ (q : Effect). q.tracked.known m.number) stepped ∙ (known_is R p m.number ∙ (known ∙ ap Some (sym none)))
   kept_now m st fits lacks number name few (inr (was, cur, is)) = rw is (next was cur (rw is at name) (rw is at few) (rw is at lacks))
     where
-      next : (was : Message) → (cut p).current ≡ Some was → has_name was.header ≡ true → length (was.payload ++ x ∷ []) < 4 → length (was.payload ++ x ∷ []) < size was.header → (plays R (stage R p) (happens (open_after p) (with_octet was x))).scene.known was.number ≡ Some (was.payload ++ x ∷ [])
+      next : (was : Message) → (cut p).current ≡ Some was → has_name was.header ≡ true → length (was.payload ++ x ∷ []) < 4 → length (was.payload ++ x ∷ []) < size was.header → (effects R (stage R p) (happens (open_after p) (with_octet was x))).tracked.known was.number ≡ Some (was.payload ++ x ∷ [])
       next was cur name few lacks =
           let m = with_octet was x in
           let long = length_push was.payload x in
           let known : octets_of R p was.number ≡ Some was.payload = alive st was cur name (omega (arith, few, long)) in
           let last : get_or m.payload (length m.payload - 1) 0 ≡ x = get_or_push was.payload x 0 (length m.payload - 1) (omega (arith, long)) in
           let e : Event = record { place = place m; whom = title was; what = Takes x } in
-          let played : plays R (stage R p) (happens (open_after p) m) ≡ one_play R (stage R p) (place m) (title was) (Takes x) = rw (early_octet (open_after p) m (omega (arith, long)) few lacks, octet_own R (stage R p) (open_after p) m (not_past m (omega (arith, few))), last) refl in
-          ap (λ (q : Play). q.scene.known was.number) played ∙ (own_then R (stage R p) e ∙ (ap (octets_then R e) (known_is R p was.number ∙ known) ∙ named_then R laws (place m) (title was) was.payload x name (omega (arith, few, long))))
+          let stepped : effects R (stage R p) (happens (open_after p) m) ≡ one_effect R (stage R p) (place m) (title was) (Takes x) = rw (early_octet (open_after p) m (omega (arith, long)) few lacks, octet_own R (stage R p) (open_after p) m (not_past m (omega (arith, few))), last) refl in
+          ap (λ (q : Effect). q.tracked.known was.number) stepped ∙ (own_then R (stage R p) e ∙ (ap (octets_then R e) (known_is R p was.number ∙ known) ∙ named_then R laws (place m) (title was) was.payload x name (omega (arith, few, long))))
 
   pub alive_then : (o : Octet) → Then R p x o → IsAlive R (p ++ x ∷ [])
   unfolding stopped_at of_parts
@@ -62,8 +62,8 @@ module _ (R : Reading) (laws : IsInTurn R) (p : List ℕ) (x : ℕ) (sound : IsS
       let name' : has_name one.m.header ≡ true = ap (λ (n : Message). has_name n.header) (sym same) ∙ name in
       let few' : length one.m.payload < 4 = omega (arith, few, ap (λ (n : Message). length n.payload) same) in
       sym (known_is R (p ++ x ∷ []) m.number)
-      ∙ (ap (λ (c : Scene). c.known m.number) adds.stage
-      ∙ (ap (λ (n : Message). (plays R (stage R p) (happens (open_after p) one.m)).scene.known n.number) same ∙ (kept_now one.m h.0 one.fits s.lacks one.number_is name' few' one.from ∙ ap (λ (n : Message). Some n.payload) (sym same))))
+      ∙ (ap (λ (c : Tracked). c.known m.number) adds.stage
+      ∙ (ap (λ (n : Message). (effects R (stage R p) (happens (open_after p) one.m)).tracked.known n.number) same ∙ (kept_now one.m h.0 one.fits s.lacks one.number_is name' few' one.from ∙ ap (λ (n : Message). Some n.payload) (sym same))))
 
 -- ---- What is kept throughout.
 

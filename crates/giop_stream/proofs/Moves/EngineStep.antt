@@ -13,10 +13,10 @@ use Rattle.giop_stream.specs.Events.{Happening, Event, Open, id, place, opener_o
 use Rattle.giop_stream.specs.Lines.{Line, lines}
 use Rattle.giop_stream.specs.Stream.{fault_count, tally}
 use Rattle.giop_stream.specs.State.{Kept, octets_of, is_open, slots_of}
-use Rattle.giop_stream.specs.Plays.{Scene, Play, scene_at, plays, stage}
+use Rattle.giop_stream.specs.Effects.{Tracked, Effect, tracked_at, effects, stage}
 use Rattle.giop_stream.specs.Octet.{Octet, Behind, Ends, Held, Of, octet_of}
 use Rattle.giop_stream.specs.Engine.{State, Own, is_named, own_for, owner_for, state_of}
-use Rattle.giop_stream.specs.Step.{own_octets, live_of, scene_of, id_of, other_of, events_at, played, step_by, step}
+use Rattle.giop_stream.specs.Step.{own_octets, live_of, tracked_of, id_of, other_of, events_at, stepped, step_by, step}
 use Rattle.giop_stream.proofs.Lists.{each_weaker}
 use Rattle.giop_stream.proofs.Cuts.Cutting.{settled_messages, settle_stop}
 use Rattle.giop_stream.proofs.Cuts.CutFrom.{settle}
@@ -25,16 +25,16 @@ use Rattle.giop_stream.proofs.Happening.KeptSlots.{opens_back, kept_own, kept_al
 use Rattle.giop_stream.proofs.Happening.Grown.{count_append}
 use Rattle.giop_stream.proofs.Happening.Soundness.{IsSound}
 use Rattle.giop_stream.proofs.Told.Beginning.{IsAlive}
-use Rattle.giop_stream.proofs.Happening.Acts.{acts_agree, AgreeOn, plays_agree}
+use Rattle.giop_stream.proofs.Happening.Acts.{acts_agree, AgreeOn, effects_agree}
 use Rattle.giop_stream.proofs.Moves.OneOctet.{Adds, IsOf, Then, then_is}
 use Rattle.giop_stream.proofs.Moves.NextOctet.{shape, state_is, tally_by, octet_is, Steps, behind_steps, ends_steps, held_steps, Shows, shows, fragment_named}
 
 -- ---- What the octet does then.
 
-pub plays_live : (R : Reading) (c : Scene) (es : List Event) → (plays R c es).scene.live ≡ opened c.live es
-unfolding plays opened
-plays_live R c [] = refl
-plays_live R c (e ∷ es) = plays_live R (scene_at R c e) es ∙ unfold scene_at in refl
+pub effects_live : (R : Reading) (c : Tracked) (es : List Event) → (effects R c es).tracked.live ≡ opened c.live es
+unfolding effects opened
+effects_live R c [] = refl
+effects_live R c (e ∷ es) = effects_live R (tracked_at R c e) es ∙ unfold tracked_at in refl
 
 own_agree : (f g : Kept) (live live' : List Open) (now : Now) → live ≡ live'
     → (is_named now ≡ false → f now.whom.number ≡ g now.whom.number) → own_for f live now ≡ own_for g live' now
@@ -84,14 +84,14 @@ module _ (R : Reading) (p : List ℕ) (m : Message) (fits : length m.payload ≤
       (λ four name. (shows.name_is four name, same_name four name)) shows.past_is)
 
   Same : ℕ → Type 0
-  Same i = (scene_of s now).known i ≡ octets_of R p i
+  Same i = (tracked_of s now).known i ≡ octets_of R p i
 
   mine : goes_past m ≡ false → Same m.number
-  unfolding Same s now scene_of state_of
+  unfolding Same s now tracked_of state_of
   mine past = kept_own (octets_of R p) (open_after p) m.number (own_octets (state_of R p) (now_of m)) (shows.own_is past)
 
   theirs : Each (λ o. Same o.opener.number) (open_after p)
-  unfolding Same s now scene_of state_of
+  unfolding Same s now tracked_of state_of
   theirs = kept_all (octets_of R p) (open_after p) m.number (own_octets (state_of R p) (now_of m))
 
   each_same : Each (λ e. Same e.whom.number) (happens (open_after p) m)
@@ -100,60 +100,60 @@ module _ (R : Reading) (p : List ℕ) (m : Message) (fits : length m.payload ≤
       (each_weaker (λ o. Same o.opener.number) (λ o. (what : Happening) → Same o.opener.number) (λ o k what. k)
       (open_after p) theirs)
 
-  agree : AgreeOn Same (plays R (scene_of s now) (events_at s now)) (plays R (stage R p) (happens (open_after p) m))
-  unfolding Same scene_of stage
+  agree : AgreeOn Same (effects R (tracked_of s now) (events_at s now)) (effects R (stage R p) (happens (open_after p) m))
+  unfolding Same tracked_of stage
   agree =
-      rw events_same (plays_agree R Same (scene_of s now) (stage R p) (happens (open_after p) m) live_same (λ i h. h) each_same)
+      rw events_same (effects_agree R Same (tracked_of s now) (stage R p) (happens (open_after p) m) live_same (λ i h. h) each_same)
 
-  slots_same : (let a = plays R (stage R p) (happens (open_after p) m) in let b = plays R (scene_of s now)
-      (events_at s now) in slots_of a.scene.known a.scene.live ≡ slots_of b.scene.known b.scene.live)
+  slots_same : (let a = effects R (stage R p) (happens (open_after p) m) in let b = effects R (tracked_of s now)
+      (events_at s now) in slots_of a.tracked.known a.tracked.live ≡ slots_of b.tracked.known b.tracked.live)
   unfolding stage open_after
   slots_same =
-      let a = plays R (stage R p) (happens (open_after p) m) in
-      let b = plays R (scene_of s now) (events_at s now) in
-      let same : Each (λ o. Same o.opener.number) a.scene.live =
-      subst (Each (λ o. Same o.opener.number)) (sym (plays_live R (stage R p) (happens (open_after p) m))) (then_same) in
-      slots_agree a.scene.known b.scene.known a.scene.live
-      (each_weaker (λ o. Same o.opener.number) (λ o. a.scene.known o.opener.number ≡ b.scene.known o.opener.number)
-      (λ o k. sym (agree.known o.opener.number k)) a.scene.live same)
-      ∙ ap (slots_of b.scene.known) (sym agree.live)
+      let a = effects R (stage R p) (happens (open_after p) m) in
+      let b = effects R (tracked_of s now) (events_at s now) in
+      let same : Each (λ o. Same o.opener.number) a.tracked.live =
+      subst (Each (λ o. Same o.opener.number)) (sym (effects_live R (stage R p) (happens (open_after p) m))) (then_same) in
+      slots_agree a.tracked.known b.tracked.known a.tracked.live
+      (each_weaker (λ o. Same o.opener.number) (λ o. a.tracked.known o.opener.number ≡ b.tracked.known o.opener.number)
+      (λ o k. sym (agree.known o.opener.number k)) a.tracked.live same)
+      ∙ ap (slots_of b.tracked.known) (sym agree.live)
     where
       then_same : Each (λ o. Same o.opener.number) (opened (open_after p) (happens (open_after p) m))
       then_same = opened_each (λ whom. Same whom.number) (open_after p) (happens (open_after p) m) theirs each_same
 
-  named_same : is_named now ≡ true → length m.payload < size m.header → opener_of (plays R (stage R p) (happens (open_after p) m)).scene.live m ≡ other_of s now
+  named_same : is_named now ≡ true → length m.payload < size m.header → opener_of (effects R (stage R p) (happens (open_after p) m)).tracked.live m ≡ other_of s now
   unfolding now stage s
   named_same named less =
       let both = and_parts (is_fragment m.header) (nat_le 4 (length m.payload)) named in
       let four : 4 ≤ length m.payload = leb-true 4 (length m.payload) both.1 in
-      let quiet : (plays R (stage R p) (happens (open_after p) m)).scene.live ≡ open_after p =
-      plays_live R (stage R p) (happens (open_after p) m) ∙ quiet_one (open_after p) m less (inr both.0) in
+      let quiet : (effects R (stage R p) (happens (open_after p) m)).tracked.live ≡ open_after p =
+      effects_live R (stage R p) (happens (open_after p) m) ∙ quiet_one (open_after p) m less (inr both.0) in
       ap (λ (live : List Open). opener_of live m) quiet ∙ sym (elim (cases_eq (length m.payload) 4) [
         | inl e ↦ same_name e (fragment_named m.header both.0)
         | inr e ↦ shows.past_is (omega (arith, four, e)) both.0
       ])
 
-  unnamed_same : is_named now ≡ false → (plays R (stage R p) (happens (open_after p) m)).scene.known m.number
-      ≡ (plays R (scene_of s now) (events_at s now)).scene.known m.number
+  unnamed_same : is_named now ≡ false → (effects R (stage R p) (happens (open_after p) m)).tracked.known m.number
+      ≡ (effects R (tracked_of s now) (events_at s now)).tracked.known m.number
   unfolding now
   unnamed_same named = sym (agree.known m.number (mine (not_past m (unfold has_named in named))))
 
-  played_is : (whole : List Message) (t : Totals) → m.number ≡ suc (length whole)
+  stepped_is : (whole : List Message) (t : Totals) → m.number ≡ suc (length whole)
       → t ≡ record {
         messages = m.number;
         faults = s.totals.faults + fault_count
-            (plays R (scene_of s now) (events_at s now)).lines;
+            (effects R (tracked_of s now) (events_at s now)).lines;
         octets = place m;
       }
-      → shape t (settle whole m) (plays R (stage R p) (happens (open_after p) m)).scene ≡ (played s now (plays R (scene_of s now) (events_at s now))).state
-  unfolding settle shape played now
-  played_is whole t number et = go (nat_lt (length m.payload) (size m.header)) refl
+      → shape t (settle whole m) (effects R (stage R p) (happens (open_after p) m)).tracked ≡ (stepped s now (effects R (tracked_of s now) (events_at s now))).state
+  unfolding settle shape stepped now
+  stepped_is whole t number et = go (nat_lt (length m.payload) (size m.header)) refl
     where
-      a : Play
-      a = plays R (stage R p) (happens (open_after p) m)
+      a : Effect
+      a = effects R (stage R p) (happens (open_after p) m)
 
-      b : Play
-      b = plays R (scene_of s now) (events_at s now)
+      b : Effect
+      b = effects R (tracked_of s now) (events_at s now)
 
       go : (c : Bool) → nat_lt (length m.payload) (size m.header) ≡ c
           → shape t (if c then record {
@@ -161,21 +161,21 @@ module _ (R : Reading) (p : List ℕ) (m : Message) (fits : length m.payload ≤
             current = Some m;
             held = [];
             stop = None;
-          } else record { whole = whole ++ m ∷ []; current = None; held = []; stop = None }) a.scene ≡ record {
+          } else record { whole = whole ++ m ∷ []; current = None; held = []; stop = None }) a.tracked ≡ record {
             totals = record { messages = m.number; faults = s.totals.faults + fault_count b.lines; octets = place m };
             stop = None;
             held = if c then m.header else [];
             left = size m.header - length m.payload;
-            slots = slots_of b.scene.known b.scene.live;
-            own = if c then own_for b.scene.known b.scene.live now else None;
-            owner = if c then owner_for b.scene.known b.scene.live now (other_of s now) else None;
+            slots = slots_of b.tracked.known b.tracked.live;
+            own = if c then own_for b.tracked.known b.tracked.live now else None;
+            owner = if c then owner_for b.tracked.known b.tracked.live now (other_of s now) else None;
           }
       go true e =
           let less = ltb-true (length m.payload) (size m.header) e in
           let live' = sym agree.live in
-          let own' = own_agree a.scene.known b.scene.known a.scene.live b.scene.live now live' unnamed_same in
+          let own' = own_agree a.tracked.known b.tracked.known a.tracked.live b.tracked.live now live' unnamed_same in
           let owner' =
-          owner_agree a.scene.known b.scene.known a.scene.live b.scene.live now (opener_of a.scene.live m)
+          owner_agree a.tracked.known b.tracked.known a.tracked.live b.tracked.live now (opener_of a.tracked.live m)
           (other_of s now) live' unnamed_same (λ named. named_same named less) in
           λ j. record {
             totals = et j;
@@ -210,10 +210,10 @@ counted whole m number = ap length (settled_messages whole m) ∙ (omega (arith,
 
 -- the totals once the octet of m is done with
 pub tally_settled : (R : Reading) (p : List ℕ) (x : ℕ) (m : Message) → m.number ≡ suc (length (cut p).whole)
-    → (let play = plays R (stage R p) (happens (open_after p) m) in Adds R p (p ++ x ∷ [])
-    (settle (cut p).whole m) play.lines play.scene)
-    → (let play = plays R (stage R p) (happens (open_after p) m) in tally R (p ++ x ∷ [])
-    ≡ record { messages = m.number; faults = fault_count (lines R p) + fault_count play.lines; octets = suc (length p) })
+    → (let effect = effects R (stage R p) (happens (open_after p) m) in Adds R p (p ++ x ∷ [])
+    (settle (cut p).whole m) effect.lines effect.tracked)
+    → (let effect = effects R (stage R p) (happens (open_after p) m) in tally R (p ++ x ∷ [])
+    ≡ record { messages = m.number; faults = fault_count (lines R p) + fault_count effect.lines; octets = suc (length p) })
 tally_settled R p x m number adds =
     let p' = p ++ x ∷ [] in
     let whole = (cut p).whole in
@@ -223,31 +223,31 @@ tally_settled R p x m number adds =
 
 module _ (R : Reading) (causal : IsCausal R) (laws : IsInTurn R) (p : List ℕ) (x : ℕ) (sound : IsSound R p) (alive : IsAlive R p) where
   of_steps : (now : Now) → (cut p).stop ≡ None → IsOf R p x now
-      → Steps R p (p ++ x ∷ []) (played (state_of R p) now
-      (plays R (scene_of (state_of R p) now) (events_at (state_of R p) now)))
-  unfolding s now totals played
+      → Steps R p (p ++ x ∷ []) (stepped (state_of R p) now
+      (effects R (tracked_of (state_of R p) now) (events_at (state_of R p) now)))
+  unfolding s now totals stepped
   of_steps now st h =
       subst (λ (n : Now). Steps R p (p ++ x ∷ [])
-      (played (state_of R p) n (plays R (scene_of (state_of R p) n) (events_at (state_of R p) n)))) h.is_now
+      (stepped (state_of R p) n (effects R (tracked_of (state_of R p) n) (events_at (state_of R p) n)))) h.is_now
       (go (shows R p x sound alive h.m st h.number_is h.from))
     where
       go : Shows R p h.m → Steps R p (p ++ x ∷ [])
-          (played (state_of R p) (now_of h.m) (plays R (scene_of (state_of R p) (now_of h.m))
+          (stepped (state_of R p) (now_of h.m) (effects R (tracked_of (state_of R p) (now_of h.m))
           (events_at (state_of R p) (now_of h.m))))
       go shown =
           let m = h.m in
           let p' = p ++ x ∷ [] in
           let whole = (cut p).whole in
           let s = state_of R p in
-          let play = plays R (scene_of s (now_of m)) (events_at s (now_of m)) in
+          let effect = effects R (tracked_of s (now_of m)) (events_at s (now_of m)) in
           let same = agree R p m h.fits shown in
-          let faults : fault_count (lines R p) + fault_count (plays R (stage R p) (happens (open_after p) m)).lines
-          ≡ fault_count (lines R p) + fault_count play.lines =
+          let faults : fault_count (lines R p) + fault_count (effects R (stage R p) (happens (open_after p) m)).lines
+          ≡ fault_count (lines R p) + fault_count effect.lines =
           ap (λ (l : List Line). fault_count (lines R p) + fault_count l) (sym same.lines) in
           let t = tally_settled R p x m h.number_is h.adds ∙ (λ j. totals m.number (faults j) (sym h.place_is j)) in
           record {
             state = state_is R p' _ (settle whole m) _ t h.adds.cut_is h.adds.stage
-                ∙ played_is R p m h.fits shown whole _ h.number_is (counts_by R p m play.lines);
+                ∙ stepped_is R p m h.fits shown whole _ h.number_is (counts_by R p m effect.lines);
             lines = h.adds.lines ∙ ap (λ (l : List Line). lines R p ++ l) (sym same.lines);
           }
 

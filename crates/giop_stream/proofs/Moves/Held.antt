@@ -7,7 +7,7 @@ use Rattle.giop_sig.specs.Table.{Table}
 use Rattle.giop_message.specs.declared.message.Message.{Message as Kept_message}
 use Rattle.giop_message.specs.Headers.{size, is_fragment}
 use Rattle.giop_message.specs.Reading.{Reading}
-use Rattle.giop_message.specs.Signatures.{Kept as Listed, said_by}
+use Rattle.giop_message.specs.Signatures.{Listed, said_by}
 use Rattle.giop_message.specs.MessageReading.{message_reading}
 use Rattle.giop_message.proofs.MessageLaws.{is_causal}
 use Rattle.giop_checkpoint.specs.declared.fault.StreamFault.{StreamFault}
@@ -17,7 +17,7 @@ use Rattle.giop_stream.specs.Framing.{Message, Cut, cut, fault_of}
 use Rattle.giop_stream.specs.Events.{Title, Open, Rising, title, id, opener_of, has_named, Now, now_of}
 use Rattle.giop_stream.specs.Stream.{tally}
 use Rattle.giop_stream.specs.State.{Slot, Kept, is_open, slots_of}
-use Rattle.giop_stream.specs.Plays.{Scene, stage}
+use Rattle.giop_stream.specs.Effects.{Tracked, stage}
 use Rattle.giop_stream.specs.Keeping.{IsKept, IsWhose}
 use Rattle.giop_stream.specs.Whose.{Knows, opener_title, whose, whose_in}
 use Rattle.giop_stream.specs.Octet.{header_of, come_of}
@@ -141,7 +141,7 @@ kept_own C l (Some m) w (Some xs) h = h
 
 -- ---- Whose the octets of the payload are, by message.
 
-module _ (C : Table) (l : Listed) (s : State) (c : Scene) (own : Option Kept_message) where
+module _ (C : Table) (l : Listed) (s : State) (c : Tracked) (own : Option Kept_message) where
   -- of no message
   none_turn : (of : Payload) → comes_itself s ≡ false → IsWhose C l of own c None → IsTurn of s
   none_turn payload.Own t h = absurd h

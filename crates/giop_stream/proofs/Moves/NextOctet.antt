@@ -13,7 +13,7 @@ use Rattle.giop_stream.specs.Events.{Open, id, opener_of, has_named, goes_past, 
 use Rattle.giop_stream.specs.Lines.{stop_line, lines}
 use Rattle.giop_stream.specs.Stream.{start_count, fault_count, tally}
 use Rattle.giop_stream.specs.State.{octets_of, is_open, slots_of}
-use Rattle.giop_stream.specs.Plays.{Scene, with_octet, stage}
+use Rattle.giop_stream.specs.Effects.{Tracked, with_octet, stage}
 use Rattle.giop_stream.specs.Octet.{octet_in, octet_of, header_of, come_of}
 use Rattle.giop_stream.specs.Engine.{State, Own, unless, left_of, own_for, owner_for, own_in, owner_in, state_of}
 use Rattle.giop_stream.specs.Step.{Step, octet_at, own_octets, live_of, id_by, id_of, other_of, ended, held_on}
@@ -33,20 +33,20 @@ use Rattle.giop_stream.proofs.Moves.OneOctet.{Adds}
 
 -- ---- The state, from its parts.
 
-unfoldable pub shape : Totals → Cut → Scene → State
-shape t c scene = record {
+unfoldable pub shape : Totals → Cut → Tracked → State
+shape t c tracked = record {
   totals = t;
   stop = fault_of c.stop;
   held = unless c.stop [] (header_of c.current c.held);
   left = unless c.stop 0 (left_of c.current);
-  slots = slots_of scene.known scene.live;
-  own = own_in scene.known scene.live c.current;
-  owner = owner_in scene.known scene.live c.current;
+  slots = slots_of tracked.known tracked.live;
+  own = own_in tracked.known tracked.live c.current;
+  owner = owner_in tracked.known tracked.live c.current;
 }
 
-pub state_is : (R : Reading) (p : List ℕ) (t : Totals) (c : Cut) (scene : Scene) → tally R p ≡ t → cut p ≡ c → stage R p ≡ scene → state_of R p ≡ shape t c scene
+pub state_is : (R : Reading) (p : List ℕ) (t : Totals) (c : Cut) (tracked : Tracked) → tally R p ≡ t → cut p ≡ c → stage R p ≡ tracked → state_of R p ≡ shape t c tracked
 unfolding state_of shape stage
-state_is R p t c scene et ec es = λ j. shape (et j) (ec j) (es j)
+state_is R p t c tracked et ec es = λ j. shape (et j) (ec j) (es j)
 
 pub tally_by : (R : Reading) (p : List ℕ) (c : Cut) (a b n : ℕ) → cut p ≡ c → start_count (lines R p) ≡ a
     → fault_count (lines R p) ≡ b → read_of p c.stop ≡ n → tally R p ≡ record { messages = a; faults = b; octets = n }

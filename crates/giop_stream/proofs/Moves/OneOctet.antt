@@ -17,7 +17,7 @@ use Rattle.giop_stream.specs.Lines.{Line, said, stop_line, lines}
 use Rattle.giop_stream.specs.Stream.{start_count}
 use Rattle.giop_stream.specs.State.{Kept, octets_of}
 use Rattle.giop_stream.specs.Machine.{utters, now_written}
-use Rattle.giop_stream.specs.Plays.{Scene, plays, IsBegun, with_octet, stage}
+use Rattle.giop_stream.specs.Effects.{Tracked, effects, IsBegun, with_octet, stage}
 use Rattle.giop_stream.specs.Octet.{Octet, Behind, Ends, Held, Of, front_is, octet_in, octet_of, header_of, come_of}
 use Rattle.giop_stream.proofs.Lists.{all_by, each_weaker}
 use Rattle.giop_stream.proofs.Cuts.Cutting.{next, stopped_at, of_parts, parts_by, cut_grows, settle_stop, settled_messages, next_limit, next_payload, next_front, next_stopped}
@@ -25,7 +25,7 @@ use Rattle.giop_stream.proofs.Cuts.CutFrom.{settle, header_case}
 use Rattle.giop_stream.proofs.Happening.Happenings.{happens_each}
 use Rattle.giop_stream.proofs.Told.Telling.{standing_each, utters_places}
 use Rattle.giop_stream.proofs.Happening.HappeningsKeep.{Below}
-use Rattle.giop_stream.proofs.Told.Ordering.{Ordered, Rises, Fine, ordered_stays, are_plays}
+use Rattle.giop_stream.proofs.Told.Ordering.{Ordered, Rises, Fine, ordered_stays, are_effects}
 use Rattle.giop_stream.proofs.Told.Turns.{happens_fine, not_past}
 use Rattle.giop_stream.proofs.Happening.Sharing.{header_joined, own_joined}
 use Rattle.giop_stream.proofs.Told.Starting.{start_append, none_later, one_first}
@@ -34,12 +34,12 @@ use Rattle.giop_stream.proofs.Happening.Soundness.{Fits, IsSound, dealt_sound, e
 use Rattle.giop_stream.proofs.Happening.StepCases.{quiet_sound, stop_starts, none_known, not_twelve, place_more, place_first, events_of_cut}
 use Rattle.giop_stream.proofs.Happening.StepCases.{octets_are}
 
-pub record Adds (R : Reading) (p p' : List ℕ) (c : Cut) (ls : List Line) (scene : Scene) : Type 0 where
+pub record Adds (R : Reading) (p p' : List ℕ) (c : Cut) (ls : List Line) (tracked : Tracked) : Type 0 where
   pub cut_is : cut p' ≡ c
   pub lines : lines R p' ≡ lines R p ++ ls
   pub here : Each (λ l. l.place ≡ suc (length p)) ls
   pub rises : Rises ls
-  pub stage : stage R p' ≡ scene
+  pub stage : stage R p' ≡ tracked
   pub sound : IsSound R p'
 
 -- an octet of the message m: its header's last one, or one more of its payload
@@ -51,8 +51,8 @@ pub record IsOf (R : Reading) (p : List ℕ) (x : ℕ) (now : Now) : Type 0 wher
   pub place_is : place m ≡ suc (length p)
   pub from : (((cut p).current ≡ None) × (m.payload ≡ [])) ⊎ ((was : Message) × ((cut p).current ≡ Some was) × (m ≡ with_octet was x))
   pub grows : events (p ++ x ∷ []) ≡ events p ++ happens (open_after p) m
-  pub adds : Adds R p (p ++ x ∷ []) (settle (cut p).whole m) (plays R (stage R p) (happens (open_after p) m)).lines
-      (plays R (stage R p) (happens (open_after p) m)).scene
+  pub adds : Adds R p (p ++ x ∷ []) (settle (cut p).whole m) (effects R (stage R p) (happens (open_after p) m)).lines
+      (effects R (stage R p) (happens (open_after p) m)).tracked
 
 -- the message that begins with this header, behind these messages
 abbrev pub beginner : List Message → ℕ → List ℕ → Message
@@ -90,7 +90,7 @@ front_full front number at twelve = rw (eq-eqb (length front) 12 twelve) refl
 pub front_short : (front : List ℕ) (number at : ℕ) → (length front == 12) ≡ false → front_is front number at None ≡ Held front
 front_short front number at e = rw e refl
 
--- ---- The lines of a play, in their order.
+-- ---- The lines of an effect, in their order.
 
 now_here : (R : Reading) (n : ℕ) (K : Kept) (es : List Event) → Ordered (utters R K es) → Each (λ e. e.place ≡ n) es
     → Each (λ l. l.place ≡ n) (now_written R K es)
@@ -138,7 +138,7 @@ module _ (R : Reading) (causal : IsCausal R) (laws : IsInTurn R) (p : List ℕ) 
       → length (messages (cut p)) + start_count (now_written R (octets_of R p) (happens (open_after p) m)) ≡ suc
       (length whole) → length m.payload ≤ size m.header → (has_name m.header ≡ true → IsBegun (octets_of R p) m)
       → (length m.payload ≤ 4 → joined m.number (events p) ++ joined m.number (happens (open_after p) m) ≡ m.payload)
-      → Adds R p (p ++ x ∷ []) (settle whole m) (plays R (stage R p) (happens (open_after p) m)).lines (plays R (stage R p) (happens (open_after p) m)).scene
+      → Adds R p (p ++ x ∷ []) (settle whole m) (effects R (stage R p) (happens (open_after p) m)).lines (effects R (stage R p) (happens (open_after p) m)).tracked
   unfolding stage
   deals m whole ec ev pl nm twelve st more low starts fits begun grows =
       let p' = p ++ x ∷ [] in
@@ -150,7 +150,7 @@ module _ (R : Reading) (causal : IsCausal R) (laws : IsInTurn R) (p : List ℕ) 
       (all_by (λ (o : Open). (what : Happening) → place m ≡ suc (length p)) (λ o what. pl) live) in
       let sd = said_grows R causal p p' es len ev sound.places here in
       let fine = happens_fine R laws K live m fits begun in
-      let p1 = are_plays R (record { live = live; known = K }) es fine.ordered in
+      let p1 = are_effects R (record { live = live; known = K }) es fine.ordered in
       let st' : (cut p').stop ≡ None = ap (λ (c : Cut). c.stop) ec ∙ settle_stop whole m in
       record {
         cut_is = ec;
@@ -179,8 +179,8 @@ module _ (R : Reading) (causal : IsCausal R) (laws : IsInTurn R) (p : List ℕ) 
 
   paid_adds : (whole : List Message) (was : Message) (held : List ℕ) → cut p ≡ of_parts whole (Some was) held None → nat_lt limit (suc (length p)) ≡ false
       → Adds R p (p ++ x ∷ []) (settle whole (with_octet was x))
-      (plays R (stage R p) (happens (open_after p) (with_octet was x))).lines
-      (plays R (stage R p) (happens (open_after p) (with_octet was x))).scene
+      (effects R (stage R p) (happens (open_after p) (with_octet was x))).lines
+      (effects R (stage R p) (happens (open_after p) (with_octet was x))).tracked
   unfolding of_parts messages open_after
   paid_adds whole was held ec room =
       let c = of_parts whole (Some was) held None in
@@ -251,7 +251,7 @@ module _ (R : Reading) (causal : IsCausal R) (laws : IsInTurn R) (p : List ℕ) 
   begins_adds : (whole : List Message) (held : List ℕ) → cut p ≡ of_parts whole None held None
       → nat_lt limit (suc (length p)) ≡ false → wrong (held ++ x ∷ []) ≡ None → length (held ++ x ∷ []) ≡ 12
       → (let m = beginner whole (suc (length p)) (held ++ x ∷ []) in Adds R p (p ++ x ∷ []) (settle whole m)
-      (plays R (stage R p) (happens (open_after p) m)).lines (plays R (stage R p) (happens (open_after p) m)).scene)
+      (effects R (stage R p) (happens (open_after p) m)).lines (effects R (stage R p) (happens (open_after p) m)).tracked)
   unfolding of_parts messages open_after header_case
   begins_adds whole held ec room right twelve =
       let c = of_parts whole None held None in
@@ -369,13 +369,13 @@ module _ (R : Reading) (causal : IsCausal R) (laws : IsInTurn R) (p : List ℕ) 
   -- an octet of the current message's payload, and the last one of a header
   pub paid_is : (was : Message) → (cut p).stop ≡ None → (cut p).current ≡ Some was → nat_lt limit (suc (length p)) ≡ false
       → Adds R p (p ++ x ∷ []) (settle (cut p).whole (with_octet was x))
-      (plays R (stage R p) (happens (open_after p) (with_octet was x))).lines
-      (plays R (stage R p) (happens (open_after p) (with_octet was x))).scene
+      (effects R (stage R p) (happens (open_after p) (with_octet was x))).lines
+      (effects R (stage R p) (happens (open_after p) (with_octet was x))).tracked
   paid_is was st cur = paid_adds (cut p).whole was (cut p).held (parts_by (cut p) (Some was) None cur st)
 
   pub begins_is : (cut p).stop ≡ None → (cut p).current ≡ None → nat_lt limit (suc (length p)) ≡ false
       → wrong ((cut p).held ++ x ∷ []) ≡ None → length ((cut p).held ++ x ∷ []) ≡ 12
       → (let m = beginner (cut p).whole (suc (length p)) ((cut p).held ++ x ∷ []) in Adds R p (p ++ x ∷ [])
-      (settle (cut p).whole m) (plays R (stage R p) (happens (open_after p) m)).lines
-      (plays R (stage R p) (happens (open_after p) m)).scene)
+      (settle (cut p).whole m) (effects R (stage R p) (happens (open_after p) m)).lines
+      (effects R (stage R p) (happens (open_after p) m)).tracked)
   begins_is st cur = begins_adds (cut p).whole (cut p).held (parts_by (cut p) None None cur st)

@@ -9,7 +9,7 @@ use Rattle.std.proofs.lemmas.List.{length_push, get_or_push}
 use Rattle.giop_print.specs.Output.{OutLog, Writes}
 use Rattle.giop_sig.specs.Table.{Table}
 use Rattle.giop_message.specs.Headers.{size}
-use Rattle.giop_message.specs.Signatures.{Kept as Listed, said_by}
+use Rattle.giop_message.specs.Signatures.{Listed, said_by}
 use Rattle.giop_message.specs.MessageReading.{message_reading}
 use Rattle.giop_message.specs.Reading.{Reading, IsCausal, IsInTurn}
 use Rattle.giop_message.proofs.MessageLaws.{is_causal}
@@ -19,10 +19,10 @@ use Rattle.giop_stream.specs.Events.{Takes, Title, Open, Rising, happens, at_oct
 use Rattle.giop_stream.specs.Lines.{lines}
 use Rattle.giop_stream.specs.Text.{lines_text}
 use Rattle.giop_stream.specs.Stream.{start_count, fault_count, tally}
-use Rattle.giop_stream.specs.Plays.{Scene, Play, plays, scene_at, stage, with_octet}
-use Rattle.giop_stream.specs.Keeping.{Keeps, play_to}
-use Rattle.giop_stream.specs.Playing.{one_if}
-use Rattle.giop_stream.specs.Runs.{run_play}
+use Rattle.giop_stream.specs.Effects.{Tracked, Effect, effects, tracked_at, stage, with_octet}
+use Rattle.giop_stream.specs.Keeping.{Keeps, effect_to}
+use Rattle.giop_stream.specs.Performs.{one_if}
+use Rattle.giop_stream.specs.Runs.{run_effect}
 use Rattle.giop_stream.specs.Whose.{Knows, whose, whose_in}
 use Rattle.giop_stream.specs.Remembering.{Memory}
 use Rattle.giop_stream.specs.Engine.{State, state_of}
@@ -92,8 +92,8 @@ whose_on live m x named =
     (λ e. omega (arith, named, length_push m.payload x, e))) ∙ whose_next live m x
 
 module _ (C : Table) (l : Listed) where
-  takes_live : (at : ℕ) (c : Scene) (w : Option Title) (x : ℕ) → (play_to C l at c w (Takes x)).scene.live ≡ c.live
-  unfolding scene_at changed
+  takes_live : (at : ℕ) (c : Tracked) (w : Option Title) (x : ℕ) → (effect_to C l at c w (Takes x)).tracked.live ≡ c.live
+  unfolding tracked_at changed
   takes_live at c None x = refl
   takes_live at c (Some w) x = refl
 
@@ -104,10 +104,10 @@ module _ (C : Table) (l : Listed) where
         ((sound (message_reading C l) (is_causal (said_by C l)) (in_turn C l) p).fits h.free).current
 
     -- what the octet does to the message whose it is
-    abbrev taken : Play
-    taken = play_to C l (suc (length p)) (stage (message_reading C l) p) (whose (open_after p) m) (Takes x)
+    abbrev taken : Effect
+    taken = effect_to C l (suc (length p)) (stage (message_reading C l) p) (whose (open_after p) m) (Takes x)
 
-    octet_takes : plays (message_reading C l) (stage (message_reading C l) p) (happens (open_after p) (with_octet m x)) ≡ taken
+    octet_takes : effects (message_reading C l) (stage (message_reading C l) p) (happens (open_after p) (with_octet m x)) ≡ taken
     unfolding stage
     octet_takes =
         let last : get_or (m.payload ++ x ∷ []) (length (m.payload ++ x ∷ []) - 1) 0 ≡ x =
@@ -119,7 +119,7 @@ module _ (C : Table) (l : Listed) where
         (octet_does C l (stage (message_reading C l) p) (with_octet m x) x (suc (length p)) last
         (place_more m x (length p) at_hand.place_is))
 
-    octet_adds : Adds (message_reading C l) p (p ++ x ∷ []) (settle (cut p).whole (with_octet m x)) taken.lines taken.scene
+    octet_adds : Adds (message_reading C l) p (p ++ x ∷ []) (settle (cut p).whole (with_octet m x)) taken.lines taken.tracked
     octet_adds =
         let so = sound (message_reading C l) (is_causal (said_by C l)) (in_turn C l) p in
         let room = le-ltb limit (suc (length p)) (omega (arith, h.room)) in
@@ -129,7 +129,7 @@ module _ (C : Table) (l : Listed) where
     unfolding stage
     octet_whose =
         let live : open_after (p ++ x ∷ []) ≡ open_after p =
-        ap (λ (c : Scene). c.live) octet_adds.stage
+        ap (λ (c : Tracked). c.live) octet_adds.stage
         ∙ takes_live (suc (length p)) (stage (message_reading C l) p) (whose (open_after p) m) x in
         ap (λ (open' : List Open). whose open' (with_octet m x)) live ∙ whose_on (open_after p) m x h.named
 
@@ -139,13 +139,13 @@ module _ (C : Table) (l : Listed) where
 pub record IsRun (C : Table) (l : Listed) (p : List ℕ) (m : Message) (q : List ℕ) : Type 0 where
   pub within : Within (p ++ q) (with_payload m (m.payload ++ q)) 0
   pub lines : lines (message_reading C l) (p ++ q) ≡ lines
-      (message_reading C l) p ++ (run_play C l (length p) (stage (message_reading C l) p) (whose (open_after p) m) q).lines
-  pub stage : stage (message_reading C l) (p ++ q) ≡ (run_play C l (length p) (stage (message_reading C l) p) (whose (open_after p) m) q).scene
+      (message_reading C l) p ++ (run_effect C l (length p) (stage (message_reading C l) p) (whose (open_after p) m) q).lines
+  pub stage : stage (message_reading C l) (p ++ q) ≡ (run_effect C l (length p) (stage (message_reading C l) p) (whose (open_after p) m) q).tracked
   pub whose : whose (open_after (p ++ q)) (with_payload m (m.payload ++ q)) ≡ whose (open_after p) m
 
 module _ (C : Table) (l : Listed) where
   pub run_is : (q p : List ℕ) (m : Message) → Within p m (length q) → IsRun C l p m q
-  unfolding run_play
+  unfolding run_effect
   run_is [] p m h =
       let R = message_reading C l in
       let same = append-nil p in
@@ -169,8 +169,8 @@ module _ (C : Table) (l : Listed) where
         within = subst (λ (z : List ℕ). Within (p ++ x ∷ q) (with_payload m z) 0) payload
             (subst (λ (r : List ℕ). Within r (with_payload m ((m.payload ++ x ∷ []) ++ q)) 0) all more.within);
         lines = ap (lines R) (sym all) ∙ (more.lines
-            ∙ ((λ j. one.lines j ++ (run_play C l (at j) (one.stage j) (who j) q).lines) ∙ append_assoc (lines R p) _ _));
-        stage = ap (stage R) (sym all) ∙ (more.stage ∙ (λ j. (run_play C l (at j) (one.stage j) (who j) q).scene));
+            ∙ ((λ j. one.lines j ++ (run_effect C l (at j) (one.stage j) (who j) q).lines) ∙ append_assoc (lines R p) _ _));
+        stage = ap (stage R) (sym all) ∙ (more.stage ∙ (λ j. (run_effect C l (at j) (one.stage j) (who j) q).tracked));
         whose = (λ j. whose (open_after (sym all j)) (with_payload m (sym payload j))) ∙ (more.whose ∙ who);
       }
 
@@ -227,9 +227,9 @@ module _ (C : Table) (l : Listed) (s : State) (reached : IsReached C l s) (m : M
   run : IsRun C l p c q
   run = run_is C l q p c begins
 
-  -- their play
-  abbrev pub ran : Play
-  ran = run_play C l m.totals.octets (stage R p) (whose (open_after p) c) q
+  -- their effect
+  abbrev pub ran : Effect
+  ran = run_effect C l m.totals.octets (stage R p) (whose (open_after p) c) q
 
   grows_by_run : lines R (p ++ q) ≡ lines R p ++ ran.lines
   grows_by_run = rw all run.lines
@@ -247,17 +247,17 @@ module _ (C : Table) (l : Listed) (s : State) (reached : IsReached C l s) (m : M
       → Does C l result before after f (runs R s q)
   run_does result before after f text shows = does_run C l s reached m h q ran.lines result before after f grows_by_run text shows
 
-  knows_so : (slots : Slots) → Keeps C l slots ran.scene (whose (open_after p) c) → Knows C l slots (p ++ q)
+  knows_so : (slots : Slots) → Keeps C l slots ran.tracked (whose (open_after p) c) → Knows C l slots (p ++ q)
   knows_so slots k =
-      let scene : ran.scene ≡ stage R (p ++ q) = rw all (sym run.stage) in
+      let tracked : ran.tracked ≡ stage R (p ++ q) = rw all (sym run.stage) in
       let who : whose (open_after p) c ≡ whose_in (open_after (p ++ q)) (cut (p ++ q)).current =
       sym (ap (whose_in (open_after (p ++ q))) run.within.current ∙ run.whose) in
-      subst (Keeps C l slots (stage R (p ++ q))) who (subst (λ (s : Scene). Keeps C l slots s (whose (open_after p) c)) scene k)
+      subst (Keeps C l slots (stage R (p ++ q))) who (subst (λ (s : Tracked). Keeps C l slots s (whose (open_after p) c)) tracked k)
 
   pub run_shows : (b : Memory) → b.totals.messages ≡ m.totals.messages
       → b.totals.faults ≡ m.totals.faults + fault_count ran.lines → b.totals.octets ≡ m.totals.octets + length q
       → b.stopped ≡ m.stopped → b.header ≡ m.header → b.come ≡ m.come + length q
-      → Keeps C l b.slots ran.scene (whose (open_after p) c)
+      → Keeps C l b.slots ran.tracked (whose (open_after p) c)
       → Shows C l b (state_of R (p ++ q))
   unfolding tally
   run_shows b messages faults octets stopped header come keeps =

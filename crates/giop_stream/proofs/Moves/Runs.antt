@@ -6,7 +6,7 @@ use Rattle.std.proofs.lemmas.List.{take-append-drop}
 use Rattle.giop_print.specs.Output.{OutLog, Wrote}
 use Rattle.giop_sig.specs.Table.{Table}
 use Rattle.giop_message.specs.declared.message.Message.{Message}
-use Rattle.giop_message.specs.Signatures.{Signatures, Kept as Listed, said_by}
+use Rattle.giop_message.specs.Signatures.{Signatures, Listed, said_by}
 use Rattle.giop_message.specs.Messages.{message, told_of, stage_of}
 use Rattle.giop_message.specs.MessageReading.{message_reading, is_over, is_wrong}
 use Rattle.giop_message.specs.Holding.{due, due_text, Follows, TookAll, FaultedAt}
@@ -18,15 +18,15 @@ use Rattle.giop_stream.specs.Events.{Title, Takes, Rising}
 use Rattle.giop_stream.specs.Lines.{Line}
 use Rattle.giop_stream.specs.Text.{lines_text}
 use Rattle.giop_stream.specs.Stream.{fault_count}
-use Rattle.giop_stream.specs.Plays.{Scene, Part, part_of, scene_at, lines_of, octets_then, no_play, no_part}
+use Rattle.giop_stream.specs.Effects.{Tracked, Part, part_of, tracked_at, lines_of, octets_then, no_effect, no_part}
 use Rattle.giop_stream.specs.Keeping.{IsKept, Keeps, event}
-use Rattle.giop_stream.specs.Playing.{Plays, PlaysPart, one_if}
-use Rattle.giop_stream.specs.Runs.{run_play, run_part}
+use Rattle.giop_stream.specs.Performs.{TakesEffect, PartTakesEffect, one_if}
+use Rattle.giop_stream.specs.Runs.{run_effect, run_part}
 use Rattle.giop_stream.proofs.Lists.{any_append}
 use Rattle.giop_stream.proofs.Happening.Grown.{count_append}
-use Rattle.giop_stream.proofs.Keep.ReadingPlays.{over_lines, over_then, take_text, then_by, faults_by}
+use Rattle.giop_stream.proofs.Keep.ReadingEffects.{over_lines, over_then, take_text, then_by, faults_by}
 use Rattle.giop_stream.proofs.Keep.Performing.{text_append, does_nothing}
-use Rattle.giop_stream.proofs.Keep.Keepers.{Alters, still_takes, still_alters, own_plays, slot_plays, own_has, slot_has, nobody_has}
+use Rattle.giop_stream.proofs.Keep.Keepers.{Alters, still_takes, still_alters, own_effects, slot_effects, own_has, slot_has, nobody_has}
 
 -- A message that is over stays so.
 over_stays : (S : Signatures) (header s more : List ℕ) → is_over (stage_of (message S header s)) ≡ true
@@ -157,7 +157,7 @@ module _ (C : Table) (l : Listed) where
   pub given_on : {E : Type 0} (m m' : Message) (w : Title) (o : Option (List ℕ)) (before : ℕ) (xs : List ℕ)
       (found : Option ℕ) (a b : OutLog) → is_some found ≡ false → IsKept C l (Some m) w o → DueOf (Wrote a b) m before xs
       → TellsAll m m' xs found
-      → PlaysPart {E = E} C l one_if (Ok false) a b (Some m') w (run_part C l before w o xs)
+      → PartTakesEffect {E = E} C l one_if (Ok false) a b (Some m') w (run_part C l before w o xs)
   given_on m m' w (Some s) before xs None a b e k writes took =
       let goes_before = goes m w s k in
       let k' = took w.number w.header s k in
@@ -173,7 +173,7 @@ module _ (C : Table) (l : Listed) where
   pub given_over : {E : Type 0} (m m' : Message) (w : Title) (o : Option (List ℕ)) (before : ℕ) (xs : List ℕ)
       (found : Option ℕ) (a b : OutLog) → is_some found ≡ true → IsKept C l (Some m) w o → DueOf (Wrote a b) m before xs
       → TellsAll m m' xs found
-      → PlaysPart {E = E} C l one_if (Ok true) a b None w (run_part C l before w o xs)
+      → PartTakesEffect {E = E} C l one_if (Ok true) a b None w (run_part C l before w o xs)
   given_over m m' w (Some s) before xs (Some n) a b e k writes took =
       let goes_before = goes m w s k in
       let over = faulted w s xs n (took w.number w.header s k) in
@@ -185,16 +185,16 @@ module _ (C : Table) (l : Listed) where
   given_over m m' w (Some s) before xs None a b e k writes took = absurd cc
   given_over m m' w None before xs found a b e k writes took = absurd k
 
-  -- ---- The scene, of whose messages one has these octets.
+  -- ---- What is tracked, of whose messages one has these octets.
 
-  run_alters : (w : Title) (xs : List ℕ) (before : ℕ) (c : Scene) → Alters c w (run_play C l before c (Some w) xs) (run_part C l before w (c.known w.number) xs)
-  unfolding run_play run_part part_of
+  run_alters : (w : Title) (xs : List ℕ) (before : ℕ) (c : Tracked) → Alters c w (run_effect C l before c (Some w) xs) (run_part C l before w (c.known w.number) xs)
+  unfolding run_effect run_part part_of
   run_alters w [] before c = record { lines = refl; live = refl; own = refl; others = λ i h. refl }
   run_alters w (x ∷ xs) before c =
       let R = message_reading C l in
       let e = event (suc before) w (Takes x) in
       let one = still_alters C l (suc before) c w (Takes x) (still_takes x) in
-      let more = run_alters w xs (suc before) (scene_at R c e) in
+      let more = run_alters w xs (suc before) (tracked_at R c e) in
       let same = ap (λ (o : Option (List ℕ)). run_part C l (suc before) w o xs) one.own in
       record {
         lines = ap (λ (ls : List Line). lines_of R e (c.known w.number) ++ ls) (more.lines ∙ ap (λ (part : Part). part.lines) same);
@@ -203,47 +203,47 @@ module _ (C : Table) (l : Listed) where
         others = λ i h. more.others i h ∙ one.others i h;
       }
 
-  nobody_run : (xs : List ℕ) (before : ℕ) (c : Scene) → run_play C l before c None xs ≡ no_play c
-  unfolding run_play
+  nobody_run : (xs : List ℕ) (before : ℕ) (c : Tracked) → run_effect C l before c None xs ≡ no_effect c
+  unfolding run_effect
   nobody_run [] before c = refl
   nobody_run (x ∷ xs) before c = nobody_run xs (suc before) c
 
-  module _ {E : Type 0} (r : Result Bool E) (a b : OutLog) (s : Slots) (c : Scene) (whose : Option Title) (before : ℕ)
+  module _ {E : Type 0} (r : Result Bool E) (a b : OutLog) (s : Slots) (c : Tracked) (whose : Option Title) (before : ℕ)
       (xs : List ℕ) (h : Keeps C l s c whose) where
     -- what is made of the message whose they are
     abbrev Makes : Option Message → Title → Type 0
-    Makes message w = PlaysPart C l one_if r a b message w (run_part C l before w (c.known w.number) xs)
+    Makes message w = PartTakesEffect C l one_if r a b message w (run_part C l before w (c.known w.number) xs)
 
     pub own_runs : (own' : Option Message) → s.payload ≡ payload.Own → ((w : Title) → IsKept C l s.own w (c.known w.number) → Makes own' w)
-        → Plays C l one_if r a b (record { slots = s.slots; own = own'; payload = s.payload }) (run_play C l before c whose xs) whose
+        → TakesEffect C l one_if r a b (record { slots = s.slots; own = own'; payload = s.payload }) (run_effect C l before c whose xs) whose
     own_runs own' e f =
-        own_has C l (λ whose. Plays C l one_if r a b (record { slots = s.slots; own = own'; payload = s.payload })
-        (run_play C l before c whose xs) whose) s c whose e h
-        (λ w k. own_plays C l r a b s own' c w _ _ e k (run_alters w xs before c) (f w))
+        own_has C l (λ whose. TakesEffect C l one_if r a b (record { slots = s.slots; own = own'; payload = s.payload })
+        (run_effect C l before c whose xs) whose) s c whose e h
+        (λ w k. own_effects C l r a b s own' c w _ _ e k (run_alters w xs before c) (f w))
 
     pub slot_runs : (x : Kept_slot) (message : Option Message) (k : ℕ) → s.payload ≡ payload.Open k
         → slice_get s.slots.items k ≡ Some x → Rising c.live
         → ((w : Title) → IsKept C l x.message w (c.known w.number) → Makes message w)
-        → Plays C l one_if r a b (record {
+        → TakesEffect C l one_if r a b (record {
           slots = record {
             items = slice_set s.slots.items k
                 (record x { message = message });
           };
           own = s.own;
           payload = s.payload;
-        }) (run_play C l before c whose xs) whose
+        }) (run_effect C l before c whose xs) whose
     slot_runs x message k e get rising f =
-        slot_has C l (λ whose. Plays C l one_if r a b
+        slot_has C l (λ whose. TakesEffect C l one_if r a b
         (record {
           slots = record { items = slice_set s.slots.items k (record x { message = message }) };
           own = s.own;
           payload = s.payload;
-        }) (run_play C l before c whose xs) whose) s c whose k e h
-        (λ w kept. slot_plays C l r a b s x message c w _ _ k e get rising kept (run_alters w xs before c) (λ n. f w))
+        }) (run_effect C l before c whose xs) whose) s c whose k e h
+        (λ w kept. slot_effects C l r a b s x message c w _ _ k e get rising kept (run_alters w xs before c) (λ n. f w))
 
-  pub nobody_runs : {E : Type 0} (log : OutLog) (s : Slots) (c : Scene) (whose : Option Title) (before : ℕ) (xs : List ℕ)
+  pub nobody_runs : {E : Type 0} (log : OutLog) (s : Slots) (c : Tracked) (whose : Option Title) (before : ℕ) (xs : List ℕ)
       → s.payload ≡ payload.Nobody → Keeps C l s c whose
-      → Plays {E = E} C l one_if (Ok false) log log s (run_play C l before c whose xs) whose
+      → TakesEffect {E = E} C l one_if (Ok false) log log s (run_effect C l before c whose xs) whose
   nobody_runs {E} log s c whose before xs e h =
-      nobody_has C l (λ whose. Plays {E = E} C l one_if (Ok false) log log s (run_play C l before c whose xs) whose) s c whose e h
+      nobody_has C l (λ whose. TakesEffect {E = E} C l one_if (Ok false) log log s (run_effect C l before c whose xs) whose) s c whose e h
       (λ k. rw (nobody_run xs before c) (does_nothing false log refl k))

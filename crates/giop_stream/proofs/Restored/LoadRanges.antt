@@ -7,7 +7,7 @@ use Rattle.giop_sig.specs.Table.{Table}
 use Rattle.giop_message.specs.declared.message.Message.{Message as Kept_message}
 use Rattle.giop_message.specs.Headers.{size}
 use Rattle.giop_message.specs.Reading.{Reading, IsCausal, IsInTurn}
-use Rattle.giop_message.specs.Signatures.{Kept as Listed, said_by}
+use Rattle.giop_message.specs.Signatures.{Listed, said_by}
 use Rattle.giop_message.specs.MessageReading.{message_reading}
 use Rattle.giop_message.proofs.MessageLaws.{is_causal}
 use Rattle.giop_checkpoint.specs.declared.fault.StreamFault.{StreamFault}

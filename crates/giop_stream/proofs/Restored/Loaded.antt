@@ -6,7 +6,7 @@ use Rattle.std.proofs.lemmas.List.{length-append}
 use Rattle.giop_sig.specs.Table.{Table}
 use Rattle.giop_message.specs.declared.message.Message.{Message}
 use Rattle.giop_message.specs.Holding.{Follows}
-use Rattle.giop_message.specs.Signatures.{Kept as Listed}
+use Rattle.giop_message.specs.Signatures.{Listed}
 use Rattle.giop_message.specs.Stored.{Stored}
 use Rattle.giop_checkpoint.specs.declared.record.Record.{Record}
 use Rattle.giop_checkpoint.specs.declared.record.FirstRecord.{FirstRecord}

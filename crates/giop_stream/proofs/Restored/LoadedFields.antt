@@ -8,7 +8,7 @@ use Rattle.giop_message.specs.declared.message.Message.{Message}
 use Rattle.giop_message.specs.Headers.{size, is_fragment}
 use Rattle.giop_message.specs.MessageReading.{message_reading}
 use Rattle.giop_message.specs.Reading.{Reading}
-use Rattle.giop_message.specs.Signatures.{Kept as Listed}
+use Rattle.giop_message.specs.Signatures.{Listed}
 use Rattle.giop_checkpoint.specs.declared.fault.StreamFault.{StreamFault}
 use Rattle.giop_checkpoint.specs.declared.fixed.Fixed.{Fixed}
 use Rattle.giop_checkpoint.specs.declared.fixed.Place.{Place}

@@ -9,7 +9,7 @@ use Rattle.giop_checkpoint.specs.Records.{Entry, RecordHasRange, own_octets, ent
 use Rattle.giop_checkpoint.proofs.Puts.{then}
 use Rattle.giop_sig.specs.Table.{Table}
 use Rattle.giop_message.specs.Holding.{Fits}
-use Rattle.giop_message.specs.Signatures.{Kept as Listed}
+use Rattle.giop_message.specs.Signatures.{Listed}
 use Rattle.giop_checkpoint.specs.Fixed.{fixed_octets}
 use Rattle.giop_stream.specs.declared.slots.Slot.{Slot}
 use Rattle.giop_stream.specs.Keeping.{IsReady}

@@ -6,7 +6,7 @@ use Rattle.std.proofs.Math.Nat.{suc-mul, mul-le-mul_right}
 use Rattle.giop_sig.specs.Table.{Table}
 use Rattle.giop_sig.specs.Trees.{depth_of}
 use Rattle.giop_message.specs.declared.message.Message.{Message}
-use Rattle.giop_message.specs.Signatures.{Kept as Listed}
+use Rattle.giop_message.specs.Signatures.{Listed}
 use Rattle.giop_checkpoint.specs.declared.sizes.TheConstants.{FRAME_SIZE}
 use Rattle.giop_checkpoint.specs.Fixed.{fixed_octets}
 use Rattle.giop_checkpoint.specs.Records.{Entry, EntryHasRange, own_octets, entry_octets}

@@ -11,7 +11,7 @@ use Rattle.giop_stream.specs.Events.{Takes, Title, Event, Open, goes_past, at_he
 use Rattle.giop_stream.specs.Lines.{Line, Said, line, tells, is_last_of, standing}
 use Rattle.giop_stream.specs.State.{octets_of}
 use Rattle.giop_stream.specs.Machine.{utters_kept}
-use Rattle.giop_stream.specs.Plays.{lines_of, octets_then}
+use Rattle.giop_stream.specs.Effects.{lines_of, octets_then}
 use Rattle.giop_stream.proofs.Lists.{each_filter}
 use Rattle.giop_stream.proofs.Cuts.Cutting.{of_parts}
 use Rattle.giop_stream.proofs.Cuts.CutFrom.{settle}

@@ -8,7 +8,7 @@ use Rattle.std.proofs.lemmas.List.Elements.{filter-append}
 use Rattle.giop_stream.specs.Framing.{Cut}
 use Rattle.giop_message.specs.Reading.{Reading, IsCausal, IsInTurn}
 use Rattle.giop_stream.specs.Lines.{Class, rank, Line, has_class, lines}
-use Rattle.giop_stream.specs.Plays.{Scene}
+use Rattle.giop_stream.specs.Effects.{Tracked}
 use Rattle.giop_stream.specs.Octet.{Octet, Behind, Ends, Held, Of}
 use Rattle.giop_stream.proofs.Lists.{by_growth, filter_drops, each_append, each_weaker}
 use Rattle.giop_stream.proofs.Told.Ordering.{rank_of, Rises}
@@ -44,8 +44,8 @@ record More (R : Reading) (p : List ℕ) (x : ℕ) : Type 0 where
   here : Each (λ l. l.place ≡ suc (length p)) more
   rises : Rises more
 
-more_of : (R : Reading) (p : List ℕ) (x : ℕ) (c : Cut) (ls : List Line) (scene : Scene) → Adds R p (p ++ x ∷ []) c ls scene → More R p x
-more_of R p x c ls scene h = record { more = ls; grows = h.lines; here = h.here; rises = h.rises }
+more_of : (R : Reading) (p : List ℕ) (x : ℕ) (c : Cut) (ls : List Line) (tracked : Tracked) → Adds R p (p ++ x ∷ []) c ls tracked → More R p x
+more_of R p x c ls tracked h = record { more = ls; grows = h.lines; here = h.here; rises = h.rises }
 
 more_by : (R : Reading) (p : List ℕ) (x : ℕ) (o : Octet) → Then R p x o → More R p x
 more_by R p x Behind h = more_of R p x _ _ _ h.2

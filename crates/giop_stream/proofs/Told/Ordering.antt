@@ -1,4 +1,4 @@
--- Where the lines of an octet come in the order of their classes, its events may be played one after the other.
+-- Where the lines of an octet come in the order of their classes, its events may be taken one after the other.
 use Rattle.std.proofs.Common.{◌≡◌, ℕ, ◌<◌, ◌≤◌, Bool, true, false, cond, not, List, [], ◌∷◌, ◌++◌, refl, sym, ap, ◌∙◌, append_assoc, Option, Some, None, arith}
 use Rattle.std.specs.Prelude.{◌==◌, if◌then◌else◌, ◌||◌, flat_map, option_map}
 use Rattle.std.specs.List.{filter, list_any, AllByRecursion as Each}
@@ -10,7 +10,7 @@ use Rattle.giop_stream.specs.Events.{Event, opened, joined}
 use Rattle.giop_stream.specs.Lines.{Class, Start, Said_value, Said_call, Continuing, Cancelling, Imposing, Said_rest, Said_fault, Said_end, Stop, rank, class_of, Line, has_class, classes, by_class, is_last_of, standing}
 use Rattle.giop_stream.specs.State.{Kept}
 use Rattle.giop_stream.specs.Machine.{utters_kept, taking, utters, written, now_written}
-use Rattle.giop_stream.specs.Plays.{Scene, lines_at, scene_at, plays}
+use Rattle.giop_stream.specs.Effects.{Tracked, lines_at, tracked_at, effects}
 use Rattle.giop_stream.proofs.Lists.{filter_drops, filter_keeps, each_weaker, each_filter, any_append}
 use Rattle.giop_stream.proofs.Told.Telling.{joined_append, standing_append, standing_drops, standing_each, tells_number}
 
@@ -183,12 +183,12 @@ utters_filter R over K (e ∷ es) =
     (same_utters R (λ i. if over i then None else taking K (e ∷ []) i)
     (taking (λ i. if over i then None else K i) (e ∷ [])) es (λ i. restricted_taking over K (e ∷ []) i)))
 
--- ---- The plays.
+-- ---- The effects.
 
-pub record ArePlays (R : Reading) (c : Scene) (es : List Event) : Type 0 where
-  pub lines : now_written R c.known es ≡ (plays R c es).lines
-  pub live : opened c.live es ≡ (plays R c es).scene.live
-  pub known : (i : ℕ) → written (taking c.known es) (now_written R c.known es) i ≡ (plays R c es).scene.known i
+pub record AreEffects (R : Reading) (c : Tracked) (es : List Event) : Type 0 where
+  pub lines : now_written R c.known es ≡ (effects R c es).lines
+  pub live : opened c.live es ≡ (effects R c es).tracked.live
+  pub known : (i : ℕ) → written (taking c.known es) (now_written R c.known es) i ≡ (effects R c es).tracked.known i
 
 nothing_kept : (o : Option (List ℕ)) → option_map (λ xs. xs ++ []) o ≡ o
 nothing_kept None = refl
@@ -241,12 +241,12 @@ nothing_else : (K : Kept) (i : ℕ) → written (taking K []) [] i ≡ K i
 unfolding written taking joined
 nothing_else K i = nothing_kept (K i)
 
-pub are_plays : (R : Reading) (c : Scene) (es : List Event) → Ordered (utters R c.known es) → ArePlays R c es
-unfolding plays opened scene_at
-are_plays R c [] h = record { lines = nothing_now R c.known; live = refl; known = λ i. rw (nothing_now R c.known) (nothing_else c.known i) }
-are_plays R c (e ∷ es) h =
-    let now = scene_at R c e in
-    let ih = are_plays R now es (later_ordered R c.known e es h) in
+pub are_effects : (R : Reading) (c : Tracked) (es : List Event) → Ordered (utters R c.known es) → AreEffects R c es
+unfolding effects opened tracked_at
+are_effects R c [] h = record { lines = nothing_now R c.known; live = refl; known = λ i. rw (nothing_now R c.known) (nothing_else c.known i) }
+are_effects R c (e ∷ es) h =
+    let now = tracked_at R c e in
+    let ih = are_effects R now es (later_ordered R c.known e es h) in
     let split = split_lines R c.known e es h in
     record { lines = split ∙ rw ih.lines refl; live = ih.live; known = λ i. rw split (one i) ∙ ih.known i }
   where

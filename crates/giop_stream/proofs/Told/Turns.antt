@@ -8,7 +8,7 @@ use Rattle.std.proofs.lemmas.List.{append-nil, length_push}
 use Rattle.giop_message.specs.Headers.{has_more, size, is_fragment, is_opener, is_cancel, has_name}
 use Rattle.giop_stream.specs.Framing.{Message}
 use Rattle.giop_message.specs.Reading.{Saying, Value, Fault, Reading, due, IsInTurn}
-use Rattle.giop_stream.specs.Plays.{IsBegun}
+use Rattle.giop_stream.specs.Effects.{IsBegun}
 use Rattle.giop_stream.specs.Events.{Happening, Begins, Takes, Closes, Title, Event, Open, title, place, own, about, opener_of, goes_past, at_header, at_octet, at_id, at_end, happens, octet, joined, now_of, header_acts, octet_acts, id_acts, end_acts, acts, Now}
 use Rattle.giop_stream.specs.Lines.{Line, Said, line, tells, is_last_of, standing}
 use Rattle.giop_stream.specs.State.{Kept}

@@ -3,4 +3,4 @@ use Rattle.giop_message.proofs.Apart.{is_apart}
 use Rattle.giop_message.proofs.laws.apart_laws.Goals as goal
 
 pub returns : goal.returns
-returns c C kept = is_apart (said_by C kept)
+returns c C listed = is_apart (said_by C listed)

@@ -10,15 +10,15 @@ use Rattle.giop_message.proofs.laws.message_laws.Goals as goal
 pub returns : goal.returns
 unfolding said_by
 returns c = record {
-  step = λ C kept. message_goes (said_by C kept);
-  many = λ C kept. message_resumes (said_by C kept);
-  over = λ C kept. over_where_faulted (said_by C kept);
-  causal = λ C kept. is_causal (said_by C kept);
-  ending = λ C kept. is_ending (said_by C kept);
-  named = λ C kept. is_named (said_by C kept) (has_ids C kept);
-  ordered = λ C kept. is_ordered (said_by C kept);
-  closing = λ C kept. is_closing (said_by C kept);
-  id = λ C kept. id_is_said (said_by C kept);
-  writes = λ C kept. text_is (said_by C kept);
-  closes = λ C kept. close_is (said_by C kept);
+  step = λ C listed. message_goes (said_by C listed);
+  many = λ C listed. message_resumes (said_by C listed);
+  over = λ C listed. over_where_faulted (said_by C listed);
+  causal = λ C listed. is_causal (said_by C listed);
+  ending = λ C listed. is_ending (said_by C listed);
+  named = λ C listed. is_named (said_by C listed) (has_ids C listed);
+  ordered = λ C listed. is_ordered (said_by C listed);
+  closing = λ C listed. is_closing (said_by C listed);
+  id = λ C listed. id_is_said (said_by C listed);
+  writes = λ C listed. text_is (said_by C listed);
+  closes = λ C listed. close_is (said_by C listed);
 }

@@ -5,8 +5,8 @@ use Rattle.giop_message.proofs.sayings.saying_laws.Goals as goal
 
 pub returns : goal.returns
 returns c = record {
-  text = λ C kept. octet_text (said_by C kept);
-  over = λ C kept. octet_over (said_by C kept);
-  going = λ C kept number header m s f. follows_goes C kept number header m s f;
-  short = λ C kept. close_short (said_by C kept);
+  text = λ C listed. octet_text (said_by C listed);
+  over = λ C listed. octet_over (said_by C listed);
+  going = λ C listed number header m s f. follows_goes C listed number header m s f;
+  short = λ C listed. close_short (said_by C listed);
 }

@@ -1,7 +1,7 @@
 use Rattle.std.proofs.Common.{sym, ap, arith}
 use Rattle.giop_message.specs.MessageReading.{message_reading}
-use Rattle.giop_stream.specs.Plays.{Play, with_octet}
-use Rattle.giop_stream.proofs.Keep.Parts.{in_parts, some_come, come_is, takes_play, taken_here, named_at, third_whose}
+use Rattle.giop_stream.specs.Effects.{Effect, with_octet}
+use Rattle.giop_stream.proofs.Keep.Parts.{in_parts, some_come, come_is, takes_effect, taken_here, named_at, third_whose}
 use Rattle.giop_stream.proofs.Keep.Performing.{performs_on, first_failed, call_failed, then_failed, done_then, counts_as}
 use Rattle.giop_stream.proofs.Keep.Headed.{ready_later}
 use Rattle.giop_stream.proofs.dispatch.octet.Goals as goal
@@ -27,8 +27,8 @@ returns-in_err-taken-clause-does g c =
     let l = c.args.requests.now in
     let x = c.args.octet in
     let parts = in_parts (message_reading C l) c' (with_octet m x) (some_come C l c.args.slots.now c' m c.args.now x h) in
-    let play = takes_play C l c.args.slots.now c' m c.args.now x h in
-    let took = performs_on _ _ _ (ap (λ (p : Play). p.lines) play) (λ k. k) (c.in_err-taken.ensures.does c' _ h.keeps h.rising) in
+    let effect = takes_effect C l c.args.slots.now c' m c.args.now x h in
+    let took = performs_on _ _ _ (ap (λ (p : Effect). p.lines) effect) (λ k. k) (c.in_err-taken.ensures.does c' _ h.keeps h.rising) in
     rw parts (first_failed _ _ c.from_residual.result _ _ c.from_residual.ensures.0 took)
 
 pub returns-in_err-named-clause-does : goal.returns-in_err-named-clause-does
@@ -38,8 +38,8 @@ returns-in_err-named-clause-does g c =
     let l = c.args.requests.now in
     let x = c.args.octet in
     let parts = in_parts (message_reading C l) c' (with_octet m x) (some_come C l c.args.slots.now c' m c.args.now x h) in
-    let play = takes_play C l c.args.slots.now c' m c.args.now x h in
-    let took = performs_on _ _ _ (ap (λ (p : Play). p.lines) play) (λ k. k) (c.in_ok-taken.ensures.does c' _ h.keeps h.rising) in
+    let effect = takes_effect C l c.args.slots.now c' m c.args.now x h in
+    let took = performs_on _ _ _ (ap (λ (p : Effect). p.lines) effect) (λ k. k) (c.in_ok-taken.ensures.does c' _ h.keeps h.rising) in
     let taken = taken_here C l c.args.slots.now c' m c.args.now x h c.take.new.self took.kept in
     rw parts (then_failed _ c.from_residual-in_err-named.result _ _ _ c.from_residual-in_err-named.ensures.0 took
     (first_failed _ _ c.from_residual-in_err-named.result _ _ c.from_residual-in_err-named.ensures.0
@@ -52,8 +52,8 @@ returns-in_err-ended-clause-does g c =
     let l = c.args.requests.now in
     let x = c.args.octet in
     let parts = in_parts (message_reading C l) c' (with_octet m x) (some_come C l c.args.slots.now c' m c.args.now x h) in
-    let play = takes_play C l c.args.slots.now c' m c.args.now x h in
-    let took = performs_on _ _ _ (ap (λ (p : Play). p.lines) play) (λ k. k) (c.in_ok-taken.ensures.does c' _ h.keeps h.rising) in
+    let effect = takes_effect C l c.args.slots.now c' m c.args.now x h in
+    let took = performs_on _ _ _ (ap (λ (p : Effect). p.lines) effect) (λ k. k) (c.in_ok-taken.ensures.does c' _ h.keeps h.rising) in
     let taken = taken_here C l c.args.slots.now c' m c.args.now x h c.take.new.self took.kept in
     let named = c.in_ok-named.ensures.does C l _ _ taken in
     let at = named_at C l c.args.slots.now c' m c.args.now x h c.names.new.slots named.kept in
@@ -69,8 +69,8 @@ returns-clause-does g c =
     let l = c.args.requests.now in
     let x = c.args.octet in
     let parts = in_parts (message_reading C l) c' (with_octet m x) (some_come C l c.args.slots.now c' m c.args.now x h) in
-    let play = takes_play C l c.args.slots.now c' m c.args.now x h in
-    let took = performs_on _ _ _ (ap (λ (p : Play). p.lines) play) (λ k. k) (c.in_ok-taken.ensures.does c' _ h.keeps h.rising) in
+    let effect = takes_effect C l c.args.slots.now c' m c.args.now x h in
+    let took = performs_on _ _ _ (ap (λ (p : Effect). p.lines) effect) (λ k. k) (c.in_ok-taken.ensures.does c' _ h.keeps h.rising) in
     let taken = taken_here C l c.args.slots.now c' m c.args.now x h c.take.new.self took.kept in
     let named = c.in_ok-named.ensures.does C l _ _ taken in
     let at = named_at C l c.args.slots.now c' m c.args.now x h c.names.new.slots named.kept in

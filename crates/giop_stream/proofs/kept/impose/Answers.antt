@@ -1,7 +1,7 @@
 use Rattle.std.proofs.Common.{refl, sym, ap, ◌∙◌}
 use Rattle.std.specs.Prelude.{is_some}
 use Rattle.giop_stream.proofs.Keep.Performing.{does_nothing, wrote_line, line_failed}
-use Rattle.giop_stream.proofs.Keep.ReadingPlays.{over_part, imposed_part, faulted_text, faulted_one, no_message}
+use Rattle.giop_stream.proofs.Keep.ReadingEffects.{over_part, imposed_part, faulted_text, faulted_one, no_message}
 use Rattle.giop_stream.proofs.kept.impose.Goals as goal
 
 pub returns-then-is_none-clause-does : goal.returns-then-is_none-clause-does

@@ -1,6 +1,6 @@
 use Rattle.std.proofs.Common.{refl}
 use Rattle.giop_stream.proofs.Keep.Performing.{does_nothing}
-use Rattle.giop_stream.proofs.Keep.ReadingPlays.{shut_says, no_lines}
+use Rattle.giop_stream.proofs.Keep.ReadingEffects.{shut_says, no_lines}
 use Rattle.giop_stream.proofs.kept.shut.Goals as goal
 
 pub returns-in-Some : goal.returns-in-Some

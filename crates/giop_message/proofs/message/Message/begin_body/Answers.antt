@@ -18,16 +18,16 @@ returns-in-Nothing-clause-fits c = c.begin_rest.ensures.fits c.args.catalogue.no
 
 pub returns-in-Nothing-clause-arrives : goal.returns-in-Nothing-clause-arrives
 unfolding body
-returns-in-Nothing-clause-arrives c kept = rw c.in-Nothing.is (c.begin_rest.ensures.arrives c.args.catalogue.now kept)
+returns-in-Nothing-clause-arrives c listed = rw c.in-Nothing.is (c.begin_rest.ensures.arrives c.args.catalogue.now listed)
 
 pub returns-in-Type-clause-arrives : goal.returns-in-Type-clause-arrives
 unfolding body
-returns-in-Type-clause-arrives c kept = rw c.in-Type.is (c.begin_typed.ensures.arrives kept)
+returns-in-Type-clause-arrives c listed = rw c.in-Type.is (c.begin_typed.ensures.arrives listed)
 
 pub returns-in-Exception-clause-arrives : goal.returns-in-Exception-clause-arrives
 unfolding body said_by
-returns-in-Exception-clause-arrives c kept number header s at before e =
-    let S = said_by c.args.catalogue.now kept in
-    c.begin.ensures.enters kept number header s at before tt
+returns-in-Exception-clause-arrives c listed number header s at before e =
+    let S = said_by c.args.catalogue.now listed in
+    c.begin.ensures.enters listed number header s at before tt
     (subst (λ T. message S header s ≡ with_front before (through S header sections.Exception nothing (read (plain (order header)) [] T (12 + length s) [])))
     (sym c.fixed-of.ensures.tree) (rw c.in-Exception.is at e))

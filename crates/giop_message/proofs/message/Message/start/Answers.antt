@@ -12,7 +12,7 @@ begin-requires-clause-some c = fit_some (tree c.args.catalogue.now c.in-Some.of.
 
 pub returns-clause-follows : goal.returns-clause-follows
 unfolding said_by
-returns-clause-follows c kept =
+returns-clause-follows c listed =
     let e = c.begin.ensures in
     let found : header_type (minor c.args.header) (kind c.args.header) ≡ Some (tree c.args.catalogue.now c.in-Some.of.0) = rw (← c.minor_of.ensures, ← c.kind_of.ensures) (sym c.in-Some.ensures.tree) in
     record {
@@ -20,18 +20,18 @@ returns-clause-follows c kept =
       same_header = e.header;
       id = e.id ∙ rw e.within refl;
       at = e.at;
-      stands = e.enters kept c.args.number c.args.header [] (record { same_number = refl; same_header = refl; at = refl }) [] (found, refl)
-          (header_first (said_by c.args.catalogue.now kept) c.args.header (tree c.args.catalogue.now c.in-Some.of.0) found);
+      stands = e.enters listed c.args.number c.args.header [] (record { same_number = refl; same_header = refl; at = refl }) [] (found, refl)
+          (header_first (said_by c.args.catalogue.now listed) c.args.header (tree c.args.catalogue.now c.in-Some.of.0) found);
     }
 
 pub returns-in_default-clause-follows : goal.returns-in_default-clause-follows
 unfolding said_by id_said
-returns-in_default-clause-follows c kept =
+returns-in_default-clause-follows c listed =
     let none : header_type (minor c.args.header) (kind c.args.header) ≡ None = rw (← c.minor_of.ensures, ← c.kind_of.ensures) (sym c.in_default.ensures.tree) in
     record {
       same_number = refl;
       same_header = refl;
-      id = rw (none_told (said_by c.args.catalogue.now kept) c.args.header) refl;
+      id = rw (none_told (said_by c.args.catalogue.now listed) c.args.header) refl;
       at = refl;
-      stands = rw (c.new.ensures.offset, c.new.ensures.held) ([], none_rests (said_by c.args.catalogue.now kept) c.args.header none);
+      stands = rw (c.new.ensures.offset, c.new.ensures.held) ([], none_rests (said_by c.args.catalogue.now listed) c.args.header none);
     }

@@ -9,13 +9,13 @@ use Rattle.giop_message.proofs.message.Message.take.Goals as goal
 pub loop-taken-init : goal.loop-taken-init
 loop-taken-init g c =
     let C = c.args.catalogue.now in
-    let kept = c.args.requests.now in
+    let listed = c.args.requests.now in
     record {
       within = omega arith;
       fits = c.requires.fits;
       at = omega arith;
-      follows = λ number header s f. subst (Follows C kept number header c.args.self.now) (sym (append-nil s)) f;
-      text = λ number header s f. rw (text_none (said_by C kept) number c.args.place header s) (wrote-nil _);
+      follows = λ number header s f. subst (Follows C listed number header c.args.self.now) (sym (append-nil s)) f;
+      text = λ number header s f. rw (text_none (said_by C listed) number c.args.place header s) (wrote-nil _);
     }
 
 pub returns-in_err-count-clause-writes : goal.returns-in_err-count-clause-writes
@@ -31,8 +31,8 @@ returns-in_err-count-clause-writes g c number header s f =
 pub returns-then-is_over-clause-writes : goal.returns-then-is_over-clause-writes
 returns-then-is_over-clause-writes g c number header s f =
     let C = c.args.catalogue.now in
-    let kept = c.args.requests.now in
-    let S = said_by C kept in
+    let listed = c.args.requests.now in
+    let S = said_by C listed in
     let t = c.loop-taken.taken in
     let n = c.in_ok-count.count in
     let octets = c.args.octets.now in
@@ -56,8 +56,8 @@ returns-then-is_over-clause-took g c number header s f =
 pub loop-taken-preserved : goal.loop-taken-preserved
 loop-taken-preserved g c =
     let C = c.args.catalogue.now in
-    let kept = c.args.requests.now in
-    let S = said_by C kept in
+    let listed = c.args.requests.now in
+    let S = said_by C listed in
     let t = c.loop-taken.taken in
     let n = c.in_ok-count.count in
     let octets = c.args.octets.now in

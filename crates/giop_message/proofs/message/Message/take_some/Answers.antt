@@ -14,16 +14,16 @@ use Rattle.giop_message.proofs.message.Message.take_some.Goals as goal
 pub returns-in_err-taken-in-Typed-clause-writes : goal.returns-in_err-taken-in-Typed-clause-writes
 returns-in_err-taken-in-Typed-clause-writes g c number header s f =
     let C = c.args.catalogue.now in
-    let kept = c.args.requests.now in
-    let S = said_by C kept in
+    let listed = c.args.requests.now in
+    let S = said_by C listed in
     let m = c.args.self.now in
     let place = c.args.place in
     let octets = c.args.octets.now in
     let x = c.in-Typed.field-0 in
     let d = c.in-Typed.decoder in
     let fits = subst (FitsPart C m.at) c.in-Typed.is c.requires.fits in
-    let o = opened C kept number header m s f x d c.in-Typed.is fits in
-    let i = within C kept number header m s f x d c.in-Typed.is fits in
+    let o = opened C listed number header m s f x d c.in-Typed.is fits in
+    let i = within C listed number header m s f x d c.in-Typed.is fits in
     let A = 12 + length o.front in
     run_failed c.from_residual.result S number place header s octets _ _ c.from_residual.ensures.0
     (run_broken S number header s x o.T o.before o.front o.octets i octets place _ _
@@ -32,16 +32,16 @@ returns-in_err-taken-in-Typed-clause-writes g c number header s f =
 pub returns-in-More-clause-writes : goal.returns-in-More-clause-writes
 returns-in-More-clause-writes g c number header s f =
     let C = c.args.catalogue.now in
-    let kept = c.args.requests.now in
-    let S = said_by C kept in
+    let listed = c.args.requests.now in
+    let S = said_by C listed in
     let m = c.args.self.now in
     let place = c.args.place in
     let octets = c.args.octets.now in
     let x = c.in-Typed.field-0 in
     let d = c.in-Typed.decoder in
     let fits = subst (FitsPart C m.at) c.in-Typed.is c.requires.fits in
-    let o = opened C kept number header m s f x d c.in-Typed.is fits in
-    let i = within C kept number header m s f x d c.in-Typed.is fits in
+    let o = opened C listed number header m s f x d c.in-Typed.is fits in
+    let i = within C listed number header m s f x d c.in-Typed.is fits in
     let A = 12 + length o.front in
     let n = c.in_ok-taken-in-Typed.taken in
     let xs = take n octets in
@@ -54,16 +54,16 @@ returns-in-More-clause-writes g c number header s f =
 pub returns-in-More-clause-went : goal.returns-in-More-clause-went
 returns-in-More-clause-went g c number header s f =
     let C = c.args.catalogue.now in
-    let kept = c.args.requests.now in
-    let S = said_by C kept in
+    let listed = c.args.requests.now in
+    let S = said_by C listed in
     let m = c.args.self.now in
     let place = c.args.place in
     let octets = c.args.octets.now in
     let x = c.in-Typed.field-0 in
     let d = c.in-Typed.decoder in
     let fits = subst (FitsPart C m.at) c.in-Typed.is c.requires.fits in
-    let o = opened C kept number header m s f x d c.in-Typed.is fits in
-    let i = within C kept number header m s f x d c.in-Typed.is fits in
+    let o = opened C listed number header m s f x d c.in-Typed.is fits in
+    let i = within C listed number header m s f x d c.in-Typed.is fits in
     let A = 12 + length o.front in
     let n = c.in_ok-taken-in-Typed.taken in
     let xs = take n octets in
@@ -73,22 +73,22 @@ returns-in-More-clause-went g c number header s f =
     (ran.takes o.T (order header) A number (root_of x) o.octets o.reads) in
     let size = length-take-le n octets ran.within in
     let last = last_one (order header) o.T A (root_of x) o.octets xs progress.More (omega (arith, size, ran.some c.requires.some)) taken.answers in
-    section_on C kept number header m s f x d c.in-Typed.is fits xs progress.More last _ c.take_run.new.self
+    section_on C listed number header m s f x d c.in-Typed.is fits xs progress.More last _ c.take_run.new.self
     (record { number = refl; header = refl; at = rw size refl }) refl refl (taken.reads (λ fault. fault))
 
 pub returns-in_err-call-in-Named-clause-writes : goal.returns-in_err-call-in-Named-clause-writes
 returns-in_err-call-in-Named-clause-writes g c number header s f =
     let C = c.args.catalogue.now in
-    let kept = c.args.requests.now in
-    let S = said_by C kept in
+    let listed = c.args.requests.now in
+    let S = said_by C listed in
     let m = c.args.self.now in
     let place = c.args.place in
     let octets = c.args.octets.now in
     let x = c.in-Typed.field-0 in
     let d = c.in-Typed.decoder in
     let fits = subst (FitsPart C m.at) c.in-Typed.is c.requires.fits in
-    let o = opened C kept number header m s f x d c.in-Typed.is fits in
-    let i = within C kept number header m s f x d c.in-Typed.is fits in
+    let o = opened C listed number header m s f x d c.in-Typed.is fits in
+    let i = within C listed number header m s f x d c.in-Typed.is fits in
     let A = 12 + length o.front in
     let n = c.in_ok-taken-in-Typed.taken in
     let xs = take n octets in
@@ -98,8 +98,8 @@ returns-in_err-call-in-Named-clause-writes g c number header s f =
     (ran.takes o.T (order header) A number (root_of x) o.octets o.reads) in
     let size = length-take-le n octets ran.within in
     let last = last_one (order header) o.T A (root_of x) o.octets xs progress.Named (omega (arith, size, ran.some c.requires.some)) taken.answers in
-    let minds = minds_header C kept number header m s f x d c.in-Typed.is fits xs c.take_run.new.self (run_named_in S number header s x o.T o.before o.front o.octets i xs last) taken.minds in
-    let read_it = ReadWith C kept number header m s f x d c.in-Typed.is fits xs in
+    let minds = minds_header C listed number header m s f x d c.in-Typed.is fits xs c.take_run.new.self (run_named_in S number header s x o.T o.before o.front o.octets i xs last) taken.minds in
+    let read_it = ReadWith C listed number header m s f x d c.in-Typed.is fits xs in
     let called = rw (f.same_number, f.same_header) at (c.in_err-call-in-Named.ensures read_it minds) in
     run_failed c.from_residual-in_err-call-in-Named.result S number place header s octets _ _ c.from_residual-in_err-call-in-Named.ensures.0
     (run_front S number place header s octets n _ _ (rw (run_named S number header s x o.T o.before o.front o.octets i xs place last) (wrote-front _ _ _ _ _ wrote called)))
@@ -107,16 +107,16 @@ returns-in_err-call-in-Named-clause-writes g c number header s f =
 pub returns-in_ok-call-in-Named-clause-writes : goal.returns-in_ok-call-in-Named-clause-writes
 returns-in_ok-call-in-Named-clause-writes g c number header s f =
     let C = c.args.catalogue.now in
-    let kept = c.args.requests.now in
-    let S = said_by C kept in
+    let listed = c.args.requests.now in
+    let S = said_by C listed in
     let m = c.args.self.now in
     let place = c.args.place in
     let octets = c.args.octets.now in
     let x = c.in-Typed.field-0 in
     let d = c.in-Typed.decoder in
     let fits = subst (FitsPart C m.at) c.in-Typed.is c.requires.fits in
-    let o = opened C kept number header m s f x d c.in-Typed.is fits in
-    let i = within C kept number header m s f x d c.in-Typed.is fits in
+    let o = opened C listed number header m s f x d c.in-Typed.is fits in
+    let i = within C listed number header m s f x d c.in-Typed.is fits in
     let A = 12 + length o.front in
     let n = c.in_ok-taken-in-Typed.taken in
     let xs = take n octets in
@@ -126,24 +126,24 @@ returns-in_ok-call-in-Named-clause-writes g c number header s f =
     (ran.takes o.T (order header) A number (root_of x) o.octets o.reads) in
     let size = length-take-le n octets ran.within in
     let last = last_one (order header) o.T A (root_of x) o.octets xs progress.Named (omega (arith, size, ran.some c.requires.some)) taken.answers in
-    let minds = minds_header C kept number header m s f x d c.in-Typed.is fits xs c.take_run.new.self (run_named_in S number header s x o.T o.before o.front o.octets i xs last) taken.minds in
-    let read_it = ReadWith C kept number header m s f x d c.in-Typed.is fits xs in
+    let minds = minds_header C listed number header m s f x d c.in-Typed.is fits xs c.take_run.new.self (run_named_in S number header s x o.T o.before o.front o.octets i xs last) taken.minds in
+    let read_it = ReadWith C listed number header m s f x d c.in-Typed.is fits xs in
     let called = rw (f.same_number, f.same_header) at (c.in_ok-call-in-Named.ensures read_it minds) in
     rw (run_named S number header s x o.T o.before o.front o.octets i xs place last) (wrote-append _ _ _ _ _ wrote called)
 
 pub returns-in_ok-call-in-Named-clause-went : goal.returns-in_ok-call-in-Named-clause-went
 returns-in_ok-call-in-Named-clause-went g c number header s f =
     let C = c.args.catalogue.now in
-    let kept = c.args.requests.now in
-    let S = said_by C kept in
+    let listed = c.args.requests.now in
+    let S = said_by C listed in
     let m = c.args.self.now in
     let place = c.args.place in
     let octets = c.args.octets.now in
     let x = c.in-Typed.field-0 in
     let d = c.in-Typed.decoder in
     let fits = subst (FitsPart C m.at) c.in-Typed.is c.requires.fits in
-    let o = opened C kept number header m s f x d c.in-Typed.is fits in
-    let i = within C kept number header m s f x d c.in-Typed.is fits in
+    let o = opened C listed number header m s f x d c.in-Typed.is fits in
+    let i = within C listed number header m s f x d c.in-Typed.is fits in
     let A = 12 + length o.front in
     let n = c.in_ok-taken-in-Typed.taken in
     let xs = take n octets in
@@ -153,22 +153,22 @@ returns-in_ok-call-in-Named-clause-went g c number header s f =
     (ran.takes o.T (order header) A number (root_of x) o.octets o.reads) in
     let size = length-take-le n octets ran.within in
     let last = last_one (order header) o.T A (root_of x) o.octets xs progress.Named (omega (arith, size, ran.some c.requires.some)) taken.answers in
-    section_on C kept number header m s f x d c.in-Typed.is fits xs progress.Named last _ c.take_run.new.self
+    section_on C listed number header m s f x d c.in-Typed.is fits xs progress.Named last _ c.take_run.new.self
     (record { number = refl; header = refl; at = rw size refl }) refl refl (taken.reads (λ fault. fault))
 
 pub returns-in-Done-clause-writes : goal.returns-in-Done-clause-writes
 returns-in-Done-clause-writes g c number header s f =
     let C = c.args.catalogue.now in
-    let kept = c.args.requests.now in
-    let S = said_by C kept in
+    let listed = c.args.requests.now in
+    let S = said_by C listed in
     let m = c.args.self.now in
     let place = c.args.place in
     let octets = c.args.octets.now in
     let x = c.in-Typed.field-0 in
     let d = c.in-Typed.decoder in
     let fits = subst (FitsPart C m.at) c.in-Typed.is c.requires.fits in
-    let o = opened C kept number header m s f x d c.in-Typed.is fits in
-    let i = within C kept number header m s f x d c.in-Typed.is fits in
+    let o = opened C listed number header m s f x d c.in-Typed.is fits in
+    let i = within C listed number header m s f x d c.in-Typed.is fits in
     let A = 12 + length o.front in
     let n = c.in_ok-taken-in-Typed.taken in
     let xs = take n octets in
@@ -183,16 +183,16 @@ returns-in-Done-clause-writes g c number header s f =
 pub returns-in-Done-clause-went : goal.returns-in-Done-clause-went
 returns-in-Done-clause-went g c number header s f =
     let C = c.args.catalogue.now in
-    let kept = c.args.requests.now in
-    let S = said_by C kept in
+    let listed = c.args.requests.now in
+    let S = said_by C listed in
     let m = c.args.self.now in
     let place = c.args.place in
     let octets = c.args.octets.now in
     let x = c.in-Typed.field-0 in
     let d = c.in-Typed.decoder in
     let fits = subst (FitsPart C m.at) c.in-Typed.is c.requires.fits in
-    let o = opened C kept number header m s f x d c.in-Typed.is fits in
-    let i = within C kept number header m s f x d c.in-Typed.is fits in
+    let o = opened C listed number header m s f x d c.in-Typed.is fits in
+    let i = within C listed number header m s f x d c.in-Typed.is fits in
     let A = 12 + length o.front in
     let n = c.in_ok-taken-in-Typed.taken in
     let xs = take n octets in
@@ -202,25 +202,25 @@ returns-in-Done-clause-went g c number header s f =
     (ran.takes o.T (order header) A number (root_of x) o.octets o.reads) in
     let size = length-take-le n octets ran.within in
     let last = last_one (order header) o.T A (root_of x) o.octets xs progress.Done (omega (arith, size, ran.some c.requires.some)) taken.answers in
-    let read_it = ReadWith C kept number header m s f x d c.in-Typed.is fits xs in
+    let read_it = ReadWith C listed number header m s f x d c.in-Typed.is fits xs in
     let e = c.leave.ensures in
-    section_done C kept number header m s f x d c.in-Typed.is fits xs last c.take_run.new.self (taken.reads (λ fault. fault)) _ _
+    section_done C listed number header m s f x d c.in-Typed.is fits xs last c.take_run.new.self (taken.reads (λ fault. fault)) _ _
     (record { number = refl; header = refl; at = rw size refl }) refl (e.arrives number header (s ++ xs) x read_it (refl, taken.minds))
     (record { number = e.number; header = e.header; at = rw size e.at }) (e.id x read_it (refl, taken.minds)) e.past
 
 pub returns-in_err-fault_line-in-Fault-clause-writes : goal.returns-in_err-fault_line-in-Fault-clause-writes
 returns-in_err-fault_line-in-Fault-clause-writes g c number header s f =
     let C = c.args.catalogue.now in
-    let kept = c.args.requests.now in
-    let S = said_by C kept in
+    let listed = c.args.requests.now in
+    let S = said_by C listed in
     let m = c.args.self.now in
     let place = c.args.place in
     let octets = c.args.octets.now in
     let x = c.in-Typed.field-0 in
     let d = c.in-Typed.decoder in
     let fits = subst (FitsPart C m.at) c.in-Typed.is c.requires.fits in
-    let o = opened C kept number header m s f x d c.in-Typed.is fits in
-    let i = within C kept number header m s f x d c.in-Typed.is fits in
+    let o = opened C listed number header m s f x d c.in-Typed.is fits in
+    let i = within C listed number header m s f x d c.in-Typed.is fits in
     let A = 12 + length o.front in
     let n = c.in_ok-taken-in-Typed.taken in
     let xs = take n octets in
@@ -239,16 +239,16 @@ returns-in_err-fault_line-in-Fault-clause-writes g c number header s f =
 pub returns-in_ok-fault_line-in-Fault-clause-writes : goal.returns-in_ok-fault_line-in-Fault-clause-writes
 returns-in_ok-fault_line-in-Fault-clause-writes g c number header s f =
     let C = c.args.catalogue.now in
-    let kept = c.args.requests.now in
-    let S = said_by C kept in
+    let listed = c.args.requests.now in
+    let S = said_by C listed in
     let m = c.args.self.now in
     let place = c.args.place in
     let octets = c.args.octets.now in
     let x = c.in-Typed.field-0 in
     let d = c.in-Typed.decoder in
     let fits = subst (FitsPart C m.at) c.in-Typed.is c.requires.fits in
-    let o = opened C kept number header m s f x d c.in-Typed.is fits in
-    let i = within C kept number header m s f x d c.in-Typed.is fits in
+    let o = opened C listed number header m s f x d c.in-Typed.is fits in
+    let i = within C listed number header m s f x d c.in-Typed.is fits in
     let A = 12 + length o.front in
     let n = c.in_ok-taken-in-Typed.taken in
     let xs = take n octets in
@@ -266,16 +266,16 @@ returns-in_ok-fault_line-in-Fault-clause-writes g c number header s f =
 pub returns-in_ok-fault_line-in-Fault-clause-went : goal.returns-in_ok-fault_line-in-Fault-clause-went
 returns-in_ok-fault_line-in-Fault-clause-went g c number header s f =
     let C = c.args.catalogue.now in
-    let kept = c.args.requests.now in
-    let S = said_by C kept in
+    let listed = c.args.requests.now in
+    let S = said_by C listed in
     let m = c.args.self.now in
     let place = c.args.place in
     let octets = c.args.octets.now in
     let x = c.in-Typed.field-0 in
     let d = c.in-Typed.decoder in
     let fits = subst (FitsPart C m.at) c.in-Typed.is c.requires.fits in
-    let o = opened C kept number header m s f x d c.in-Typed.is fits in
-    let i = within C kept number header m s f x d c.in-Typed.is fits in
+    let o = opened C listed number header m s f x d c.in-Typed.is fits in
+    let i = within C listed number header m s f x d c.in-Typed.is fits in
     let A = 12 + length o.front in
     let n = c.in_ok-taken-in-Typed.taken in
     let xs = take n octets in
@@ -290,33 +290,33 @@ returns-in_ok-fault_line-in-Fault-clause-went g c number header s f =
 pub returns-in-Padding-clause-writes : goal.returns-in-Padding-clause-writes
 returns-in-Padding-clause-writes g c number header s f =
     let C = c.args.catalogue.now in
-    let kept = c.args.requests.now in
+    let listed = c.args.requests.now in
     let m = c.args.self.now in
     let octets = c.args.octets.now in
-    let here = subst (λ p. Follows C kept number header (record m { part = p }) s) c.in-Padding.is f in
+    let here = subst (λ p. Follows C listed number header (record m { part = p }) s) c.in-Padding.is f in
     let first = first_alone octets c.requires.some in
     rw (
       first,
-      no_text (said_by C kept) number c.args.place header s (get_or octets 0 0 ∷ []) (c.take_padding.ensures.told kept number header s (get_or octets 0 0)
+      no_text (said_by C listed) number c.args.place header s (get_or octets 0 0 ∷ []) (c.take_padding.ensures.told listed number header s (get_or octets 0 0)
           (record { same_number = here.same_number; same_header = here.same_header; id = here.id; at = here.at; stands = here.stands })),
     ) (wrote-nil _)
 
 pub returns-in-Padding-clause-went : goal.returns-in-Padding-clause-went
 returns-in-Padding-clause-went g c number header s f =
     let C = c.args.catalogue.now in
-    let kept = c.args.requests.now in
+    let listed = c.args.requests.now in
     let m = c.args.self.now in
     let octets = c.args.octets.now in
-    let here = subst (λ p. Follows C kept number header (record m { part = p }) s) c.in-Padding.is f in
+    let here = subst (λ p. Follows C listed number header (record m { part = p }) s) c.in-Padding.is f in
     let first = first_alone octets c.requires.some in
-    rw first (c.take_padding.ensures.follows kept number header s (get_or octets 0 0)
+    rw first (c.take_padding.ensures.follows listed number header s (get_or octets 0 0)
     (record { same_number = here.same_number; same_header = here.same_header; id = here.id; at = here.at; stands = here.stands }))
 
 pub returns-in_err-take-in-Rest-clause-writes : goal.returns-in_err-take-in-Rest-clause-writes
 returns-in_err-take-in-Rest-clause-writes g c number header s f =
     let C = c.args.catalogue.now in
-    let kept = c.args.requests.now in
-    let S = said_by C kept in
+    let listed = c.args.requests.now in
+    let S = said_by C listed in
     let m = c.args.self.now in
     let place = c.args.place in
     let octets = c.args.octets.now in
@@ -328,15 +328,15 @@ returns-in_err-take-in-Rest-clause-writes g c number header s f =
     let some : 0 < length xs = omega (arith, size, few, rest.room, c.requires.some) in
     let room : length rest.held.items + length xs ≤ 32 = omega (arith, size, few) in
     let At = 12 + length s in
-    let text = rest_text C kept number header m s f rest c.in-Rest.is xs some room place in
+    let text = rest_text C listed number header m s f rest c.in-Rest.is xs some room place in
     run_failed c.from_residual-in_err-take-in-Rest.result S number place header s octets _ _ c.from_residual-in_err-take-in-Rest.ensures.0
     (run_front S number place header s octets n _ _ (rw text (c.in_err-take-in-Rest.ensures.writes place At (At + length xs))))
 
 pub returns-in_ok-take-in-Rest-clause-writes : goal.returns-in_ok-take-in-Rest-clause-writes
 returns-in_ok-take-in-Rest-clause-writes g c number header s f =
     let C = c.args.catalogue.now in
-    let kept = c.args.requests.now in
-    let S = said_by C kept in
+    let listed = c.args.requests.now in
+    let S = said_by C listed in
     let m = c.args.self.now in
     let place = c.args.place in
     let octets = c.args.octets.now in
@@ -348,14 +348,14 @@ returns-in_ok-take-in-Rest-clause-writes g c number header s f =
     let some : 0 < length xs = omega (arith, size, few, rest.room, c.requires.some) in
     let room : length rest.held.items + length xs ≤ 32 = omega (arith, size, few) in
     let At = 12 + length s in
-    let text = rest_text C kept number header m s f rest c.in-Rest.is xs some room place in
+    let text = rest_text C listed number header m s f rest c.in-Rest.is xs some room place in
     rw text (c.in_ok-take-in-Rest.ensures.writes place At (At + length xs))
 
 pub returns-in_ok-take-in-Rest-clause-went : goal.returns-in_ok-take-in-Rest-clause-went
 returns-in_ok-take-in-Rest-clause-went g c number header s f =
     let C = c.args.catalogue.now in
-    let kept = c.args.requests.now in
-    let S = said_by C kept in
+    let listed = c.args.requests.now in
+    let S = said_by C listed in
     let m = c.args.self.now in
     let place = c.args.place in
     let octets = c.args.octets.now in
@@ -367,6 +367,6 @@ returns-in_ok-take-in-Rest-clause-went g c number header s f =
     let some : 0 < length xs = omega (arith, size, few, rest.room, c.requires.some) in
     let room : length rest.held.items + length xs ≤ 32 = omega (arith, size, few) in
     let At = 12 + length s in
-    let text = rest_text C kept number header m s f rest c.in-Rest.is xs some room place in
-    rest_follows C kept number header m s f rest c.in-Rest.is xs some room _ c.take.new.self
+    let text = rest_text C listed number header m s f rest c.in-Rest.is xs some room place in
+    rest_follows C listed number header m s f rest c.in-Rest.is xs some room _ c.take.new.self
     (record { number = refl; header = refl; at = rw size refl }) refl refl (c.in_ok-take-in-Rest.ensures.holds (At + length xs))

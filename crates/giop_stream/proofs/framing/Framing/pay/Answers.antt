@@ -1,7 +1,7 @@
 use Rattle.std.proofs.Common.{◌≡◌, ℕ, ◌+◌, arith, refl, sym, ap, ◌∙◌}
 use Rattle.giop_message.specs.Headers.{size}
 use Rattle.giop_message.specs.MessageReading.{message_reading}
-use Rattle.giop_stream.specs.Plays.{stage}
+use Rattle.giop_stream.specs.Effects.{stage}
 use Rattle.giop_stream.specs.Shown.{shown}
 use Rattle.giop_print.proofs.Writing.{writes_failed}
 use Rattle.giop_stream.proofs.Moves.Doing.{has_current, come_fits, is_next, paid_does, paid_shows}

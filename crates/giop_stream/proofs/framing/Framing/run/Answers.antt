@@ -1,7 +1,7 @@
 use Rattle.std.proofs.Common.{◌≡◌, ℕ, ◌+◌, length, arith, refl, sym, ap, ◌∙◌}
 use Rattle.giop_message.specs.MessageReading.{message_reading}
 use Rattle.giop_stream.specs.Events.{open_after}
-use Rattle.giop_stream.specs.Plays.{stage}
+use Rattle.giop_stream.specs.Effects.{stage}
 use Rattle.giop_stream.specs.Whose.{whose}
 use Rattle.giop_stream.specs.Shown.{shown}
 use Rattle.giop_print.proofs.Writing.{writes_failed}

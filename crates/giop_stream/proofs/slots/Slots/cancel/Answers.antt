@@ -1,6 +1,6 @@
 use Rattle.std.proofs.Common.{Some, refl, sym}
 use Rattle.std.proofs.lemmas.Bool.{false≢true}
-use Rattle.giop_stream.proofs.Keep.ReadingPlays.{cancel_says, cancelled_text, cancelled_none, no_lines, no_message}
+use Rattle.giop_stream.proofs.Keep.ReadingEffects.{cancel_says, cancelled_text, cancelled_none, no_lines, no_message}
 use Rattle.giop_stream.proofs.Keep.Keepers.{open_slot, open_there, cancel_keeps}
 use Rattle.giop_stream.proofs.Keep.Performing.{does_nothing, performs_on, writes_line}
 use Rattle.giop_stream.proofs.slots.Slots.cancel.Goals as goal

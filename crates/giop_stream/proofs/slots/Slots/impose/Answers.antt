@@ -1,13 +1,13 @@
 use Rattle.std.proofs.Common.{Some, refl}
 use Rattle.std.proofs.lemmas.Bool.{false≢true}
-use Rattle.giop_stream.proofs.Keep.Keepers.{still_imposed, still_alters, own_plays, slot_plays, no_slot_says}
+use Rattle.giop_stream.proofs.Keep.Keepers.{still_imposed, still_alters, own_effects, slot_effects, no_slot_says}
 use Rattle.giop_stream.proofs.Keep.SlotLists.{get_some, set_ready}
 use Rattle.giop_stream.proofs.slots.Slots.impose.Goals as goal
 
 pub returns-in-Own-clause-does : goal.returns-in-Own-clause-does
 returns-in-Own-clause-does g c =
     λ C l c' w h n rising.
-    own_plays C l c.impose.result _ _ c.args.self.now c.impose.new.message c' w _ _ c.in-Own.is h
+    own_effects C l c.impose.result _ _ c.args.self.now c.impose.new.message c' w _ _ c.in-Own.is h
     (still_alters C l c.args.place c' w _ (still_imposed c.args.fault))
     (λ k. c.impose.ensures.does C l w (c'.known w.number) k n)
 
@@ -15,7 +15,7 @@ pub returns-in-Some-clause-does : goal.returns-in-Some-clause-does
 returns-in-Some-clause-does g c =
     λ C l c' w h n rising.
     let here = get_some _ _ _ (c.in-Some.ensures.variant.0 refl) c.in-Some.ensures.value in
-    slot_plays C l c.impose-in-Some.result _ _ c.args.self.now c.in-Some.slot.now c.impose-in-Some.new.message c' w _ _ c.in-Open.k c.in-Open.is here rising h
+    slot_effects C l c.impose-in-Some.result _ _ c.args.self.now c.in-Some.slot.now c.impose-in-Some.new.message c' w _ _ c.in-Open.k c.in-Open.is here rising h
     (still_alters C l c.args.place c' w _ (still_imposed c.args.fault)) (λ m k. c.impose-in-Some.ensures.does C l w (c'.known w.number) k m)
 
 pub returns-in-None-clause-does : goal.returns-in-None-clause-does

@@ -1,16 +1,16 @@
--- What a call does that plays events: the lines that it writes, what it says of faults, and what it keeps (steps). Private
--- clauses alone cite these.
+-- What a call does by which events have their effect: the lines that it writes, what it says of faults, and what it keeps
+-- (steps). Private clauses alone cite these.
 use Rattle.std.specs.Prelude.{◌≡◌, ℕ, Bool, List, Option, Result, OnOk, IfOk, if◌then◌else◌}
 use Rattle.giop_print.specs.Output.{OutLog, Writes}
 use Rattle.giop_sig.specs.Table.{Table}
 use Rattle.giop_message.specs.declared.message.Message.{Message as Kept_message}
-use Rattle.giop_message.specs.Signatures.{Kept as Listed}
+use Rattle.giop_message.specs.Signatures.{Listed}
 use Rattle.giop_stream.specs.declared.slots.Slots.{Slots}
 use Rattle.giop_stream.specs.Events.{Title}
 use Rattle.giop_stream.specs.Lines.{Line}
 use Rattle.giop_stream.specs.Text.{lines_text}
 use Rattle.giop_stream.specs.Stream.{fault_count}
-use Rattle.giop_stream.specs.Plays.{Play, Part}
+use Rattle.giop_stream.specs.Effects.{Effect, Part}
 use Rattle.giop_stream.specs.Keeping.{IsKept, Keeps}
 
 -- The call writes these lines; its result counts the faults among them; and where it doesn't fail, this is so then.
@@ -31,14 +31,14 @@ all faults = faults
 abbrev pub never : {A : Type 0} → A → ℕ
 never x = 0
 
--- The slots keep the play's scene then, and the payload's next octets are this message's.
-abbrev pub Plays : {A E : Type 0} → Table → Listed → (A → ℕ) → Result A E → OutLog → OutLog → Slots → Play → Option Title → Type 0
-Plays C l count result before after slots play whose =
-    Performs count result before after play.lines (Keeps C l slots play.scene whose)
+-- The slots keep then what the effect leaves tracked, and the payload's next octets are this message's.
+abbrev pub TakesEffect : {A E : Type 0} → Table → Listed → (A → ℕ) → Result A E → OutLog → OutLog → Slots → Effect → Option Title → Type 0
+TakesEffect C l count result before after slots effect whose =
+    Performs count result before after effect.lines (Keeps C l slots effect.tracked whose)
 
--- The message of this title is kept as this part of a play leaves it.
-abbrev pub PlaysPart : {A E : Type 0} → Table → Listed → (A → ℕ) → Result A E → OutLog → OutLog → Option Kept_message → Title → Part → Type 0
-PlaysPart C l count result before after message w part =
+-- The message of this title is kept as this part of an effect leaves it.
+abbrev pub PartTakesEffect : {A E : Type 0} → Table → Listed → (A → ℕ) → Result A E → OutLog → OutLog → Option Kept_message → Title → Part → Type 0
+PartTakesEffect C l count result before after message w part =
     Performs count result before after part.lines (IsKept C l message w part.octets)
 
 -- Nothing is kept.

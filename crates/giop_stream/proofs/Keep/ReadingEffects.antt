@@ -9,7 +9,7 @@ use Rattle.giop_sig.specs.Table.{Table}
 use Rattle.giop_message.specs.declared.message.Message.{Message}
 use Rattle.giop_message.specs.Reading.{Saying, Value, Call, Rest, Fault, End, Remark, Reading, InTurn, AtClose, due, is_fault, is_last}
 use Rattle.giop_message.specs.Text.{saying_line, said_text}
-use Rattle.giop_message.specs.Signatures.{Kept as Listed, said_by}
+use Rattle.giop_message.specs.Signatures.{Listed, said_by}
 use Rattle.giop_message.specs.Messages.{message, stage_of, close}
 use Rattle.giop_message.specs.MessageReading.{message_reading}
 use Rattle.giop_message.specs.Holding.{due_text, closing_text, closes_text, is_short, Follows}
@@ -20,9 +20,9 @@ use Rattle.giop_stream.specs.Lines.{Line, Said, Ended_by, Faulted, line, tells, 
 use Rattle.giop_stream.specs.Text.{imposed_word, line_text, lines_text}
 use Rattle.giop_stream.specs.Stream.{fault_count}
 use Rattle.giop_stream.specs.Machine.{utters_kept}
-use Rattle.giop_stream.specs.Plays.{lines_of, octets_then, part_of, no_part}
+use Rattle.giop_stream.specs.Effects.{lines_of, octets_then, part_of, no_part}
 use Rattle.giop_stream.specs.Keeping.{IsKept, event}
-use Rattle.giop_stream.specs.Playing.{Says, one_if}
+use Rattle.giop_stream.specs.Performs.{Says, one_if}
 
 -- ---- Lines that a reading says.
 

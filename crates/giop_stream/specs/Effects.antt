@@ -9,26 +9,26 @@ use Rattle.giop_stream.specs.State.{Slot, Kept, octets_of, slots_of}
 use Rattle.giop_stream.specs.Machine.{utters_kept, taking, written}
 
 -- the open messages, and what is kept of each message
-pub record Scene : Type 0 where
+pub record Tracked : Type 0 where
   pub live : List Open
   pub known : Kept
 
-pub record Play : Type 0 where
-  pub scene : Scene
+pub record Effect : Type 0 where
+  pub tracked : Tracked
   pub lines : List Line
 
 -- one event: its lines up to the message's last one, and what is kept then
 unfoldable pub lines_at : Reading → Kept → Event → List Line
 lines_at R known e = standing (λ i. false) (utters_kept R e (known e.whom.number))
 
-unfoldable pub scene_at : Reading → Scene → Event → Scene
-scene_at R c e = record { live = changed c.live e.whom e.what; known = written (taking c.known (e ∷ [])) (lines_at R c.known e) }
+unfoldable pub tracked_at : Reading → Tracked → Event → Tracked
+tracked_at R c e = record { live = changed c.live e.whom e.what; known = written (taking c.known (e ∷ [])) (lines_at R c.known e) }
 
-unfoldable pub plays : Reading → Scene → List Event → Play
-plays R c [] = record { scene = c; lines = [] }
-plays R c (e ∷ es) =
-    let more = plays R (scene_at R c e) es in
-    record { scene = more.scene; lines = lines_at R c.known e ++ more.lines }
+unfoldable pub effects : Reading → Tracked → List Event → Effect
+effects R c [] = record { tracked = c; lines = [] }
+effects R c (e ∷ es) =
+    let more = effects R (tracked_at R c e) es in
+    record { tracked = more.tracked; lines = lines_at R c.known e ++ more.lines }
 
 -- While a request id comes, no more is kept of its message than what came before this octet.
 abbrev pub IsBegun : Kept → Message → Type 0
@@ -65,7 +65,7 @@ abbrev pub then_part : Part → Part → Part
 then_part one more = record { octets = more.octets; lines = one.lines ++ more.lines }
 
 -- what there is to know of the messages of a stream
-unfoldable pub stage : Reading → List ℕ → Scene
+unfoldable pub stage : Reading → List ℕ → Tracked
 stage R p = record { live = open_after p; known = octets_of R p }
 
 -- ---- What an event does to the slots.
@@ -94,26 +94,26 @@ goes Closes = true
 abbrev pub IsNotOpen : ℕ → List Open → Type 0
 IsNotOpen n live = Each (λ o. o.opener.number ≡ n → ⊥) live
 
--- the slots of a scene
-abbrev pub slots_at : Scene → List Slot
+-- the slots of what is tracked
+abbrev pub slots_at : Tracked → List Slot
 slots_at c = slots_of c.known c.live
 
--- ---- Plays of one event, of none, and of more after some.
+-- ---- The effects of one event, of none, and of more after some.
 
-abbrev pub one_play : Reading → Scene → ℕ → Title → Happening → Play
-one_play R c at whom what =
+abbrev pub one_effect : Reading → Tracked → ℕ → Title → Happening → Effect
+one_effect R c at whom what =
     let e : Event = record { place = at; whom = whom; what = what } in
-    record { scene = scene_at R c e; lines = lines_of R e (c.known whom.number) }
+    record { tracked = tracked_at R c e; lines = lines_of R e (c.known whom.number) }
 
-abbrev pub no_play : Scene → Play
-no_play c = record { scene = c; lines = [] }
+abbrev pub no_effect : Tracked → Effect
+no_effect c = record { tracked = c; lines = [] }
 
-abbrev pub then_play : Play → Play → Play
-then_play one more = record { scene = more.scene; lines = one.lines ++ more.lines }
+abbrev pub then_effect : Effect → Effect → Effect
+then_effect one more = record { tracked = more.tracked; lines = one.lines ++ more.lines }
 
--- a line in front of a play
-abbrev pub line_play : Line → Play → Play
-line_play line play = record { scene = play.scene; lines = line ∷ play.lines }
+-- a line in front of an effect
+abbrev pub line_effect : Line → Effect → Effect
+line_effect line effect = record { tracked = effect.tracked; lines = line ∷ effect.lines }
 
 -- the line of a Fragment that continues an open message
 abbrev pub goes_on : Message → Open → Line
