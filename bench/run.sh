@@ -7,9 +7,10 @@
 #   large      one call with one octet sequence
 #   doubles    calls with sequences of 8,192 doubles
 #   captured   real calls to a naming service, again and again
-# It proves and builds the dumper first, unless one is named, and needs python3, xxd and GNU time. Each figure is the best
-# of five runs: by the clock, and by the processor time that the program took, which says more on a machine that does
-# other work too.
+# It proves and builds the dumper first, unless one is named, and needs python3, xxd and GNU time. Fragments and large,
+# over which both programs are quickest, have four times as many octets. The two programs run by turns, five times each,
+# and each figure is the best of these runs: by the clock, and by the processor time that the program took, which says
+# more on a machine that does other work too.
 set -eu
 
 octets=${1:-100000000}
@@ -24,32 +25,43 @@ for tool in python3 xxd /usr/bin/time; do
 done
 [ $# -gt 1 ] || (cd "$top/crates/giopdump" && rt run <stdin >"$work/build" 2>&1) || { cat "$work/build" >&2; exit 1; }
 
-# Runs a program over the stream five times, and prints its figures. Faults that the dumper counts are no failure.
-measure() {
-    : >"$work/runs"
-    for _ in 1 2 3 4 5; do
-        /usr/bin/time -a -o "$work/runs" -f 'run %e %U %S %M' "$@" <"$work/stream" >/dev/null || [ $? -eq 1 ]
-    done
-    awk -v name="$(basename "$1")" -v octets="$(wc -c <"$work/stream")" '
+# Runs a program over the stream once, and notes its figures. Faults that the dumper counts are no failure.
+run() {
+    /usr/bin/time -a -o "$work/$(basename "$1").runs" -f 'run %e %U %S %M' "$@" <"$work/stream" >/dev/null || [ $? -eq 1 ]
+}
+
+# Prints the figures of a program's runs over so many octets.
+figures() {
+    awk -v name="$1" -v octets="$2" '
         $1 == "run" {
             if (clock == "" || $2 < clock) clock = $2
             if (cpu == "" || $3 + $4 < cpu) cpu = $3 + $4
             if ($5 > memory) memory = $5
         }
         END { printf "%-10s %12.0f %12.0f %9d\n", name, octets / clock, octets / cpu, memory }
-    ' "$work/runs"
+    ' "$work/$1.runs"
 }
 
 for name in mixed typed fragments openers large doubles captured; do
-    python3 "$top/bench/$name.py" "$octets" >"$work/stream"
-    printf '%s: %s octets\n%-10s %12s %12s %9s\n' \
-        "$name" "$(wc -c <"$work/stream")" program 'by clock' 'by processor' 'peak KiB'
     case $name in
-        mixed) measure "$dumper" ;;
-        captured) measure "$dumper" --signatures "$top/examples/naming.sig" ;;
-        *) measure "$dumper" --signatures "$top/bench/calls.sig" ;;
-    esac >"$work/figures"
-    measure xxd >>"$work/figures"
+        mixed) set -- ;;
+        captured) set -- --signatures "$top/examples/naming.sig" ;;
+        *) set -- --signatures "$top/bench/calls.sig" ;;
+    esac
+    case $name in
+        fragments | large) many=$((4 * octets)) ;;
+        *) many=$octets ;;
+    esac
+    python3 "$top/bench/$name.py" "$many" >"$work/stream"
+    size=$(wc -c <"$work/stream")
+    rm -f "$work"/*.runs
+    for _ in 1 2 3 4 5; do
+        run "$dumper" "$@"
+        run xxd
+    done
+    printf '%s: %s octets\n%-10s %12s %12s %9s\n' \
+        "$name" "$size" program 'by clock' 'by processor' 'peak KiB'
+    { figures "$(basename "$dumper")" "$size" && figures xxd "$size"; } >"$work/figures"
     cat "$work/figures"
     awk '
         { clock[NR] = $2; cpu[NR] = $3 }
