@@ -1,5 +1,5 @@
 -- The built-in types are a table, by tests that are computed, and stand in every catalogue.
-use Rattle.std.proofs.Common.{◌≡◌, ℕ, zero, suc, ◌+◌, ◌<◌, ◌≤◌, Bool, true, false, ◌&&◌, ltb, leb, List, [], ◌∷◌, ◌++◌, length, get_or, Option, Some, None, refl, sym, ap, subst, ◌∙◌, take, drop, lit<, arith}
+use Rattle.std.proofs.Common.{◌≡◌, ℕ, zero, suc, ◌+◌, ◌^◌, ◌<◌, ◌≤◌, Bool, true, false, ◌&&◌, ltb, leb, List, [], ◌∷◌, ◌++◌, length, get_or, Option, Some, None, refl, sym, ap, subst, ◌∙◌, take, drop, lit<, arith}
 use Rattle.std.specs.Prelude.{slice_get, IfSome}
 use Rattle.std.specs.Option.{option_map}
 use Rattle.std.specs.List.{AllByRecursion}
@@ -205,6 +205,10 @@ builtin_formed n types node lt front is =
     let len : length types ≡ n = ap length front ∙ omega (arith, length-take n builtin_types) in
     let same : SameNodes builtin_types types n = λ i below. sym (ap (λ ts. node_in ts i) front ∙ get_or-take n builtin_types i (nodes.prim Octet) below) in
     subst (λ m. IsFormed types m node) (sym len) (formed_moved builtin_types types n node same (subst (IsFormed builtin_types n) (sym is) (builtin_are.formed n lt)))
+
+pub builtin_few : (n : ℕ) (types : List Node) → n < BUILTIN_LEN → types ≡ take n builtin_types
+    → length types + 1 < 2 ^ 32
+builtin_few n types lt front = omega (arith, ap length front, length-take n builtin_types)
 
 pub builtin_shallow : (n : ℕ) (types : List Node) (node : Node) → n < BUILTIN_LEN → types ≡ take n builtin_types → node ≡ node_in builtin_types n → depth (grow (type_in types) node) ≤ 24
 unfolding builtin_types

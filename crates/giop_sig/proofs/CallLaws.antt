@@ -1,5 +1,5 @@
 -- What reading gives of a text that begins with an operation, and what one that was read is spelled as.
-use Rattle.std.proofs.Common.{◌≡◌, ℕ, zero, suc, ◌+◌, ◌<◌, ◌≤◌, Bool, true, false, cond, ltb, leb, List, [], ◌∷◌, ◌++◌, length, Option, Some, None, Result, Ok, Err, append_assoc, refl, sym, ap, subst, ◌∙◌, arith}
+use Rattle.std.proofs.Common.{◌≡◌, inl, ℕ, zero, suc, ◌+◌, ◌<◌, ◌≤◌, Bool, true, false, cond, ltb, leb, List, [], ◌∷◌, ◌++◌, length, Option, Some, None, Result, Ok, Err, append_assoc, refl, sym, ap, subst, ◌∙◌, arith}
 use Rattle.std.specs.Prelude.{codes}
 use Rattle.std.specs.Option.{is_some}
 use Rattle.std.proofs.lemmas.List.{length-append, append-nil}
@@ -24,7 +24,7 @@ use Rattle.giop_sig.specs.Outcomes.{refused}
 use Rattle.giop_sig.specs.TypeReading.{added, type_at}
 use Rattle.giop_sig.specs.ItemReading.{item_at, Declared}
 use Rattle.giop_sig.specs.CallReading.{ReturnRead, return_at, new_operation_at, direction_of, direction_at, in_request, in_reply, Params, Way, params_of, behind_param, param_step, ParamsRead, way_of, params_run, no_way, params_at, operation_at}
-use Rattle.giop_sig.proofs.PlaceLaws.{deepest, size, node_deeper, item_longer, item_names, params_deeper, return_longer, return_names, return_operations}
+use Rattle.giop_sig.proofs.PlaceLaws.{size, within_same, within_on, node_more, item_more, item_names, params_more, return_more, return_names, return_operations, structs_more}
 use Rattle.giop_sig.proofs.ReadingLaws.{Out, good, broken, out_bind, out_more, Apart, if_apart}
 use Rattle.giop_sig.proofs.TypeLaws.{added_bind, is_not, type_reads}
 use Rattle.giop_sig.proofs.ItemLaws.{made_item, item_reads, some_none, no_none}
@@ -76,7 +76,7 @@ unfolding return_at
 return_reads at s None text more some free apart h = rw (keyword_if_again (codes "void") text more h) (good h.0 h.2 (λ k. tt))
 return_reads at s (Some e) text more some free apart h =
     rw (type_no_void e s.names text more free h)
-    (out_bind (type_at at 25 s text) (λ t. Ok (t.0, part (codes "return") t.1 ∷ [], t.2)) (type_reads at s e text more some free apart h) (λ rest m keeps. good rest m keeps) (λ k w. w) (omega arith))
+    (out_bind (type_at at 25 s text) (λ t. Ok (t.0, part (codes "return") t.1 ∷ [], t.2)) (type_reads at s e text more some free apart h) (λ rest m keeps. good rest m keeps) (λ k w. w) within_same)
 
 -- ---- the name
 
@@ -106,13 +106,13 @@ operation_same s t w same kinds.OutOfMemory h = tt
 name_by : (types : List Node) (s : Scope) (text w rest : List ℕ) (more : List Token) (a b : Bool) → is_some (operation_in s.table w) ≡ a → leb 4096 (length s.table.operations) ≡ b → length w ≤ 128 → AreTokens rest more
     → Out {X = List ℕ × List ℕ} (λ rest. (w, rest)) (λ k. OfOperation k s w) types more (cond a (Err (refused kinds.Duplicate text)) (cond b (Err (refused kinds.Limit text)) (Ok (w, rest))))
 name_by types s text w rest more true b p q short m = broken (refused kinds.Duplicate text) (some_none (operation_in s.table w) p)
-name_by types s text w rest more false true p q short m = broken (refused kinds.Limit text) (λ h. let z = leb-true 4096 (length s.table.operations) q in let f = h.1 in omega arith)
+name_by types s text w rest more false true p q short m = broken (refused kinds.Limit text) (inl (λ h. let z = leb-true 4096 (length s.table.operations) q in let f = h.1 in omega arith))
 name_by types s text w rest more false false p q short m = good rest m (operation_keeps s w short (leb-false 4096 (length s.table.operations) q) (no_none (operation_in s.table w) p))
 
 long_name : (types : List Node) (s : Scope) (text w : List ℕ) (more : List Token) (v : Bool) → ltb 128 (length w) ≡ v → AreTokens text (word w ∷ more)
     → Out {X = List ℕ × List ℕ} (λ rest. (w, rest)) (λ k. OfOperation k s w) types more (new_operation_at s text)
 unfolding new_operation_at
-long_name types s text w more true e h = rw (operation_name_long text w more h (ltb-true 128 (length w) e)) (broken (too_long text) (λ r. let z = ltb-true 128 (length w) e in let f = r.0 in omega arith))
+long_name types s text w more true e h = rw (operation_name_long text w more h (ltb-true 128 (length w) e)) (broken (too_long text) (inl (λ r. let z = ltb-true 128 (length w) e in let f = r.0 in omega arith)))
 long_name types s text w more false e h =
     rw (operation_name_again text w more h (ltb-false 128 (length w) e)) (name_by types s text w h.0 more (is_some (operation_in s.table w)) (leb 4096 (length s.table.operations)) refl refl (ltb-false 128 (length w) e) h.2)
 
@@ -160,7 +160,7 @@ param_reads at w s p ps text more some free h =
     rw (direction_again p.direction text (spell_item p.item (spell_more_params ps more)) h)
     (out_bind (item_at at 255 w.seen s h.0) (λ i. mark_if marks.Comma i.2 >>= λ c. behind_param w p.direction i c)
     (item_reads at 255 w.seen s p.item h.0 (spell_more_params ps more) some free (more_apart ps more) h.2)
-    (λ rest m keeps. behind_reads w s p ps (λ k. OfItem k s.names 255 w.seen p.item) (place_item s p.item).0.table.types rest more m keeps) (λ k w. w) (omega arith))
+    (λ rest m keeps. behind_reads w s p ps (λ k. OfItem k s.names 255 w.seen p.item) (place_item s p.item).0.table.types rest more m keeps) (λ k w. w) within_same)
 
 abbrev made_params : Way → Scope → List Param → List ℕ → ParamsRead
 made_params w s ps rest = ((place_params s ps).0, w.request ++ (place_params s ps).1, w.reply ++ (place_params s ps).2, rest)
@@ -215,16 +215,16 @@ params_reads ps p at zero w s names text more same some fuel few free h = absurd
 params_reads [] p at (suc n) w s names text more same some fuel few free h =
     out_bind (param_step at w s text) (then_run at n) (param_named at w s names p [] text more same some free.0 h)
     (λ rest m keeps. made_on w s p [] (λ k. OfItems k names 255 w.seen (items_of (p ∷ []))) (place_params s (p ∷ [])).0.table.types more (then_run at n (made_param w s p [] rest)) (last_reads at n w s p (λ k. OfItems k names 255 w.seen (items_of (p ∷ []))) rest more m (λ k. (keeps k, tt))))
-    (λ k h. h.0) (omega arith)
+    (λ k h. h.0) within_same
 params_reads (q ∷ qs) p at (suc n) w s names text more same some fuel few free h =
     out_bind (param_step at w s text) (then_run at n) (param_named at w s names p (q ∷ qs) text more same some free.0 h)
     (λ rest m keeps.
     let lt = (keeps kinds.Limit).1.1 in
     let v = way_on w s p in
     made_on w s p (q ∷ qs) (λ k. OfItems k names 255 w.seen (items_of (p ∷ q ∷ qs))) (place_params s (p ∷ q ∷ qs)).0.table.types more (params_run at n v (place_item s p.item).0 rest)
-    (out_more (params_reads qs q at n v (place_item s p.item).0 names rest more (item_names s p.item ∙ same) (omega (arith, item_longer s p.item)) (omega (arith, length-append w.seen (p.item.name ∷ []))) (omega (arith, length-append w.seen (p.item.name ∷ []))) free.1 m)
+    (out_more (params_reads qs q at n v (place_item s p.item).0 names rest more (item_names s p.item ∙ same) (omega (arith, (item_more s p.item).longer)) (omega (arith, length-append w.seen (p.item.name ∷ []))) (omega (arith, length-append w.seen (p.item.name ∷ []))) free.1 m)
     (λ k h. (keeps k, h)) (λ k h. h.1)))
-    (λ k h. h.0) (params_deeper (place_item s p.item).0 (q ∷ qs))
+    (λ k h. h.0) (params_more (place_item s p.item).0 (q ∷ qs))
 
 none_reads : (returned : List Part) (s : Scope) (names : Names) (rest : List ℕ) (more : List Token) → AreTokens rest more
     → Out (made_params (no_way returned) s []) (λ k. OfItems k names 255 [] (items_of [])) (place_params s []).0.table.types more (Ok (s, [], returned, rest))
@@ -240,9 +240,6 @@ list_reads (p ∷ ps) at returned s names text more same some free h =
 
 -- ---- operations
 
-structs_deeper : (s : Scope) (a b : Node) → deepest s ≤ deepest (with_node (with_node s a).0 b).0
-structs_deeper s a b = omega (arith, node_deeper s a, node_deeper (with_node s a).0 b)
-
 pub operation_reads : (s : Scope) (o : Option TypeExpr) (w : List ℕ) (ps : List Param) (text : List ℕ) (more : List Token) → 0 < size s → OfDeclaration kinds.Syntax s (Call o w ps)
     → AreTokens text (spell_return o (word w ∷ mark marks.OpenParenthesis ∷ spell_params ps (mark marks.Semicolon ∷ more)))
     → Out {X = Declared} (λ rest. (declare s (Call o w ps), rest)) (λ k. OfDeclaration k s (Call o w ps)) (declare s (Call o w ps)).table.types more (operation_at s text)
@@ -253,8 +250,8 @@ operation_reads s o w ps text more some free h =
     let request = nodes.members x.1 in
     let reply = nodes.members (t.1 ++ x.2) in
     let struct = (with_node x.0 request).0 in
-    let deep : deepest x.0 ≤ deepest (with_node struct reply).0 = structs_deeper x.0 request reply in
-    let behind : deepest t.0 ≤ deepest x.0 = params_deeper t.0 ps in
+    let structs = structs_more x.0 request reply in
+    let behind = within_on (params_more t.0 ps) structs in
     out_bind (return_at (left_of text) s text) (λ t. new_operation_at t.0 t.2 >>= λ n. mark_at marks.OpenParenthesis n.1 >>= λ o. params_at (left_of t.2) t.1 t.0 o >>= λ m. mark_at marks.Semicolon m.3 >>= λ r. added (left_of t.2) m.0 (nodes.members m.1) >>= λ q. added (left_of t.2) q.0 (nodes.members m.2) >>= λ p. Ok (with_call n.0 q.1 p, r))
     (return_reads (left_of text) s o text (word w ∷ mark marks.OpenParenthesis ∷ spell_params ps (mark marks.Semicolon ∷ more)) some free.0 refl h)
     (λ a ta ka.
@@ -263,14 +260,14 @@ operation_reads s o w ps text more some free h =
     (name_reads t.0.table.types t.0 a w (mark marks.OpenParenthesis ∷ spell_params ps (mark marks.Semicolon ∷ more)) ta)
     (λ b tb kb. rw (mark_again marks.OpenParenthesis b (spell_params ps (mark marks.Semicolon ∷ more)) tb)
     (out_bind (params_at at t.1 t.0 tb.0) (λ m. mark_at marks.Semicolon m.3 >>= λ r. added at m.0 (nodes.members m.1) >>= λ q. added at q.0 (nodes.members m.2) >>= λ p. Ok (with_call w q.1 p, r))
-    (list_reads ps at t.1 t.0 s.names tb.0 (mark marks.Semicolon ∷ more) (return_names s o) (omega (arith, return_longer s o)) free.2 tb.2)
+    (list_reads ps at t.1 t.0 s.names tb.0 (mark marks.Semicolon ∷ more) (return_names s o) (omega (arith, (return_more s o).longer)) free.2 tb.2)
     (λ c tc kc. rw (mark_again marks.Semicolon c more tc)
-    (added_bind at x.0 request (λ q. added at q.0 reply >>= λ p. Ok (with_call w q.1 p, tc.0)) (node_deeper struct reply)
-    (added_bind at struct reply (λ p. Ok (with_call w (length x.0.table.types) p, tc.0)) (omega arith)
+    (added_bind at x.0 request (λ q. added at q.0 reply >>= λ p. Ok (with_call w q.1 p, tc.0)) (node_more struct reply)
+    (added_bind at struct reply (λ p. Ok (with_call w (length x.0.table.types) p, tc.0)) within_same
     (good tc.0 tc.2 (λ k. (ka k, operation_same t.0 s w (sym (return_operations s o)) k (kb k), kc k))))))
-    (λ k h. h.2) deep))
-    (λ k h. operation_same s t.0 w (return_operations s o) k h.1) (omega arith))
-    (λ k h. h.0) (omega arith)
+    (λ k h. h.2) structs))
+    (λ k h. operation_same s t.0 w (return_operations s o) k h.1) behind)
+    (λ k h. h.0) behind
 
 operation_made : (s : Scope) (whole text o : List ℕ) (t : ReturnRead) (n : List ℕ × List ℕ) (m : ParamsRead) (r : List ℕ) (last : Scope) → Takes whole (word (codes "operation")) text → TakenReturn s text t → OperationTaken t.0 t.2 n → mark_at marks.OpenParenthesis n.1 ≡ Ok o
     → TakenList t.1 t.0 o m → mark_at marks.Semicolon m.3 ≡ Ok r → TakenDeclaration s whole (last, r)

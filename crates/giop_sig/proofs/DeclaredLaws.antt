@@ -1,5 +1,5 @@
 -- What reading gives of a text that begins with a struct or an exception, and what one that was read is spelled as.
-use Rattle.std.proofs.Common.{◌≡◌, ℕ, ◌<◌, ◌≤◌, Bool, true, false, cond, ltb, List, [], ◌∷◌, length, None, Ok, Err, refl, sym, subst, arith}
+use Rattle.std.proofs.Common.{◌≡◌, inl, ℕ, ◌<◌, ◌≤◌, Bool, true, false, cond, ltb, List, [], ◌∷◌, length, None, Ok, Err, refl, sym, subst, arith}
 use Rattle.std.specs.Prelude.{codes}
 use Rattle.std.specs.Option.{is_some}
 use Rattle.std.proofs.lemmas.Bool.{ltb-true, ltb-false}
@@ -11,14 +11,13 @@ use Rattle.giop_tokens.specs.Readers.{mark_at}
 use Rattle.giop_tokens.proofs.ReaderLaws.{bind_ok, ok_is, Takes, mark_again, mark_if_again, mark_takes, repository_again}
 use Rattle.giop_sig.specs.Table.{Node, exception_in}
 use Rattle.giop_sig.specs.Table as nodes
-use Rattle.giop_sig.specs.Trees.{depth_of}
 use Rattle.giop_sig.specs.Grammar.{Item, spell_length, spell_items, Declaration, Structure, Raise, spell}
 use Rattle.giop_sig.specs.Scopes.{Scope, Placed, with_named, with_raised, place_items, place_struct, declare}
 use Rattle.giop_sig.specs.Validity.{Kind, OfSome, OfItems, OfRepository, OfDeclaration}
 use Rattle.giop_sig.specs.Outcomes.{refused}
 use Rattle.giop_sig.specs.TypeReading.{added}
 use Rattle.giop_sig.specs.ItemReading.{declared_at, members_at, filled_at, Declared, structure_at, new_repository_at, raise_at, MembersRead}
-use Rattle.giop_sig.proofs.PlaceLaws.{deepest, size, node_deeper, items_deeper}
+use Rattle.giop_sig.proofs.PlaceLaws.{size, within_same, within_on, Grown, node_more, struct_more}
 use Rattle.giop_sig.proofs.ReadingLaws.{Out, good, broken, out_bind, if_apart, Took}
 use Rattle.giop_sig.proofs.TypeLaws.{added_bind}
 use Rattle.giop_sig.proofs.ItemLaws.{declared_reads, members_reads, type_apart, some_none, no_none}
@@ -48,18 +47,14 @@ filled_reads types (i ∷ is) text more h =
 
 -- the members of a struct, and the struct
 closed_reads : (at : ℕ) (s : Scope) (is : List Item) (h : Placed → Scope) (rule : Kind → Type 0) (text : List ℕ) (more : List Token) → 0 < size s → OfItems kinds.Syntax s.names 256 [] is → AreTokens text (spell_items is (mark marks.Semicolon ∷ more))
-    → (((k : Kind) → OfItems k s.names 256 [] is) → (k : Kind) → rule k) → ((k : Kind) → rule k → OfItems k s.names 256 [] is) → deepest (place_struct (place_items s is)).0 ≤ depth_of (h (place_struct (place_items s is))).table.types
+    → (((k : Kind) → OfItems k s.names 256 [] is) → (k : Kind) → rule k) → ((k : Kind) → rule k → OfItems k s.names 256 [] is) → Grown (place_struct (place_items s is)).0 (h (place_struct (place_items s is)))
     → Out {X = Declared} (λ rest. (h (place_struct (place_items s is)), rest)) rule (h (place_struct (place_items s is))).table.types more (members_at at s text >>= λ m. mark_at marks.Semicolon m.2 >>= λ r. added at m.0 (nodes.members m.1) >>= λ p. Ok (h p, r))
 closed_reads at s is h rule text more some free t on up le =
     let made = place_items s is in
-    let struct : deepest made.0 ≤ deepest (place_struct made).0 = node_deeper made.0 (nodes.members made.1) in
     out_bind (members_at at s text) (λ m. mark_at marks.Semicolon m.2 >>= λ r. added at m.0 (nodes.members m.1) >>= λ p. Ok (h p, r))
     (members_reads is at 257 [] [] s s.names text (mark marks.Semicolon ∷ more) refl some (omega arith) (omega arith) free t)
     (λ rest m keeps. rw (mark_again marks.Semicolon rest more m) (added_bind at made.0 (nodes.members made.1) (λ p. Ok (h p, m.0)) le (good m.0 m.2 (on keeps))))
-    up (omega arith)
-
-struct_deeper : (s : Scope) (is : List Item) → deepest s ≤ deepest (place_struct (place_items s is)).0
-struct_deeper s is = omega (arith, items_deeper s is, node_deeper (place_items s is).0 (nodes.members (place_items s is).1))
+    up (within_on (node_more made.0 (nodes.members made.1)) le)
 
 pub structure_reads : (s : Scope) (w : List ℕ) (is : List Item) (text : List ℕ) (more : List Token) → 0 < size s → OfDeclaration kinds.Syntax s (Structure w is)
     → AreTokens text (word w ∷ mark marks.OpenBrace ∷ spell_items is (mark marks.Semicolon ∷ more))
@@ -72,9 +67,9 @@ structure_reads s w is text more some free t =
     (λ a ta ka. rw (mark_again marks.OpenBrace a (spell_items is (mark marks.Semicolon ∷ more)) ta)
     (out_bind (filled_at ta.0) (λ f. members_at at s f >>= λ m. mark_at marks.Semicolon m.2 >>= λ r. added at m.0 (nodes.members m.1) >>= λ p. Ok (with_named w p, r))
     (filled_reads s.table.types is ta.0 (mark marks.Semicolon ∷ more) ta.2)
-    (λ b tb kb. closed_reads at s is (with_named w) (λ k. OfDeclaration k s (Structure w is)) b more some free.2 tb (λ keeps k. (ka k, kb k, keeps k)) (λ k h. h.2) (omega arith))
-    (λ k h. h.1) (struct_deeper s is)))
-    (λ k h. h.0) (struct_deeper s is)
+    (λ b tb kb. closed_reads at s is (with_named w) (λ k. OfDeclaration k s (Structure w is)) b more some free.2 tb (λ keeps k. (ka k, kb k, keeps k)) (λ k h. h.2) within_same)
+    (λ k h. h.1) (struct_more s is)))
+    (λ k h. h.0) (struct_more s is)
 
 -- ---- what was read
 
@@ -125,7 +120,7 @@ repository_keeps s r short new kinds.OutOfMemory = tt
 
 repository_by : (types : List Node) (s : Scope) (text r rest : List ℕ) (more : List Token) (a b : Bool) → ltb 128 (length r) ≡ a → is_some (exception_in s.table r) ≡ b → AreTokens rest more
     → Out {X = List ℕ × List ℕ} (λ rest. (r, rest)) (λ k. OfRepository k s r) types more (cond a (Err (refused kinds.Limit text)) (cond b (Err (refused kinds.Duplicate text)) (Ok (r, rest))))
-repository_by types s text r rest more true b p q m = broken (refused kinds.Limit text) (λ h. let z = ltb-true 128 (length r) p in omega arith)
+repository_by types s text r rest more true b p q m = broken (refused kinds.Limit text) (inl (λ h. let z = ltb-true 128 (length r) p in omega arith))
 repository_by types s text r rest more false true p q m = broken (refused kinds.Duplicate text) (some_none (exception_in s.table r) q)
 repository_by types s text r rest more false false p q m = good rest m (repository_keeps s r (ltb-false 128 (length r) p) (no_none (exception_in s.table r) q))
 
@@ -145,9 +140,9 @@ raise_reads s w i is text more some free t =
     out_bind (new_repository_at s a) (λ i. mark_at marks.OpenBrace i.1 >>= λ o. members_at at s o >>= λ m. mark_at marks.Semicolon m.2 >>= λ r. added at m.0 (nodes.members m.1) >>= λ p. Ok (with_raised w i.0 p, r))
     (repository_reads s.table.types s a i (mark marks.OpenBrace ∷ spell_items is (mark marks.Semicolon ∷ more)) ta)
     (λ b tb kb. rw (mark_again marks.OpenBrace b (spell_items is (mark marks.Semicolon ∷ more)) tb)
-    (closed_reads at s is (with_raised w i) (λ k. OfDeclaration k s (Raise w i is)) tb.0 more some free.2 tb.2 (λ keeps k. (ka k, kb k, keeps k)) (λ k h. h.2) (omega arith)))
-    (λ k h. h.1) (struct_deeper s is))
-    (λ k h. h.0) (struct_deeper s is)
+    (closed_reads at s is (with_raised w i) (λ k. OfDeclaration k s (Raise w i is)) tb.0 more some free.2 tb.2 (λ keeps k. (ka k, kb k, keeps k)) (λ k h. h.2) within_same))
+    (λ k h. h.1) (struct_more s is))
+    (λ k h. h.0) (struct_more s is)
 
 raise_made : (s : Scope) (whole text o : List ℕ) (n i : List ℕ × List ℕ) (m : MembersRead) (r : List ℕ) (t : Scope) → Takes whole (word (codes "exception")) text → DeclaredTaken s (length s.table.exceptions) text n → RepositoryTaken s n.1 i → mark_at marks.OpenBrace i.1 ≡ Ok o
     → TakenMembers 257 [] [] s o m → mark_at marks.Semicolon m.2 ≡ Ok r → TakenDeclaration s whole (t, r)

@@ -1,5 +1,5 @@
 -- Reading enums against their spelling.
-use Rattle.std.proofs.Common.{◌≡◌, ℕ, zero, suc, ◌+◌, ◌<◌, ◌≤◌, Bool, true, false, cond, ◌||◌, ltb, leb, List, [], ◌∷◌, ◌++◌, map, length, Option, Some, None, Result, Ok, Err, append_assoc, ltb-true, ltb-false, leb-true, leb-false, refl, sym, ap, subst, ◌∙◌, arith}
+use Rattle.std.proofs.Common.{◌≡◌, inl, ℕ, zero, suc, ◌+◌, ◌<◌, ◌≤◌, Bool, true, false, cond, ◌||◌, ltb, leb, List, [], ◌∷◌, ◌++◌, map, length, Option, Some, None, Result, Ok, Err, append_assoc, ltb-true, ltb-false, leb-true, leb-false, refl, sym, ap, subst, ◌∙◌, arith}
 use Rattle.std.specs.List.{list_any}
 use Rattle.std.proofs.lemmas.Bool.{false≢true}
 use Rattle.std.specs.List.{All}
@@ -15,7 +15,6 @@ use Rattle.giop_tokens.specs.Names.{too_long, identifier_at}
 use Rattle.giop_tokens.proofs.ReaderLaws.{bind_ok, ok_is, Takes, mark_again, mark_if_again, identifier_again, identifier_long, mark_takes, mark_if_takes, identifier_word, identifier_takes}
 use Rattle.giop_sig.specs.Table.{Node}
 use Rattle.giop_sig.specs.Table as nodes
-use Rattle.giop_sig.specs.Trees.{depth_of}
 use Rattle.giop_sig.specs.Grammar.{spell_more_names, spell_names, Enumeration}
 use Rattle.giop_sig.specs.Scopes.{Scope, with_named, declare}
 use Rattle.giop_sig.specs.Validity.{Kind, IsFree, OfNewName, OfSome, OfNames, OfDeclaration, is_among}
@@ -24,7 +23,7 @@ use Rattle.giop_sig.specs.TypeReading.{added}
 use Rattle.giop_sig.specs.ItemReading.{declared_at, Declared}
 use Rattle.giop_sig.specs.Repeats.{in_steps}
 use Rattle.giop_sig.specs.EnumReading.{NamesRead, enumerator_at, names_end, names_step, too_many_names, names_by, names_at, enumeration_at}
-use Rattle.giop_sig.proofs.PlaceLaws.{node_deeper}
+use Rattle.giop_sig.proofs.PlaceLaws.{Within, within_same, node_more}
 use Rattle.giop_sig.proofs.ReadingLaws.{lift, Out, good, broken, out_bind, if_apart, Took}
 use Rattle.giop_sig.proofs.TypeLaws.{added_bind}
 use Rattle.giop_sig.proofs.ItemTaken.{declared_takes}
@@ -36,7 +35,7 @@ any_of p f (x ∷ xs) = ap (λ b. p (f x) || b) (any_of p f xs)
 
 -- what is read, told otherwise
 pub out_as : {X : Type 0} {made made2 : List ℕ → X} {rule rule2 : Kind → Type 0} {types types2 : List Node} {more : List Token} (r : Result X Refusal) → Out made rule types more r
-    → ((rest : List ℕ) → made rest ≡ made2 rest) → ((k : Kind) → rule k → rule2 k) → ((k : Kind) → rule2 k → rule k) → depth_of types ≤ depth_of types2 → Out made2 rule2 types2 more r
+    → ((rest : List ℕ) → made rest ≡ made2 rest) → ((k : Kind) → rule k → rule2 k) → ((k : Kind) → rule2 k → rule k) → Within types types2 → Out made2 rule2 types2 more r
 out_as (Ok x) o same on up le = let g = o.out in record { out = record { rest = g.rest; is = g.is ∙ same g.rest; tokens = g.tokens; keeps = λ k. on k (g.keeps k) } }
 out_as {rule = rule} {rule2 = rule2} {types = types} {types2 = types2} (Err e) o same on up le = record { out = lift e.kind rule rule2 types types2 up le o.out }
 
@@ -71,12 +70,12 @@ enumerator_by : (seen : List (List ℕ)) (w text : List ℕ) (types : List Node)
 unfolding enumerator_at
 enumerator_by seen w text types ts free h true b c p q r =
     let long = ltb-true 64 (length w) p in
-    rw (identifier_long text w ts h free long) (broken (too_long text) (λ k. let short = k.0 in omega arith))
+    rw (identifier_long text w ts h free long) (broken (too_long text) (inl (λ k. let short = k.0 in omega arith)))
 enumerator_by seen w text types ts free h false true c p q r =
     rw (identifier_again text w ts h free (ltb-false 64 (length w) p), q) (broken (refused kinds.Duplicate text) (λ k. absurd (false≢true (sym k ∙ q))))
 enumerator_by seen w text types ts free h false false true p q r =
     let many = leb-true 1024 (length seen) r in
-    rw (identifier_again text w ts h free (ltb-false 64 (length w) p), q, r) (broken (refused kinds.Limit text) (λ k. let few = k.1 in omega arith))
+    rw (identifier_again text w ts h free (ltb-false 64 (length w) p), q, r) (broken (refused kinds.Limit text) (inl (λ k. let few = k.1 in omega arith)))
 enumerator_by seen w text types ts free h false false false p q r =
     let short = ltb-false 64 (length w) p in
     let few : length seen < 1024 = let m = leb-false 1024 (length seen) r in omega arith in
@@ -92,7 +91,7 @@ unfolding names_step
 step_last seen w text types more free h =
     out_bind (enumerator_at seen text) (λ names. mark_if marks.Comma names.1 >>= names_end names) (enumerator_reads seen w text types (mark marks.CloseBrace ∷ more) free h)
     (λ rest tokens keeps. rw (if_apart marks.Comma rest (mark marks.CloseBrace ∷ more) refl tokens, mark_again marks.CloseBrace rest more tokens) (good tokens.0 tokens.2 keeps))
-    (λ k whole. whole) (omega arith)
+    (λ k whole. whole) within_same
 
 step_on : (seen : List (List ℕ)) (w text : List ℕ) (types : List Node) (ts : List Token) → IsFree w → AreTokens text (word w ∷ mark marks.Comma ∷ ts)
     → Out (λ rest. (false, (seen ++ w ∷ [], rest))) (λ k. OfNewName k 1024 seen w) types ts (names_step (seen, text))
@@ -100,7 +99,7 @@ unfolding names_step
 step_on seen w text types ts free h =
     out_bind (enumerator_at seen text) (λ names. mark_if marks.Comma names.1 >>= names_end names) (enumerator_reads seen w text types (mark marks.Comma ∷ ts) free h)
     (λ rest tokens keeps. rw (mark_if_again marks.Comma rest ts tokens) (good tokens.0 tokens.2 keeps))
-    (λ k whole. whole) (omega arith)
+    (λ k whole. whole) within_same
 
 abbrev then_names : ℕ → Bool × NamesRead → Result NamesRead Refusal
 then_names left x = cond x.0 (Ok x.1) (in_steps names_step too_many_names left x.1)
@@ -109,16 +108,16 @@ then_names left x = cond x.0 (Ok x.1) (in_steps names_step too_many_names left x
 names_reads : (left : ℕ) (names : List (List ℕ)) (seen : List (List ℕ)) (w text : List ℕ) (types : List Node) (more : List Token) → left + length seen ≡ 1025 → OfNames kinds.Syntax seen (w ∷ names) → AreTokens text (word w ∷ spell_more_names names more)
     → Out (λ rest. (seen ++ w ∷ names, rest)) (λ k. OfNames k seen (w ∷ names)) types more (in_steps names_step too_many_names left (seen, text))
 unfolding in_steps OfNames
-names_reads zero names seen w text types more room free h = broken (refused kinds.Limit text) (λ k. let few = (k.0).1 in omega arith)
+names_reads zero names seen w text types more room free h = broken (refused kinds.Limit text) (inl (λ k. let few = (k.0).1 in omega arith))
 names_reads (suc left) [] seen w text types more room free h =
-    out_bind (names_step (seen, text)) (then_names left) (step_last seen w text types more free.0 h) (λ rest tokens keeps. good rest tokens (λ k. (keeps k, tt))) (λ k whole. whole.0) (omega arith)
+    out_bind (names_step (seen, text)) (then_names left) (step_last seen w text types more free.0 h) (λ rest tokens keeps. good rest tokens (λ k. (keeps k, tt))) (λ k whole. whole.0) within_same
 names_reads (suc left) (n ∷ names) seen w text types more room free h =
     out_bind (names_step (seen, text)) (then_names left) (step_on seen w text types (word n ∷ spell_more_names names more) free.0 h)
     (λ rest tokens keeps.
     out_as (in_steps names_step too_many_names left (seen ++ w ∷ [], rest))
     (names_reads left names (seen ++ w ∷ []) n rest types more (omega (arith, length-append seen (w ∷ []))) free.1 tokens)
-    (λ after. ap (λ all. (all, after)) (append_assoc seen (w ∷ []) (n ∷ names))) (λ k others. (keeps k, others)) (λ k whole. whole.1) (omega arith))
-    (λ k whole. whole.0) (omega arith)
+    (λ after. ap (λ all. (all, after)) (append_assoc seen (w ∷ []) (n ∷ names))) (λ k others. (keeps k, others)) (λ k whole. whole.1) within_same)
+    (λ k whole. whole.0) within_same
 
 pub all_names_reads : (names : List (List ℕ)) (text : List ℕ) (types : List Node) (more : List Token) → OfNames kinds.Syntax [] names → AreTokens text (spell_names names more)
     → Out (λ rest. (names, rest)) (λ k. OfSome k names × OfNames k [] names) types more (names_at text)
@@ -126,7 +125,7 @@ unfolding names_at
 all_names_reads [] text types more free h = rw (mark_if_again marks.CloseBrace text more h) (broken (refused kinds.Empty text) (λ k. k.0))
 all_names_reads (n ∷ names) text types more free h =
     rw (if_apart marks.CloseBrace text (word n ∷ spell_more_names names more) refl h)
-    (out_as (in_steps names_step too_many_names 1025 ([], text)) (names_reads 1025 names [] n text types more refl free h) (λ rest. refl) (λ k keeps. (some_cons k n names, keeps)) (λ k whole. whole.1) (omega arith))
+    (out_as (in_steps names_step too_many_names 1025 ([], text)) (names_reads 1025 names [] n text types more refl free h) (λ rest. refl) (λ k keeps. (some_cons k n names, keeps)) (λ k whole. whole.1) within_same)
 
 -- what reading gives of a text that begins with an enum, behind its word
 pub enumeration_reads : (n : List ℕ) (names : List (List ℕ)) (s : Scope) (text : List ℕ) (more : List Token) → OfDeclaration kinds.Syntax s (Enumeration n names) → AreTokens text (word n ∷ mark marks.OpenBrace ∷ spell_names names (mark marks.Semicolon ∷ more))
@@ -142,9 +141,9 @@ enumeration_reads n names s text more free h =
     rw (mark_again marks.OpenBrace a tail ta)
     (out_bind (names_at ta.0) (λ ns. mark_at marks.Semicolon ns.1 >>= λ r. added (left_of text) s (nodes.enumeration ns.0) >>= λ p. Ok (with_named n p, r))
     (all_names_reads names ta.0 s.table.types (mark marks.Semicolon ∷ more) free.2 ta.2)
-    (λ b tb kb. rw (mark_again marks.Semicolon b more tb) (added_bind (left_of text) s node (λ p. Ok (with_named n p, tb.0)) (omega arith) (good tb.0 tb.2 (λ k. (ka k, (kb k).0, (kb k).1)))))
-    (λ k w. (w.1, w.2)) (node_deeper s node)))
-    (λ k w. w.0) (node_deeper s node)
+    (λ b tb kb. rw (mark_again marks.Semicolon b more tb) (added_bind (left_of text) s node (λ p. Ok (with_named n p, tb.0)) within_same (good tb.0 tb.2 (λ k. (ka k, (kb k).0, (kb k).1)))))
+    (λ k w. (w.1, w.2)) (node_more s node)))
+    (λ k w. w.0) (node_more s node)
 
 -- ---- a text that was read
 

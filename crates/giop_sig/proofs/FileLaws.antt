@@ -1,5 +1,5 @@
 -- What reading gives of a signature file, and what one that was read is spelled as.
-use Rattle.std.proofs.Common.{◌≡◌, ℕ, zero, suc, ◌+◌, ◌<◌, ◌≤◌, Bool, true, false, cond, List, [], ◌∷◌, ◌++◌, length, Option, Some, None, Result, Ok, Err, refl, sym, ap, subst, ◌∙◌, lit<, arith}
+use Rattle.std.proofs.Common.{◌≡◌, ℕ, zero, suc, ◌+◌, ◌^◌, ◌<◌, ◌≤◌, ◌⊎◌, inl, inr, Bool, true, false, cond, List, [], ◌∷◌, ◌++◌, length, Option, Some, None, Result, Ok, Err, refl, sym, ap, subst, ◌∙◌, lit<, arith}
 use Rattle.std.specs.Prelude.{MatchResult, codes}
 use Rattle.std.specs.Str.{bytes_eq}
 use Rattle.std.proofs.lemmas.Slice.Eq.{bytes_eq-Decides}
@@ -18,14 +18,14 @@ use Rattle.giop_sig.specs.CallReading.{operation_at}
 use Rattle.giop_sig.specs.EnumReading.{enumeration_at}
 use Rattle.giop_sig.specs.UnionReading.{union_at}
 use Rattle.giop_sig.specs.FileReading.{declaration_after, declaration_at, declarations_run, version_at, head_at, file_at}
-use Rattle.giop_sig.proofs.PlaceLaws.{deepest, size, declare_longer, scope_deeper}
+use Rattle.giop_sig.proofs.PlaceLaws.{deepest, size, declare_more, scope_more}
 use Rattle.giop_sig.proofs.ReadingLaws.{Breaks, Out}
 use Rattle.giop_sig.proofs.DeclaredLaws.{TakenDeclaration, structure_reads, structure_takes, raise_reads, raise_takes}
 use Rattle.giop_sig.proofs.CallLaws.{operation_reads, operation_takes}
 use Rattle.giop_sig.proofs.EnumLaws.{enumeration_reads, TakenEnumeration, enumeration_takes}
 use Rattle.giop_sig.proofs.TokensFew.{tokens_few, next_none}
 use Rattle.giop_sig.proofs.SpellLaws.{spelled_few}
-use Rattle.giop_sig.proofs.SizeLaws.{types_few}
+use Rattle.giop_sig.proofs.SizeLaws.{types_few, types_fewer}
 use Rattle.giop_sig.specs.Builtin.{builtin_types}
 
 -- ---- a declaration
@@ -83,7 +83,7 @@ declaration_takes union s text x e =
 
 -- ---- declarations
 
--- one of the declarations breaks a rule, or makes the types too deep
+-- one of the declarations breaks a rule, or makes the types too deep or too many
 pub record BrokenIn (k : Kind) (s : Scope) (ds : List Declaration) : Type 0 where
   pub before : List Declaration
   pub broken : Declaration
@@ -135,7 +135,7 @@ declarations_read union (d ∷ ds) zero s text lt some free h = absurd (omega ar
 declarations_read union [] (suc n) s text lt some free h = rw (run_over n s text (end_again text h)) (refl, λ k. tt)
 declarations_read union (d ∷ ds) (suc n) s text lt some free h =
     rw (run_on n s text (not_over d text (spell_all ds) h))
-    (file_on n s d ds (declaration_at s text) (declaration_reads union d s text (spell_all ds) some free.0 h) (λ rest m. declarations_read union ds n (declare s d) rest (omega arith) (omega (arith, declare_longer s d)) free.1 m))
+    (file_on n s d ds (declaration_at s text) (declaration_reads union d s text (spell_all ds) some free.0 h) (λ rest m. declarations_read union ds n (declare s d) rest (omega arith) (omega (arith, (declare_more s d).longer)) free.1 m))
 
 -- ---- the whole file
 
@@ -195,7 +195,7 @@ declared_is union s d text more x some words h e =
 more_words : (s t : Scope) (d : Declaration) (ds : List Declaration) → 0 < size s → t ≡ declare s d
     → (0 < size t → Each HasItsWords t ds) → Each HasItsWords (declare s d) ds
 more_words s t d ds some is words =
-    subst (λ u. Each HasItsWords u ds) is (words (omega (arith, declare_longer s d, ap size is)))
+    subst (λ u. Each HasItsWords u ds) is (words (omega (arith, (declare_more s d).longer, ap size is)))
 
 over_by : (n : ℕ) (s : Scope) (text : List ℕ) (t : Scope) (v : Bool) → end_at text ≡ Ok v
     → cond v (Ok s) (declaration_at s text >>= λ d. declarations_run n d.0 d.1) ≡ Ok t → UnionReads
@@ -287,7 +287,7 @@ file_takes reads takes text t short e =
 each_shallow : (ds : List Declaration) (s : Scope) → deepest (scope_after s ds) ≤ 24 → Each IsShallow s ds
 unfolding Each
 each_shallow [] s le = tt
-each_shallow (d ∷ ds) s le = (omega (arith, scope_deeper (declare s d) ds), each_shallow ds (declare s d) le)
+each_shallow (d ∷ ds) s le = (omega (arith, (scope_more (declare s d) ds).deeper), each_shallow ds (declare s d) le)
 
 -- what was read is the table of a valid file
 pub file_valid : UnionReads → (text : List ℕ) (t : Scope) (file : SignatureFile) → Spells text file
@@ -322,17 +322,44 @@ is_broken : (k : Kind) (file : SignatureFile)
 is_broken k file b breaks =
     record { before = b.before; broken = b.broken; after = b.after; all = b.all; breaks = breaks }
 
-refuses : (k : Kind) (file : SignatureFile)
+-- the declarations of a text never make the types too many
+not_too_many : (text : List ℕ) (file : SignatureFile) → Spells text file
+    → (b : BrokenIn kinds.Limit (first_scope file.version) file.declarations)
+    → size (declare (scope_after (first_scope file.version) b.before) b.broken) < 2 ^ 32
+unfolding builtin_types
+not_too_many text file spells b =
+    let s = first_scope file.version in
+    let built : size s ≤ 100 = omega arith in
+    let short = spells.short in
+    let spelled = ap (λ ds. length (spell_all ds)) b.all in
+    omega (
+      arith,
+      tokens_few (spell_file file) text spells.tokens,
+      types_fewer s b.before b.broken b.after,
+    )
+
+limit_broken : (file : SignatureFile)
+    → (b : BrokenIn kinds.Limit (first_scope file.version) file.declarations)
+    → size (declare (scope_after (first_scope file.version) b.before) b.broken) < 2 ^ 32
+    → (Rule kinds.Limit (scope_after (first_scope file.version) b.before) b.broken → ⊥)
+    ⊎ (2 ^ 32 ≤ size (declare (scope_after (first_scope file.version) b.before) b.broken))
+    → IsBroken kinds.Limit file
+limit_broken file b few (inl breaks) = is_broken kinds.Limit file b breaks
+limit_broken file b few (inr many) = absurd (omega arith)
+
+refuses : (k : Kind) (text : List ℕ) (file : SignatureFile) → Spells text file
     → BrokenIn k (first_scope file.version) file.declarations → Refuses k file
-refuses kinds.Token file b = b.breaks
-refuses kinds.Syntax file b = b.breaks
-refuses kinds.OutOfMemory file b = tt
-refuses kinds.Depth file b = is_broken kinds.Depth file b (λ le. let deep = b.breaks in omega arith)
-refuses kinds.UnknownType file b = is_broken kinds.UnknownType file b b.breaks
-refuses kinds.Duplicate file b = is_broken kinds.Duplicate file b b.breaks
-refuses kinds.Limit file b = is_broken kinds.Limit file b b.breaks
-refuses kinds.Label file b = is_broken kinds.Label file b b.breaks
-refuses kinds.Empty file b = is_broken kinds.Empty file b b.breaks
+refuses kinds.Token text file spells b = b.breaks
+refuses kinds.Syntax text file spells b = b.breaks
+refuses kinds.OutOfMemory text file spells b = tt
+refuses kinds.Depth text file spells b =
+    is_broken kinds.Depth file b (λ le. let deep = b.breaks in omega arith)
+refuses kinds.UnknownType text file spells b = is_broken kinds.UnknownType file b b.breaks
+refuses kinds.Duplicate text file spells b = is_broken kinds.Duplicate file b b.breaks
+refuses kinds.Limit text file spells b =
+    limit_broken file b (not_too_many text file spells b) b.breaks
+refuses kinds.Label text file spells b = is_broken kinds.Label file b b.breaks
+refuses kinds.Empty text file spells b = is_broken kinds.Empty file b b.breaks
 
 -- a text that spells a file is refused for a rule that one of its declarations breaks
 pub file_refuses : UnionReads → (text : List ℕ) (e : Refusal) (file : SignatureFile)
@@ -341,4 +368,4 @@ file_refuses union text e file spells h =
     let s = first_scope file.version in
     let ds = file.declarations in
     let o : FileOut s ds (Err e) = subst (FileOut s ds) h (file_reads union text file spells) in
-    refuses e.kind file o
+    refuses e.kind text file spells o

@@ -1,5 +1,5 @@
 -- What reading gives of a text that begins with members.
-use Rattle.std.proofs.Common.{◌≡◌, ℕ, zero, suc, ◌+◌, ◌<◌, ◌≤◌, Bool, true, false, cond, ltb, leb, List, [], ◌∷◌, ◌++◌, length, Option, Some, None, Result, Ok, Err, append_assoc, refl, sym, subst, ◌∙◌, arith}
+use Rattle.std.proofs.Common.{◌≡◌, inl, ℕ, zero, suc, ◌+◌, ◌<◌, ◌≤◌, Bool, true, false, cond, ltb, leb, List, [], ◌∷◌, ◌++◌, length, Option, Some, None, Result, Ok, Err, append_assoc, refl, sym, subst, ◌∙◌, arith}
 use Rattle.std.specs.Map.{lookup}
 use Rattle.std.specs.Option.{is_some}
 use Rattle.std.specs.Str.{bytes_eq}
@@ -21,7 +21,7 @@ use Rattle.giop_sig.specs.Validity.{Kind, IsFree, is_among, OfNewName, OfItem, O
 use Rattle.giop_sig.specs.Outcomes.{refused}
 use Rattle.giop_sig.specs.TypeReading.{enclosed_at, type_at}
 use Rattle.giop_sig.specs.ItemReading.{new_name_at, declared_at, array_type, ItemRead, item_at, Members, member_at, member_step, MembersRead, members_run}
-use Rattle.giop_sig.proofs.PlaceLaws.{size, length_deeper, item_longer, item_names, items_deeper}
+use Rattle.giop_sig.proofs.PlaceLaws.{size, within_same, length_more, item_more, item_names, items_more}
 use Rattle.giop_sig.proofs.ReadingLaws.{Out, good, broken, out_bind, out_more, Apart, if_apart}
 use Rattle.giop_sig.proofs.TypeLaws.{added_bind, enclosed_reads, type_reads}
 
@@ -41,13 +41,13 @@ name_keeps most seen w free short few new kinds.OutOfMemory = tt
 name_by : (types : List Node) (most : ℕ) (seen : List (List ℕ)) (text w rest : List ℕ) (more : List Token) (a b : Bool) → is_among seen w ≡ a → leb most (length seen) ≡ b → IsFree w → length w ≤ 64 → AreTokens rest more
     → Out {X = List ℕ × List ℕ} (λ rest. (w, rest)) (λ k. OfNewName k most seen w) types more (cond a (Err (refused kinds.Duplicate text)) (cond b (Err (refused kinds.Limit text)) (Ok (w, rest))))
 name_by types most seen text w rest more true b p q free short m = broken (refused kinds.Duplicate text) (λ h. false≢true (sym h ∙ p))
-name_by types most seen text w rest more false true p q free short m = broken (refused kinds.Limit text) (λ h. let z = leb-true most (length seen) q in let f = h.1 in omega arith)
+name_by types most seen text w rest more false true p q free short m = broken (refused kinds.Limit text) (inl (λ h. let z = leb-true most (length seen) q in let f = h.1 in omega arith))
 name_by types most seen text w rest more false false p q free short m = good rest m (name_keeps most seen w free short (leb-false most (length seen) q) p)
 
 long_by : (types : List Node) (most : ℕ) (seen : List (List ℕ)) (text w : List ℕ) (more : List Token) (v : Bool) → ltb 64 (length w) ≡ v → IsFree w → AreTokens text (word w ∷ more)
     → Out {X = List ℕ × List ℕ} (λ rest. (w, rest)) (λ k. OfNewName k most seen w) types more (new_name_at most seen text)
 unfolding new_name_at
-long_by types most seen text w more true e free h = rw (identifier_long text w more h free (ltb-true 64 (length w) e)) (broken (too_long text) (λ r. let z = ltb-true 64 (length w) e in let f = r.0 in omega arith))
+long_by types most seen text w more true e free h = rw (identifier_long text w more h free (ltb-true 64 (length w) e)) (broken (too_long text) (inl (λ r. let z = ltb-true 64 (length w) e in let f = r.0 in omega arith)))
 long_by types most seen text w more false e free h =
     rw (identifier_again text w more h free (ltb-false 64 (length w) e)) (name_by types most seen text w h.0 more (is_among seen w) (leb most (length seen)) refl refl free (ltb-false 64 (length w) e) h.2)
 
@@ -77,13 +77,13 @@ no_none (Some x) e = absurd cc
 declared_by : (types : List Node) (s : Scope) (count : ℕ) (text w rest : List ℕ) (more : List Token) (a b : Bool) → is_some (lookup (bytes_eq w) s.names.known) ≡ a → leb 4096 count ≡ b → IsFree w → length w ≤ 64 → AreTokens rest more
     → Out {X = List ℕ × List ℕ} (λ rest. (w, rest)) (λ k. OfDeclared k s count w) types more (cond a (Err (refused kinds.Duplicate text)) (cond b (Err (refused kinds.Limit text)) (Ok (w, rest))))
 declared_by types s count text w rest more true b p q free short m = broken (refused kinds.Duplicate text) (some_none (lookup (bytes_eq w) s.names.known) p)
-declared_by types s count text w rest more false true p q free short m = broken (refused kinds.Limit text) (λ h. let z = leb-true 4096 count q in let f = h.1 in omega arith)
+declared_by types s count text w rest more false true p q free short m = broken (refused kinds.Limit text) (inl (λ h. let z = leb-true 4096 count q in let f = h.1 in omega arith))
 declared_by types s count text w rest more false false p q free short m = good rest m (declared_keeps s count w free short (leb-false 4096 count q) (no_none (lookup (bytes_eq w) s.names.known) p))
 
 long_declared : (types : List Node) (s : Scope) (count : ℕ) (text w : List ℕ) (more : List Token) (v : Bool) → ltb 64 (length w) ≡ v → IsFree w → AreTokens text (word w ∷ more)
     → Out {X = List ℕ × List ℕ} (λ rest. (w, rest)) (λ k. OfDeclared k s count w) types more (declared_at s count text)
 unfolding declared_at
-long_declared types s count text w more true e free h = rw (identifier_long text w more h free (ltb-true 64 (length w) e)) (broken (too_long text) (λ r. let z = ltb-true 64 (length w) e in let f = r.0 in omega arith))
+long_declared types s count text w more true e free h = rw (identifier_long text w more h free (ltb-true 64 (length w) e)) (broken (too_long text) (inl (λ r. let z = ltb-true 64 (length w) e in let f = r.0 in omega arith)))
 long_declared types s count text w more false e free h =
     rw (identifier_again text w more h free (ltb-false 64 (length w) e)) (declared_by types s count text w h.0 more (is_some (lookup (bytes_eq w) s.names.known)) (leb 4096 count) refl refl free (ltb-false 64 (length w) e) h.2)
 
@@ -96,7 +96,7 @@ declared_reads types s count text w more free h = long_declared types s count te
 array_reads : (at : ℕ) (s : Scope) (e : ℕ) (o : Option ℕ) (rule : Kind → Type 0) (w rest : List ℕ) (more : List Token) → AreTokens rest more → ((k : Kind) → rule k)
     → Out {X = ItemRead} (λ rest. ((place_length o (s, e)).0, part w (place_length o (s, e)).1, rest)) rule (place_length o (s, e)).0.table.types more (array_type at s e o >>= λ p. Ok (p.0, part w p.1, rest))
 array_reads at s e None rule w rest more m keeps = good rest m keeps
-array_reads at s e (Some n) rule w rest more m keeps = added_bind at s (nodes.array n e) (λ p. Ok (p.0, part w p.1, rest)) (omega arith) (good rest m keeps)
+array_reads at s e (Some n) rule w rest more m keeps = added_bind at s (nodes.array n e) (λ p. Ok (p.0, part w p.1, rest)) within_same (good rest m keeps)
 
 abbrev pub made_item : Scope → Item → List ℕ → ItemRead
 made_item s i rest = ((place_item s i).0, item_part i (place_item s i), rest)
@@ -114,9 +114,9 @@ item_reads at most seen s i text more some free apart h =
     out_bind (enclosed_at marks.OpenBracket marks.CloseBracket b) (λ l. array_type at (place s i.type).0 (place s i.type).1 l.0 >>= λ p. Ok (p.0, part i.name p.1, l.1))
     (enclosed_reads (place s i.type).0.table.types marks.OpenBracket marks.CloseBracket b i.length more apart tb)
     (λ c tc kc. array_reads at (place s i.type).0 (place s i.type).1 i.length (λ k. OfItem k s.names most seen i) i.name c more tc (λ k. (ka k, kb k, kc k)))
-    (λ k w. w.2) (length_deeper i.length (place s i.type)))
-    (λ k w. w.1) (length_deeper i.length (place s i.type)))
-    (λ k w. w.0) (length_deeper i.length (place s i.type))
+    (λ k w. w.2) (length_more i.length (place s i.type)))
+    (λ k w. w.1) (length_more i.length (place s i.type)))
+    (λ k w. w.0) (length_more i.length (place s i.type))
 
 -- ---- members
 
@@ -138,7 +138,7 @@ unfolding member_at
 member_reads at seen parts s i text more some free h =
     out_bind (item_at at 256 seen s text) (λ i. mark_at marks.Semicolon i.2 >>= λ r. Ok (record { scope = i.0; seen = seen ++ (i.1).name ∷ []; parts = parts ++ i.1 ∷ []; rest = r; closed = false }))
     (item_reads at 256 seen s i text (mark marks.Semicolon ∷ more) some free refl h)
-    (λ rest m keeps. rw (mark_again marks.Semicolon rest more m) (good m.0 m.2 keeps)) (λ k w. w) (omega arith)
+    (λ rest m keeps. rw (mark_again marks.Semicolon rest more m) (good m.0 m.2 keeps)) (λ k w. w) within_same
 
 abbrev pub made_members : List Part → Scope → List Item → List ℕ → MembersRead
 made_members parts s is rest = ((place_items s is).0, parts ++ (place_items s is).1, rest)
@@ -177,7 +177,7 @@ unfolding OfItems place_items
 member_on at n seen parts s names i is more same r o on =
     out_bind r (λ m. cond m.closed (Ok (m.scope, m.parts, m.rest)) (members_run at n m.seen m.parts m.scope m.rest)) o
     (λ rest m keeps. made_on parts s i is names seen more (members_run at n (seen ++ i.name ∷ []) (parts ++ item_part i (place_item s i) ∷ []) (place_item s i).0 rest) keeps (on rest m keeps))
-    (λ k w. w.0) (items_deeper (place_item s i).0 is)
+    (λ k w. w.0) (items_more (place_item s i).0 is)
 
 pub members_reads : (is : List Item) (at n : ℕ) (seen : List (List ℕ)) (parts : List Part) (s : Scope) (names : Names) (text : List ℕ) (more : List Token) → s.names ≡ names → 0 < size s → n + length seen ≡ 257 → length seen ≤ 256
     → OfItems kinds.Syntax names 256 seen is → AreTokens text (spell_items is more)
@@ -195,4 +195,4 @@ members_reads (i ∷ is) at (suc n) seen parts s names text more same some fuel 
     (member_reads at seen parts s i text (spell_items is more) some (subst (λ ns. OfItem kinds.Syntax ns 256 seen i) (sym same) free.0) h))
     (λ rest m keeps.
     let lt = (keeps kinds.Limit).1.1 in
-    members_reads is at n (seen ++ i.name ∷ []) (parts ++ item_part i (place_item s i) ∷ []) (place_item s i).0 names rest more (item_names s i ∙ same) (omega (arith, item_longer s i)) (omega (arith, length-append seen (i.name ∷ []))) (omega (arith, length-append seen (i.name ∷ []))) free.1 m))
+    members_reads is at n (seen ++ i.name ∷ []) (parts ++ item_part i (place_item s i) ∷ []) (place_item s i).0 names rest more (item_names s i ∙ same) (omega (arith, (item_more s i).longer)) (omega (arith, length-append seen (i.name ∷ []))) (omega (arith, length-append seen (i.name ∷ []))) free.1 m))

@@ -1,5 +1,5 @@
 -- What reading gives of a text that begins with the labels of a case.
-use Rattle.std.proofs.Common.{◌≡◌, ℕ, zero, suc, ◌+◌, ◌<◌, ◌≤◌, Bool, true, false, cond, ◌||◌, ltb, leb, List, [], ◌∷◌, ◌++◌, map, length, Option, Some, None, Result, Ok, Err, append_assoc, ltb-true, ltb-false, leb-true, leb-false, refl, sym, subst, ◌∙◌, arith}
+use Rattle.std.proofs.Common.{◌≡◌, inl, ℕ, zero, suc, ◌+◌, ◌<◌, ◌≤◌, Bool, true, false, cond, ◌||◌, ltb, leb, List, [], ◌∷◌, ◌++◌, map, length, Option, Some, None, Result, Ok, Err, append_assoc, ltb-true, ltb-false, leb-true, leb-false, refl, sym, subst, ◌∙◌, arith}
 use Rattle.std.specs.Prelude.{codes}
 use Rattle.std.specs.List.{list_any, AllByRecursion}
 use Rattle.std.specs.Str.{bytes_eq}
@@ -23,6 +23,7 @@ use Rattle.giop_sig.specs.Validity.{Kind, IsFree, OfType, OfEnumerator, OfFit, O
 use Rattle.giop_sig.specs.Outcomes.{refused}
 use Rattle.giop_sig.specs.Repeats.{in_steps}
 use Rattle.giop_sig.specs.UnionReading.{value_at, Mark, LabelRead, fitting, number_of_value, fresh, label_at, LabelsRead, with_label, begins_label, labels_step, too_many_labels, labels_at}
+use Rattle.giop_sig.proofs.PlaceLaws.{within_same}
 use Rattle.giop_sig.proofs.ReadingLaws.{Out, good, broken, out_bind, out_more}
 use Rattle.giop_sig.proofs.TypeLaws.{is_not}
 use Rattle.giop_sig.proofs.EnumLaws.{out_as}
@@ -44,7 +45,7 @@ enumerator_keeps w free short kinds.OutOfMemory = tt
 
 enumerator_by : (w text rest : List ℕ) (types : List Node) (more : List Token) (v : Bool) → ltb 64 (length w) ≡ v → IsFree w → AreTokens rest more
     → Out {X = Value × List ℕ} (λ rest. (Enumerator w, rest)) (λ k. OfEnumerator k w) types more (cond v (Err (refused kinds.Limit text)) (Ok (Enumerator w, rest)))
-enumerator_by w text rest types more true e free m = broken (refused kinds.Limit text) (λ short. let long = ltb-true 64 (length w) e in omega arith)
+enumerator_by w text rest types more true e free m = broken (refused kinds.Limit text) (inl (λ short. let long = ltb-true 64 (length w) e in omega arith))
 enumerator_by w text rest types more false e free m = good rest m (enumerator_keeps w free (ltb-false 64 (length w) e))
 
 not_true : (w : List ℕ) → IsFree w → bytes_eq w (codes "true") ≡ false
@@ -90,7 +91,7 @@ number_reads : (node : Node) (v : Value) (text : List ℕ) (types : List Node) (
 unfolding number_of_value
 number_reads node v text types more free h =
     out_bind (value_at text) (λ x. fitting text x.1 (label_number node x.0)) (value_reads v text types more free h)
-    (λ rest m keeps. fit_by node v text rest types more (label_number node v) refl m keeps) (λ k w. w.0) (omega arith)
+    (λ rest m keeps. fit_by node v text rest types more (label_number node v) refl m keeps) (λ k w. w.0) within_same
 
 -- ---- a label
 
@@ -112,7 +113,7 @@ fresh_by : (node : Node) (seen : List Label) (l : Label) (text rest : List ℕ) 
     → Out {X = LabelRead} (λ rest. (mark_of node l, rest)) (λ k. OfNewLabel k seen l) types more
     (cond a (Err (refused kinds.Duplicate text)) (cond b (Err (refused kinds.Limit text)) (Ok (mark_of node l))) >>= λ m. mark_at marks.Colon rest >>= λ r. Ok (m, r))
 fresh_by node seen l text rest types more true b p q m = broken (refused kinds.Duplicate text) (λ k. false≢true (sym k ∙ p))
-fresh_by node seen l text rest types more false true p q m = broken (refused kinds.Limit text) (λ k. let many = leb-true 1024 (length seen) q in omega arith)
+fresh_by node seen l text rest types more false true p q m = broken (refused kinds.Limit text) (inl (λ k. let many = leb-true 1024 (length seen) q in omega arith))
 fresh_by node seen l text rest types more false false p q m = rw (mark_again marks.Colon rest more m) (good m.0 m.2 (new_keeps seen l (leb-false 1024 (length seen) q) p))
 
 fresh_reads : (node : Node) (seen : List Label) (l : Label) (text rest : List ℕ) (types : List Node) (more : List Token) → IsKept node l → AllByRecursion (IsKept node) seen → AreTokens rest (mark marks.Colon ∷ more)
@@ -160,7 +161,7 @@ label_reads node seen (Of v) text types more all free h =
     (λ rest m keeps.
     let fit = (keeps kinds.Label).1 in
     out_more (fresh_reads node seen (Of v) h.0 rest types more (fit.0, fit.1, value_above v h.0 tail h.2) all m) (λ k w. (keeps k, w)) (λ k w. w.1))
-    (λ k w. w.0) (omega arith))
+    (λ k w. w.0) within_same)
 
 -- ---- where labels end
 
@@ -252,7 +253,7 @@ step_on node seen own default l text types more all free h =
     let kept = label_kept node l (label_above l text more h) (keeps kinds.Label).0 in
     subst (λ (y : LabelsRead). Out {X = Bool × LabelsRead} (λ rest. (false, labelled node seen own default (l ∷ []) rest)) (λ k. OfLabel k node seen l) types more (Ok (false, y)))
     (sym (with_one node seen own default text rest l kept)) (good rest m keeps))
-    (λ k w. w) (omega arith))
+    (λ k w. w) within_same)
 
 step_end : (node : Node) (ls : LabelsRead) → begins_label ls.3 ≡ Ok false → labels_step node ls ≡ Ok (true, ls)
 unfolding labels_step
@@ -281,8 +282,8 @@ labels_run (l ∷ ls) (suc left) node seen own default text types more ended all
     let below = (keeps kinds.Limit).1 in
     out_as (in_steps (labels_step node) too_many_labels left (labelled node seen own default (l ∷ []) rest))
     (labels_run ls left node (seen ++ l ∷ []) (own ++ label_numbers node (l ∷ [])) (default || has_default (l ∷ [])) rest types more ended (all_push (IsKept node) seen l all kept) (omega (arith, length-append seen (l ∷ []))) (omega (arith, length-append seen (l ∷ []))) free.1 m)
-    (λ after. labelled_on node seen own default l ls after kept) (λ k w. (keeps k, w)) (λ k w. w.1) (omega arith))
-    (λ k w. w.0) (omega arith)
+    (λ after. labelled_on node seen own default l ls after kept) (λ k w. (keeps k, w)) (λ k w. w.1) within_same)
+    (λ k w. w.0) within_same
 
 pub labels_reads : (node : Node) (seen : List Label) (l : Label) (ls : List Label) (text : List ℕ) (types : List Node) (more : List Token)
     → ((rest : List ℕ) → AreTokens rest more → begins_label rest ≡ Ok false) → AllByRecursion (IsKept node) seen → length seen ≤ 1024 → OfLabels kinds.Syntax node seen (l ∷ ls) → AreTokens text (spell_labels (l ∷ ls) more)

@@ -76,6 +76,13 @@ declared s (Call o n ps) more =
     let tail = mark marks.Semicolon ∷ more in
     omega (arith, returned s o (word n ∷ mark marks.OpenParenthesis ∷ spell_params ps tail), params t.0 ps tail, one_more x.0 (nodes.members x.1), one_more q.0 (nodes.members (t.1 ++ x.2)))
 
+-- up to each declaration, no more types than tokens, beside those that were there
+pub types_fewer : (s : Scope) (before : List Declaration) (d : Declaration) (after : List Declaration)
+    → size (declare (scope_after s before) d) ≤ size s + length (spell_all (before ++ d ∷ after))
+types_fewer s [] d after = omega (arith, declared s d (spell_all after))
+types_fewer s (b ∷ bs) d after =
+    omega (arith, declared s b (spell_all (bs ++ d ∷ after)), types_fewer (declare s b) bs d after)
+
 -- no more types than tokens, beside those that were there
 pub types_few : (s : Scope) (ds : List Declaration) → size (scope_after s ds) ≤ size s + length (spell_all ds)
 types_few s [] = omega arith

@@ -7,10 +7,10 @@ use Rattle.std.proofs.lemmas.List.{length-append, get_or_append_left}
 use Rattle.std.proofs.Math.Seq.{get_or-append_seam}
 use Rattle.std.proofs.lemmas.List.Elements.{recursion_from_All}
 use Rattle.giop_cdr.specs.declared.prim.Primitive.TheVariants.{Octet}
-use Rattle.giop_sig.specs.Types.{Choice, Cases, Tag, Ty, Single, Struct, Union, Sequence, Array, Encapsulation, taken_by, switch_of, IsUnion}
+use Rattle.giop_sig.specs.Types.{Choice, Cases, Tag, Ty, Single, Struct, Sequence, Array, Encapsulation, switch_of, IsUnion}
 use Rattle.giop_sig.specs.Table.{Node, Part, Case, node_in, shape_of, part_at, switch_at, IsFormed, IsPart, IsScalarNode, case_part, name_of, selected}
 use Rattle.giop_sig.specs.Table as nodes
-use Rattle.giop_sig.specs.Trees.{grow, grown_part, union_of, grown_union, octet_type, scalar_of, selected_by, tree_in, trees_after, trees_of, type_in, AreTypes}
+use Rattle.giop_sig.specs.Trees.{grow, grown_part, union_of, grown_union, octet_type, scalar_of, tree_in, trees_after, trees_of, type_in, AreTypes}
 
 abbrev SameBelow : ℕ → (ℕ → Ty) → (ℕ → Ty) → Type 0
 SameBelow n f g = (i : ℕ) → i < n → f i ≡ g i

@@ -30,7 +30,7 @@ use Rattle.giop_sig.specs.Scopes.{has_encapsulations, Scope, Placed, named, base
 use Rattle.giop_sig.specs.Validity.{OfBound, OfType}
 use Rattle.giop_sig.specs.ScopeViews.{IsKnown, IsKnownType, IsDeclaredName, IsScope}
 use Rattle.giop_sig.specs.Outcomes.{refused}
-use Rattle.giop_sig.specs.TypeReading.{too_deep, added, size_at, size_within, enclosed_at, size_behind, most_at, TypeRead, base_of, text_type, text_at, behind_element, sequence_at, behind_held, held_at, encapsulation_at, found_type, named_type, leaf_after, leaf_at, type_after, type_at}
+use Rattle.giop_sig.specs.TypeReading.{too_deep, too_many, added, size_at, size_within, enclosed_at, size_behind, most_at, TypeRead, base_of, text_type, text_at, behind_element, sequence_at, behind_held, held_at, encapsulation_at, found_type, named_type, leaf_after, leaf_at, type_after, type_at}
 use Rattle.giop_sig.proofs.ScopeLaws.{known_stays, scope_grows}
 use Rattle.giop_sig.proofs.ReadingLaws.{Took}
 
@@ -69,13 +69,17 @@ node_known s n takes = record {
   takes = subst TakesOctet (sym (get_or-append_seam s.table.types n [] (nodes.prim prims.Octet))) takes;
 }
 
-added_by : (at : ℕ) (s : Scope) (n : Node) (x : Placed) (v : Bool) → cond v (Ok (with_node s n)) (Err (too_deep at)) ≡ Ok x → x ≡ with_node s n
-added_by at s n x true e = sym (ok_is (with_node s n) x e)
-added_by at s n x false e = absurd cc
+added_by : (at : ℕ) (s : Scope) (n : Node) (x : Placed) (a b : Bool)
+    → cond a (cond b (Err (too_many at)) (Ok (with_node s n))) (Err (too_deep at)) ≡ Ok x
+    → x ≡ with_node s n
+added_by at s n x true true e = absurd cc
+added_by at s n x true false e = sym (ok_is (with_node s n) x e)
+added_by at s n x false b e = absurd cc
 
 pub added_is : (at : ℕ) (s : Scope) (n : Node) (x : Placed) → added at s n ≡ Ok x → x ≡ with_node s n
 unfolding added
-added_is at s n x e = added_by at s n x (leb (depth (grow (tree s.table) n)) 24) e
+added_is at s n x e =
+    added_by at s n x (leb (depth (grow (tree s.table) n)) 24) (leb 4294967295 (length s.table.types)) e
 
 -- a scope after a type, whose number can be a part's
 pub record Sound (p : Placed) : Type 0 where

@@ -19,7 +19,7 @@ use Rattle.giop_sig.specs.Validity.{OfItem, OfLabels, OfCases}
 use Rattle.giop_sig.specs.ItemReading.{item_at}
 use Rattle.giop_sig.specs.Repeats.{in_steps}
 use Rattle.giop_sig.specs.UnionReading.{labels_at, Cases, chosen, with_case, CasesRead, case_at, cases_step, too_many_cases}
-use Rattle.giop_sig.proofs.PlaceLaws.{deepest, size, item_deeper, item_longer, item_names}
+use Rattle.giop_sig.proofs.PlaceLaws.{size, within_same, within_on, Grown, item_more, item_names}
 use Rattle.giop_sig.proofs.ReadingLaws.{Out, good, out_bind, out_more, if_apart}
 use Rattle.giop_sig.proofs.TypeTaken.{Grows, grows_none, grows_on, node_grows}
 use Rattle.giop_sig.proofs.ItemLaws.{item_reads}
@@ -53,8 +53,8 @@ case_reads at switch node s labels names cases otherwise c text more same some a
     out_bind (item_at at 256 names s a) (λ i. mark_at marks.Semicolon i.2 >>= λ rest. Ok (i.0, with_case before (labelled node labels [] false (labels_of c) a) i.1, rest))
     (item_reads at 256 names s c.item a tail some item refl ta)
     (λ b tb kb. rw (mark_again marks.Semicolon b more tb) (good tb.0 tb.2 (λ k. (ka k, kb k))))
-    (λ k w. w.1) (omega arith))
-    (λ k w. w.0) (item_deeper s c.item))
+    (λ k w. w.1) within_same)
+    (λ k w. w.0) (item_more s c.item))
 
 -- ---- the table only grows
 
@@ -86,11 +86,16 @@ made_cases node s labels names cases otherwise [] = (s, kept_cases node labels n
 made_cases node s labels names cases otherwise (c ∷ cs) =
     made_cases node (place_item s c.item).0 (labels ++ labels_of c) (names ++ c.item.name ∷ []) (cases ++ union_case node c (place_item s c.item) ∷ []) (chosen otherwise (has_default (labels_of c)) (length names)) cs
 
-pub made_deeper : (node : Node) (s : Scope) (labels : List Label) (names : List (List ℕ)) (cases : List Case) (otherwise : Selected) (cs : List UnionCase) → deepest s ≤ deepest (made_cases node s labels names cases otherwise cs).0
+pub made_more : (node : Node) (s : Scope) (labels : List Label) (names : List (List ℕ)) (cases : List Case)
+    (otherwise : Selected) (cs : List UnionCase)
+    → Grown s (made_cases node s labels names cases otherwise cs).0
 unfolding made_cases
-made_deeper node s labels names cases otherwise [] = omega arith
-made_deeper node s labels names cases otherwise (c ∷ cs) =
-    omega (arith, item_deeper s c.item, made_deeper node (place_item s c.item).0 (labels ++ labels_of c) (names ++ c.item.name ∷ []) (cases ++ union_case node c (place_item s c.item) ∷ []) (chosen otherwise (has_default (labels_of c)) (length names)) cs)
+made_more node s labels names cases otherwise [] = within_same
+made_more node s labels names cases otherwise (c ∷ cs) =
+    within_on (item_more s c.item)
+    (made_more node (place_item s c.item).0 (labels ++ labels_of c) (names ++ c.item.name ∷ [])
+    (cases ++ union_case node c (place_item s c.item) ∷ [])
+    (chosen otherwise (has_default (labels_of c)) (length names)) cs)
 
 step_end : (at switch : ℕ) (x : CasesRead) (rest : List ℕ) → mark_if marks.CloseBrace x.2 ≡ Ok (Some rest) → cases_step at switch x ≡ Ok (true, (x.0, x.1, rest))
 unfolding cases_step
@@ -116,7 +121,7 @@ case_step_reads at switch node s labels names cases otherwise c text more same s
     let x : CasesRead = (s, kept_cases node labels names cases otherwise, text) in
     rw (step_on at switch x (labels_apart c.label c.others text (spell_item c.item (mark marks.Semicolon ∷ more)) h))
     (out_bind (case_at at switch x) (λ c. Ok (false, c)) (case_reads at switch node s labels names cases otherwise c text more same some all few free item h)
-    (λ rest m keeps. good rest m keeps) (λ k w. w) (omega arith))
+    (λ rest m keeps. good rest m keeps) (λ k w. w) within_same)
 
 pub cases_run : (cs : List UnionCase) (left at switch : ℕ) (node : Node) (known : Names) (s : Scope) (labels : List Label) (names : List (List ℕ)) (cases : List Case) (otherwise : Selected) (text : List ℕ) (more : List Token)
     → s.names ≡ known → 0 < size s → switch < size s → node_at s.table switch ≡ node → AllByRecursion (IsKept node) labels → length labels ≤ 1024 → left + length names ≡ 257 → length names ≤ 256
@@ -139,9 +144,9 @@ cases_run (c ∷ cs) (suc left) at switch node known s labels names cases otherw
     let fewer = ((limit.1).1).1 in
     out_more
     (cases_run cs left at switch node known t (labels ++ labels_of c) (names ++ c.item.name ∷ []) (cases ++ union_case node c (place_item s c.item) ∷ []) (chosen otherwise (has_default (labels_of c)) (length names)) rest more
-    (item_names s c.item ∙ at-names) (omega (arith, item_longer s c.item)) (omega (arith, item_longer s c.item)) (node_stays s t switch (item_grows s c.item) below ∙ same)
+    (item_names s c.item ∙ at-names) (omega (arith, (item_more s c.item).longer)) (omega (arith, (item_more s c.item).longer)) (node_stays s t switch (item_grows s c.item) below ∙ same)
     (labels_kept node (labels_of c) labels text (spell_item c.item (mark marks.Semicolon ∷ tail)) h (keeps kinds.Label).0 all) (labels_few node (labels_of c) labels few limit.0)
     (omega (arith, length-append names (c.item.name ∷ []))) (omega (arith, length-append names (c.item.name ∷ []))) free.2 m)
     (λ k w. ((keeps k).0, subst (λ ns. OfItem k ns 256 names c.item) at-names (keeps k).1, w)) (λ k w. w.2))
     (λ k w. (w.0, subst (λ ns. OfItem k ns 256 names c.item) (sym at-names) w.1))
-    (made_deeper node t (labels ++ labels_of c) (names ++ c.item.name ∷ []) (cases ++ union_case node c (place_item s c.item) ∷ []) (chosen otherwise (has_default (labels_of c)) (length names)) cs)
+    (made_more node t (labels ++ labels_of c) (names ++ c.item.name ∷ []) (cases ++ union_case node c (place_item s c.item) ∷ []) (chosen otherwise (has_default (labels_of c)) (length names)) cs)

@@ -20,12 +20,12 @@ use Rattle.giop_sig.specs.Outcomes.{refused}
 use Rattle.giop_sig.specs.TypeReading.{added, type_at}
 use Rattle.giop_sig.specs.ItemReading.{declared_at, filled_at, Declared}
 use Rattle.giop_sig.specs.UnionReading.{Cases, chosen, CasesRead, cases_at, can_switch, switch_at, union_at}
-use Rattle.giop_sig.proofs.PlaceLaws.{deepest, size, node_deeper, place_deeper, place_longer, place_names}
+use Rattle.giop_sig.proofs.PlaceLaws.{size, within_same, within_on, Grown, node_more, place_more, place_names}
 use Rattle.giop_sig.proofs.ReadingLaws.{Out, good, broken, out_bind, out_more, Apart}
 use Rattle.giop_sig.proofs.TypeLaws.{added_bind, placed, type_reads}
 use Rattle.giop_sig.proofs.ItemLaws.{declared_reads}
 use Rattle.giop_sig.proofs.EnumLaws.{out_as, some_cons}
-use Rattle.giop_sig.proofs.UnionLaws.{made_cases, made_deeper, labels_apart, cases_run}
+use Rattle.giop_sig.proofs.UnionLaws.{made_cases, made_more, labels_apart, cases_run}
 
 -- ---- what the cases make
 
@@ -164,7 +164,7 @@ switch_reads : (at : ℕ) (s : Scope) (e : TypeExpr) (text : List ℕ) (more : L
 unfolding switch_at
 switch_reads at s e text more some free apart h =
     out_bind (type_at at 25 s text) (λ t. cond (can_switch (node_at (t.0).table t.1)) (Ok t) (Err (refused kinds.Label text))) (type_reads at s e text more some free apart h)
-    (λ rest m keeps. switch_by s e text rest more (can_switch (placed_node (place s e))) refl m keeps) (λ k w. w.0) (omega arith)
+    (λ rest m keeps. switch_by s e text rest more (can_switch (placed_node (place s e))) refl m keeps) (λ k w. w.0) within_same
 
 -- ---- a union
 
@@ -192,7 +192,7 @@ choice_reads n switch cases s text more some free h =
     let whole = nodes.union p.1 (m.1).cases (m.1).otherwise in
     let inner = spell_cases cases (mark marks.Semicolon ∷ more) in
     let body = mark marks.CloseParenthesis ∷ mark marks.OpenBrace ∷ inner in
-    let deep = made_deeper node p.0 [] [] [] selecteds.Nothing cases in
+    let made = within_on (made_more node p.0 [] [] [] selecteds.Nothing cases) (node_more m.0 whole) in
     out_bind (declared_at s s.table.declared text)
     (λ d. keyword_at (codes "switch") d.1 >>= λ w. mark_at marks.OpenParenthesis w >>= λ b. switch_at at s b >>= λ t. mark_at marks.CloseParenthesis t.2 >>= λ q. mark_at marks.OpenBrace q >>= λ o. cases_at at t.1 t.0 o >>= λ cs. mark_at marks.Semicolon cs.2
     >>= λ r. added at cs.0 (nodes.union t.1 (cs.1).cases (cs.1).otherwise) >>= λ u. Ok (with_named d.0 u, r))
@@ -206,11 +206,11 @@ choice_reads n switch cases s text more some free h =
     let below = below_size p.0 p.1 (kb kinds.Label).1 in
     rw (mark_again marks.CloseParenthesis b (mark marks.OpenBrace ∷ inner) tb, mark_again marks.OpenBrace tb.0 inner tb.2)
     (out_bind (cases_at at p.1 p.0 (tb.2).0) (λ cs. mark_at marks.Semicolon cs.2 >>= λ r. added at cs.0 (nodes.union p.1 (cs.1).cases (cs.1).otherwise) >>= λ u. Ok (with_named n u, r))
-    (cases_reads at p.1 node s.names p.0 cases (tb.2).0 (mark marks.Semicolon ∷ more) (place_names s switch) (omega (arith, place_longer s switch)) below refl free.4 (tb.2).2)
-    (λ c tc kc. rw (mark_again marks.Semicolon c more tc) (added_bind at m.0 whole (λ u. Ok (with_named n u, tc.0)) (omega arith) (good tc.0 tc.2 (λ k. (ka k, (kb k).0, (kb k).1, (kc k).0, (kc k).1)))))
-    (λ k w. (w.3, w.4)) (node_deeper m.0 whole)))
-    (λ k w. (w.1, w.2)) (omega (arith, deep, node_deeper m.0 whole))))
-    (λ k w. w.0) (omega (arith, place_deeper s switch, deep, node_deeper m.0 whole))
+    (cases_reads at p.1 node s.names p.0 cases (tb.2).0 (mark marks.Semicolon ∷ more) (place_names s switch) (omega (arith, (place_more s switch).longer)) below refl free.4 (tb.2).2)
+    (λ c tc kc. rw (mark_again marks.Semicolon c more tc) (added_bind at m.0 whole (λ u. Ok (with_named n u, tc.0)) within_same (good tc.0 tc.2 (λ k. (ka k, (kb k).0, (kb k).1, (kc k).0, (kc k).1)))))
+    (λ k w. (w.3, w.4)) (node_more m.0 whole)))
+    (λ k w. (w.1, w.2)) made))
+    (λ k w. w.0) (within_on (place_more s switch) made)
 
 -- what reading gives of a text that begins with a union, behind its word
 pub union_reads : (s : Scope) (n : List ℕ) (switch : TypeExpr) (cases : List UnionCase) (text : List ℕ) (more : List Token) → 0 < size s → OfDeclaration kinds.Syntax s (Choice n switch cases)
@@ -220,4 +220,5 @@ unfolding declare
 union_reads s n switch cases text more some free h =
     let p = place s switch in
     let same = kept_is cases p (placed_node p) refl in
-    out_as (union_at s text) (choice_reads n switch cases s text more some free h) (λ rest. ap (λ (q : Placed). (with_named n q, rest)) same) (λ k w. w) (λ k w. w) (omega (arith, ap (λ (q : Placed). deepest q.0) same))
+    out_as (union_at s text) (choice_reads n switch cases s text more some free h) (λ rest. ap (λ (q : Placed). (with_named n q, rest)) same) (λ k w. w) (λ k w. w)
+    (subst (λ (q : Placed). Grown (kept_union p.1 (made_cases (placed_node p) p.0 [] [] [] selecteds.Nothing cases)).0 q.0) same within_same)

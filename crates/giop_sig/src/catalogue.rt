@@ -1,5 +1,5 @@
 //! The catalogue: the types of a signature file with the built-in ones, and its operations and exceptions by name.
-ghost use Rattle.std.specs.Prelude.{◌≡◌, ℕ, ◌<◌, ◌≤◌, ◌↔◌, length, IsTrue, IfSome, IfOk, IfErr, OnOk, OnErr, None, MatchOption};
+ghost use Rattle.std.specs.Prelude.{◌≡◌, ℕ, ◌+◌, ◌^◌, ◌<◌, ◌≤◌, ◌↔◌, nat_le, length, IsTrue, IfSome, IfOk, IfErr, OnOk, OnErr, None, MatchOption};
 ghost use Rattle.std.specs.Option.{option_map};
 ghost use Rattle.giop_sig.specs.Types.{depth, part_of, name_in, enum_name_in, switch_of, select_in, taken_in, shape_in, HasShape, HasMember, HasPlace, IsUnion};
 ghost use Rattle.giop_sig.specs.Fits.{IsFit, IsRoot};
@@ -269,10 +269,18 @@ impl Catalogue {
         self.types.depth_above(entry)
     }
 
-    /// Adds a type, of an entry that is no deeper than 24. An `Err` changes nothing.
+    /// Whether all numbers of types are used up.
+    pub(crate) fn is_full(&self) -> bool
+        ensures { result ≡ nat_le 4294967295 (length self.now.types) }
+    {
+        self.types.len() == u32::MAX
+    }
+
+    /// Adds a type, of an entry that is no deeper than 24, where a number is left for it. An `Err` changes nothing.
     pub(crate) fn add_type(&mut self, entry: Entry) -> Result<TypeId, SigFault>
         requires formed { IsFormed self.old.types (length self.old.types) (node_view entry) }
         requires shallow { depth (grow (tree self.old) (node_view entry)) ≤ 24 }
+        requires few { length self.old.types + 1 < 2 ^ 32 }
         ensures number { IfOk result (λ t. t.0 ≡ length self.old.types) }
         ensures added { OnOk result (self.new ≡ with_type self.old (node_view entry)) }
         ensures memory { IfErr result (λ fault. fault ≡ no_memory) }

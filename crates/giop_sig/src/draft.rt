@@ -100,7 +100,8 @@ impl Draft {
         names.get(&key).is_some()
     }
 
-    /// Adds a type. One that is too deep is refused, in the declaration whose name is at this place.
+    /// Adds a type. One that is too deep, or for which no number is left, is refused in the declaration whose name is at
+    /// this place.
     #[tactic(auto, unfolding(crate::specs::TypeReading::added))]
     pub(crate) fn add(&mut self, at: usize, entry: Entry) -> Result<TypeId, Stop>
         requires { IsFormed self.old.table.types (length self.old.table.types) (node_view entry) }
@@ -110,6 +111,12 @@ impl Draft {
         if self.catalogue.depth_above(&entry) > 24 {
             return Err(Stop::Refused(Refusal {
                 kind: SigFaultKind::Depth,
+                left: at,
+            }));
+        }
+        if self.catalogue.is_full() {
+            return Err(Stop::Refused(Refusal {
+                kind: SigFaultKind::Limit,
                 left: at,
             }));
         }
