@@ -10,9 +10,8 @@ use Rattle.std.proofs.lemmas.Slice.Eq.{bytes_eq-Decides}
 use mathlib.Core.Path.{fun_ext}
 use Rattle.arrayvec.specs.ArrayVec.{ArrayVec}
 use Rattle.giop_sig.specs.declared.types.TypeId.{TypeId}
-use Rattle.giop_sig.specs.declared.types.OpId.{OpId}
 use Rattle.giop_sig.specs.declared.catalogue.Signature.{Signature}
-use Rattle.giop_sig.specs.Table.{Operation, Exception, Table, op_id, type_id, no_operation, no_exception, operation_in, operation_at, exception_in, members_at}
+use Rattle.giop_sig.specs.Table.{Operation, Exception, Table, op_id, type_id, no_operation, no_exception, operation_in, exception_in, members_at}
 use Rattle.giop_sig.specs.Headers.{IsCall, IsRaised, IsTable}
 use Rattle.giop_sig.specs.Entries.{operation_view, exception_view}
 
@@ -54,17 +53,6 @@ pub operation_found : (es : List (ArrayVec ℕ × Signature)) (t : Table) (key n
 operation_found es t key name r view same is =
     ap (option_map op_id) (is ∙ place_of (λ (k : ArrayVec ℕ). k.items) operation_view (λ (o : Operation). o.name) es key name same (λ e. refl)
     ∙ ap (λ (os : List Operation). position (λ (o : Operation). bytes_eq name o.name) os) view)
-
-taken : (o : Option ℕ) (i : OpId) → option_map op_id o ≡ Some i → o ≡ Some i.0
-taken None i e = absurd cc
-taken (Some k) i e = ap (option_map (λ (x : OpId). x.0)) e
-
--- two names of one operation are one
-pub operation_in_one : (t : Table) (m n : List ℕ) (i : OpId) → operation_in t m ≡ Some i → operation_in t n ≡ Some i → m ≡ n
-operation_in_one t m n i p q =
-    let a = (position-Some (λ (o : Operation). bytes_eq m o.name) t.operations i.0 no_operation (taken (position (λ (o : Operation). bytes_eq m o.name) t.operations) i p)).1 in
-    let b = (position-Some (λ (o : Operation). bytes_eq n o.name) t.operations i.0 no_operation (taken (position (λ (o : Operation). bytes_eq n o.name) t.operations) i q)).1 in
-    (bytes_eq-Decides m (operation_at t i.0).name).0 a ∙ sym ((bytes_eq-Decides n (operation_at t i.0).name).0 b)
 
 read_map : {X Y : Type 0} (f : X → Y) (xs : List X) (i : ℕ) (x : X) (d : Y) → slice_get xs i ≡ Some x → get_or (map f xs) i d ≡ f x
 read_map f [] i x d e = absurd cc

@@ -39,11 +39,6 @@ number_taken (Some k) i e = ap (option_map (λ (x : OpId). x.0)) e
 finds_one : (find : List ℕ → Option ℕ) → IsOneToOne find → FindsOne (finding find)
 finds_one find one m n i p q = one m n i.0 (number_taken (find m) i p) (number_taken (find n) i q)
 
--- an operation that was found, from its number
-pub found_is : (o : Option OpId) (k : Option ℕ) → option_map (λ (x : OpId). x.0) o ≡ k → o ≡ option_map as_operation k
-found_is None k e = ap (option_map as_operation) e
-found_is (Some x) k e = ap (option_map as_operation) e
-
 number_back : (o : Option ℕ) → option_map (λ (x : OpId). x.0) (option_map as_operation o) ≡ o
 number_back None = refl
 number_back (Some k) = refl

@@ -85,11 +85,6 @@ unfolding place_items
 items_more s [] = within_same
 items_more s (i ∷ is) = within_on (item_more s i) (items_more (place_item s i).0 is)
 
-pub items_names : (s : Scope) (is : List Item) → (place_items s is).0.names ≡ s.names
-unfolding place_items
-items_names s [] = refl
-items_names s (i ∷ is) = items_names (place_item s i).0 is ∙ item_names s i
-
 -- ---- parameters
 
 pub params_more : (s : Scope) (ps : List Param) → Grown s (place_params s ps).0
