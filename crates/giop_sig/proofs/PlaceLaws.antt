@@ -92,7 +92,8 @@ unfolding place_params
 params_more s [] = within_same
 params_more s (p ∷ ps) = within_on (item_more s p.item) (params_more (place_item s p.item).0 ps)
 
-pub place_operations : (s : Scope) (e : TypeExpr) → (place s e).0.table.operations ≡ s.table.operations
+pub place_operations : (s : Scope) (e : TypeExpr)
+    → (place s e).0.table.operations ≡ s.table.operations
 unfolding place
 place_operations s (Base p) = refl
 place_operations s (Text None) = refl
@@ -110,7 +111,8 @@ pub return_names : (s : Scope) (o : Option TypeExpr) → (place_return s o).0.na
 return_names s None = refl
 return_names s (Some e) = place_names s e
 
-pub return_operations : (s : Scope) (o : Option TypeExpr) → (place_return s o).0.table.operations ≡ s.table.operations
+pub return_operations : (s : Scope) (o : Option TypeExpr)
+    → (place_return s o).0.table.operations ≡ s.table.operations
 return_operations s None = refl
 return_operations s (Some e) = place_operations s e
 
@@ -176,7 +178,9 @@ nest_none s (SequenceOf e bound) some zeroth =
 nest_none s (EncapsulationOf e) some zeroth =
     absurd (omega (arith, (place_more s e).longer, zeroth))
 
-sequence_depth : (f : ℕ → Ty) (bound : Option ℕ) (n k : ℕ) (v : Bool) → eqb n 0 ≡ v → (n ≡ 0 → k ≡ 0) → k ≤ depth (f n) → suc k ≤ depth (grow f (cond v (nodes.octets bound) (nodes.sequence bound n)))
+sequence_depth : (f : ℕ → Ty) (bound : Option ℕ) (n k : ℕ) (v : Bool) → eqb n 0 ≡ v
+    → (n ≡ 0 → k ≡ 0) → k ≤ depth (f n)
+    → suc k ≤ depth (grow f (cond v (nodes.octets bound) (nodes.sequence bound n)))
 unfolding depth
 sequence_depth f bound n k true is leaf le = let z = leaf (eqb-true n 0 is) in omega arith
 sequence_depth f bound n k false is leaf le = omega arith
@@ -186,7 +190,8 @@ held_depth : (f : ℕ → Ty) (n k : ℕ) → k ≤ depth (f n)
 unfolding depth
 held_depth f n k le = omega arith
 
-nest_depth : (s : Scope) (e : TypeExpr) → 0 < size s → nest e ≤ depth (type_in (place s e).0.table.types (place s e).1)
+nest_depth : (s : Scope) (e : TypeExpr) → 0 < size s
+    → nest e ≤ depth (type_in (place s e).0.table.types (place s e).1)
 unfolding place
 nest_depth s (Base p) some = omega arith
 nest_depth s (Text bound) some = omega arith
@@ -195,7 +200,8 @@ nest_depth s (Named w) some = omega arith
 nest_depth s (SequenceOf e bound) some =
     let types = (place s e).0.table.types in
     let node = sequence_node bound (place s e).1 in
-    let more : suc (nest e) ≤ depth (grow (type_in types) node) = sequence_depth (type_in types) bound (place s e).1 (nest e) (eqb (place s e).1 0) refl (nest_none s e some) (nest_depth s e some) in
+    let more : suc (nest e) ≤ depth (grow (type_in types) node) =
+    sequence_depth (type_in types) bound (place s e).1 (nest e) (eqb (place s e).1 0) refl (nest_none s e some) (nest_depth s e some) in
     omega (arith, more, ap depth (tree_added types node))
 nest_depth s (EncapsulationOf e) some =
     let types = (place s e).0.table.types in
@@ -214,7 +220,8 @@ last_within s node =
     depth_within (types ++ node ∷ []) (length types) last
 
 -- as many levels as that are in the table
-pub nest_deepest : (s : Scope) (e : TypeExpr) → 0 < size s → 0 < nest e → nest e ≤ deepest (place s e).0
+pub nest_deepest : (s : Scope) (e : TypeExpr) → 0 < size s → 0 < nest e
+    → nest e ≤ deepest (place s e).0
 unfolding place
 nest_deepest s (Base p) some lt = absurd (omega arith)
 nest_deepest s (Text bound) some lt = absurd (omega arith)

@@ -30,7 +30,8 @@ Breaks kinds.Empty rule types = rule kinds.Empty → ⊥
 
 -- what is broken in a part is broken in the whole
 pub lift : (k : Kind) (rule whole : Kind → Type 0) (types more : List Node)
-    → ((j : Kind) → whole j → rule j) → Within types more → Breaks k rule types → Breaks k whole more
+    → ((j : Kind) → whole j → rule j) → Within types more
+    → Breaks k rule types → Breaks k whole more
 lift kinds.Token rule whole types more up le b = b
 lift kinds.Syntax rule whole types more up le b = b
 lift kinds.OutOfMemory rule whole types more up le b = b
@@ -43,44 +44,57 @@ lift kinds.Label rule whole types more up le b = λ h. b (up kinds.Label h)
 lift kinds.Empty rule whole types more up le b = λ h. b (up kinds.Empty h)
 
 -- what was read is made of a rest that has the remaining tokens, and keeps the rules
-pub record Good {X : Type 0} (made : List ℕ → X) (rule : Kind → Type 0) (more : List Token) (x : X) : Type 0 where
+pub record Good {X : Type 0} (made : List ℕ → X) (rule : Kind → Type 0)
+    (more : List Token) (x : X) : Type 0 where
   pub rest : List ℕ
   pub is : x ≡ made rest
   pub tokens : AreTokens rest more
   pub keeps : (k : Kind) → rule k
 
 -- reading gives what is made, or breaks a rule
-pub record Out {X : Type 0} (made : List ℕ → X) (rule : Kind → Type 0) (types : List Node) (more : List Token) (r : Result X Refusal) : Type 0 where
+pub record Out {X : Type 0} (made : List ℕ → X) (rule : Kind → Type 0) (types : List Node)
+    (more : List Token) (r : Result X Refusal) : Type 0 where
   pub out : MatchResult r (Good made rule more) (λ e. Breaks e.kind rule types)
 
-pub good : {X : Type 0} {made : List ℕ → X} {rule : Kind → Type 0} {types : List Node} {more : List Token} (rest : List ℕ) → AreTokens rest more → ((k : Kind) → rule k) → Out made rule types more (Ok (made rest))
+pub good : {X : Type 0} {made : List ℕ → X} {rule : Kind → Type 0} {types : List Node}
+    {more : List Token} (rest : List ℕ) → AreTokens rest more → ((k : Kind) → rule k)
+    → Out made rule types more (Ok (made rest))
 good rest tokens keeps = record { out = record { rest = rest; is = refl; tokens = tokens; keeps = keeps } }
 
-pub broken : {X : Type 0} {made : List ℕ → X} {rule : Kind → Type 0} {types : List Node} {more : List Token} (e : Refusal) → Breaks e.kind rule types → Out made rule types more (Err e)
+pub broken : {X : Type 0} {made : List ℕ → X} {rule : Kind → Type 0} {types : List Node}
+    {more : List Token} (e : Refusal) → Breaks e.kind rule types → Out made rule types more (Err e)
 broken e b = record { out = b }
 
-pub out_bind : {X Y : Type 0} {made : List ℕ → X} {rule : Kind → Type 0} {types : List Node} {more : List Token} {made2 : List ℕ → Y} {rule2 : Kind → Type 0} {types2 : List Node} {more2 : List Token}
+pub out_bind : {X Y : Type 0} {made : List ℕ → X} {rule : Kind → Type 0} {types : List Node}
+    {more : List Token} {made2 : List ℕ → Y} {rule2 : Kind → Type 0}
+    {types2 : List Node} {more2 : List Token}
     (r : Result X Refusal) (h : X → Result Y Refusal) → Out made rule types more r
-    → ((rest : List ℕ) → AreTokens rest more → ((k : Kind) → rule k) → Out made2 rule2 types2 more2 (h (made rest)))
+    → ((rest : List ℕ) → AreTokens rest more → ((k : Kind) → rule k)
+    → Out made2 rule2 types2 more2 (h (made rest)))
     → ((k : Kind) → rule2 k → rule k) → Within types types2 → Out made2 rule2 types2 more2 (r >>= h)
 out_bind {made2 = made2} {rule2 = rule2} {types2 = types2} {more2 = more2} (Ok x) h o on up le =
     let g = o.out in subst (λ y. Out made2 rule2 types2 more2 (h y)) (sym g.is) (on g.rest g.tokens g.keeps)
 out_bind {rule = rule} {types = types} {rule2 = rule2} {types2 = types2} (Err e) h o on up le = record { out = lift e.kind rule rule2 types types2 up le o.out }
 
-good_more : {X : Type 0} {made : List ℕ → X} {rule whole : Kind → Type 0} {types : List Node} {more : List Token} (r : Result X Refusal) → Out made rule types more r
-    → ((k : Kind) → rule k → whole k) → ((k : Kind) → whole k → rule k) → Out made whole types more r
+good_more : {X : Type 0} {made : List ℕ → X} {rule whole : Kind → Type 0} {types : List Node}
+    {more : List Token} (r : Result X Refusal) → Out made rule types more r
+    → ((k : Kind) → rule k → whole k) → ((k : Kind) → whole k → rule k)
+    → Out made whole types more r
 good_more (Ok x) o on up = let g = o.out in record { out = record { rest = g.rest; is = g.is; tokens = g.tokens; keeps = λ k. on k (g.keeps k) } }
 good_more {rule = rule} {whole = whole} {types = types} (Err e) o on up = record { out = lift e.kind rule whole types types up within_same o.out }
 
 -- the same under rules that say the same
-pub out_more : {X : Type 0} {made : List ℕ → X} {rule whole : Kind → Type 0} {types : List Node} {more : List Token} {r : Result X Refusal} → Out made rule types more r
-    → ((k : Kind) → rule k → whole k) → ((k : Kind) → whole k → rule k) → Out made whole types more r
+pub out_more : {X : Type 0} {made : List ℕ → X} {rule whole : Kind → Type 0} {types : List Node}
+    {more : List Token} {r : Result X Refusal} → Out made rule types more r
+    → ((k : Kind) → rule k → whole k) → ((k : Kind) → whole k → rule k)
+    → Out made whole types more r
 out_more {r = r} o on up = good_more r o on up
 
 -- ---- a text that was read
 
 -- the text is spelled so, up to the rest, and what is asked of its names holds
-pub record Took (spelled : List Token → List Token) (Free : Type 0) (text rest : List ℕ) : Type 0 where
+pub record Took (spelled : List Token → List Token) (Free : Type 0)
+    (text rest : List ℕ) : Type 0 where
   pub free : Free
   pub front : (more : List Token) → AreTokens rest more → AreTokens text (spelled more)
 
@@ -91,6 +105,7 @@ abbrev pub Apart : Mark → List Token → Type 0
 Apart m [] = Unit {0}
 Apart m (t ∷ ts) = is_the_mark m t ≡ false
 
-pub if_apart : (m : Mark) (text : List ℕ) (ts : List Token) → Apart m ts → AreTokens text ts → mark_if m text ≡ Ok None
+pub if_apart : (m : Mark) (text : List ℕ) (ts : List Token) → Apart m ts → AreTokens text ts
+    → mark_if m text ≡ Ok None
 if_apart m text [] apart h = if_ended (is_the_mark m) text h
 if_apart m text (t ∷ ts) apart h = if_other (is_the_mark m) text t ts h apart

@@ -40,7 +40,8 @@ added at s node =
 unfoldable pub size_at : List ℕ → Result (ℕ × List ℕ) Refusal
 size_at text = do
   n ← number_at text
-  if n.0 == 0 then Err (refused kinds.Empty text) else (if nat_lt 4294967295 n.0 then Err (refused kinds.Limit text) else Ok (n.0, n.1))
+  if n.0 == 0 then Err (refused kinds.Empty text)
+      else (if nat_lt 4294967295 n.0 then Err (refused kinds.Limit text) else Ok (n.0, n.1))
 
 -- what was found by looking one token ahead
 abbrev pub size_within : Mark → List ℕ → Option (List ℕ) → Result (Option ℕ × List ℕ) Refusal
@@ -142,7 +143,8 @@ found_type s text rest (Some n) = Ok (s, n, rest)
 unfoldable pub named_type : Scope → List ℕ → List ℕ → List ℕ → Result TypeRead Refusal
 named_type s text w rest =
     if is_reserved w then Err (misplaced text) else
-    (if nat_lt 64 (length w) then Err (refused kinds.Limit text) else found_type s text rest (named s.names w))
+    (if nat_lt 64 (length w) then Err (refused kinds.Limit text)
+    else found_type s text rest (named s.names w))
 
 abbrev pub leaf_after : ℕ → Scope → List ℕ → List ℕ → List ℕ → Option ℕ → Result TypeRead Refusal
 leaf_after at s text w rest (Some base) = Ok (s, base, rest)

@@ -185,7 +185,8 @@ impl Draft {
         requires short { length name.now ≤ 64 }
         requires new { lookup (bytes_eq name.now) self.old.names.known ≡ None }
         requires known { IsKnownType self.old.table.types (option_map (λ t. t.0) t) }
-        ensures added { OnOk result (self.new ≡ with_name self.old name.now (option_map (λ t. t.0) t)) }
+        ensures added { OnOk result (self.new
+            ≡ with_name self.old name.now (option_map (λ t. t.0) t)) }
         ensures err { IfErr result (λ stop. stop ≡ Stop.Memory) }
     {
         let key: Key = ArrayVec::try_from(name).unwrap();
@@ -215,7 +216,8 @@ impl Draft {
         requires identity { length repository.now ≤ 128 }
         requires different { exception_in self.old.table repository.now ≡ None }
         requires known { t.0 < length self.old.table.types }
-        ensures added { OnOk result (self.new ≡ with_raised name.now repository.now (self.old, t.0)) }
+        ensures added { OnOk result (self.new
+            ≡ with_raised name.now repository.now (self.old, t.0)) }
         ensures err { IfErr result (λ stop. stop ≡ Stop.Memory) }
     {
         self.add_name(name, None)?;

@@ -308,7 +308,8 @@ impl Types {
     /// The depth of the deepest of an entry's first so many parts, 0 where there is none.
     fn deepest_part(&self, entry: &Entry, count: u32) -> u8
         requires place { (i : ℕ) → i < count → HasPlace (shape_of (node_view entry.now)) i }
-        requires below { (i : ℕ) → i < count → type_of (part_at (node_view entry.now) i) < length self.now }
+        requires below { (i : ℕ) → i < count
+            → type_of (part_at (node_view entry.now) i) < length self.now }
         ensures depth { result ≡ most count (part_depth self.now (node_view entry.now)) }
         ensures shallow { result ≤ 24 }
     {
