@@ -23,7 +23,8 @@ use Rattle.giop_sig.specs.TypeReading.{enclosed_at, type_at}
 use Rattle.giop_sig.specs.ItemReading.{new_name_at, declared_at, array_type, ItemRead, item_at, Members, member_at, member_step, MembersRead, members_run}
 use Rattle.giop_sig.proofs.PlaceLaws.{size, within_same, length_more, item_more, item_names, items_more}
 use Rattle.giop_sig.proofs.ReadingLaws.{Out, good, broken, out_bind, out_more, Apart, if_apart}
-use Rattle.giop_sig.proofs.TypeLaws.{added_bind, enclosed_reads, type_reads}
+use Rattle.giop_sig.proofs.SizeReads.{enclosed_reads}
+use Rattle.giop_sig.proofs.TypeLaws.{added_bind, type_reads}
 
 -- ---- names
 

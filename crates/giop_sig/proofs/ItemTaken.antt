@@ -25,7 +25,8 @@ use Rattle.giop_sig.specs.Outcomes.{refused}
 use Rattle.giop_sig.specs.TypeReading.{TypeRead, added, enclosed_at, type_at}
 use Rattle.giop_sig.specs.ItemReading.{new_name_at, declared_at, array_type, ItemRead, item_at, Members, member_at, member_after, member_step, MembersRead, members_run, members_at, unless_closed, filled_at, new_repository_at}
 use Rattle.giop_sig.proofs.ReadingLaws.{Took}
-use Rattle.giop_sig.proofs.TypeTaken.{Grows, grows_none, grows_on, grows_known, Sound, sound_added, added_grows, added_is, node_known, TakenType, type_takes, enclosed_takes, bound_free}
+use Rattle.giop_sig.proofs.TypeTaken.{Grows, grows_none, grows_on, grows_known, Sound, sound_added, added_grows, added_is, node_known, TakenType, type_takes}
+use Rattle.giop_sig.proofs.SizeTaken.{enclosed_takes, bound_free}
 
 -- ---- names
 

@@ -160,16 +160,16 @@ value_above (Below n) text more h = negative_some text h.0 n h.1
 value_above (Truth b) text more h = tt
 value_above (Enumerator w) text more h = tt
 
-abbrev IsAboveLabel : Label → Type 0
+abbrev pub IsAboveLabel : Label → Type 0
 IsAboveLabel Default = Unit {0}
 IsAboveLabel (Of v) = IsAbove v
 
-label_above : (l : Label) (text : List ℕ) (more : List Token)
+pub label_above : (l : Label) (text : List ℕ) (more : List Token)
     → AreTokens text (spell_label l more) → IsAboveLabel l
 label_above Default text more h = tt
 label_above (Of v) text more h = value_above v h.0 (mark marks.Colon ∷ more) h.2
 
-label_kept : (node : Node) (l : Label) → IsAboveLabel l
+pub label_kept : (node : Node) (l : Label) → IsAboveLabel l
     → OfLabelValue kinds.Label node l → IsKept node l
 label_kept node Default above fit = tt
 label_kept node (Of v) above fit = let f = fit.1 in (f.0, f.1, above)
@@ -364,42 +364,3 @@ pub labels_reads : (node : Node) (seen : List Label) (l : Label) (ls : List Labe
 unfolding labels_at
 labels_reads node seen l ls text types more ended all few free h =
     rw (label_begins l text (spell_labels ls more) h) (labels_run (l ∷ ls) 1025 node seen [] false text types more ended all few (omega arith) free h)
-
--- ---- what is known behind them
-
-label_rest : (l : Label) (text : List ℕ) (more : List Token) → AreTokens text (spell_label l more)
-    → (rest : List ℕ) × AreTokens rest more
-label_rest Default text more h = let c = h.2 in (c.0, c.2)
-label_rest (Of (Plain n)) text more h = let c = (h.2).2 in (c.0, c.2)
-label_rest (Of (Below n)) text more h = let c = (h.2).2 in (c.0, c.2)
-label_rest (Of (Truth b)) text more h = let c = (h.2).2 in (c.0, c.2)
-label_rest (Of (Enumerator w)) text more h = let c = (h.2).2 in (c.0, c.2)
-
-labels_above : (ls : List Label) (text : List ℕ) (more : List Token)
-    → AreTokens text (spell_labels ls more) → AllByRecursion IsAboveLabel ls
-labels_above [] text more h = tt
-labels_above (l ∷ ls) text more h =
-    let r = label_rest l text (spell_labels ls more) h in
-    (label_above l text (spell_labels ls more) h, labels_above ls r.0 more r.1)
-
-all_kept : (node : Node) (ls seen : List Label) → AllByRecursion IsAboveLabel ls
-    → OfLabels kinds.Label node seen ls → AllByRecursion (IsKept node) seen
-    → AllByRecursion (IsKept node) (seen ++ ls)
-unfolding OfLabels
-all_kept node [] seen above fit all = subst (AllByRecursion (IsKept node)) (sym (append-nil seen)) all
-all_kept node (l ∷ ls) seen above fit all =
-    subst (AllByRecursion (IsKept node)) (append_assoc seen (l ∷ []) ls)
-    (all_kept node ls (seen ++ l ∷ []) above.1 fit.1 (all_push (IsKept node) seen l all (label_kept node l above.0 (fit.0).0)))
-
-pub labels_kept : (node : Node) (ls seen : List Label) (text : List ℕ) (more : List Token)
-    → AreTokens text (spell_labels ls more) → OfLabels kinds.Label node seen ls
-    → AllByRecursion (IsKept node) seen → AllByRecursion (IsKept node) (seen ++ ls)
-labels_kept node ls seen text more h fit all = all_kept node ls seen (labels_above ls text more h) fit all
-
-pub labels_few : (node : Node) (ls seen : List Label) → length seen ≤ 1024
-    → OfLabels kinds.Limit node seen ls → length (seen ++ ls) ≤ 1024
-unfolding OfLabels
-labels_few node [] seen few fit = omega (arith, length-append seen [])
-labels_few node (l ∷ ls) seen few fit =
-    let below = (fit.0).1 in
-    subst (λ all. length all ≤ 1024) (append_assoc seen (l ∷ []) ls) (labels_few node ls (seen ++ l ∷ []) (omega (arith, length-append seen (l ∷ []))) fit.1)

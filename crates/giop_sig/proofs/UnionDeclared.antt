@@ -1,5 +1,5 @@
 -- A union that was read: what the code asks of it, and that it is a declaration of the text.
-use Rattle.std.proofs.Common.{◌≡◌, ℕ, ◌+◌, List, [], ◌∷◌, length, Ok, sym, ap, subst, ◌∙◌, arith}
+use Rattle.std.proofs.Common.{◌≡◌, ℕ, ◌+◌, Bool, true, false, cond, List, [], ◌∷◌, length, Ok, Err, refl, sym, ap, subst, ◌∙◌, arith}
 use Rattle.std.specs.Prelude.{codes}
 use Rattle.std.proofs.lemmas.List.{length-append}
 use Rattle.giop_tokens.specs.declared.fault.SigFaultKind.TheVariants as kinds
@@ -10,19 +10,45 @@ use Rattle.giop_tokens.specs.Readers.{mark_at, keyword_at}
 use Rattle.giop_tokens.proofs.ReaderLaws.{bind_ok, ok_is, Takes, mark_takes, keyword_takes}
 use Rattle.giop_sig.specs.Table.{Node, node_at, IsScalarNode, IsFormed}
 use Rattle.giop_sig.specs.Table as nodes
-use Rattle.giop_sig.specs.Grammar.{Choice, spell_type, spell_cases}
+use Rattle.giop_sig.specs.Grammar.{TypeExpr, Choice, spell_type, spell_cases}
 use Rattle.giop_sig.specs.Scopes.{Scope, Placed, place, with_named}
-use Rattle.giop_sig.specs.Validity.{IsDiscriminator, OfCases, OfDeclaration, placed_node}
+use Rattle.giop_sig.specs.Validity.{OfType, IsDiscriminator, OfCases, OfDeclaration, placed_node}
 use Rattle.giop_sig.specs.ScopeViews.{IsKnown, IsScope}
-use Rattle.giop_sig.specs.TypeReading.{TypeRead, added}
+use Rattle.giop_sig.specs.Outcomes.{refused}
+use Rattle.giop_sig.specs.TypeReading.{TypeRead, added, type_at}
 use Rattle.giop_sig.specs.ItemReading.{declared_at, Declared}
-use Rattle.giop_sig.specs.UnionReading.{CasesRead, cases_at, switch_at, union_at}
-use Rattle.giop_sig.proofs.TypeTaken.{Grows, grows_on, added_is, added_grows, node_known}
+use Rattle.giop_sig.specs.UnionReading.{CasesRead, cases_at, can_switch, switch_at, union_at}
+use Rattle.giop_sig.proofs.TypeTaken.{Grows, grows_on, TakenType, type_takes, added_is, added_grows, node_known}
 use Rattle.giop_sig.proofs.ItemTaken.{declared_takes}
 use Rattle.giop_sig.proofs.DeclaredLaws.{TakenDeclaration}
 use Rattle.giop_sig.proofs.UnionLaws.{node_stays}
-use Rattle.giop_sig.proofs.UnionReads.{below_size}
-use Rattle.giop_sig.proofs.UnionTaken.{switch_taken, cases_taken}
+use Rattle.giop_sig.proofs.UnionReads.{discriminates, below_size}
+use Rattle.giop_sig.proofs.UnionTaken.{cases_taken}
+use Rattle.giop_sig.proofs.ReadingLaws.{Took}
+
+-- ---- the discriminator
+
+record TakenSwitch (s : Scope) (text : List ℕ) (x : TypeRead) : Type 0 where
+  pub expr : TypeExpr
+  pub took : Took (spell_type expr) (OfType kinds.Syntax s.names expr) text x.2
+  pub grows : Grows s x.0
+  pub scope : IsScope s → IsScope x.0
+  pub is : IsDiscriminator (node_at (x.0).table x.1)
+
+switch_by : (s : Scope) (text : List ℕ) (t x : TypeRead) (v : Bool)
+    → can_switch (node_at (t.0).table t.1) ≡ v → TakenType s text t
+    → cond v (Ok t) (Err (refused kinds.Label text)) ≡ Ok x → TakenSwitch s text x
+switch_by s text t x true p k e =
+    subst (TakenSwitch s text) (ok_is t x e) (record
+    { expr = k.expr; took = k.took; grows = k.grows; scope = λ is. (k.sound is).scope; is = discriminates (node_at (t.0).table t.1) p })
+switch_by s text t x false p k e = absurd cc
+
+switch_taken : (at : ℕ) (s : Scope) (text : List ℕ) (x : TypeRead)
+    → switch_at at s text ≡ Ok x → TakenSwitch s text x
+unfolding switch_at
+switch_taken at s text x e =
+    let t = bind_ok (type_at at 25 s text) (λ t. cond (can_switch (node_at (t.0).table t.1)) (Ok t) (Err (refused kinds.Label text))) x e in
+    switch_by s text t.0 x (can_switch (node_at ((t.0).0).table (t.0).1)) refl (type_takes at 25 s text t.0 t.1) t.2
 
 -- ---- what the code asks
 

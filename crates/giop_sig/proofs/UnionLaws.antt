@@ -24,7 +24,8 @@ use Rattle.giop_sig.proofs.ReadingLaws.{Out, good, out_bind, out_more, if_apart}
 use Rattle.giop_sig.proofs.TypeTaken.{Grows, grows_none, grows_on, node_grows}
 use Rattle.giop_sig.proofs.ItemLaws.{item_reads}
 use Rattle.giop_sig.proofs.LabelLaws.{IsKept}
-use Rattle.giop_sig.proofs.LabelReads.{marks_of, labelled, type_no_label, labels_reads, labels_kept, labels_few}
+use Rattle.giop_sig.proofs.LabelReads.{marks_of, labelled, type_no_label, labels_reads}
+use Rattle.giop_sig.proofs.LabelsKept.{labels_kept, labels_few}
 
 -- ---- a case
 

@@ -17,21 +17,18 @@ use Rattle.giop_tokens.proofs.ReaderLaws.{bind_ok, ok_is, mark_takes, mark_if_ta
 use Rattle.giop_sig.specs.declared.types.Selected.{Selected}
 use Rattle.giop_sig.specs.declared.types.Selected.TheVariants as selecteds
 use Rattle.giop_sig.specs.Table.{Case, Node, node_at, IsPart, IsCaseBelow}
-use Rattle.giop_sig.specs.Grammar.{TypeExpr, Value, Plain, Below, Truth, Enumerator, Label, Default, Of, UnionCase, spell_type, spell_item, spell_value, spell_label, spell_labels, spell_cases}
+use Rattle.giop_sig.specs.Grammar.{Value, Plain, Below, Truth, Enumerator, Label, Default, Of, UnionCase, spell_item, spell_value, spell_label, spell_labels, spell_cases}
 use Rattle.giop_sig.specs.Scopes.{Scope, label_number, labels_of}
-use Rattle.giop_sig.specs.Validity.{OfType, OfItem, OfValueName, OfLabel, OfLabels, OfCases, IsDiscriminator}
+use Rattle.giop_sig.specs.Validity.{OfItem, OfValueName, OfLabel, OfLabels, OfCases}
 use Rattle.giop_sig.specs.ScopeViews.{IsScope}
 use Rattle.giop_sig.specs.Outcomes.{refused}
-use Rattle.giop_sig.specs.TypeReading.{TypeRead, type_at}
 use Rattle.giop_sig.specs.ItemReading.{ItemRead, item_at, unless_closed, filled_at}
 use Rattle.giop_sig.specs.Repeats.{in_steps}
-use Rattle.giop_sig.specs.UnionReading.{token_value, value_at, Mark, LabelRead, fitting, number_of_value, fresh, label_by, label_at, LabelsRead, with_label, begins_label, label_or_end, labels_step, too_many_labels, labels_by, labels_at, Cases, no_cases, chosen, with_case, CasesRead, case_at, case_or_end, cases_step, too_many_cases, cases_at, can_switch, switch_at}
-use Rattle.giop_sig.proofs.ReadingLaws.{Took}
-use Rattle.giop_sig.proofs.TypeTaken.{Grows, grows_none, grows_on, grows_known, TakenType, type_takes}
+use Rattle.giop_sig.specs.UnionReading.{token_value, value_at, Mark, LabelRead, fitting, number_of_value, fresh, label_by, label_at, LabelsRead, with_label, begins_label, label_or_end, labels_step, too_many_labels, labels_by, labels_at, Cases, no_cases, chosen, with_case, CasesRead, case_at, case_or_end, cases_step, too_many_cases, cases_at}
+use Rattle.giop_sig.proofs.TypeTaken.{Grows, grows_none, grows_on, grows_known}
 use Rattle.giop_sig.proofs.ItemTaken.{TakenItem, item_takes}
 use Rattle.giop_sig.proofs.LabelReads.{then_labels}
 use Rattle.giop_sig.proofs.UnionLaws.{then_cases}
-use Rattle.giop_sig.proofs.UnionReads.{discriminates}
 
 -- ---- labels
 
@@ -378,27 +375,3 @@ cases_taken at switch s text x e =
       few = λ is. (t.sound is (sound_none s)).1.few;
       below = λ is. (t.sound is (sound_none s)).1.below;
     }
-
--- ---- the discriminator
-
-pub record TakenSwitch (s : Scope) (text : List ℕ) (x : TypeRead) : Type 0 where
-  pub expr : TypeExpr
-  pub took : Took (spell_type expr) (OfType kinds.Syntax s.names expr) text x.2
-  pub grows : Grows s x.0
-  pub scope : IsScope s → IsScope x.0
-  pub is : IsDiscriminator (node_at (x.0).table x.1)
-
-switch_by : (s : Scope) (text : List ℕ) (t x : TypeRead) (v : Bool)
-    → can_switch (node_at (t.0).table t.1) ≡ v → TakenType s text t
-    → cond v (Ok t) (Err (refused kinds.Label text)) ≡ Ok x → TakenSwitch s text x
-switch_by s text t x true p k e =
-    subst (TakenSwitch s text) (ok_is t x e) (record
-    { expr = k.expr; took = k.took; grows = k.grows; scope = λ is. (k.sound is).scope; is = discriminates (node_at (t.0).table t.1) p })
-switch_by s text t x false p k e = absurd cc
-
-pub switch_taken : (at : ℕ) (s : Scope) (text : List ℕ) (x : TypeRead)
-    → switch_at at s text ≡ Ok x → TakenSwitch s text x
-unfolding switch_at
-switch_taken at s text x e =
-    let t = bind_ok (type_at at 25 s text) (λ t. cond (can_switch (node_at (t.0).table t.1)) (Ok t) (Err (refused kinds.Label text))) x e in
-    switch_by s text t.0 x (can_switch (node_at ((t.0).0).table (t.0).1)) refl (type_takes at 25 s text t.0 t.1) t.2
