@@ -12,19 +12,9 @@ unfolding num
 num-nil Big = refl
 num-nil Little = refl
 
--- one octet more, which is the lightest
-pub num_big-push : (xs : List ℕ) (x : ℕ) → num Big (xs ++ x ∷ []) ≡ 256 * num Big xs + x
-unfolding num
-num_big-push xs x = rw reverse-append (omega arith)
-
 little-push : (xs : List ℕ) (x : ℕ) → little (xs ++ x ∷ []) ≡ little xs + x * 256 ^ length xs
 little-push [] x = omega arith
 little-push (y ∷ xs) x = rw (little-push xs x, pow-suc) (omega arith)
-
--- one octet more, which is the heaviest
-pub num_little-push : (xs : List ℕ) (x : ℕ) → num Little (xs ++ x ∷ []) ≡ num Little xs + x * 256 ^ length xs
-unfolding num
-num_little-push xs x = little-push xs x
 
 -- one octet more in front, which is the lightest
 pub num_little-cons : (x : ℕ) (xs : List ℕ) → num Little (x ∷ xs) ≡ x + 256 * num Little xs

@@ -1,6 +1,6 @@
 -- The laws of padding.
-use Rattle.std.proofs.Common.{◌≡◌, ◌≢◌, ℕ, ◌+◌, ◌-◌, ◌%◌, ◌<◌, ◌≤◌, inl, inr, sym, arith}
-use Rattle.giop_cdr.specs.Alignment.{IsAlignment, IsPadding, padding}
+use Rattle.std.proofs.Common.{◌≡◌, ◌≢◌, ℕ, ◌+◌, ◌-◌, ◌%◌, inl, inr, sym, arith}
+use Rattle.giop_cdr.specs.Alignment.{IsAlignment, padding}
 
 -- each size of an alignment is one of four: what holds of them holds of it
 pub by_alignment : (P : ℕ → Type 0) (size : ℕ) → IsAlignment size → P 1 → P 2 → P 4 → P 8 → P size
@@ -20,41 +20,16 @@ unfolding padding
 padding-remainder at size h =
     by_alignment (λ n. at % n ≢ 0 → (n - at % n) % n + at % n ≡ n) size h (λ e. omega arith) (λ e. omega arith) (λ e. omega arith) (λ e. omega arith)
 
--- padding is smaller than the size
-pub padding_below : (at size : ℕ) → IsAlignment size → padding at size < size
-unfolding padding
-padding_below at size h = by_alignment (λ n. (n - at % n) % n < n) size h (omega arith) (omega arith) (omega arith) (omega arith)
-
 -- after the padding the offset is a multiple of the size
 pub padding_aligns : (at size : ℕ) → IsAlignment size → (at + padding at size) % size ≡ 0
 unfolding padding
 padding_aligns at size h = by_alignment (λ n. (at + (n - at % n) % n) % n ≡ 0) size h (omega arith) (omega arith) (omega arith) (omega arith)
-
--- and after no fewer octets
-pub padding_fewest : (at size k : ℕ) → IsAlignment size → (at + k) % size ≡ 0 → padding at size ≤ k
-unfolding padding
-padding_fewest at size k h =
-    by_alignment (λ n. (at + k) % n ≡ 0 → (n - at % n) % n ≤ k) size h (λ e. omega arith) (λ e. omega arith) (λ e. omega arith) (λ e. omega arith)
-
--- so it is the least
-pub padding_is : (at size : ℕ) → IsAlignment size → IsPadding at size (padding at size)
-padding_is at size h = record { aligned = padding_aligns at size h; least = λ k. padding_fewest at size k h }
-
--- and nothing else is
-pub padding_only : (at size count : ℕ) → IsAlignment size → IsPadding at size count → count ≡ padding at size
-padding_only at size count h least =
-    let ours = padding_is at size h in
-    omega (arith, least.least (padding at size) ours.aligned, ours.least count least.aligned)
 
 -- padding is told by the offset modulo 8
 pub padding-modulo : (at place size : ℕ) → IsAlignment size → at % 8 ≡ place % 8 → padding at size ≡ padding place size
 unfolding padding
 padding-modulo at place size h =
     by_alignment (λ n. at % 8 ≡ place % 8 → (n - at % n) % n ≡ (n - place % n) % n) size h (λ e. omega arith) (λ e. omega arith) (λ e. omega arith) (λ e. omega arith)
-
--- an offset that is a multiple of 8 needs none
-pub padding-zero : (size : ℕ) → IsAlignment size → padding 0 size ≡ 0
-padding-zero size h = padding-aligned 0 size h (by_alignment (λ n. 0 % n ≡ 0) size h (omega arith) (omega arith) (omega arith) (omega arith))
 
 -- `pad` computes it by the remainder
 pub padding-none : (at size : ℕ) → IsAlignment size → at % size ≡ 0 → 0 ≡ padding at size

@@ -21,9 +21,6 @@ long (Header held) r = omega (arith, length-append held.items (replicate (12 - l
 long (Payload header left) r = r.0
 long (Stopped fault) r = refl
 
-fields : (a b c d : ℕ) (xs : List ℕ) → drop 4 (a ∷ b ∷ c ∷ d ∷ xs) ≡ xs
-fields a b c d xs = refl
-
 parts_by : (place : Place) (owner : Option ℕ) (octets rest : List ℕ) → PlaceHasRange place
     → octets ≡ place_octet place ∷ fault_in place ∷ held_in place ∷ owner_octet owner ∷ (header_in place ++ (eight (left_in place) ++ rest)) → Parts place owner octets rest
 parts_by place owner octets rest r e =

@@ -11,9 +11,6 @@ use Rattle.giop_checkpoint.specs.declared.fixed.Place.TheVariants.{Header, Paylo
 
 -- ---- ranges
 
-abbrev pub CountsHaveRange : Counts → Type 0
-CountsHaveRange c = (c.types < 2 ^ 32) × (c.operations < 2 ^ 32) × (c.exceptions < 2 ^ 32) × (c.ids < 2 ^ 32)
-
 abbrev pub PlaceHasRange : Place → Type 0
 PlaceHasRange (Header held) = length held.items ≤ 11
 PlaceHasRange (Payload header left) = (length header ≡ 12) × (left < 2 ^ 32)

@@ -21,13 +21,19 @@ use Rattle.giop_sig.specs.Entries.{operation_view, exception_view, table_view}
 
 -- ---- a type
 
-call_stays : (types : List Node) (n : Node) (o : Operation) → IsCall types o → IsCall (types ++ n ∷ []) o
-call_stays types n o is = let r = is.request in let p = is.reply in record { short = is.short; request = omega (arith, length-append types (n ∷ [])); reply = omega (arith, length-append types (n ∷ [])) }
+call_stays : (types : List Node) (n : Node) (o : Operation) → IsCall types o
+    → IsCall (types ++ n ∷ []) o
+call_stays types n o is =
+    let r = is.request in
+    let p = is.reply in
+    record { short = is.short; request = omega (arith, length-append types (n ∷ [])); reply = omega (arith, length-append types (n ∷ [])) }
 
-raised_stays : (types : List Node) (n : Node) (e : Exception) → IsRaised types e → IsRaised (types ++ n ∷ []) e
+raised_stays : (types : List Node) (n : Node) (e : Exception) → IsRaised types e
+    → IsRaised (types ++ n ∷ []) e
 raised_stays types n e is = let m = is.members in record { short = is.short; members = omega (arith, length-append types (n ∷ [])) }
 
-pub type_added : (t : Table) (n : Node) → IsTable t → AreTypes (t.types ++ n ∷ []) → IsTable (with_type t n)
+pub type_added : (t : Table) (n : Node) → IsTable t → AreTypes (t.types ++ n ∷ [])
+    → IsTable (with_type t n)
 type_added t n laws are = record {
   types = are;
   begins = let b = laws.begins in (b.0 ++ n ∷ [], ap (λ types. types ++ n ∷ []) b.1 ∙ append_assoc builtin_types b.0 (n ∷ []));
@@ -41,8 +47,10 @@ type_added t n laws are = record {
 }
 
 -- the fields after a type is added
-pub type_put : (types new : List Node) (os : List (ArrayVec ℕ × Signature)) (es : List (ArrayVec ℕ × TypeId)) (declared : ℕ) (n : Node)
-    → IsTable (table_view types os es declared) → new ≡ types ++ n ∷ [] → AreTypes new → IsTable (table_view new os es declared)
+pub type_put : (types new : List Node) (os : List (ArrayVec ℕ × Signature))
+    (es : List (ArrayVec ℕ × TypeId)) (declared : ℕ) (n : Node)
+    → IsTable (table_view types os es declared) → new ≡ types ++ n ∷ [] → AreTypes new
+    → IsTable (table_view new os es declared)
 type_put types new os es declared n laws is are =
     subst (λ ts. IsTable (table_view ts os es declared)) (sym is) (type_added (table_view types os es declared) n laws (subst AreTypes is are))
 
@@ -52,11 +60,14 @@ ltb_both : (v : Bool) (a b : ℕ) → ltb a b ≡ v → ltb (1 + a) (suc b) ≡ 
 ltb_both true a b e = lt-ltb (1 + a) _ (let h = ltb-true a b e in omega arith)
 ltb_both false a b e = le-ltb (1 + a) _ (let h = ltb-false a b e in omega arith)
 
-some_cons : {X : Type 0} (p : X → Bool) (x : X) (xs : List X) (v : Bool) → p x ≡ v → ltb (position_or_len p xs) (length xs) ≡ list_any p xs → ltb (position_or_len p (x ∷ xs)) (length (x ∷ xs)) ≡ (p x || list_any p xs)
+some_cons : {X : Type 0} (p : X → Bool) (x : X) (xs : List X) (v : Bool) → p x ≡ v
+    → ltb (position_or_len p xs) (length xs) ≡ list_any p xs
+    → ltb (position_or_len p (x ∷ xs)) (length (x ∷ xs)) ≡ (p x || list_any p xs)
 some_cons p x xs true e h = rw e (lt-ltb 0 _ (omega arith))
 some_cons p x xs false e h = rw e (ltb_both (ltb (position_or_len p xs) (length xs)) (position_or_len p xs) (length xs) refl ∙ h)
 
-some_position : {X : Type 0} (p : X → Bool) (xs : List X) → ltb (position_or_len p xs) (length xs) ≡ list_any p xs
+some_position : {X : Type 0} (p : X → Bool) (xs : List X)
+    → ltb (position_or_len p xs) (length xs) ≡ list_any p xs
 some_position p [] = refl
 some_position p (x ∷ xs) = some_cons p x xs (p x) refl (some_position p xs)
 
@@ -67,7 +78,8 @@ none_by false i e = refl
 none_any : {X : Type 0} (p : X → Bool) (xs : List X) → position p xs ≡ None → list_any p xs ≡ false
 none_any p xs e = sym (some_position p xs) ∙ none_by (ltb (position_or_len p xs) (length xs)) (position_or_len p xs) e
 
-pub list_any-map : {X Y : Type 0} (p : Y → Bool) (f : X → Y) (xs : List X) → list_any p (map f xs) ≡ list_any (λ x. p (f x)) xs
+pub list_any-map : {X Y : Type 0} (p : Y → Bool) (f : X → Y) (xs : List X)
+    → list_any p (map f xs) ≡ list_any (λ x. p (f x)) xs
 list_any-map p f [] = refl
 list_any-map p f (x ∷ xs) = ap (λ b. p (f x) || b) (list_any-map p f xs)
 
@@ -75,7 +87,8 @@ neither : (a b : Bool) → (a || b) ≡ false → (a ≡ false) × (b ≡ false)
 neither true b e = absurd cc
 neither false b e = (refl, e)
 
-pub entry_last : {K V : Type 0} (eq : K → K → Bool) (es : List (K × V)) (k : K) (v : V) → list_any (λ (e : K × V). eq k e.0) es ≡ false → insert_entry eq es k v ≡ es ++ (k, v) ∷ []
+pub entry_last : {K V : Type 0} (eq : K → K → Bool) (es : List (K × V)) (k : K) (v : V)
+    → list_any (λ (e : K × V). eq k e.0) es ≡ false → insert_entry eq es k v ≡ es ++ (k, v) ∷ []
 entry_last eq [] k v none = refl
 entry_last eq (e ∷ es) k v none = let n = neither (eq k e.0) (list_any (λ x. eq k x.0) es) none in rw (n.0) (ap (λ xs. e ∷ xs) (entry_last eq es k v n.1))
 
@@ -87,8 +100,11 @@ abbrev same_key : ArrayVec ℕ → ArrayVec ℕ → Bool
 same_key a b = bytes_eq a.items b.items
 
 -- the entries after a new name is put
-entries_put : {V X : Type 0} (view : ArrayVec ℕ × V → X) (name_in : X → List ℕ) (es new : List (ArrayVec ℕ × V)) (key : ArrayVec ℕ) (v : V) (name : List ℕ) → key.items ≡ name
-    → ((e : ArrayVec ℕ × V) → name_in (view e) ≡ (e.0).items) → position (λ x. bytes_eq name (name_in x)) (map view es) ≡ None → new ≡ insert_entry same_key es key v
+entries_put : {V X : Type 0} (view : ArrayVec ℕ × V → X) (name_in : X → List ℕ)
+    (es new : List (ArrayVec ℕ × V)) (key : ArrayVec ℕ) (v : V) (name : List ℕ) → key.items ≡ name
+    → ((e : ArrayVec ℕ × V) → name_in (view e) ≡ (e.0).items)
+    → position (λ x. bytes_eq name (name_in x)) (map view es) ≡ None
+    → new ≡ insert_entry same_key es key v
     → map view new ≡ map view es ++ view (key, v) ∷ []
 entries_put {V} view name_in es new key v name same named none is =
     let any : list_any (λ x. bytes_eq name (name_in x)) (map view es) ≡ false = none_any (λ x. bytes_eq name (name_in x)) (map view es) none in
@@ -100,42 +116,53 @@ entries_put {V} view name_in es new key v name same named none is =
 
 -- ---- names stay distinct
 
-any_at : {X : Type 0} (p : X → Bool) (xs : List X) (i : ℕ) (d : X) → list_any p xs ≡ false → i < length xs → p (get_or xs i d) ≡ false
+any_at : {X : Type 0} (p : X → Bool) (xs : List X) (i : ℕ) (d : X) → list_any p xs ≡ false
+    → i < length xs → p (get_or xs i d) ≡ false
 any_at p [] i d none lt = absurd (omega arith)
 any_at p (x ∷ xs) zero d none lt = (neither (p x) (list_any p xs) none).0
 any_at p (x ∷ xs) (suc i) d none lt = any_at p xs i d (neither (p x) (list_any p xs) none).1 (omega arith)
 
-differs : {X : Type 0} (name_in : X → List ℕ) (xs : List X) (d : X) (name : List ℕ) → position (λ x. bytes_eq name (name_in x)) xs ≡ None → (i : ℕ) → i < length xs → name_in (get_or xs i d) ≡ name → ⊥
+differs : {X : Type 0} (name_in : X → List ℕ) (xs : List X) (d : X) (name : List ℕ)
+    → position (λ x. bytes_eq name (name_in x)) xs ≡ None → (i : ℕ) → i < length xs
+    → name_in (get_or xs i d) ≡ name → ⊥
 differs name_in xs d name none i lt e =
     let no = any_at (λ x. bytes_eq name (name_in x)) xs i d (none_any (λ x. bytes_eq name (name_in x)) xs none) lt in
     absurd (false≢true (sym no ∙ (bytes_eq-Decides name (name_in (get_or xs i d))).1 (sym e)))
 
-distinct_by : {X : Type 0} (name_in : X → List ℕ) (d : X) (xs : List X) (x : X) → AreDistinct name_in d xs → ((i : ℕ) → i < length xs → name_in (get_or xs i d) ≡ name_in x → ⊥)
-    → (i j : ℕ) → i < length (xs ++ x ∷ []) → j < length (xs ++ x ∷ []) → (i < length xs) ⊎ (length xs ≤ i) → (j < length xs) ⊎ (length xs ≤ j)
+distinct_by : {X : Type 0} (name_in : X → List ℕ) (d : X) (xs : List X) (x : X)
+    → AreDistinct name_in d xs → ((i : ℕ) → i < length xs → name_in (get_or xs i d) ≡ name_in x → ⊥)
+    → (i j : ℕ) → i < length (xs ++ x ∷ []) → j < length (xs ++ x ∷ [])
+    → (i < length xs) ⊎ (length xs ≤ i) → (j < length xs) ⊎ (length xs ≤ j)
     → name_in (get_or (xs ++ x ∷ []) i d) ≡ name_in (get_or (xs ++ x ∷ []) j d) → i ≡ j
 distinct_by name_in d xs x before apart i j li lj (inl hi) (inl hj) e =
     before i j hi hj (ap name_in (sym (get_or_append_left xs (x ∷ []) d i hi)) ∙ e ∙ ap name_in (get_or_append_left xs (x ∷ []) d j hj))
 distinct_by name_in d xs x before apart i j li lj (inl hi) (inr hj) e =
     let last : j ≡ length xs = omega (arith, length-append xs (x ∷ [])) in
-    absurd (apart i hi (ap name_in (sym (get_or_append_left xs (x ∷ []) d i hi)) ∙ e ∙ ap (λ k. name_in (get_or (xs ++ x ∷ []) k d)) last ∙ ap name_in (get_or-append_seam xs x [] d)))
+    absurd (apart i hi (ap name_in (sym (get_or_append_left xs (x ∷ []) d i hi)) ∙ e ∙ ap (λ k. name_in (get_or (xs ++ x ∷ []) k d)) last
+    ∙ ap name_in (get_or-append_seam xs x [] d)))
 distinct_by name_in d xs x before apart i j li lj (inr hi) (inl hj) e =
     let last : i ≡ length xs = omega (arith, length-append xs (x ∷ [])) in
-    absurd (apart j hj (ap name_in (sym (get_or_append_left xs (x ∷ []) d j hj)) ∙ sym e ∙ ap (λ k. name_in (get_or (xs ++ x ∷ []) k d)) last ∙ ap name_in (get_or-append_seam xs x [] d)))
+    absurd (apart j hj (ap name_in (sym (get_or_append_left xs (x ∷ []) d j hj)) ∙ sym e ∙ ap (λ k. name_in (get_or (xs ++ x ∷ []) k d)) last
+    ∙ ap name_in (get_or-append_seam xs x [] d)))
 distinct_by name_in d xs x before apart i j li lj (inr hi) (inr hj) e = omega (arith, length-append xs (x ∷ []))
 
-distinct_push : {X : Type 0} (name_in : X → List ℕ) (d : X) (xs : List X) (x : X) → AreDistinct name_in d xs → position (λ y. bytes_eq (name_in x) (name_in y)) xs ≡ None → AreDistinct name_in d (xs ++ x ∷ [])
+distinct_push : {X : Type 0} (name_in : X → List ℕ) (d : X) (xs : List X) (x : X)
+    → AreDistinct name_in d xs → position (λ y. bytes_eq (name_in x) (name_in y)) xs ≡ None
+    → AreDistinct name_in d (xs ++ x ∷ [])
 distinct_push name_in d xs x before none i j li lj e =
     distinct_by name_in d xs x before (differs name_in xs d (name_in x) none) i j li lj (cases_lt i (length xs)) (cases_lt j (length xs)) e
 
 -- ---- an operation
 
-pub operation_added : (t : Table) (o : Operation) → IsTable t → IsCall t.types o → operation_in t o.name ≡ None → length t.operations < 4096 → IsTable (with_operation t o)
+pub operation_added : (t : Table) (o : Operation) → IsTable t → IsCall t.types o
+    → operation_in t o.name ≡ None → length t.operations < 4096 → IsTable (with_operation t o)
 operation_added t o laws call new few = record {
   types = laws.types;
   begins = laws.begins;
   operations = All-push (IsCall t.types) t.operations o laws.operations call;
   exceptions = laws.exceptions;
-  operations_distinct = distinct_push (λ (x : Operation). x.name) no_operation t.operations o laws.operations_distinct (none_before op_id (position (λ (x : Operation). bytes_eq o.name x.name) t.operations) new);
+  operations_distinct = distinct_push (λ (x : Operation). x.name) no_operation t.operations o laws.operations_distinct
+      (none_before op_id (position (λ (x : Operation). bytes_eq o.name x.name) t.operations) new);
   exceptions_distinct = laws.exceptions_distinct;
   operations_few = omega (arith, length-append t.operations (o ∷ []));
   exceptions_few = laws.exceptions_few;
@@ -143,39 +170,51 @@ operation_added t o laws call new few = record {
 }
 
 -- the table after a new operation is put
-pub operation_put : (types : List Node) (os new : List (ArrayVec ℕ × Signature)) (es : List (ArrayVec ℕ × TypeId)) (declared : ℕ) (t : Table) (key : ArrayVec ℕ) (s : Signature) (name : List ℕ)
-    → table_view types os es declared ≡ t → key.items ≡ name → operation_in t name ≡ None → new ≡ insert_entry same_key os key s
-    → table_view types new es declared ≡ with_operation t (record { name = name; request = s.request.0; reply = s.reply.0 })
+pub operation_put : (types : List Node) (os new : List (ArrayVec ℕ × Signature))
+    (es : List (ArrayVec ℕ × TypeId)) (declared : ℕ) (t : Table) (key : ArrayVec ℕ)
+    (s : Signature) (name : List ℕ)
+    → table_view types os es declared ≡ t → key.items ≡ name → operation_in t name ≡ None
+    → new ≡ insert_entry same_key os key s
+    → table_view types new es declared
+    ≡ with_operation t (record { name = name; request = s.request.0; reply = s.reply.0 })
 operation_put types os new es declared t key s name view same none is =
     let none_here : operation_in (table_view types os es declared) name ≡ None = ap (λ (u : Table). operation_in u name) view ∙ none in
-    let put = entries_put operation_view (λ (o : Operation). o.name) os new key s name same (λ e. refl) (none_before op_id (position (λ (o : Operation). bytes_eq name o.name) (map operation_view os)) none_here) is in
+    let put = entries_put operation_view (λ (o : Operation). o.name) os new key s name same (λ e. refl)
+    (none_before op_id (position (λ (o : Operation). bytes_eq name o.name) (map operation_view os)) none_here) is in
     ap (λ xs. record (table_view types os es declared) { operations = xs }) put
     ∙ ap (λ (n : List ℕ). with_operation (table_view types os es declared) (record { name = n; request = s.request.0; reply = s.reply.0 })) same
     ∙ ap (λ u. with_operation u (record { name = name; request = s.request.0; reply = s.reply.0 })) view
 
 -- ---- an exception
 
-pub exception_added : (t : Table) (e : Exception) → IsTable t → IsRaised t.types e → exception_in t e.repository ≡ None → length t.exceptions < 4096 → IsTable (with_exception t e)
+pub exception_added : (t : Table) (e : Exception) → IsTable t → IsRaised t.types e
+    → exception_in t e.repository ≡ None → length t.exceptions < 4096 → IsTable (with_exception t e)
 exception_added t e laws raised new few = record {
   types = laws.types;
   begins = laws.begins;
   operations = laws.operations;
   exceptions = All-push (IsRaised t.types) t.exceptions e laws.exceptions raised;
   operations_distinct = laws.operations_distinct;
-  exceptions_distinct = distinct_push (λ (x : Exception). x.repository) no_exception t.exceptions e laws.exceptions_distinct (none_before (members_at t) (position (λ (x : Exception). bytes_eq e.repository x.repository) t.exceptions) new);
+  exceptions_distinct = distinct_push (λ (x : Exception). x.repository) no_exception t.exceptions e laws.exceptions_distinct
+      (none_before (members_at t) (position (λ (x : Exception). bytes_eq e.repository x.repository) t.exceptions) new);
   operations_few = laws.operations_few;
   exceptions_few = omega (arith, length-append t.exceptions (e ∷ []));
   declared_few = laws.declared_few;
 }
 
 -- the table after a new exception is put
-pub exception_put : (types : List Node) (os : List (ArrayVec ℕ × Signature)) (es new : List (ArrayVec ℕ × TypeId)) (declared : ℕ) (t : Table) (key : ArrayVec ℕ) (m : TypeId) (name : List ℕ)
-    → table_view types os es declared ≡ t → key.items ≡ name → exception_in t name ≡ None → new ≡ insert_entry same_key es key m
-    → table_view types os new declared ≡ with_exception t (record { repository = name; members = m.0 })
+pub exception_put : (types : List Node) (os : List (ArrayVec ℕ × Signature))
+    (es new : List (ArrayVec ℕ × TypeId)) (declared : ℕ) (t : Table) (key : ArrayVec ℕ)
+    (m : TypeId) (name : List ℕ)
+    → table_view types os es declared ≡ t → key.items ≡ name → exception_in t name ≡ None
+    → new ≡ insert_entry same_key es key m
+    → table_view types os new declared
+    ≡ with_exception t (record { repository = name; members = m.0 })
 exception_put types os es new declared t key m name view same none is =
     let here = table_view types os es declared in
     let none_here : exception_in here name ≡ None = ap (λ (u : Table). exception_in u name) view ∙ none in
-    let put = entries_put exception_view (λ (e : Exception). e.repository) es new key m name same (λ e. refl) (none_before (members_at here) (position (λ (e : Exception). bytes_eq name e.repository) (map exception_view es)) none_here) is in
+    let put = entries_put exception_view (λ (e : Exception). e.repository) es new key m name same (λ e. refl)
+    (none_before (members_at here) (position (λ (e : Exception). bytes_eq name e.repository) (map exception_view es)) none_here) is in
     ap (λ xs. record here { exceptions = xs }) put
     ∙ ap (λ (n : List ℕ). with_exception here (record { repository = n; members = m.0 })) same
     ∙ ap (λ u. with_exception u (record { repository = name; members = m.0 })) view

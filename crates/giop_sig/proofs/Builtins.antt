@@ -1,5 +1,5 @@
 -- The built-in types are a table, by tests that are computed, and stand in every catalogue.
-use Rattle.std.proofs.Common.{◌≡◌, ℕ, zero, suc, ◌+◌, ◌<◌, ◌≤◌, Bool, true, false, ◌&&◌, ltb, leb, List, [], ◌∷◌, ◌++◌, length, get_or, Option, Some, None, refl, sym, ap, subst, ◌∙◌, take, drop, lit<, arith}
+use Rattle.std.proofs.Common.{◌≡◌, ℕ, zero, suc, ◌+◌, ◌^◌, ◌<◌, ◌≤◌, Bool, true, false, ◌&&◌, ltb, leb, List, [], ◌∷◌, ◌++◌, length, get_or, Option, Some, None, refl, sym, ap, subst, ◌∙◌, take, drop, lit<, arith}
 use Rattle.std.specs.Prelude.{slice_get, IfSome}
 use Rattle.std.specs.Option.{option_map}
 use Rattle.std.specs.List.{AllByRecursion}
@@ -84,13 +84,16 @@ part_test types n p = inner_test types n p.type && leb (length p.name) 64
 
 part_by : (types : List Node) (n : ℕ) (p : Part) → part_test types n p ≡ true → IsPart types n p
 unfolding part_test
-part_by types n p e = let k = both (inner_test types n p.type) (leb (length p.name) 64) e in record { inner = inner_by types n p.type k.0; short = leb-true (length p.name) 64 k.1 }
+part_by types n p e =
+    let k = both (inner_test types n p.type) (leb (length p.name) 64) e in
+    record { inner = inner_by types n p.type k.0; short = leb-true (length p.name) 64 k.1 }
 
 parts_test : List Node → ℕ → List Part → Bool
 parts_test types n [] = true
 parts_test types n (p ∷ ps) = part_test types n p && parts_test types n ps
 
-parts_by : (types : List Node) (n : ℕ) (ps : List Part) → parts_test types n ps ≡ true → AllByRecursion (IsPart types n) ps
+parts_by : (types : List Node) (n : ℕ) (ps : List Part) → parts_test types n ps ≡ true
+    → AllByRecursion (IsPart types n) ps
 unfolding parts_test
 parts_by types n [] e = tt
 parts_by types n (p ∷ ps) e = let k = both (part_test types n p) (parts_test types n ps) e in (part_by types n p k.0, parts_by types n ps k.1)
@@ -99,7 +102,8 @@ cases_test : List Node → ℕ → List Case → Bool
 cases_test types n [] = true
 cases_test types n (c ∷ cs) = part_test types n c.part && cases_test types n cs
 
-cases_by : (types : List Node) (n : ℕ) (cs : List Case) → cases_test types n cs ≡ true → AllByRecursion (λ c. IsPart types n c.part) cs
+cases_by : (types : List Node) (n : ℕ) (cs : List Case) → cases_test types n cs ≡ true
+    → AllByRecursion (λ c. IsPart types n c.part) cs
 unfolding cases_test
 cases_by types n [] e = tt
 cases_by types n (c ∷ cs) e = let k = both (part_test types n c.part) (cases_test types n cs) e in (part_by types n c.part k.0, cases_by types n cs k.1)
@@ -108,7 +112,8 @@ names_test : List (List ℕ) → Bool
 names_test [] = true
 names_test (x ∷ xs) = leb (length x) 64 && names_test xs
 
-names_by : (xs : List (List ℕ)) → names_test xs ≡ true → AllByRecursion (λ name. length name ≤ 64) xs
+names_by : (xs : List (List ℕ)) → names_test xs ≡ true
+    → AllByRecursion (λ name. length name ≤ 64) xs
 unfolding names_test
 names_by [] e = tt
 names_by (x ∷ xs) e = let k = both (leb (length x) 64) (names_test xs) e in (leb-true (length x) 64 k.0, names_by xs k.1)
@@ -128,21 +133,32 @@ node_test types n (nodes.encapsulation held) = inner_test types n held
 node_test types n (nodes.tagged special tag inner other) =
     switch_test types n tag.type && parts_test types n (tag ∷ inner ∷ other ∷ [])
 
-node_by : (types : List Node) (n : ℕ) (node : Node) → node_test types n node ≡ true → IsFormed types n node
+node_by : (types : List Node) (n : ℕ) (node : Node)
+    → node_test types n node ≡ true → IsFormed types n node
 unfolding node_test
 node_by types n (nodes.prim p) e = tt
-node_by types n (nodes.enumeration names) e = let k = both (leb (length names) 1024) (names_test names) e in (leb-true (length names) 1024 k.0, All-from_recursion (λ name. length name ≤ 64) names (names_by names k.1))
+node_by types n (nodes.enumeration names) e =
+    let k = both (leb (length names) 1024) (names_test names) e in
+    (leb-true (length names) 1024 k.0, All-from_recursion (λ name. length name ≤ 64) names (names_by names k.1))
 node_by types n (nodes.text bound) e = tt
 node_by types n (nodes.octets bound) e = tt
-node_by types n (nodes.members parts) e = let k = both (leb (length parts) 256) (parts_test types n parts) e in (leb-true (length parts) 256 k.0, All-from_recursion (IsPart types n) parts (parts_by types n parts k.1))
+node_by types n (nodes.members parts) e =
+    let k = both (leb (length parts) 256) (parts_test types n parts) e in
+    (leb-true (length parts) 256 k.0, All-from_recursion (IsPart types n) parts (parts_by types n parts k.1))
 node_by types n (nodes.union switch cases selecteds.Refused) e =
     let k = both (switch_test types n switch) (leb (length cases) 256 && cases_test types n cases) e in
-    let c = both (leb (length cases) 256) (cases_test types n cases) k.1 in
-    (switch_by types n switch k.0, leb-true (length cases) 256 c.0, All-from_recursion (λ (x : Case). IsPart types n x.part) cases (cases_by types n cases c.1), tt)
+    let c = both (leb (length cases) 256) (cases_test types n cases) k.1 in (
+      switch_by types n switch k.0,
+      leb-true (length cases) 256 c.0,
+      All-from_recursion (λ (x : Case). IsPart types n x.part) cases (cases_by types n cases c.1),
+      tt,
+    )
 node_by types n (nodes.union switch cases (selecteds.Case i)) e = absurd cc
 node_by types n (nodes.union switch cases selecteds.Nothing) e = absurd cc
 node_by types n (nodes.sequence bound element) e = inner_by types n element e
-node_by types n (nodes.array count element) e = let k = both (ltb 0 count) (inner_test types n element) e in (ltb-true 0 count k.0, inner_by types n element k.1)
+node_by types n (nodes.array count element) e =
+    let k = both (ltb 0 count) (inner_test types n element) e in
+    (ltb-true 0 count k.0, inner_by types n element k.1)
 node_by types n (nodes.encapsulation held) e = inner_by types n held e
 node_by types n (nodes.tagged special tag inner other) e =
     let k = both (switch_test types n tag.type) (parts_test types n (tag ∷ inner ∷ other ∷ [])) e in
@@ -153,11 +169,16 @@ table_test : List Node → ℕ → List Node → Bool
 table_test types n [] = true
 table_test types n (x ∷ xs) = node_test types n x && table_test types (suc n) xs
 
-table_by : (types : List Node) (n : ℕ) (xs : List Node) (i k : ℕ) → table_test types n xs ≡ true → i < length xs → k ≡ n + i → IsFormed types k (get_or xs i (nodes.prim Octet))
+table_by : (types : List Node) (n : ℕ) (xs : List Node) (i k : ℕ) → table_test types n xs ≡ true
+    → i < length xs → k ≡ n + i → IsFormed types k (get_or xs i (nodes.prim Octet))
 unfolding table_test
 table_by types n [] i k e lt at = absurd (omega arith)
-table_by types n (x ∷ xs) zero k e lt at = let b = both (node_test types n x) (table_test types (suc n) xs) e in subst (λ m. IsFormed types m x) (omega arith) (node_by types n x b.0)
-table_by types n (x ∷ xs) (suc i) k e lt at = let b = both (node_test types n x) (table_test types (suc n) xs) e in table_by types (suc n) xs i k b.1 (omega arith) (omega arith)
+table_by types n (x ∷ xs) zero k e lt at =
+    let b = both (node_test types n x) (table_test types (suc n) xs) e in
+    subst (λ m. IsFormed types m x) (omega arith) (node_by types n x b.0)
+table_by types n (x ∷ xs) (suc i) k e lt at =
+    let b = both (node_test types n x) (table_test types (suc n) xs) e in
+    table_by types (suc n) xs i k b.1 (omega arith) (omega arith)
 
 -- the deepest built-in type is the header of a 1.2 request
 pub builtin_depth : depth_of builtin_types ≡ 9
@@ -181,7 +202,8 @@ all_take_test : List Node → Bool
 all_take_test [] = true
 all_take_test (x ∷ xs) = takes_test x && all_take_test xs
 
-all_take_by : (xs : List Node) (i : ℕ) → all_take_test xs ≡ true → i < length xs → TakesOctet (node_in xs i)
+all_take_by : (xs : List Node) (i : ℕ) → all_take_test xs ≡ true → i < length xs
+    → TakesOctet (node_in xs i)
 unfolding all_take_test
 all_take_by [] i e lt = absurd (omega arith)
 all_take_by (x ∷ xs) zero e lt = let k = both (takes_test x) (all_take_test xs) e in takes_by x k.0
@@ -194,27 +216,40 @@ builtin_takes i lt = all_take_by builtin_types i refl lt
 -- ---- the table from its front
 
 -- the built-in types up to the next one
-pub next_builtin : (n : ℕ) → n < BUILTIN_LEN → take (n + 1) builtin_types ≡ take n builtin_types ++ node_in builtin_types n ∷ []
+pub next_builtin : (n : ℕ) → n < BUILTIN_LEN
+    → take (n + 1) builtin_types ≡ take n builtin_types ++ node_in builtin_types n ∷ []
 unfolding builtin_types
 next_builtin n lt = take_more builtin_types n (nodes.prim Octet) lt
 
 -- the next built-in type can be added
-pub builtin_formed : (n : ℕ) (types : List Node) (node : Node) → n < BUILTIN_LEN → types ≡ take n builtin_types → node ≡ node_in builtin_types n → IsFormed types (length types) node
+pub builtin_formed : (n : ℕ) (types : List Node) (node : Node) → n < BUILTIN_LEN
+    → types ≡ take n builtin_types → node ≡ node_in builtin_types n
+    → IsFormed types (length types) node
 unfolding builtin_types
 builtin_formed n types node lt front is =
     let len : length types ≡ n = ap length front ∙ omega (arith, length-take n builtin_types) in
     let same : SameNodes builtin_types types n = λ i below. sym (ap (λ ts. node_in ts i) front ∙ get_or-take n builtin_types i (nodes.prim Octet) below) in
-    subst (λ m. IsFormed types m node) (sym len) (formed_moved builtin_types types n node same (subst (IsFormed builtin_types n) (sym is) (builtin_are.formed n lt)))
+    subst (λ m. IsFormed types m node) (sym len) (formed_moved builtin_types types n node same
+    (subst (IsFormed builtin_types n) (sym is) (builtin_are.formed n lt)))
 
-pub builtin_shallow : (n : ℕ) (types : List Node) (node : Node) → n < BUILTIN_LEN → types ≡ take n builtin_types → node ≡ node_in builtin_types n → depth (grow (type_in types) node) ≤ 24
+pub builtin_few : (n : ℕ) (types : List Node) → n < BUILTIN_LEN → types ≡ take n builtin_types
+    → length types + 1 < 2 ^ 32
+builtin_few n types lt front = omega (arith, ap length front, length-take n builtin_types)
+
+pub builtin_shallow : (n : ℕ) (types : List Node) (node : Node) → n < BUILTIN_LEN
+    → types ≡ take n builtin_types → node ≡ node_in builtin_types n
+    → depth (grow (type_in types) node) ≤ 24
 unfolding builtin_types
 builtin_shallow n types node lt front is =
     let len : length types ≡ n = ap length front ∙ omega (arith, length-take n builtin_types) in
-    let next : types ++ node ∷ [] ≡ take (n + 1) builtin_types = ap (λ ts. ts ++ node ∷ []) front ∙ ap (λ m. take n builtin_types ++ m ∷ []) is ∙ sym (next_builtin n lt) in
-    let whole : (types ++ node ∷ []) ++ drop (n + 1) builtin_types ≡ builtin_types = ap (λ ts. ts ++ drop (n + 1) builtin_types) next ∙ take-append-drop (n + 1) builtin_types in
+    let next : types ++ node ∷ [] ≡ take (n + 1) builtin_types =
+    ap (λ ts. ts ++ node ∷ []) front ∙ ap (λ m. take n builtin_types ++ m ∷ []) is ∙ sym (next_builtin n lt) in
+    let whole : (types ++ node ∷ []) ++ drop (n + 1) builtin_types ≡ builtin_types =
+    ap (λ ts. ts ++ drop (n + 1) builtin_types) next ∙ take-append-drop (n + 1) builtin_types in
     let there : length types < length (types ++ node ∷ []) = omega (arith, length-append types (node ∷ [])) in
     let tree : grow (type_in types) node ≡ type_in builtin_types n =
-    sym (tree_added types node) ∙ sym (tree_stays (types ++ node ∷ []) (drop (n + 1) builtin_types) (length types) there) ∙ ap (λ ts. type_in ts (length types)) whole ∙ ap (type_in builtin_types) len in
+    sym (tree_added types node) ∙ sym (tree_stays (types ++ node ∷ []) (drop (n + 1) builtin_types) (length types) there)
+    ∙ ap (λ ts. type_in ts (length types)) whole ∙ ap (type_in builtin_types) len in
     let within = depth_within builtin_types n lt in
     omega (arith, ap depth tree, builtin_depth)
 
@@ -224,7 +259,8 @@ pub builtin_known : (t : Table) (i : ℕ) → IsTable t → i < BUILTIN_LEN → 
 unfolding builtin_types
 builtin_known t i laws lt = let b = laws.begins in omega (arith, ap length b.1, length-append builtin_types b.0)
 
-pub builtin_tree : (t : Table) (i : ℕ) → IsTable t → i < BUILTIN_LEN → tree t i ≡ type_in builtin_types i
+pub builtin_tree : (t : Table) (i : ℕ) → IsTable t → i < BUILTIN_LEN
+    → tree t i ≡ type_in builtin_types i
 unfolding builtin_types
 builtin_tree t i laws lt = let b = laws.begins in ap (λ types. type_in types i) b.1 ∙ tree_stays builtin_types b.0 i lt
 
@@ -251,13 +287,15 @@ unfolding cell_test
 cell_by None e = tt
 cell_by (Some n) e = ltb-true n BUILTIN_LEN e
 
-row_by : (cs : List (Option ℕ)) (i : ℕ) → row_test cs ≡ true → IfSome (cell_of (slice_get cs i)) (λ n. n < BUILTIN_LEN)
+row_by : (cs : List (Option ℕ)) (i : ℕ) → row_test cs ≡ true
+    → IfSome (cell_of (slice_get cs i)) (λ n. n < BUILTIN_LEN)
 unfolding row_test
 row_by [] i e = tt
 row_by (c ∷ cs) zero e = let k = both (cell_test c) (row_test cs) e in cell_by c k.0
 row_by (c ∷ cs) (suc i) e = let k = both (cell_test c) (row_test cs) e in row_by cs i k.1
 
-rows_by : (rs : List (List (Option ℕ))) (i minor : ℕ) → rows_test rs ≡ true → IfSome (cell_in (slice_get rs i) minor) (λ n. n < BUILTIN_LEN)
+rows_by : (rs : List (List (Option ℕ))) (i minor : ℕ) → rows_test rs ≡ true
+    → IfSome (cell_in (slice_get rs i) minor) (λ n. n < BUILTIN_LEN)
 unfolding rows_test
 rows_by [] i minor e = tt
 rows_by (r ∷ rs) zero minor e = let k = both (row_test r) (rows_test rs) e in row_by r minor k.0
@@ -267,32 +305,40 @@ pub header_built_in : (minor kind : ℕ) → IfSome (header_number minor kind) (
 unfolding rows_test row_test cell_test
 header_built_in minor kind = rows_by header_rows kind minor refl
 
-pub header_tree : (t : Table) (o : Option ℕ) → IsTable t → IfSome o (λ n. n < BUILTIN_LEN) → option_map (tree t) o ≡ option_map (type_in builtin_types) o
+pub header_tree : (t : Table) (o : Option ℕ) → IsTable t → IfSome o (λ n. n < BUILTIN_LEN)
+    → option_map (tree t) o ≡ option_map (type_in builtin_types) o
 unfolding builtin_types
 header_tree t None laws lt = refl
 header_tree t (Some n) laws lt = ap Some (builtin_tree t n laws lt)
 
 -- what holds of a number holds of what has that number
-pub some_numbered : {X Y : Type 0} (P : Y → Type 0) (f : X → Y) (r : Option X) (o : Option Y) → option_map f r ≡ o → IfSome o P → IfSome r (λ x. P (f x))
+pub some_numbered : {X Y : Type 0} (P : Y → Type 0) (f : X → Y) (r : Option X) (o : Option Y)
+    → option_map f r ≡ o → IfSome o P → IfSome r (λ x. P (f x))
 some_numbered P f None o e h = tt
 some_numbered P f (Some x) o e h = subst (λ o. IfSome o P) (sym e) h
 
-pub some_known : (t : Table) (o : Option ℕ) → IsTable t → IfSome o (λ n. n < BUILTIN_LEN) → IfSome o (λ n. n < length t.types)
+pub some_known : (t : Table) (o : Option ℕ) → IsTable t → IfSome o (λ n. n < BUILTIN_LEN)
+    → IfSome o (λ n. n < length t.types)
 some_known t None laws lt = tt
 some_known t (Some n) laws lt = builtin_known t n laws lt
 
-pub some_fit : (t : Table) (o : Option ℕ) → IsTable t → IfSome o (λ n. n < BUILTIN_LEN) → IfSome o (λ n. IsFit 24 (tree t n))
+pub some_fit : (t : Table) (o : Option ℕ) → IsTable t → IfSome o (λ n. n < BUILTIN_LEN)
+    → IfSome o (λ n. IsFit 24 (tree t n))
 some_fit t None laws lt = tt
 some_fit t (Some n) laws lt = builtin_fit t n laws lt
 
-map_twice : {X Y Z : Type 0} (f : X → Y) (g : Y → Z) (r : Option X) → option_map (λ x. g (f x)) r ≡ option_map g (option_map f r)
+map_twice : {X Y Z : Type 0} (f : X → Y) (g : Y → Z) (r : Option X)
+    → option_map (λ x. g (f x)) r ≡ option_map g (option_map f r)
 map_twice f g None = refl
 map_twice f g (Some x) = refl
 
 -- the tree of the header type that was found
-pub header_found : {X : Type 0} (t : Table) (f : X → ℕ) (r : Option X) (minor kind : ℕ) → IsTable t → option_map f r ≡ header_number minor kind
-    → option_map (λ x. tree t (f x)) r ≡ option_map (type_in builtin_types) (header_number minor kind)
-header_found t f r minor kind laws e = map_twice f (tree t) r ∙ ap (option_map (tree t)) e ∙ header_tree t (header_number minor kind) laws (header_built_in minor kind)
+pub header_found : {X : Type 0} (t : Table) (f : X → ℕ) (r : Option X) (minor kind : ℕ) → IsTable t
+    → option_map f r ≡ header_number minor kind
+    → option_map (λ x. tree t (f x)) r
+    ≡ option_map (type_in builtin_types) (header_number minor kind)
+header_found t f r minor kind laws e =
+    map_twice f (tree t) r ∙ ap (option_map (tree t)) e ∙ header_tree t (header_number minor kind) laws (header_built_in minor kind)
 
 -- no catalogue is less deep than its built-in types
 pub least_depth : (t : Table) → IsTable t → 9 ≤ depth_of t.types

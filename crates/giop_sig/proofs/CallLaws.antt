@@ -1,5 +1,5 @@
 -- What reading gives of a text that begins with an operation, and what one that was read is spelled as.
-use Rattle.std.proofs.Common.{◌≡◌, ℕ, zero, suc, ◌+◌, ◌<◌, ◌≤◌, Bool, true, false, cond, ltb, leb, List, [], ◌∷◌, ◌++◌, length, Option, Some, None, Result, Ok, Err, append_assoc, refl, sym, ap, subst, ◌∙◌, arith}
+use Rattle.std.proofs.Common.{◌≡◌, inl, ℕ, zero, suc, ◌+◌, ◌<◌, ◌≤◌, Bool, true, false, cond, ltb, leb, List, [], ◌∷◌, ◌++◌, length, Option, Some, None, Result, Ok, Err, append_assoc, refl, sym, ap, subst, ◌∙◌, arith}
 use Rattle.std.specs.Prelude.{codes}
 use Rattle.std.specs.Option.{is_some}
 use Rattle.std.proofs.lemmas.List.{length-append, append-nil}
@@ -24,7 +24,7 @@ use Rattle.giop_sig.specs.Outcomes.{refused}
 use Rattle.giop_sig.specs.TypeReading.{added, type_at}
 use Rattle.giop_sig.specs.ItemReading.{item_at, Declared}
 use Rattle.giop_sig.specs.CallReading.{ReturnRead, return_at, new_operation_at, direction_of, direction_at, in_request, in_reply, Params, Way, params_of, behind_param, param_step, ParamsRead, way_of, params_run, no_way, params_at, operation_at}
-use Rattle.giop_sig.proofs.PlaceLaws.{deepest, size, node_deeper, item_longer, item_names, params_deeper, return_longer, return_names, return_operations}
+use Rattle.giop_sig.proofs.PlaceLaws.{size, within_same, within_on, node_more, item_more, item_names, params_more, return_more, return_names, return_operations, structs_more}
 use Rattle.giop_sig.proofs.ReadingLaws.{Out, good, broken, out_bind, out_more, Apart, if_apart}
 use Rattle.giop_sig.proofs.TypeLaws.{added_bind, is_not, type_reads}
 use Rattle.giop_sig.proofs.ItemLaws.{made_item, item_reads, some_none, no_none}
@@ -37,7 +37,8 @@ abbrev NoVoid : List Token → Type 0
 NoVoid [] = Unit {0}
 NoVoid (t ∷ ts) = is_the_word (codes "void") t ≡ false
 
-no_void : (e : TypeExpr) (names : Names) (more : List Token) → OfType kinds.Syntax names e → NoVoid (spell_type e more)
+no_void : (e : TypeExpr) (names : Names) (more : List Token) → OfType kinds.Syntax names e
+    → NoVoid (spell_type e more)
 unfolding OfType is_reserved
 no_void (Base prims.Octet) names more free = refl
 no_void (Base prims.Char) names more free = refl
@@ -56,31 +57,43 @@ no_void (Named w) names more free = is_not w (codes "void") free refl
 no_void (SequenceOf e o) names more free = refl
 no_void (EncapsulationOf e) names more free = refl
 
-if_no_void : (text : List ℕ) (t : Token) (ts : List Token) → is_the_word (codes "void") t ≡ false → AreTokens text (t ∷ ts) → keyword_if (codes "void") text ≡ Ok None
+if_no_void : (text : List ℕ) (t : Token) (ts : List Token) → is_the_word (codes "void") t ≡ false
+    → AreTokens text (t ∷ ts) → keyword_if (codes "void") text ≡ Ok None
 if_no_void text t ts differs h = if_other (is_the_word (codes "void")) text t ts h differs
 
-type_no_void : (e : TypeExpr) (names : Names) (text : List ℕ) (more : List Token) → OfType kinds.Syntax names e → AreTokens text (spell_type e more) → keyword_if (codes "void") text ≡ Ok None
+type_no_void : (e : TypeExpr) (names : Names) (text : List ℕ) (more : List Token)
+    → OfType kinds.Syntax names e → AreTokens text (spell_type e more)
+    → keyword_if (codes "void") text ≡ Ok None
 type_no_void (Base p) names text more free h = if_no_void text (word (base_word p)) more (no_void (Base p) names more free) h
 type_no_void (Text o) names text more free h = if_no_void text (word (codes "string")) (spell_bound o more) (no_void (Text o) names more free) h
 type_no_void Reference names text more free h = if_no_void text (word (codes "Object")) more (no_void Reference names more free) h
 type_no_void (Named w) names text more free h = if_no_void text (word w) more (no_void (Named w) names more free) h
-type_no_void (SequenceOf e o) names text more free h = if_no_void text (word (codes "sequence")) (mark marks.OpenAngle ∷ spell_type e (spell_most o (mark marks.CloseAngle ∷ more))) (no_void (SequenceOf e o) names more free) h
-type_no_void (EncapsulationOf e) names text more free h = if_no_void text (word (codes "encapsulation")) (mark marks.OpenAngle ∷ spell_type e (mark marks.CloseAngle ∷ more)) (no_void (EncapsulationOf e) names more free) h
+type_no_void (SequenceOf e o) names text more free h =
+    if_no_void text (word (codes "sequence")) (mark marks.OpenAngle ∷ spell_type e (spell_most o (mark marks.CloseAngle ∷ more)))
+    (no_void (SequenceOf e o) names more free) h
+type_no_void (EncapsulationOf e) names text more free h =
+    if_no_void text (word (codes "encapsulation")) (mark marks.OpenAngle ∷ spell_type e (mark marks.CloseAngle ∷ more))
+    (no_void (EncapsulationOf e) names more free) h
 
 abbrev made_return : Scope → Option TypeExpr → List ℕ → ReturnRead
 made_return s o rest = ((place_return s o).0, (place_return s o).1, rest)
 
-return_reads : (at : ℕ) (s : Scope) (o : Option TypeExpr) (text : List ℕ) (more : List Token) → 0 < size s → OfReturn kinds.Syntax s.names o → Apart marks.OpenAngle more → AreTokens text (spell_return o more)
-    → Out (made_return s o) (λ k. OfReturn k s.names o) (place_return s o).0.table.types more (return_at at s text)
+return_reads : (at : ℕ) (s : Scope) (o : Option TypeExpr) (text : List ℕ) (more : List Token)
+    → 0 < size s → OfReturn kinds.Syntax s.names o → Apart marks.OpenAngle more
+    → AreTokens text (spell_return o more)
+    → Out (made_return s o) (λ k. OfReturn k s.names o) (place_return s o).0.table.types
+    more (return_at at s text)
 unfolding return_at
 return_reads at s None text more some free apart h = rw (keyword_if_again (codes "void") text more h) (good h.0 h.2 (λ k. tt))
 return_reads at s (Some e) text more some free apart h =
     rw (type_no_void e s.names text more free h)
-    (out_bind (type_at at 25 s text) (λ t. Ok (t.0, part (codes "return") t.1 ∷ [], t.2)) (type_reads at s e text more some free apart h) (λ rest m keeps. good rest m keeps) (λ k w. w) (omega arith))
+    (out_bind (type_at at 25 s text) (λ t. Ok (t.0, part (codes "return") t.1 ∷ [], t.2)) (type_reads at s e text more some free apart h)
+    (λ rest m keeps. good rest m keeps) (λ k w. w) within_same)
 
 -- ---- the name
 
-operation_keeps : (s : Scope) (w : List ℕ) → length w ≤ 128 → length s.table.operations < 4096 → operation_in s.table w ≡ None → (k : Kind) → OfOperation k s w
+operation_keeps : (s : Scope) (w : List ℕ) → length w ≤ 128 → length s.table.operations < 4096
+    → operation_in s.table w ≡ None → (k : Kind) → OfOperation k s w
 operation_keeps s w short few new kinds.Token = tt
 operation_keeps s w short few new kinds.Syntax = tt
 operation_keeps s w short few new kinds.UnknownType = tt
@@ -92,7 +105,8 @@ operation_keeps s w short few new kinds.Empty = tt
 operation_keeps s w short few new kinds.OutOfMemory = tt
 
 -- the operations are those of the scope before
-operation_same : (s t : Scope) (w : List ℕ) → t.table.operations ≡ s.table.operations → (k : Kind) → OfOperation k s w → OfOperation k t w
+operation_same : (s t : Scope) (w : List ℕ) → t.table.operations ≡ s.table.operations → (k : Kind)
+    → OfOperation k s w → OfOperation k t w
 operation_same s t w same kinds.Token h = tt
 operation_same s t w same kinds.Syntax h = tt
 operation_same s t w same kinds.UnknownType h = tt
@@ -103,21 +117,34 @@ operation_same s t w same kinds.Label h = tt
 operation_same s t w same kinds.Empty h = tt
 operation_same s t w same kinds.OutOfMemory h = tt
 
-name_by : (types : List Node) (s : Scope) (text w rest : List ℕ) (more : List Token) (a b : Bool) → is_some (operation_in s.table w) ≡ a → leb 4096 (length s.table.operations) ≡ b → length w ≤ 128 → AreTokens rest more
-    → Out {X = List ℕ × List ℕ} (λ rest. (w, rest)) (λ k. OfOperation k s w) types more (cond a (Err (refused kinds.Duplicate text)) (cond b (Err (refused kinds.Limit text)) (Ok (w, rest))))
+name_by : (types : List Node) (s : Scope) (text w rest : List ℕ) (more : List Token) (a b : Bool)
+    → is_some (operation_in s.table w) ≡ a → leb 4096 (length s.table.operations) ≡ b
+    → length w ≤ 128 → AreTokens rest more
+    → Out {X = List ℕ × List ℕ} (λ rest. (w, rest)) (λ k. OfOperation k s w) types more
+    (cond a (Err (refused kinds.Duplicate text))
+    (cond b (Err (refused kinds.Limit text)) (Ok (w, rest))))
 name_by types s text w rest more true b p q short m = broken (refused kinds.Duplicate text) (some_none (operation_in s.table w) p)
-name_by types s text w rest more false true p q short m = broken (refused kinds.Limit text) (λ h. let z = leb-true 4096 (length s.table.operations) q in let f = h.1 in omega arith)
-name_by types s text w rest more false false p q short m = good rest m (operation_keeps s w short (leb-false 4096 (length s.table.operations) q) (no_none (operation_in s.table w) p))
+name_by types s text w rest more false true p q short m =
+    broken (refused kinds.Limit text) (inl (λ h. let z = leb-true 4096 (length s.table.operations) q in let f = h.1 in omega arith))
+name_by types s text w rest more false false p q short m =
+    good rest m (operation_keeps s w short (leb-false 4096 (length s.table.operations) q) (no_none (operation_in s.table w) p))
 
-long_name : (types : List Node) (s : Scope) (text w : List ℕ) (more : List Token) (v : Bool) → ltb 128 (length w) ≡ v → AreTokens text (word w ∷ more)
-    → Out {X = List ℕ × List ℕ} (λ rest. (w, rest)) (λ k. OfOperation k s w) types more (new_operation_at s text)
+long_name : (types : List Node) (s : Scope) (text w : List ℕ) (more : List Token) (v : Bool)
+    → ltb 128 (length w) ≡ v → AreTokens text (word w ∷ more)
+    → Out {X = List ℕ × List ℕ} (λ rest. (w, rest)) (λ k. OfOperation k s w) types more
+    (new_operation_at s text)
 unfolding new_operation_at
-long_name types s text w more true e h = rw (operation_name_long text w more h (ltb-true 128 (length w) e)) (broken (too_long text) (λ r. let z = ltb-true 128 (length w) e in let f = r.0 in omega arith))
+long_name types s text w more true e h =
+    rw (operation_name_long text w more h (ltb-true 128 (length w) e))
+    (broken (too_long text) (inl (λ r. let z = ltb-true 128 (length w) e in let f = r.0 in omega arith)))
 long_name types s text w more false e h =
-    rw (operation_name_again text w more h (ltb-false 128 (length w) e)) (name_by types s text w h.0 more (is_some (operation_in s.table w)) (leb 4096 (length s.table.operations)) refl refl (ltb-false 128 (length w) e) h.2)
+    rw (operation_name_again text w more h (ltb-false 128 (length w) e))
+    (name_by types s text w h.0 more (is_some (operation_in s.table w)) (leb 4096 (length s.table.operations)) refl refl (ltb-false 128 (length w) e) h.2)
 
-name_reads : (types : List Node) (s : Scope) (text w : List ℕ) (more : List Token) → AreTokens text (word w ∷ more)
-    → Out {X = List ℕ × List ℕ} (λ rest. (w, rest)) (λ k. OfOperation k s w) types more (new_operation_at s text)
+name_reads : (types : List Node) (s : Scope) (text w : List ℕ) (more : List Token)
+    → AreTokens text (word w ∷ more)
+    → Out {X = List ℕ × List ℕ} (λ rest. (w, rest)) (λ k. OfOperation k s w) types more
+    (new_operation_at s text)
 name_reads types s text w more h = long_name types s text w more (ltb 128 (length w)) refl h
 
 -- ---- parameters
@@ -127,7 +154,8 @@ direction_word_of directions.In = refl
 direction_word_of directions.Out = refl
 direction_word_of directions.Inout = refl
 
-direction_again : (d : Direction) (text : List ℕ) (more : List Token) (h : AreTokens text (word (direction_word d) ∷ more)) → direction_at text ≡ Ok (d, h.0)
+direction_again : (d : Direction) (text : List ℕ) (more : List Token)
+    (h : AreTokens text (word (direction_word d) ∷ more)) → direction_at text ≡ Ok (d, h.0)
 unfolding direction_at
 direction_again d text more h = rw (word_again text (direction_word d) more h, direction_word_of d) refl
 
@@ -140,37 +168,53 @@ abbrev is_last : List Param → Bool
 is_last [] = true
 is_last (p ∷ ps) = false
 
-more_apart : (ps : List Param) (more : List Token) → Apart marks.OpenBracket (spell_more_params ps more)
+more_apart : (ps : List Param) (more : List Token)
+    → Apart marks.OpenBracket (spell_more_params ps more)
 more_apart [] more = refl
 more_apart (p ∷ ps) more = refl
 
 abbrev made_param : Way → Scope → Param → List Param → List ℕ → Params
 made_param w s p ps rest = params_of w p.direction (made_item s p.item []) rest (is_last ps)
 
-behind_reads : (w : Way) (s : Scope) (p : Param) (ps : List Param) (rule : Kind → Type 0) (types : List Node) (rest : List ℕ) (more : List Token) → AreTokens rest (spell_more_params ps more) → ((k : Kind) → rule k)
-    → Out (made_param w s p ps) rule types (after_param ps more) (mark_if marks.Comma rest >>= λ c. behind_param w p.direction (made_item s p.item rest) c)
+behind_reads : (w : Way) (s : Scope) (p : Param) (ps : List Param) (rule : Kind → Type 0)
+    (types : List Node) (rest : List ℕ) (more : List Token)
+    → AreTokens rest (spell_more_params ps more) → ((k : Kind) → rule k)
+    → Out (made_param w s p ps) rule types (after_param ps more)
+    (mark_if marks.Comma rest >>= λ c. behind_param w p.direction (made_item s p.item rest) c)
 behind_reads w s p [] rule types rest more h keeps =
     rw (if_apart marks.Comma rest (mark marks.CloseParenthesis ∷ more) refl h, mark_again marks.CloseParenthesis rest more h) (good h.0 h.2 keeps)
-behind_reads w s p (q ∷ qs) rule types rest more h keeps = rw (mark_if_again marks.Comma rest (spell_param q (spell_more_params qs more)) h) (good h.0 h.2 keeps)
+behind_reads w s p (q ∷ qs) rule types rest more h keeps =
+    rw (mark_if_again marks.Comma rest (spell_param q (spell_more_params qs more)) h) (good h.0 h.2 keeps)
 
-param_reads : (at : ℕ) (w : Way) (s : Scope) (p : Param) (ps : List Param) (text : List ℕ) (more : List Token) → 0 < size s → OfItem kinds.Syntax s.names 255 w.seen p.item → AreTokens text (spell_param p (spell_more_params ps more))
-    → Out (made_param w s p ps) (λ k. OfItem k s.names 255 w.seen p.item) (place_item s p.item).0.table.types (after_param ps more) (param_step at w s text)
+param_reads : (at : ℕ) (w : Way) (s : Scope) (p : Param) (ps : List Param) (text : List ℕ)
+    (more : List Token) → 0 < size s → OfItem kinds.Syntax s.names 255 w.seen p.item
+    → AreTokens text (spell_param p (spell_more_params ps more))
+    → Out (made_param w s p ps) (λ k. OfItem k s.names 255 w.seen p.item)
+    (place_item s p.item).0.table.types (after_param ps more) (param_step at w s text)
 unfolding param_step
 param_reads at w s p ps text more some free h =
     rw (direction_again p.direction text (spell_item p.item (spell_more_params ps more)) h)
     (out_bind (item_at at 255 w.seen s h.0) (λ i. mark_if marks.Comma i.2 >>= λ c. behind_param w p.direction i c)
     (item_reads at 255 w.seen s p.item h.0 (spell_more_params ps more) some free (more_apart ps more) h.2)
-    (λ rest m keeps. behind_reads w s p ps (λ k. OfItem k s.names 255 w.seen p.item) (place_item s p.item).0.table.types rest more m keeps) (λ k w. w) (omega arith))
+    (λ rest m keeps. behind_reads w s p ps (λ k. OfItem k s.names 255 w.seen p.item) (place_item s p.item).0.table.types rest more m
+    keeps) (λ k w. w) within_same)
 
 abbrev made_params : Way → Scope → List Param → List ℕ → ParamsRead
-made_params w s ps rest = ((place_params s ps).0, w.request ++ (place_params s ps).1, w.reply ++ (place_params s ps).2, rest)
+made_params w s ps rest = (
+  (place_params s ps).0,
+  w.request ++ (place_params s ps).1,
+  w.reply ++ (place_params s ps).2,
+  rest,
+)
 
-request_on : (d : Direction) (p : Part) (q r : List Part) → in_request d p q ++ r ≡ q ++ onto_request d p r
+request_on : (d : Direction) (p : Part) (q r : List Part)
+    → in_request d p q ++ r ≡ q ++ onto_request d p r
 request_on directions.In p q r = append_assoc q (p ∷ []) r
 request_on directions.Out p q r = refl
 request_on directions.Inout p q r = append_assoc q (p ∷ []) r
 
-reply_on : (d : Direction) (p : Part) (q r : List Part) → in_reply d p q ++ r ≡ q ++ onto_reply d p r
+reply_on : (d : Direction) (p : Part) (q r : List Part)
+    → in_reply d p q ++ r ≡ q ++ onto_reply d p r
 reply_on directions.In p q r = refl
 reply_on directions.Out p q r = append_assoc q (p ∷ []) r
 reply_on directions.Inout p q r = append_assoc q (p ∷ []) r
@@ -178,74 +222,106 @@ reply_on directions.Inout p q r = append_assoc q (p ∷ []) r
 abbrev way_on : Way → Scope → Param → Way
 way_on w s p = way_of (params_of w p.direction (made_item s p.item []) [] false)
 
-made_on : (w : Way) (s : Scope) (p : Param) (ps : List Param) (rule : Kind → Type 0) (types : List Node) (more : List Token) (r : Result ParamsRead Refusal)
-    → Out (made_params (way_on w s p) (place_item s p.item).0 ps) rule types more r → Out (made_params w s (p ∷ ps)) rule types more r
+made_on : (w : Way) (s : Scope) (p : Param) (ps : List Param) (rule : Kind → Type 0)
+    (types : List Node) (more : List Token) (r : Result ParamsRead Refusal)
+    → Out (made_params (way_on w s p) (place_item s p.item).0 ps) rule types more r
+    → Out (made_params w s (p ∷ ps)) rule types more r
 unfolding place_params
 made_on w s p ps rule types more r o =
     let t = place_params (place_item s p.item).0 ps in
     let one = item_part p.item (place_item s p.item) in
-    subst (λ qs. Out {X = ParamsRead} (λ rest. (t.0, qs, w.reply ++ onto_reply p.direction one t.2, rest)) rule types more r) (request_on p.direction one w.request t.1)
-    (subst (λ rs. Out {X = ParamsRead} (λ rest. (t.0, in_request p.direction one w.request ++ t.1, rs, rest)) rule types more r) (reply_on p.direction one w.reply t.2) o)
+    subst (λ qs. Out {X = ParamsRead} (λ rest. (t.0, qs, w.reply ++ onto_reply p.direction one t.2, rest)) rule types more r)
+    (request_on p.direction one w.request t.1)
+    (subst (λ rs. Out {X = ParamsRead} (λ rest. (t.0, in_request p.direction one w.request ++ t.1, rs, rest)) rule types more r)
+    (reply_on p.direction one w.reply t.2) o)
 
 abbrev then_run : ℕ → ℕ → Params → Result ParamsRead Refusal
-then_run at n m = cond m.closed (Ok (m.scope, m.request, m.reply, m.rest)) (params_run at n (way_of m) m.scope m.rest)
+then_run at n m =
+    cond m.closed (Ok (m.scope, m.request, m.reply, m.rest))
+    (params_run at n (way_of m) m.scope m.rest)
 
 -- the last parameter ends the reading
-last_reads : (at n : ℕ) (w : Way) (s : Scope) (p : Param) (rule : Kind → Type 0) (rest : List ℕ) (more : List Token) → AreTokens rest more → ((k : Kind) → rule k)
-    → Out (made_params (way_on w s p) (place_item s p.item).0 []) rule (place_params (place_item s p.item).0 []).0.table.types more (then_run at n (made_param w s p [] rest))
+last_reads : (at n : ℕ) (w : Way) (s : Scope) (p : Param) (rule : Kind → Type 0) (rest : List ℕ)
+    (more : List Token) → AreTokens rest more → ((k : Kind) → rule k)
+    → Out (made_params (way_on w s p) (place_item s p.item).0 []) rule
+    (place_params (place_item s p.item).0 []).0.table.types more
+    (then_run at n (made_param w s p [] rest))
 unfolding place_params
 last_reads at n w s p rule rest more m keeps =
     let one = item_part p.item (place_item s p.item) in
     let t = (place_item s p.item).0 in
-    subst (λ qs. Out {X = ParamsRead} (λ rest. (t, qs, in_reply p.direction one w.reply ++ [], rest)) rule t.table.types more (Ok (t, in_request p.direction one w.request, in_reply p.direction one w.reply, rest))) (sym (append-nil (in_request p.direction one w.request)))
-    (subst (λ rs. Out {X = ParamsRead} (λ rest. (t, in_request p.direction one w.request, rs, rest)) rule t.table.types more (Ok (t, in_request p.direction one w.request, in_reply p.direction one w.reply, rest))) (sym (append-nil (in_reply p.direction one w.reply)))
+    subst (λ qs. Out {X = ParamsRead} (λ rest. (t, qs, in_reply p.direction one w.reply ++ [], rest)) rule t.table.types more
+    (Ok (t, in_request p.direction one w.request, in_reply p.direction one w.reply, rest))) (sym (append-nil (in_request p.direction one w.request)))
+    (subst (λ rs. Out {X = ParamsRead} (λ rest. (t, in_request p.direction one w.request, rs, rest)) rule t.table.types more
+    (Ok (t, in_request p.direction one w.request, in_reply p.direction one w.reply, rest))) (sym (append-nil (in_reply p.direction one w.reply)))
     (good rest m keeps))
 
-param_named : (at : ℕ) (w : Way) (s : Scope) (names : Names) (p : Param) (ps : List Param) (text : List ℕ) (more : List Token) → s.names ≡ names → 0 < size s → OfItem kinds.Syntax names 255 w.seen p.item → AreTokens text (spell_param p (spell_more_params ps more))
-    → Out (made_param w s p ps) (λ k. OfItem k names 255 w.seen p.item) (place_item s p.item).0.table.types (after_param ps more) (param_step at w s text)
+param_named : (at : ℕ) (w : Way) (s : Scope) (names : Names) (p : Param) (ps : List Param)
+    (text : List ℕ) (more : List Token) → s.names ≡ names → 0 < size s
+    → OfItem kinds.Syntax names 255 w.seen p.item
+    → AreTokens text (spell_param p (spell_more_params ps more))
+    → Out (made_param w s p ps) (λ k. OfItem k names 255 w.seen p.item)
+    (place_item s p.item).0.table.types (after_param ps more) (param_step at w s text)
 param_named at w s names p ps text more same some free h =
-    subst (λ ns. Out (made_param w s p ps) (λ k. OfItem k ns 255 w.seen p.item) (place_item s p.item).0.table.types (after_param ps more) (param_step at w s text)) same
+    subst (λ ns. Out (made_param w s p ps) (λ k. OfItem k ns 255 w.seen p.item) (place_item s p.item).0.table.types (after_param ps more)
+    (param_step at w s text)) same
     (param_reads at w s p ps text more some (subst (λ ns. OfItem kinds.Syntax ns 255 w.seen p.item) (sym same) free) h)
 
-pub params_reads : (ps : List Param) (p : Param) (at n : ℕ) (w : Way) (s : Scope) (names : Names) (text : List ℕ) (more : List Token) → s.names ≡ names → 0 < size s → n + length w.seen ≡ 256 → length w.seen ≤ 255
-    → OfItems kinds.Syntax names 255 w.seen (items_of (p ∷ ps)) → AreTokens text (spell_param p (spell_more_params ps more))
-    → Out (made_params w s (p ∷ ps)) (λ k. OfItems k names 255 w.seen (items_of (p ∷ ps))) (place_params s (p ∷ ps)).0.table.types more (params_run at n w s text)
+pub params_reads : (ps : List Param) (p : Param) (at n : ℕ) (w : Way) (s : Scope) (names : Names)
+    (text : List ℕ) (more : List Token) → s.names ≡ names → 0 < size s
+    → n + length w.seen ≡ 256 → length w.seen ≤ 255
+    → OfItems kinds.Syntax names 255 w.seen (items_of (p ∷ ps))
+    → AreTokens text (spell_param p (spell_more_params ps more))
+    → Out (made_params w s (p ∷ ps)) (λ k. OfItems k names 255 w.seen (items_of (p ∷ ps)))
+    (place_params s (p ∷ ps)).0.table.types more (params_run at n w s text)
 unfolding OfItems params_run place_params
 params_reads ps p at zero w s names text more same some fuel few free h = absurd (omega arith)
 params_reads [] p at (suc n) w s names text more same some fuel few free h =
     out_bind (param_step at w s text) (then_run at n) (param_named at w s names p [] text more same some free.0 h)
-    (λ rest m keeps. made_on w s p [] (λ k. OfItems k names 255 w.seen (items_of (p ∷ []))) (place_params s (p ∷ [])).0.table.types more (then_run at n (made_param w s p [] rest)) (last_reads at n w s p (λ k. OfItems k names 255 w.seen (items_of (p ∷ []))) rest more m (λ k. (keeps k, tt))))
-    (λ k h. h.0) (omega arith)
+    (λ rest m keeps. made_on w s p [] (λ k. OfItems k names 255 w.seen (items_of (p ∷ []))) (place_params s (p ∷ [])).0.table.types more
+    (then_run at n (made_param w s p [] rest)) (last_reads at n w s p (λ k. OfItems k names 255 w.seen (items_of (p ∷ []))) rest more m (λ k. (keeps k, tt))))
+    (λ k h. h.0) within_same
 params_reads (q ∷ qs) p at (suc n) w s names text more same some fuel few free h =
     out_bind (param_step at w s text) (then_run at n) (param_named at w s names p (q ∷ qs) text more same some free.0 h)
     (λ rest m keeps.
     let lt = (keeps kinds.Limit).1.1 in
     let v = way_on w s p in
-    made_on w s p (q ∷ qs) (λ k. OfItems k names 255 w.seen (items_of (p ∷ q ∷ qs))) (place_params s (p ∷ q ∷ qs)).0.table.types more (params_run at n v (place_item s p.item).0 rest)
-    (out_more (params_reads qs q at n v (place_item s p.item).0 names rest more (item_names s p.item ∙ same) (omega (arith, item_longer s p.item)) (omega (arith, length-append w.seen (p.item.name ∷ []))) (omega (arith, length-append w.seen (p.item.name ∷ []))) free.1 m)
+    made_on w s p (q ∷ qs) (λ k. OfItems k names 255 w.seen (items_of (p ∷ q ∷ qs))) (place_params s (p ∷ q ∷ qs)).0.table.types more
+    (params_run at n v (place_item s p.item).0 rest)
+    (out_more (params_reads qs q at n v (place_item s p.item).0 names rest more (item_names s p.item ∙ same) (omega (arith, (item_more s p.item).longer))
+    (omega (arith, length-append w.seen (p.item.name ∷ []))) (omega (arith, length-append w.seen (p.item.name ∷ []))) free.1 m)
     (λ k h. (keeps k, h)) (λ k h. h.1)))
-    (λ k h. h.0) (params_deeper (place_item s p.item).0 (q ∷ qs))
+    (λ k h. h.0) (params_more (place_item s p.item).0 (q ∷ qs))
 
-none_reads : (returned : List Part) (s : Scope) (names : Names) (rest : List ℕ) (more : List Token) → AreTokens rest more
-    → Out (made_params (no_way returned) s []) (λ k. OfItems k names 255 [] (items_of [])) (place_params s []).0.table.types more (Ok (s, [], returned, rest))
+none_reads : (returned : List Part) (s : Scope) (names : Names) (rest : List ℕ)
+    (more : List Token) → AreTokens rest more
+    → Out (made_params (no_way returned) s []) (λ k. OfItems k names 255 [] (items_of []))
+    (place_params s []).0.table.types more (Ok (s, [], returned, rest))
 unfolding OfItems place_params
-none_reads returned s names rest more m = subst (λ rs. Out {X = ParamsRead} (λ rest. (s, [], rs, rest)) (λ k. Unit {0}) s.table.types more (Ok (s, [], returned, rest))) (sym (append-nil returned)) (good rest m (λ k. tt))
+none_reads returned s names rest more m =
+    subst (λ rs. Out {X = ParamsRead} (λ rest. (s, [], rs, rest)) (λ k. Unit {0}) s.table.types more (Ok (s, [], returned, rest)))
+    (sym (append-nil returned)) (good rest m (λ k. tt))
 
-pub list_reads : (ps : List Param) (at : ℕ) (returned : List Part) (s : Scope) (names : Names) (text : List ℕ) (more : List Token) → s.names ≡ names → 0 < size s → OfItems kinds.Syntax names 255 [] (items_of ps) → AreTokens text (spell_params ps more)
-    → Out (made_params (no_way returned) s ps) (λ k. OfItems k names 255 [] (items_of ps)) (place_params s ps).0.table.types more (params_at at returned s text)
+pub list_reads : (ps : List Param) (at : ℕ) (returned : List Part) (s : Scope) (names : Names)
+    (text : List ℕ) (more : List Token) → s.names ≡ names → 0 < size s
+    → OfItems kinds.Syntax names 255 [] (items_of ps) → AreTokens text (spell_params ps more)
+    → Out (made_params (no_way returned) s ps) (λ k. OfItems k names 255 [] (items_of ps))
+    (place_params s ps).0.table.types more (params_at at returned s text)
 unfolding params_at
 list_reads [] at returned s names text more same some free h = rw (mark_if_again marks.CloseParenthesis text more h) (none_reads returned s names h.0 more h.2)
 list_reads (p ∷ ps) at returned s names text more same some free h =
-    rw (if_apart marks.CloseParenthesis text (spell_param p (spell_more_params ps more)) refl h) (params_reads ps p at 256 (no_way returned) s names text more same some (omega arith) (omega arith) free h)
+    rw (if_apart marks.CloseParenthesis text (spell_param p (spell_more_params ps more)) refl h)
+    (params_reads ps p at 256 (no_way returned) s names text more same some (omega arith) (omega arith) free h)
 
 -- ---- operations
 
-structs_deeper : (s : Scope) (a b : Node) → deepest s ≤ deepest (with_node (with_node s a).0 b).0
-structs_deeper s a b = omega (arith, node_deeper s a, node_deeper (with_node s a).0 b)
-
-pub operation_reads : (s : Scope) (o : Option TypeExpr) (w : List ℕ) (ps : List Param) (text : List ℕ) (more : List Token) → 0 < size s → OfDeclaration kinds.Syntax s (Call o w ps)
-    → AreTokens text (spell_return o (word w ∷ mark marks.OpenParenthesis ∷ spell_params ps (mark marks.Semicolon ∷ more)))
-    → Out {X = Declared} (λ rest. (declare s (Call o w ps), rest)) (λ k. OfDeclaration k s (Call o w ps)) (declare s (Call o w ps)).table.types more (operation_at s text)
+pub operation_reads : (s : Scope) (o : Option TypeExpr) (w : List ℕ) (ps : List Param)
+    (text : List ℕ) (more : List Token) → 0 < size s → OfDeclaration kinds.Syntax s (Call o w ps)
+    → AreTokens text (spell_return o
+    (word w ∷ mark marks.OpenParenthesis ∷ spell_params ps (mark marks.Semicolon ∷ more)))
+    → Out {X = Declared} (λ rest. (declare s (Call o w ps), rest))
+    (λ k. OfDeclaration k s (Call o w ps)) (declare s (Call o w ps)).table.types
+    more (operation_at s text)
 unfolding operation_at declare OfDeclaration
 operation_reads s o w ps text more some free h =
     let t = place_return s o in
@@ -253,27 +329,34 @@ operation_reads s o w ps text more some free h =
     let request = nodes.members x.1 in
     let reply = nodes.members (t.1 ++ x.2) in
     let struct = (with_node x.0 request).0 in
-    let deep : deepest x.0 ≤ deepest (with_node struct reply).0 = structs_deeper x.0 request reply in
-    let behind : deepest t.0 ≤ deepest x.0 = params_deeper t.0 ps in
-    out_bind (return_at (left_of text) s text) (λ t. new_operation_at t.0 t.2 >>= λ n. mark_at marks.OpenParenthesis n.1 >>= λ o. params_at (left_of t.2) t.1 t.0 o >>= λ m. mark_at marks.Semicolon m.3 >>= λ r. added (left_of t.2) m.0 (nodes.members m.1) >>= λ q. added (left_of t.2) q.0 (nodes.members m.2) >>= λ p. Ok (with_call n.0 q.1 p, r))
+    let structs = structs_more x.0 request reply in
+    let behind = within_on (params_more t.0 ps) structs in
+    out_bind (return_at (left_of text) s text) (λ t. new_operation_at t.0 t.2 >>= λ n. mark_at marks.OpenParenthesis n.1
+    >>= λ o. params_at (left_of t.2) t.1 t.0 o >>= λ m. mark_at marks.Semicolon m.3 >>= λ r. added (left_of t.2) m.0 (nodes.members m.1)
+    >>= λ q. added (left_of t.2) q.0 (nodes.members m.2) >>= λ p. Ok (with_call n.0 q.1 p, r))
     (return_reads (left_of text) s o text (word w ∷ mark marks.OpenParenthesis ∷ spell_params ps (mark marks.Semicolon ∷ more)) some free.0 refl h)
     (λ a ta ka.
     let at = left_of a in
-    out_bind (new_operation_at t.0 a) (λ n. mark_at marks.OpenParenthesis n.1 >>= λ o. params_at at t.1 t.0 o >>= λ m. mark_at marks.Semicolon m.3 >>= λ r. added at m.0 (nodes.members m.1) >>= λ q. added at q.0 (nodes.members m.2) >>= λ p. Ok (with_call n.0 q.1 p, r))
+    out_bind (new_operation_at t.0 a) (λ n. mark_at marks.OpenParenthesis n.1 >>= λ o. params_at at t.1 t.0 o >>= λ m. mark_at marks.Semicolon m.3
+    >>= λ r. added at m.0 (nodes.members m.1) >>= λ q. added at q.0 (nodes.members m.2) >>= λ p. Ok (with_call n.0 q.1 p, r))
     (name_reads t.0.table.types t.0 a w (mark marks.OpenParenthesis ∷ spell_params ps (mark marks.Semicolon ∷ more)) ta)
     (λ b tb kb. rw (mark_again marks.OpenParenthesis b (spell_params ps (mark marks.Semicolon ∷ more)) tb)
-    (out_bind (params_at at t.1 t.0 tb.0) (λ m. mark_at marks.Semicolon m.3 >>= λ r. added at m.0 (nodes.members m.1) >>= λ q. added at q.0 (nodes.members m.2) >>= λ p. Ok (with_call w q.1 p, r))
-    (list_reads ps at t.1 t.0 s.names tb.0 (mark marks.Semicolon ∷ more) (return_names s o) (omega (arith, return_longer s o)) free.2 tb.2)
+    (out_bind (params_at at t.1 t.0 tb.0) (λ m. mark_at marks.Semicolon m.3 >>= λ r. added at m.0 (nodes.members m.1) >>= λ q. added at q.0 (nodes.members m.2)
+    >>= λ p. Ok (with_call w q.1 p, r))
+    (list_reads ps at t.1 t.0 s.names tb.0 (mark marks.Semicolon ∷ more) (return_names s o) (omega (arith, (return_more s o).longer)) free.2 tb.2)
     (λ c tc kc. rw (mark_again marks.Semicolon c more tc)
-    (added_bind at x.0 request (λ q. added at q.0 reply >>= λ p. Ok (with_call w q.1 p, tc.0)) (node_deeper struct reply)
-    (added_bind at struct reply (λ p. Ok (with_call w (length x.0.table.types) p, tc.0)) (omega arith)
+    (added_bind at x.0 request (λ q. added at q.0 reply >>= λ p. Ok (with_call w q.1 p, tc.0)) (node_more struct reply)
+    (added_bind at struct reply (λ p. Ok (with_call w (length x.0.table.types) p, tc.0)) within_same
     (good tc.0 tc.2 (λ k. (ka k, operation_same t.0 s w (sym (return_operations s o)) k (kb k), kc k))))))
-    (λ k h. h.2) deep))
-    (λ k h. operation_same s t.0 w (return_operations s o) k h.1) (omega arith))
-    (λ k h. h.0) (omega arith)
+    (λ k h. h.2) structs))
+    (λ k h. operation_same s t.0 w (return_operations s o) k h.1) behind)
+    (λ k h. h.0) behind
 
-operation_made : (s : Scope) (whole text o : List ℕ) (t : ReturnRead) (n : List ℕ × List ℕ) (m : ParamsRead) (r : List ℕ) (last : Scope) → Takes whole (word (codes "operation")) text → TakenReturn s text t → OperationTaken t.0 t.2 n → mark_at marks.OpenParenthesis n.1 ≡ Ok o
-    → TakenList t.1 t.0 o m → mark_at marks.Semicolon m.3 ≡ Ok r → TakenDeclaration s whole (last, r)
+operation_made : (s : Scope) (whole text o : List ℕ) (t : ReturnRead) (n : List ℕ × List ℕ)
+    (m : ParamsRead) (r : List ℕ) (last : Scope) → Takes whole (word (codes "operation")) text
+    → TakenReturn s text t → OperationTaken t.0 t.2 n → mark_at marks.OpenParenthesis n.1 ≡ Ok o
+    → TakenList t.1 t.0 o m → mark_at marks.Semicolon m.3 ≡ Ok r
+    → TakenDeclaration s whole (last, r)
 unfolding OfDeclaration
 operation_made s whole text o t n m r last before a b c k e = record {
   declaration = Call a.returned n.0 k.params;
@@ -282,21 +365,34 @@ operation_made s whole text o t n m r last before a b c k e = record {
     front = λ more h.
         let list = spell_params k.params (mark marks.Semicolon ∷ more) in
         let inner : AreTokens o list = k.took.front (mark marks.Semicolon ∷ more) (mark_takes marks.Semicolon m.3 r e more h) in
-        let behind : AreTokens t.2 (word n.0 ∷ mark marks.OpenParenthesis ∷ list) = b.front (mark marks.OpenParenthesis ∷ list) (mark_takes marks.OpenParenthesis n.1 o c list inner) in
+        let behind : AreTokens t.2 (word n.0 ∷ mark marks.OpenParenthesis ∷ list) =
+        b.front (mark marks.OpenParenthesis ∷ list) (mark_takes marks.OpenParenthesis n.1 o c list inner) in
         before (spell_return a.returned (word n.0 ∷ mark marks.OpenParenthesis ∷ list)) (a.took.front (word n.0 ∷ mark marks.OpenParenthesis ∷ list) behind);
   };
 }
 
-pub operation_takes : (s : Scope) (whole text : List ℕ) (x : Declared) → Takes whole (word (codes "operation")) text → operation_at s text ≡ Ok x → TakenDeclaration s whole x
+pub operation_takes : (s : Scope) (whole text : List ℕ) (x : Declared)
+    → Takes whole (word (codes "operation")) text → operation_at s text ≡ Ok x
+    → TakenDeclaration s whole x
 unfolding operation_at
 operation_takes s whole text x before e =
-    let t = bind_ok (return_at (left_of text) s text) (λ t. new_operation_at t.0 t.2 >>= λ n. mark_at marks.OpenParenthesis n.1 >>= λ o. params_at (left_of t.2) t.1 t.0 o >>= λ m. mark_at marks.Semicolon m.3 >>= λ r. added (left_of t.2) m.0 (nodes.members m.1) >>= λ q. added (left_of t.2) q.0 (nodes.members m.2) >>= λ p. Ok (with_call n.0 q.1 p, r)) x e in
+    let t = bind_ok (return_at (left_of text) s text)
+    (λ t. new_operation_at t.0 t.2 >>= λ n. mark_at marks.OpenParenthesis n.1 >>= λ o. params_at (left_of t.2) t.1 t.0 o >>= λ m. mark_at marks.Semicolon m.3
+    >>= λ r. added (left_of t.2) m.0 (nodes.members m.1) >>= λ q. added (left_of t.2) q.0 (nodes.members m.2) >>= λ p. Ok (with_call n.0 q.1 p, r)) x e in
     let at = left_of (t.0).2 in
-    let n = bind_ok (new_operation_at (t.0).0 (t.0).2) (λ n. mark_at marks.OpenParenthesis n.1 >>= λ o. params_at at (t.0).1 (t.0).0 o >>= λ m. mark_at marks.Semicolon m.3 >>= λ r. added at m.0 (nodes.members m.1) >>= λ q. added at q.0 (nodes.members m.2) >>= λ p. Ok (with_call n.0 q.1 p, r)) x t.2 in
-    let o = bind_ok (mark_at marks.OpenParenthesis (n.0).1) (λ o. params_at at (t.0).1 (t.0).0 o >>= λ m. mark_at marks.Semicolon m.3 >>= λ r. added at m.0 (nodes.members m.1) >>= λ q. added at q.0 (nodes.members m.2) >>= λ p. Ok (with_call (n.0).0 q.1 p, r)) x n.2 in
-    let m = bind_ok (params_at at (t.0).1 (t.0).0 o.0) (λ m. mark_at marks.Semicolon m.3 >>= λ r. added at m.0 (nodes.members m.1) >>= λ q. added at q.0 (nodes.members m.2) >>= λ p. Ok (with_call (n.0).0 q.1 p, r)) x o.2 in
-    let r = bind_ok (mark_at marks.Semicolon (m.0).3) (λ r. added at (m.0).0 (nodes.members (m.0).1) >>= λ q. added at q.0 (nodes.members (m.0).2) >>= λ p. Ok (with_call (n.0).0 q.1 p, r)) x m.2 in
+    let n = bind_ok (new_operation_at (t.0).0 (t.0).2)
+    (λ n. mark_at marks.OpenParenthesis n.1 >>= λ o. params_at at (t.0).1 (t.0).0 o >>= λ m. mark_at marks.Semicolon m.3
+    >>= λ r. added at m.0 (nodes.members m.1) >>= λ q. added at q.0 (nodes.members m.2) >>= λ p. Ok (with_call n.0 q.1 p, r)) x t.2 in
+    let o = bind_ok (mark_at marks.OpenParenthesis (n.0).1)
+    (λ o. params_at at (t.0).1 (t.0).0 o >>= λ m. mark_at marks.Semicolon m.3 >>= λ r. added at m.0 (nodes.members m.1)
+    >>= λ q. added at q.0 (nodes.members m.2) >>= λ p. Ok (with_call (n.0).0 q.1 p, r)) x n.2 in
+    let m = bind_ok (params_at at (t.0).1 (t.0).0 o.0)
+    (λ m. mark_at marks.Semicolon m.3 >>= λ r. added at m.0 (nodes.members m.1) >>= λ q. added at q.0 (nodes.members m.2)
+    >>= λ p. Ok (with_call (n.0).0 q.1 p, r)) x o.2 in
+    let r = bind_ok (mark_at marks.Semicolon (m.0).3)
+    (λ r. added at (m.0).0 (nodes.members (m.0).1) >>= λ q. added at q.0 (nodes.members (m.0).2) >>= λ p. Ok (with_call (n.0).0 q.1 p, r)) x m.2 in
     let q = bind_ok (added at (m.0).0 (nodes.members (m.0).1)) (λ q. added at q.0 (nodes.members (m.0).2) >>= λ p. Ok (with_call (n.0).0 q.1 p, r.0)) x r.2 in
     let p = bind_ok (added at (q.0).0 (nodes.members (m.0).2)) (λ p. Ok (with_call (n.0).0 (q.0).1 p, r.0)) x q.2 in
     subst (TakenDeclaration s whole) (ok_is (with_call (n.0).0 (q.0).1 p.0, r.0) x p.2)
-    (operation_made s whole text o.0 t.0 n.0 m.0 r.0 (with_call (n.0).0 (q.0).1 p.0) before (return_takes (left_of text) s text t.0 t.1) (new_operation_takes (t.0).0 (t.0).2 n.0 n.1) o.1 (list_takes at (t.0).1 (t.0).0 o.0 m.0 m.1) r.1)
+    (operation_made s whole text o.0 t.0 n.0 m.0 r.0 (with_call (n.0).0 (q.0).1 p.0) before (return_takes (left_of text) s text t.0 t.1)
+    (new_operation_takes (t.0).0 (t.0).2 n.0 n.1) o.1 (list_takes at (t.0).1 (t.0).0 o.0 m.0 m.1) r.1)

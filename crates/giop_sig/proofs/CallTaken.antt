@@ -43,7 +43,8 @@ pub record TakenReturn (s : Scope) (text : List ℕ) (x : ReturnRead) : Type 0 w
 no_parts : (s : Scope) → AreParts s []
 no_parts s = λ k d lt. absurd (omega arith)
 
-return_by : (at : ℕ) (s : Scope) (text : List ℕ) (x : ReturnRead) (c : Option (List ℕ)) → keyword_if (codes "void") text ≡ Ok c → return_after at s text c ≡ Ok x → TakenReturn s text x
+return_by : (at : ℕ) (s : Scope) (text : List ℕ) (x : ReturnRead) (c : Option (List ℕ))
+    → keyword_if (codes "void") text ≡ Ok c → return_after at s text c ≡ Ok x → TakenReturn s text x
 return_by at s text x (Some r) h e = subst (TakenReturn s text) (ok_is (s, [], r) x e) (record {
   returned = None;
   took = record { free = tt; front = keyword_if_takes (codes "void") text r h };
@@ -60,11 +61,15 @@ return_by at s text x None h e =
       grows = k.grows;
       few = lit≤ tt;
       sound = λ is.
-          let h = k.sound is in
-          (h.scope, All-push (IsPart ((t.0).0).table.types (length ((t.0).0).table.types)) [] (part (codes "return") (t.0).1) (no_parts (t.0).0) (record { inner = h.known; short = lit≤ tt }));
+          let h = k.sound is in (
+            h.scope,
+            All-push (IsPart ((t.0).0).table.types (length ((t.0).0).table.types)) [] (part (codes "return") (t.0).1) (no_parts (t.0).0)
+                (record { inner = h.known; short = lit≤ tt }),
+          );
     })
 
-pub return_takes : (at : ℕ) (s : Scope) (text : List ℕ) (x : ReturnRead) → return_at at s text ≡ Ok x → TakenReturn s text x
+pub return_takes : (at : ℕ) (s : Scope) (text : List ℕ) (x : ReturnRead)
+    → return_at at s text ≡ Ok x → TakenReturn s text x
 unfolding return_at
 return_takes at s text x e = let c = bind_ok (keyword_if (codes "void") text) (return_after at s text) x e in return_by at s text x c.0 c.1 c.2
 
@@ -80,42 +85,57 @@ none_of : {X : Type 0} (o : Option X) → is_some o ≡ false → o ≡ None
 none_of None e = refl
 none_of (Some x) e = absurd cc
 
-operation_by : (s : Scope) (text : List ℕ) (n x : List ℕ × List ℕ) (a b : Bool) → is_some (operation_in s.table n.0) ≡ a → leb 4096 (length s.table.operations) ≡ b → (length n.0 ≤ 128) × Takes text (word n.0) n.1
-    → cond a (Err (refused kinds.Duplicate text)) (cond b (Err (refused kinds.Limit text)) (Ok (n.0, n.1))) ≡ Ok x → OperationTaken s text x
+operation_by : (s : Scope) (text : List ℕ) (n x : List ℕ × List ℕ) (a b : Bool)
+    → is_some (operation_in s.table n.0) ≡ a → leb 4096 (length s.table.operations) ≡ b
+    → (length n.0 ≤ 128) × Takes text (word n.0) n.1
+    → cond a (Err (refused kinds.Duplicate text))
+    (cond b (Err (refused kinds.Limit text)) (Ok (n.0, n.1))) ≡ Ok x → OperationTaken s text x
 operation_by s text n x true b p q w e = absurd cc
 operation_by s text n x false true p q w e = absurd cc
 operation_by s text n x false false p q w e =
-    subst (OperationTaken s text) (ok_is n x e) (record { short = w.0; new = none_of (operation_in s.table n.0) p; few = leb-false 4096 (length s.table.operations) q; front = w.1 })
+    subst (OperationTaken s text) (ok_is n x e) (record
+    { short = w.0; new = none_of (operation_in s.table n.0) p; few = leb-false 4096 (length s.table.operations) q; front = w.1 })
 
-pub new_operation_takes : (s : Scope) (text : List ℕ) (x : List ℕ × List ℕ) → new_operation_at s text ≡ Ok x → OperationTaken s text x
+pub new_operation_takes : (s : Scope) (text : List ℕ) (x : List ℕ × List ℕ)
+    → new_operation_at s text ≡ Ok x → OperationTaken s text x
 unfolding new_operation_at
 new_operation_takes s text x e =
-    let a = bind_ok (operation_name_at text) (λ n. cond (is_some (operation_in s.table n.0)) (Err (refused kinds.Duplicate text)) (cond (leb 4096 (length s.table.operations)) (Err (refused kinds.Limit text)) (Ok (n.0, n.1)))) x e in
-    operation_by s text a.0 x (is_some (operation_in s.table (a.0).0)) (leb 4096 (length s.table.operations)) refl refl ((operation_name_word text a.0 a.1).1, operation_name_takes text a.0 a.1) a.2
+    let a = bind_ok (operation_name_at text) (λ n. cond (is_some (operation_in s.table n.0)) (Err (refused kinds.Duplicate text))
+    (cond (leb 4096 (length s.table.operations)) (Err (refused kinds.Limit text)) (Ok (n.0, n.1)))) x e in
+    operation_by s text a.0 x (is_some (operation_in s.table (a.0).0)) (leb 4096 (length s.table.operations)) refl refl
+    ((operation_name_word text a.0 a.1).1, operation_name_takes text a.0 a.1) a.2
 
 -- ---- parameters
 
-direction_by : (w : List ℕ) (d : Direction) (a b c : Bool) → bytes_eq w (codes "in") ≡ a → bytes_eq w (codes "out") ≡ b → bytes_eq w (codes "inout") ≡ c
-    → cond a (Some directions.In) (cond b (Some directions.Out) (cond c (Some directions.Inout) None)) ≡ Some d → w ≡ direction_word d
+direction_by : (w : List ℕ) (d : Direction) (a b c : Bool) → bytes_eq w (codes "in") ≡ a
+    → bytes_eq w (codes "out") ≡ b → bytes_eq w (codes "inout") ≡ c
+    → cond a (Some directions.In)
+    (cond b (Some directions.Out) (cond c (Some directions.Inout) None))
+    ≡ Some d → w ≡ direction_word d
 direction_by w d true b c p q r e = let same : directions.In ≡ d = cc in (bytes_eq-Decides w (codes "in")).0 p ∙ ap direction_word same
 direction_by w d false true c p q r e = let same : directions.Out ≡ d = cc in (bytes_eq-Decides w (codes "out")).0 q ∙ ap direction_word same
 direction_by w d false false true p q r e = let same : directions.Inout ≡ d = cc in (bytes_eq-Decides w (codes "inout")).0 r ∙ ap direction_word same
 direction_by w d false false false p q r e = absurd cc
 
-as_by : (text w rest : List ℕ) (x : Direction × List ℕ) (o : Option Direction) → direction_of w ≡ o → Takes text (word w) rest → as_direction text rest o ≡ Ok x → Takes text (word (direction_word x.0)) x.1
+as_by : (text w rest : List ℕ) (x : Direction × List ℕ) (o : Option Direction) → direction_of w ≡ o
+    → Takes text (word w) rest → as_direction text rest o ≡ Ok x
+    → Takes text (word (direction_word x.0)) x.1
 as_by text w rest x None h t e = absurd cc
 as_by text w rest x (Some d) h t e =
     subst (λ (y : Direction × List ℕ). Takes text (word (direction_word y.0)) y.1) (ok_is (d, rest) x e)
-    (subst (λ v. Takes text (word v) rest) (direction_by w d (bytes_eq w (codes "in")) (bytes_eq w (codes "out")) (bytes_eq w (codes "inout")) refl refl refl h) t)
+    (subst (λ v. Takes text (word v) rest) (direction_by w d (bytes_eq w (codes "in")) (bytes_eq w (codes "out"))
+    (bytes_eq w (codes "inout")) refl refl refl h) t)
 
-pub direction_takes : (text : List ℕ) (x : Direction × List ℕ) → direction_at text ≡ Ok x → Takes text (word (direction_word x.0)) x.1
+pub direction_takes : (text : List ℕ) (x : Direction × List ℕ) → direction_at text ≡ Ok x
+    → Takes text (word (direction_word x.0)) x.1
 unfolding direction_at
 direction_takes text x e =
     let a = bind_ok (word_at text) (λ w. as_direction text w.1 (direction_of w.0)) x e in
     as_by text (a.0).0 (a.0).1 x (direction_of (a.0).0) refl (word_takes text a.0 a.1) a.2
 
 -- a member more, or none
-request_more : (d : Direction) (p : Part) (ps : List Part) → length (in_request d p ps) ≤ length ps + 1
+request_more : (d : Direction) (p : Part) (ps : List Part)
+    → length (in_request d p ps) ≤ length ps + 1
 request_more directions.In p ps = omega (arith, length-append ps (p ∷ []))
 request_more directions.Out p ps = omega arith
 request_more directions.Inout p ps = omega (arith, length-append ps (p ∷ []))
@@ -125,12 +145,14 @@ reply_more directions.In p ps = omega arith
 reply_more directions.Out p ps = omega (arith, length-append ps (p ∷ []))
 reply_more directions.Inout p ps = omega (arith, length-append ps (p ∷ []))
 
-request_parts : (s : Scope) (d : Direction) (p : Part) (ps : List Part) → AreParts s ps → IsPart s.table.types (length s.table.types) p → AreParts s (in_request d p ps)
+request_parts : (s : Scope) (d : Direction) (p : Part) (ps : List Part) → AreParts s ps
+    → IsPart s.table.types (length s.table.types) p → AreParts s (in_request d p ps)
 request_parts s directions.In p ps all is = All-push (IsPart s.table.types (length s.table.types)) ps p all is
 request_parts s directions.Out p ps all is = all
 request_parts s directions.Inout p ps all is = All-push (IsPart s.table.types (length s.table.types)) ps p all is
 
-reply_parts : (s : Scope) (d : Direction) (p : Part) (ps : List Part) → AreParts s ps → IsPart s.table.types (length s.table.types) p → AreParts s (in_reply d p ps)
+reply_parts : (s : Scope) (d : Direction) (p : Part) (ps : List Part) → AreParts s ps
+    → IsPart s.table.types (length s.table.types) p → AreParts s (in_reply d p ps)
 reply_parts s directions.In p ps all is = all
 reply_parts s directions.Out p ps all is = All-push (IsPart s.table.types (length s.table.types)) ps p all is
 reply_parts s directions.Inout p ps all is = All-push (IsPart s.table.types (length s.table.types)) ps p all is
@@ -145,7 +167,8 @@ pub record TakenParams (w : Way) (s : Scope) (text : List ℕ) (x : ParamsRead) 
   pub first : Param
   pub others : List Param
   pub free : OfItems kinds.Syntax s.names 255 w.seen (items_of (first ∷ others))
-  pub front : (more : List Token) → AreTokens x.3 more → AreTokens text (spell_param first (spell_more_params others more))
+  pub front : (more : List Token) → AreTokens x.3 more
+      → AreTokens text (spell_param first (spell_more_params others more))
   pub few_requests : (a : ℕ) → length w.request ≤ length w.seen + a → length x.1 ≤ 255 + a
   pub few_replies : (a : ℕ) → length w.reply ≤ length w.seen + a → length x.2 ≤ 255 + a
   pub grows : Grows s x.0
@@ -154,54 +177,78 @@ pub record TakenParams (w : Way) (s : Scope) (text : List ℕ) (x : ParamsRead) 
 abbrev way_on : Way → Direction → ItemRead → Way
 way_on w d i = way_of (params_of w d i [] false)
 
-last_param : (w : Way) (s : Scope) (text r : List ℕ) (d : Direction × List ℕ) (i : ItemRead) → Takes text (word (direction_word d.0)) d.1 → TakenItem s 255 w.seen d.1 i → mark_at marks.CloseParenthesis i.2 ≡ Ok r
+last_param : (w : Way) (s : Scope) (text r : List ℕ) (d : Direction × List ℕ) (i : ItemRead)
+    → Takes text (word (direction_word d.0)) d.1 → TakenItem s 255 w.seen d.1 i
+    → mark_at marks.CloseParenthesis i.2 ≡ Ok r
     → TakenParams w s text (i.0, in_request d.0 i.1 w.request, in_reply d.0 i.1 w.reply, r)
 unfolding OfItems
 last_param w s text r d i t a e = record {
   first = record { direction = d.0; item = a.item };
   others = [];
   free = (a.took.free, tt);
-  front = λ more m. t (spell_item a.item (mark marks.CloseParenthesis ∷ more)) (a.took.front (mark marks.CloseParenthesis ∷ more) (mark_takes marks.CloseParenthesis i.2 r e more m));
+  front = λ more m. t (spell_item a.item (mark marks.CloseParenthesis ∷ more))
+      (a.took.front (mark marks.CloseParenthesis ∷ more) (mark_takes marks.CloseParenthesis i.2 r e more m));
   few_requests = λ k le. let f = a.few in omega (arith, request_more d.0 i.1 w.request);
   few_replies = λ k le. let f = a.few in omega (arith, reply_more d.0 i.1 w.reply);
   grows = a.grows;
   sound = λ is q r.
       let h = a.sound is in
       let p : IsPart (i.0).table.types (length (i.0).table.types) i.1 = record { inner = h.known; short = a.short } in
-      record { scope = h.scope; request = request_parts i.0 d.0 i.1 w.request (parts_stay s i.0 w.request a.grows q) p; reply = reply_parts i.0 d.0 i.1 w.reply (parts_stay s i.0 w.reply a.grows r) p };
+      record {
+        scope = h.scope;
+        request = request_parts i.0 d.0 i.1 w.request (parts_stay s i.0 w.request a.grows q) p;
+        reply = reply_parts i.0 d.0 i.1 w.reply (parts_stay s i.0 w.reply a.grows r) p;
+      };
 }
 
-param_on : (w : Way) (s : Scope) (text r : List ℕ) (d : Direction × List ℕ) (i : ItemRead) (x : ParamsRead) → Takes text (word (direction_word d.0)) d.1 → TakenItem s 255 w.seen d.1 i → mark_if marks.Comma i.2 ≡ Ok (Some r)
+param_on : (w : Way) (s : Scope) (text r : List ℕ) (d : Direction × List ℕ) (i : ItemRead)
+    (x : ParamsRead) → Takes text (word (direction_word d.0)) d.1 → TakenItem s 255 w.seen d.1 i
+    → mark_if marks.Comma i.2 ≡ Ok (Some r)
     → TakenParams (way_on w d.0 i) i.0 r x → TakenParams w s text x
 unfolding OfItems
 param_on w s text r d i x t a e k = record {
   first = record { direction = d.0; item = a.item };
   others = k.first ∷ k.others;
-  free = (a.took.free, subst (λ v. OfItems kinds.Syntax s.names 255 (w.seen ++ v ∷ []) (items_of (k.first ∷ k.others))) (sym a.named) (subst (λ ns. OfItems kinds.Syntax ns 255 (w.seen ++ (i.1).name ∷ []) (items_of (k.first ∷ k.others))) a.grows.names k.free));
-  front = λ more m. t (spell_item a.item (spell_more_params (k.first ∷ k.others) more)) (a.took.front (spell_more_params (k.first ∷ k.others) more) (mark_if_takes marks.Comma i.2 r e (spell_param k.first (spell_more_params k.others more)) (k.front more m)));
+  free = (
+    a.took.free,
+    subst (λ v. OfItems kinds.Syntax s.names 255 (w.seen ++ v ∷ []) (items_of (k.first ∷ k.others))) (sym a.named)
+        (subst (λ ns. OfItems kinds.Syntax ns 255 (w.seen ++ (i.1).name ∷ []) (items_of (k.first ∷ k.others))) a.grows.names k.free),
+  );
+  front = λ more m. t (spell_item a.item (spell_more_params (k.first ∷ k.others) more))
+      (a.took.front (spell_more_params (k.first ∷ k.others) more)
+      (mark_if_takes marks.Comma i.2 r e (spell_param k.first (spell_more_params k.others more)) (k.front more m)));
   few_requests = λ b le. k.few_requests b (omega (arith, request_more d.0 i.1 w.request, length-append w.seen ((i.1).name ∷ [])));
   few_replies = λ b le. k.few_replies b (omega (arith, reply_more d.0 i.1 w.reply, length-append w.seen ((i.1).name ∷ [])));
   grows = grows_on s i.0 x.0 a.grows k.grows;
   sound = λ is q r.
       let h = a.sound is in
       let p : IsPart (i.0).table.types (length (i.0).table.types) i.1 = record { inner = h.known; short = a.short } in
-      k.sound h.scope (request_parts i.0 d.0 i.1 w.request (parts_stay s i.0 w.request a.grows q) p) (reply_parts i.0 d.0 i.1 w.reply (parts_stay s i.0 w.reply a.grows r) p);
+      k.sound h.scope (request_parts i.0 d.0 i.1 w.request (parts_stay s i.0 w.request a.grows q) p)
+      (reply_parts i.0 d.0 i.1 w.reply (parts_stay s i.0 w.reply a.grows r) p);
 }
 
 abbrev then_run : ℕ → ℕ → Params → Result ParamsRead Refusal
-then_run at n m = cond m.closed (Ok (m.scope, m.request, m.reply, m.rest)) (params_run at n (way_of m) m.scope m.rest)
+then_run at n m =
+    cond m.closed (Ok (m.scope, m.request, m.reply, m.rest))
+    (params_run at n (way_of m) m.scope m.rest)
 
-behind_by : (at n : ℕ) (w : Way) (s : Scope) (text : List ℕ) (d : Direction × List ℕ) (i : ItemRead) (m : Params) (x : ParamsRead) (c : Option (List ℕ)) → Takes text (word (direction_word d.0)) d.1 → TakenItem s 255 w.seen d.1 i → mark_if marks.Comma i.2 ≡ Ok c
-    → behind_param w d.0 i c ≡ Ok m → then_run at n m ≡ Ok x → ((w : Way) (s : Scope) (text : List ℕ) → params_run at n w s text ≡ Ok x → TakenParams w s text x) → TakenParams w s text x
+behind_by : (at n : ℕ) (w : Way) (s : Scope) (text : List ℕ) (d : Direction × List ℕ) (i : ItemRead)
+    (m : Params) (x : ParamsRead) (c : Option (List ℕ)) → Takes text (word (direction_word d.0)) d.1
+    → TakenItem s 255 w.seen d.1 i → mark_if marks.Comma i.2 ≡ Ok c
+    → behind_param w d.0 i c ≡ Ok m → then_run at n m ≡ Ok x
+    → ((w : Way) (s : Scope) (text : List ℕ) → params_run at n w s text ≡ Ok x
+    → TakenParams w s text x) → TakenParams w s text x
 behind_by at n w s text d i m x (Some r) t a h e run on =
     let last : params_run at n (way_on w d.0 i) i.0 r ≡ Ok x = ap (then_run at n) (ok_is (params_of w d.0 i r false) m e) ∙ run in
     param_on w s text r d i x t a h (on (way_on w d.0 i) i.0 r last)
 behind_by at n w s text d i m x None t a h e run on =
     let r = bind_ok (mark_at marks.CloseParenthesis i.2) (λ r. Ok (params_of w d.0 i r true)) m e in
-    let last : Ok (i.0, in_request d.0 i.1 w.request, in_reply d.0 i.1 w.reply, r.0) ≡ Ok x = ap (then_run at n) (ok_is (params_of w d.0 i r.0 true) m r.2) ∙ run in
+    let last : Ok (i.0, in_request d.0 i.1 w.request, in_reply d.0 i.1 w.reply, r.0) ≡ Ok x =
+    ap (then_run at n) (ok_is (params_of w d.0 i r.0 true) m r.2) ∙ run in
     subst (TakenParams w s text) (ok_is (i.0, in_request d.0 i.1 w.request, in_reply d.0 i.1 w.reply, r.0) x last) (last_param w s text r.0 d i t a r.1)
 
-pub params_takes : (at n : ℕ) (w : Way) (s : Scope) (text : List ℕ) (x : ParamsRead) → params_run at n w s text ≡ Ok x → TakenParams w s text x
+pub params_takes : (at n : ℕ) (w : Way) (s : Scope) (text : List ℕ) (x : ParamsRead)
+    → params_run at n w s text ≡ Ok x → TakenParams w s text x
 unfolding params_run param_step
 params_takes at zero w s text x e = absurd cc
 params_takes at (suc n) w s text x e =
@@ -209,19 +256,24 @@ params_takes at (suc n) w s text x e =
     let d = bind_ok (direction_at text) (λ d. item_at at 255 w.seen s d.1 >>= λ i. mark_if marks.Comma i.2 >>= λ c. behind_param w d.0 i c) m.0 m.1 in
     let i = bind_ok (item_at at 255 w.seen s (d.0).1) (λ i. mark_if marks.Comma i.2 >>= λ c. behind_param w (d.0).0 i c) m.0 d.2 in
     let c = bind_ok (mark_if marks.Comma (i.0).2) (λ c. behind_param w (d.0).0 i.0 c) m.0 i.2 in
-    behind_by at n w s text d.0 i.0 m.0 x c.0 (direction_takes text d.0 d.1) (item_takes at 255 w.seen s (d.0).1 i.0 i.1) c.1 c.2 m.2 (λ w s text run. params_takes at n w s text x run)
+    behind_by at n w s text d.0 i.0 m.0 x c.0 (direction_takes text d.0 d.1) (item_takes at 255 w.seen s (d.0).1 i.0 i.1) c.1 c.2 m.2
+    (λ w s text run. params_takes at n w s text x run)
 
 -- ---- all parameters
 
-pub record TakenList (returned : List Part) (s : Scope) (text : List ℕ) (x : ParamsRead) : Type 0 where
+pub record TakenList (returned : List Part) (s : Scope) (text : List ℕ)
+    (x : ParamsRead) : Type 0 where
   pub params : List Param
-  pub took : Took (spell_params params) (OfItems kinds.Syntax s.names 255 [] (items_of params)) text x.3
+  pub took : Took (spell_params params)
+      (OfItems kinds.Syntax s.names 255 [] (items_of params)) text x.3
   pub few_requests : length x.1 ≤ 256
   pub few_replies : length returned ≤ 1 → length x.2 ≤ 256
   pub grows : Grows s x.0
   pub sound : IsScope s → AreParts s returned → SoundWays x
 
-list_by : (at : ℕ) (returned : List Part) (s : Scope) (text : List ℕ) (x : ParamsRead) (c : Option (List ℕ)) → mark_if marks.CloseParenthesis text ≡ Ok c → params_after at returned s text c ≡ Ok x → TakenList returned s text x
+list_by : (at : ℕ) (returned : List Part) (s : Scope) (text : List ℕ) (x : ParamsRead)
+    (c : Option (List ℕ)) → mark_if marks.CloseParenthesis text ≡ Ok c
+    → params_after at returned s text c ≡ Ok x → TakenList returned s text x
 unfolding OfItems
 list_by at returned s text x (Some r) h e = subst (TakenList returned s text) (ok_is (s, [], returned, r) x e) (record {
   params = [];
@@ -242,13 +294,17 @@ list_by at returned s text x None h e =
       sound = λ is all. k.sound is (no_parts s) all;
     }
 
-pub list_takes : (at : ℕ) (returned : List Part) (s : Scope) (text : List ℕ) (x : ParamsRead) → params_at at returned s text ≡ Ok x → TakenList returned s text x
+pub list_takes : (at : ℕ) (returned : List Part) (s : Scope) (text : List ℕ) (x : ParamsRead)
+    → params_at at returned s text ≡ Ok x → TakenList returned s text x
 unfolding params_at
-list_takes at returned s text x e = let c = bind_ok (mark_if marks.CloseParenthesis text) (params_after at returned s text) x e in list_by at returned s text x c.0 c.1 c.2
+list_takes at returned s text x e =
+    let c = bind_ok (mark_if marks.CloseParenthesis text) (params_after at returned s text) x e in
+    list_by at returned s text x c.0 c.1 c.2
 
 -- ---- what the code asks
 
-pub still_uncalled : (s t : Scope) (w : List ℕ) → Grows s t → operation_in s.table w ≡ None → operation_in t.table w ≡ None
+pub still_uncalled : (s t : Scope) (w : List ℕ) → Grows s t → operation_in s.table w ≡ None
+    → operation_in t.table w ≡ None
 still_uncalled s t w g e = ap (λ os. operation_in (record s.table { operations = os }) w) g.operations ∙ e
 
 -- the structs of an operation can be added
@@ -257,7 +313,8 @@ pub record CallReady (s : Scope) (m : ParamsRead) : Type 0 where
   pub reply : (length m.2 ≤ 256) × AreParts m.0 m.2
   pub grows : Grows s m.0
 
-pub call_ready : (a b : ℕ) (s : Scope) (text o : List ℕ) (t : ReturnRead) (m : ParamsRead) → return_at a s text ≡ Ok t → params_at b t.1 t.0 o ≡ Ok m → IsScope s → CallReady t.0 m
+pub call_ready : (a b : ℕ) (s : Scope) (text o : List ℕ) (t : ReturnRead) (m : ParamsRead)
+    → return_at a s text ≡ Ok t → params_at b t.1 t.0 o ≡ Ok m → IsScope s → CallReady t.0 m
 call_ready a b s text o t m e f is =
     let k = return_takes a s text t e in
     let l = list_takes b t.1 t.0 o m f in
@@ -266,12 +323,15 @@ call_ready a b s text o t m e f is =
     record { request = (l.few_requests, h.request); reply = (l.few_replies k.few, h.reply); grows = l.grows }
 
 -- what could be added can be added behind another struct
-pub parts_on : (at : ℕ) (s : Scope) (n : Node) (p : Placed) (ps : List Part) → added at s n ≡ Ok p → (length ps ≤ 256) × AreParts s ps → (length ps ≤ 256) × AreParts p.0 ps
+pub parts_on : (at : ℕ) (s : Scope) (n : Node) (p : Placed) (ps : List Part) → added at s n ≡ Ok p
+    → (length ps ≤ 256) × AreParts s ps → (length ps ≤ 256) × AreParts p.0 ps
 parts_on at s n p ps e both = (both.0, parts_stay s p.0 ps (added_grows at s n p e) both.1)
 
-pub calls_grow : (at : ℕ) (s : Scope) (m : ParamsRead) (q p : Placed) (n : Node) → CallReady s m → added at m.0 (nodes.members m.1) ≡ Ok q → added at q.0 n ≡ Ok p → Grows s p.0
+pub calls_grow : (at : ℕ) (s : Scope) (m : ParamsRead) (q p : Placed) (n : Node) → CallReady s m
+    → added at m.0 (nodes.members m.1) ≡ Ok q → added at q.0 n ≡ Ok p → Grows s p.0
 calls_grow at s m q p n ready e f = grows_on s q.0 p.0 (grows_on s m.0 q.0 ready.grows (added_grows at m.0 (nodes.members m.1) q e)) (added_grows at q.0 n p f)
 
 -- a type that was there is there behind another
-pub below_on : (at : ℕ) (s : Scope) (n : Node) (p : Placed) (i : ℕ) → added at s n ≡ Ok p → i < length s.table.types → i < length (p.0).table.types
+pub below_on : (at : ℕ) (s : Scope) (n : Node) (p : Placed) (i : ℕ) → added at s n ≡ Ok p
+    → i < length s.table.types → i < length (p.0).table.types
 below_on at s n p i e lt = let g = (added_grows at s n p e).types in omega (arith, ap length g.1, length-append s.table.types g.0)

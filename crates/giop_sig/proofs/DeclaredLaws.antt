@@ -1,5 +1,5 @@
 -- What reading gives of a text that begins with a struct or an exception, and what one that was read is spelled as.
-use Rattle.std.proofs.Common.{◌≡◌, ℕ, ◌<◌, ◌≤◌, Bool, true, false, cond, ltb, List, [], ◌∷◌, length, None, Ok, Err, refl, sym, subst, arith}
+use Rattle.std.proofs.Common.{◌≡◌, inl, ℕ, ◌<◌, ◌≤◌, Bool, true, false, cond, ltb, List, [], ◌∷◌, length, None, Ok, Err, refl, sym, subst, arith}
 use Rattle.std.specs.Prelude.{codes}
 use Rattle.std.specs.Option.{is_some}
 use Rattle.std.proofs.lemmas.Bool.{ltb-true, ltb-false}
@@ -11,14 +11,13 @@ use Rattle.giop_tokens.specs.Readers.{mark_at}
 use Rattle.giop_tokens.proofs.ReaderLaws.{bind_ok, ok_is, Takes, mark_again, mark_if_again, mark_takes, repository_again}
 use Rattle.giop_sig.specs.Table.{Node, exception_in}
 use Rattle.giop_sig.specs.Table as nodes
-use Rattle.giop_sig.specs.Trees.{depth_of}
 use Rattle.giop_sig.specs.Grammar.{Item, spell_length, spell_items, Declaration, Structure, Raise, spell}
 use Rattle.giop_sig.specs.Scopes.{Scope, Placed, with_named, with_raised, place_items, place_struct, declare}
 use Rattle.giop_sig.specs.Validity.{Kind, OfSome, OfItems, OfRepository, OfDeclaration}
 use Rattle.giop_sig.specs.Outcomes.{refused}
 use Rattle.giop_sig.specs.TypeReading.{added}
 use Rattle.giop_sig.specs.ItemReading.{declared_at, members_at, filled_at, Declared, structure_at, new_repository_at, raise_at, MembersRead}
-use Rattle.giop_sig.proofs.PlaceLaws.{deepest, size, node_deeper, items_deeper}
+use Rattle.giop_sig.proofs.PlaceLaws.{size, within_same, within_on, Grown, node_more, struct_more}
 use Rattle.giop_sig.proofs.ReadingLaws.{Out, good, broken, out_bind, if_apart, Took}
 use Rattle.giop_sig.proofs.TypeLaws.{added_bind}
 use Rattle.giop_sig.proofs.ItemLaws.{declared_reads, members_reads, type_apart, some_none, no_none}
@@ -38,43 +37,57 @@ some_keeps x xs kinds.Empty = tt
 some_keeps x xs kinds.OutOfMemory = tt
 
 -- of a text that begins with members
-filled_reads : (types : List Node) (is : List Item) (text : List ℕ) (more : List Token) → AreTokens text (spell_items is more) → Out {X = List ℕ} (λ rest. rest) (λ k. OfSome k is) types (spell_items is more) (filled_at text)
+filled_reads : (types : List Node) (is : List Item) (text : List ℕ) (more : List Token)
+    → AreTokens text (spell_items is more)
+    → Out {X = List ℕ} (λ rest. rest) (λ k. OfSome k is) types
+    (spell_items is more) (filled_at text)
 unfolding filled_at
 filled_reads types [] text more h = rw (mark_if_again marks.CloseBrace text more h) (broken (refused kinds.Empty text) (λ none. none))
 filled_reads types (i ∷ is) text more h =
-    rw (if_apart marks.CloseBrace text (spell_items (i ∷ is) more) (type_apart i.type (word i.name ∷ spell_length i.length (mark marks.Semicolon ∷ spell_items is more))) h) (good text h (some_keeps i is))
+    rw (if_apart marks.CloseBrace text (spell_items (i ∷ is) more)
+    (type_apart i.type (word i.name ∷ spell_length i.length (mark marks.Semicolon ∷ spell_items is more))) h) (good text h (some_keeps i is))
 
 -- ---- structs
 
 -- the members of a struct, and the struct
-closed_reads : (at : ℕ) (s : Scope) (is : List Item) (h : Placed → Scope) (rule : Kind → Type 0) (text : List ℕ) (more : List Token) → 0 < size s → OfItems kinds.Syntax s.names 256 [] is → AreTokens text (spell_items is (mark marks.Semicolon ∷ more))
-    → (((k : Kind) → OfItems k s.names 256 [] is) → (k : Kind) → rule k) → ((k : Kind) → rule k → OfItems k s.names 256 [] is) → deepest (place_struct (place_items s is)).0 ≤ depth_of (h (place_struct (place_items s is))).table.types
-    → Out {X = Declared} (λ rest. (h (place_struct (place_items s is)), rest)) rule (h (place_struct (place_items s is))).table.types more (members_at at s text >>= λ m. mark_at marks.Semicolon m.2 >>= λ r. added at m.0 (nodes.members m.1) >>= λ p. Ok (h p, r))
+closed_reads : (at : ℕ) (s : Scope) (is : List Item) (h : Placed → Scope) (rule : Kind → Type 0)
+    (text : List ℕ) (more : List Token) → 0 < size s → OfItems kinds.Syntax s.names 256 [] is
+    → AreTokens text (spell_items is (mark marks.Semicolon ∷ more))
+    → (((k : Kind) → OfItems k s.names 256 [] is) → (k : Kind) → rule k)
+    → ((k : Kind) → rule k → OfItems k s.names 256 [] is)
+    → Grown (place_struct (place_items s is)).0 (h (place_struct (place_items s is)))
+    → Out {X = Declared} (λ rest. (h (place_struct (place_items s is)), rest)) rule
+    (h (place_struct (place_items s is))).table.types more
+    (members_at at s text >>= λ m. mark_at marks.Semicolon m.2
+    >>= λ r. added at m.0 (nodes.members m.1) >>= λ p. Ok (h p, r))
 closed_reads at s is h rule text more some free t on up le =
     let made = place_items s is in
-    let struct : deepest made.0 ≤ deepest (place_struct made).0 = node_deeper made.0 (nodes.members made.1) in
     out_bind (members_at at s text) (λ m. mark_at marks.Semicolon m.2 >>= λ r. added at m.0 (nodes.members m.1) >>= λ p. Ok (h p, r))
     (members_reads is at 257 [] [] s s.names text (mark marks.Semicolon ∷ more) refl some (omega arith) (omega arith) free t)
-    (λ rest m keeps. rw (mark_again marks.Semicolon rest more m) (added_bind at made.0 (nodes.members made.1) (λ p. Ok (h p, m.0)) le (good m.0 m.2 (on keeps))))
-    up (omega arith)
+    (λ rest m keeps. rw (mark_again marks.Semicolon rest more m)
+    (added_bind at made.0 (nodes.members made.1) (λ p. Ok (h p, m.0)) le (good m.0 m.2 (on keeps))))
+    up (within_on (node_more made.0 (nodes.members made.1)) le)
 
-struct_deeper : (s : Scope) (is : List Item) → deepest s ≤ deepest (place_struct (place_items s is)).0
-struct_deeper s is = omega (arith, items_deeper s is, node_deeper (place_items s is).0 (nodes.members (place_items s is).1))
-
-pub structure_reads : (s : Scope) (w : List ℕ) (is : List Item) (text : List ℕ) (more : List Token) → 0 < size s → OfDeclaration kinds.Syntax s (Structure w is)
+pub structure_reads : (s : Scope) (w : List ℕ) (is : List Item) (text : List ℕ) (more : List Token)
+    → 0 < size s → OfDeclaration kinds.Syntax s (Structure w is)
     → AreTokens text (word w ∷ mark marks.OpenBrace ∷ spell_items is (mark marks.Semicolon ∷ more))
-    → Out {X = Declared} (λ rest. (declare s (Structure w is), rest)) (λ k. OfDeclaration k s (Structure w is)) (declare s (Structure w is)).table.types more (structure_at s text)
+    → Out {X = Declared} (λ rest. (declare s (Structure w is), rest))
+    (λ k. OfDeclaration k s (Structure w is)) (declare s (Structure w is)).table.types
+    more (structure_at s text)
 unfolding structure_at declare OfDeclaration
 structure_reads s w is text more some free t =
     let at = left_of text in
-    out_bind (declared_at s s.table.declared text) (λ n. mark_at marks.OpenBrace n.1 >>= λ o. filled_at o >>= λ f. members_at at s f >>= λ m. mark_at marks.Semicolon m.2 >>= λ r. added at m.0 (nodes.members m.1) >>= λ p. Ok (with_named n.0 p, r))
+    out_bind (declared_at s s.table.declared text) (λ n. mark_at marks.OpenBrace n.1 >>= λ o. filled_at o >>= λ f. members_at at s f
+    >>= λ m. mark_at marks.Semicolon m.2 >>= λ r. added at m.0 (nodes.members m.1) >>= λ p. Ok (with_named n.0 p, r))
     (declared_reads s.table.types s s.table.declared text w (mark marks.OpenBrace ∷ spell_items is (mark marks.Semicolon ∷ more)) free.0 t)
     (λ a ta ka. rw (mark_again marks.OpenBrace a (spell_items is (mark marks.Semicolon ∷ more)) ta)
-    (out_bind (filled_at ta.0) (λ f. members_at at s f >>= λ m. mark_at marks.Semicolon m.2 >>= λ r. added at m.0 (nodes.members m.1) >>= λ p. Ok (with_named w p, r))
+    (out_bind (filled_at ta.0) (λ f. members_at at s f >>= λ m. mark_at marks.Semicolon m.2 >>= λ r. added at m.0 (nodes.members m.1)
+    >>= λ p. Ok (with_named w p, r))
     (filled_reads s.table.types is ta.0 (mark marks.Semicolon ∷ more) ta.2)
-    (λ b tb kb. closed_reads at s is (with_named w) (λ k. OfDeclaration k s (Structure w is)) b more some free.2 tb (λ keeps k. (ka k, kb k, keeps k)) (λ k h. h.2) (omega arith))
-    (λ k h. h.1) (struct_deeper s is)))
-    (λ k h. h.0) (struct_deeper s is)
+    (λ b tb kb. closed_reads at s is (with_named w) (λ k. OfDeclaration k s (Structure w is)) b more some free.2 tb (λ keeps k. (ka k, kb k, keeps k))
+    (λ k h. h.2) within_same)
+    (λ k h. h.1) (struct_more s is)))
+    (λ k h. h.0) (struct_more s is)
 
 -- ---- what was read
 
@@ -83,36 +96,51 @@ pub record TakenDeclaration (s : Scope) (text : List ℕ) (x : Declared) : Type 
   pub declaration : Declaration
   pub took : Took (spell declaration) (OfDeclaration kinds.Syntax s declaration) text x.1
 
-structure_made : (s : Scope) (whole text o f : List ℕ) (n : List ℕ × List ℕ) (m : MembersRead) (r : List ℕ) (t : Scope) → Takes whole (word (codes "struct")) text → DeclaredTaken s s.table.declared text n → mark_at marks.OpenBrace n.1 ≡ Ok o → o ≡ f
-    → TakenMembers 257 [] [] s f m → mark_at marks.Semicolon m.2 ≡ Ok r → TakenDeclaration s whole (t, r)
+structure_made : (s : Scope) (whole text o f : List ℕ) (n : List ℕ × List ℕ) (m : MembersRead)
+    (r : List ℕ) (t : Scope) → Takes whole (word (codes "struct")) text
+    → DeclaredTaken s s.table.declared text n → mark_at marks.OpenBrace n.1 ≡ Ok o → o ≡ f
+    → TakenMembers 257 [] [] s f m → mark_at marks.Semicolon m.2 ≡ Ok r
+    → TakenDeclaration s whole (t, r)
 unfolding OfDeclaration
 structure_made s whole text o f n m r t before a b same k e = record {
   declaration = Structure n.0 k.items;
   took = record {
     free = (a.free, tt, k.took.free);
     front = λ more h.
-        let behind : AreTokens f (spell_items k.items (mark marks.Semicolon ∷ more)) = k.took.front (mark marks.Semicolon ∷ more) (mark_takes marks.Semicolon m.2 r e more h) in
+        let behind : AreTokens f (spell_items k.items (mark marks.Semicolon ∷ more)) =
+        k.took.front (mark marks.Semicolon ∷ more) (mark_takes marks.Semicolon m.2 r e more h) in
         let members = spell_items k.items (mark marks.Semicolon ∷ more) in
-        before (word n.0 ∷ mark marks.OpenBrace ∷ members) (a.front (mark marks.OpenBrace ∷ members) (mark_takes marks.OpenBrace n.1 o b members (subst (λ z. AreTokens z members) (sym same) behind)));
+        before (word n.0 ∷ mark marks.OpenBrace ∷ members)
+        (a.front (mark marks.OpenBrace ∷ members) (mark_takes marks.OpenBrace n.1 o b members (subst (λ z. AreTokens z members) (sym same) behind)));
   };
 }
 
-pub structure_takes : (s : Scope) (whole text : List ℕ) (x : Declared) → Takes whole (word (codes "struct")) text → structure_at s text ≡ Ok x → TakenDeclaration s whole x
+pub structure_takes : (s : Scope) (whole text : List ℕ) (x : Declared)
+    → Takes whole (word (codes "struct")) text → structure_at s text ≡ Ok x
+    → TakenDeclaration s whole x
 unfolding structure_at
 structure_takes s whole text x before e =
     let at = left_of text in
-    let n = bind_ok (declared_at s s.table.declared text) (λ n. mark_at marks.OpenBrace n.1 >>= λ o. filled_at o >>= λ f. members_at at s f >>= λ m. mark_at marks.Semicolon m.2 >>= λ r. added at m.0 (nodes.members m.1) >>= λ p. Ok (with_named n.0 p, r)) x e in
-    let o = bind_ok (mark_at marks.OpenBrace (n.0).1) (λ o. filled_at o >>= λ f. members_at at s f >>= λ m. mark_at marks.Semicolon m.2 >>= λ r. added at m.0 (nodes.members m.1) >>= λ p. Ok (with_named (n.0).0 p, r)) x n.2 in
-    let f = bind_ok (filled_at o.0) (λ f. members_at at s f >>= λ m. mark_at marks.Semicolon m.2 >>= λ r. added at m.0 (nodes.members m.1) >>= λ p. Ok (with_named (n.0).0 p, r)) x o.2 in
-    let m = bind_ok (members_at at s f.0) (λ m. mark_at marks.Semicolon m.2 >>= λ r. added at m.0 (nodes.members m.1) >>= λ p. Ok (with_named (n.0).0 p, r)) x f.2 in
+    let n = bind_ok (declared_at s s.table.declared text)
+    (λ n. mark_at marks.OpenBrace n.1 >>= λ o. filled_at o >>= λ f. members_at at s f >>= λ m. mark_at marks.Semicolon m.2
+    >>= λ r. added at m.0 (nodes.members m.1) >>= λ p. Ok (with_named n.0 p, r)) x e in
+    let o = bind_ok (mark_at marks.OpenBrace (n.0).1)
+    (λ o. filled_at o >>= λ f. members_at at s f >>= λ m. mark_at marks.Semicolon m.2 >>= λ r. added at m.0 (nodes.members m.1)
+    >>= λ p. Ok (with_named (n.0).0 p, r)) x n.2 in
+    let f = bind_ok (filled_at o.0) (λ f. members_at at s f >>= λ m. mark_at marks.Semicolon m.2 >>= λ r. added at m.0 (nodes.members m.1)
+    >>= λ p. Ok (with_named (n.0).0 p, r)) x o.2 in
+    let m = bind_ok (members_at at s f.0) (λ m. mark_at marks.Semicolon m.2 >>= λ r. added at m.0 (nodes.members m.1)
+    >>= λ p. Ok (with_named (n.0).0 p, r)) x f.2 in
     let r = bind_ok (mark_at marks.Semicolon (m.0).2) (λ r. added at (m.0).0 (nodes.members (m.0).1) >>= λ p. Ok (with_named (n.0).0 p, r)) x m.2 in
     let p = bind_ok (added at (m.0).0 (nodes.members (m.0).1)) (λ p. Ok (with_named (n.0).0 p, r.0)) x r.2 in
     subst (TakenDeclaration s whole) (ok_is (with_named (n.0).0 p.0, r.0) x p.2)
-    (structure_made s whole text o.0 f.0 n.0 m.0 r.0 (with_named (n.0).0 p.0) before (declared_takes s s.table.declared text n.0 n.1) o.1 (filled_takes o.0 f.0 f.1).0 (members_takes at 257 [] [] s f.0 m.0 m.1) r.1)
+    (structure_made s whole text o.0 f.0 n.0 m.0 r.0 (with_named (n.0).0 p.0) before (declared_takes s s.table.declared text n.0 n.1) o.1
+    (filled_takes o.0 f.0 f.1).0 (members_takes at 257 [] [] s f.0 m.0 m.1) r.1)
 
 -- ---- exceptions
 
-repository_keeps : (s : Scope) (r : List ℕ) → length r ≤ 128 → exception_in s.table r ≡ None → (k : Kind) → OfRepository k s r
+repository_keeps : (s : Scope) (r : List ℕ) → length r ≤ 128 → exception_in s.table r ≡ None
+    → (k : Kind) → OfRepository k s r
 repository_keeps s r short new kinds.Token = tt
 repository_keeps s r short new kinds.Syntax = tt
 repository_keeps s r short new kinds.UnknownType = tt
@@ -123,34 +151,55 @@ repository_keeps s r short new kinds.Label = tt
 repository_keeps s r short new kinds.Empty = tt
 repository_keeps s r short new kinds.OutOfMemory = tt
 
-repository_by : (types : List Node) (s : Scope) (text r rest : List ℕ) (more : List Token) (a b : Bool) → ltb 128 (length r) ≡ a → is_some (exception_in s.table r) ≡ b → AreTokens rest more
-    → Out {X = List ℕ × List ℕ} (λ rest. (r, rest)) (λ k. OfRepository k s r) types more (cond a (Err (refused kinds.Limit text)) (cond b (Err (refused kinds.Duplicate text)) (Ok (r, rest))))
-repository_by types s text r rest more true b p q m = broken (refused kinds.Limit text) (λ h. let z = ltb-true 128 (length r) p in omega arith)
+repository_by : (types : List Node) (s : Scope) (text r rest : List ℕ) (more : List Token)
+    (a b : Bool) → ltb 128 (length r) ≡ a
+    → is_some (exception_in s.table r) ≡ b → AreTokens rest more
+    → Out {X = List ℕ × List ℕ} (λ rest. (r, rest)) (λ k. OfRepository k s r) types more
+    (cond a (Err (refused kinds.Limit text))
+    (cond b (Err (refused kinds.Duplicate text)) (Ok (r, rest))))
+repository_by types s text r rest more true b p q m = broken (refused kinds.Limit text) (inl (λ h. let z = ltb-true 128 (length r) p in omega arith))
 repository_by types s text r rest more false true p q m = broken (refused kinds.Duplicate text) (some_none (exception_in s.table r) q)
 repository_by types s text r rest more false false p q m = good rest m (repository_keeps s r (ltb-false 128 (length r) p) (no_none (exception_in s.table r) q))
 
-repository_reads : (types : List Node) (s : Scope) (text r : List ℕ) (more : List Token) → AreTokens text (repository r ∷ more) → Out {X = List ℕ × List ℕ} (λ rest. (r, rest)) (λ k. OfRepository k s r) types more (new_repository_at s text)
+repository_reads : (types : List Node) (s : Scope) (text r : List ℕ) (more : List Token)
+    → AreTokens text (repository r ∷ more)
+    → Out {X = List ℕ × List ℕ} (λ rest. (r, rest)) (λ k. OfRepository k s r) types more
+    (new_repository_at s text)
 unfolding new_repository_at
-repository_reads types s text r more h = rw (repository_again text r more h) (repository_by types s text r h.0 more (ltb 128 (length r)) (is_some (exception_in s.table r)) refl refl h.2)
+repository_reads types s text r more h =
+    rw (repository_again text r more h) (repository_by types s text r h.0 more (ltb 128 (length r)) (is_some (exception_in s.table r)) refl refl h.2)
 
-pub raise_reads : (s : Scope) (w i : List ℕ) (is : List Item) (text : List ℕ) (more : List Token) → 0 < size s → OfDeclaration kinds.Syntax s (Raise w i is)
-    → AreTokens text (word w ∷ repository i ∷ mark marks.OpenBrace ∷ spell_items is (mark marks.Semicolon ∷ more))
-    → Out {X = Declared} (λ rest. (declare s (Raise w i is), rest)) (λ k. OfDeclaration k s (Raise w i is)) (declare s (Raise w i is)).table.types more (raise_at s text)
+pub raise_reads : (s : Scope) (w i : List ℕ) (is : List Item) (text : List ℕ) (more : List Token)
+    → 0 < size s → OfDeclaration kinds.Syntax s (Raise w i is)
+    → AreTokens text (word w ∷ repository i ∷ mark marks.OpenBrace
+    ∷ spell_items is (mark marks.Semicolon ∷ more))
+    → Out {X = Declared} (λ rest. (declare s (Raise w i is), rest))
+    (λ k. OfDeclaration k s (Raise w i is))
+    (declare s (Raise w i is)).table.types more (raise_at s text)
 unfolding raise_at declare OfDeclaration
 raise_reads s w i is text more some free t =
     let at = left_of text in
-    out_bind (declared_at s (length s.table.exceptions) text) (λ n. new_repository_at s n.1 >>= λ i. mark_at marks.OpenBrace i.1 >>= λ o. members_at at s o >>= λ m. mark_at marks.Semicolon m.2 >>= λ r. added at m.0 (nodes.members m.1) >>= λ p. Ok (with_raised n.0 i.0 p, r))
-    (declared_reads s.table.types s (length s.table.exceptions) text w (repository i ∷ mark marks.OpenBrace ∷ spell_items is (mark marks.Semicolon ∷ more)) free.0 t)
+    out_bind (declared_at s (length s.table.exceptions) text)
+    (λ n. new_repository_at s n.1 >>= λ i. mark_at marks.OpenBrace i.1 >>= λ o. members_at at s o >>= λ m. mark_at marks.Semicolon m.2
+    >>= λ r. added at m.0 (nodes.members m.1) >>= λ p. Ok (with_raised n.0 i.0 p, r))
+    (declared_reads s.table.types s (length s.table.exceptions) text w
+    (repository i ∷ mark marks.OpenBrace ∷ spell_items is (mark marks.Semicolon ∷ more)) free.0 t)
     (λ a ta ka.
-    out_bind (new_repository_at s a) (λ i. mark_at marks.OpenBrace i.1 >>= λ o. members_at at s o >>= λ m. mark_at marks.Semicolon m.2 >>= λ r. added at m.0 (nodes.members m.1) >>= λ p. Ok (with_raised w i.0 p, r))
+    out_bind (new_repository_at s a) (λ i. mark_at marks.OpenBrace i.1 >>= λ o. members_at at s o >>= λ m. mark_at marks.Semicolon m.2
+    >>= λ r. added at m.0 (nodes.members m.1) >>= λ p. Ok (with_raised w i.0 p, r))
     (repository_reads s.table.types s a i (mark marks.OpenBrace ∷ spell_items is (mark marks.Semicolon ∷ more)) ta)
     (λ b tb kb. rw (mark_again marks.OpenBrace b (spell_items is (mark marks.Semicolon ∷ more)) tb)
-    (closed_reads at s is (with_raised w i) (λ k. OfDeclaration k s (Raise w i is)) tb.0 more some free.2 tb.2 (λ keeps k. (ka k, kb k, keeps k)) (λ k h. h.2) (omega arith)))
-    (λ k h. h.1) (struct_deeper s is))
-    (λ k h. h.0) (struct_deeper s is)
+    (closed_reads at s is (with_raised w i) (λ k. OfDeclaration k s (Raise w i is)) tb.0 more some free.2 tb.2 (λ keeps k. (ka k, kb k, keeps k))
+    (λ k h. h.2) within_same))
+    (λ k h. h.1) (struct_more s is))
+    (λ k h. h.0) (struct_more s is)
 
-raise_made : (s : Scope) (whole text o : List ℕ) (n i : List ℕ × List ℕ) (m : MembersRead) (r : List ℕ) (t : Scope) → Takes whole (word (codes "exception")) text → DeclaredTaken s (length s.table.exceptions) text n → RepositoryTaken s n.1 i → mark_at marks.OpenBrace i.1 ≡ Ok o
-    → TakenMembers 257 [] [] s o m → mark_at marks.Semicolon m.2 ≡ Ok r → TakenDeclaration s whole (t, r)
+raise_made : (s : Scope) (whole text o : List ℕ) (n i : List ℕ × List ℕ) (m : MembersRead)
+    (r : List ℕ) (t : Scope) → Takes whole (word (codes "exception")) text
+    → DeclaredTaken s (length s.table.exceptions) text n → RepositoryTaken s n.1 i
+    → mark_at marks.OpenBrace i.1 ≡ Ok o
+    → TakenMembers 257 [] [] s o m → mark_at marks.Semicolon m.2 ≡ Ok r
+    → TakenDeclaration s whole (t, r)
 unfolding OfDeclaration
 raise_made s whole text o n i m r t before a d b k e = record {
   declaration = Raise n.0 i.0 k.items;
@@ -159,19 +208,30 @@ raise_made s whole text o n i m r t before a d b k e = record {
     front = λ more h.
         let members = spell_items k.items (mark marks.Semicolon ∷ more) in
         let behind : AreTokens o members = k.took.front (mark marks.Semicolon ∷ more) (mark_takes marks.Semicolon m.2 r e more h) in
-        before (word n.0 ∷ repository i.0 ∷ mark marks.OpenBrace ∷ members) (a.front (repository i.0 ∷ mark marks.OpenBrace ∷ members) (d.front (mark marks.OpenBrace ∷ members) (mark_takes marks.OpenBrace i.1 o b members behind)));
+        before (word n.0 ∷ repository i.0 ∷ mark marks.OpenBrace ∷ members)
+        (a.front (repository i.0 ∷ mark marks.OpenBrace ∷ members)
+        (d.front (mark marks.OpenBrace ∷ members) (mark_takes marks.OpenBrace i.1 o b members behind)));
   };
 }
 
-pub raise_takes : (s : Scope) (whole text : List ℕ) (x : Declared) → Takes whole (word (codes "exception")) text → raise_at s text ≡ Ok x → TakenDeclaration s whole x
+pub raise_takes : (s : Scope) (whole text : List ℕ) (x : Declared)
+    → Takes whole (word (codes "exception")) text → raise_at s text ≡ Ok x
+    → TakenDeclaration s whole x
 unfolding raise_at
 raise_takes s whole text x before e =
     let at = left_of text in
-    let n = bind_ok (declared_at s (length s.table.exceptions) text) (λ n. new_repository_at s n.1 >>= λ i. mark_at marks.OpenBrace i.1 >>= λ o. members_at at s o >>= λ m. mark_at marks.Semicolon m.2 >>= λ r. added at m.0 (nodes.members m.1) >>= λ p. Ok (with_raised n.0 i.0 p, r)) x e in
-    let i = bind_ok (new_repository_at s (n.0).1) (λ i. mark_at marks.OpenBrace i.1 >>= λ o. members_at at s o >>= λ m. mark_at marks.Semicolon m.2 >>= λ r. added at m.0 (nodes.members m.1) >>= λ p. Ok (with_raised (n.0).0 i.0 p, r)) x n.2 in
-    let o = bind_ok (mark_at marks.OpenBrace (i.0).1) (λ o. members_at at s o >>= λ m. mark_at marks.Semicolon m.2 >>= λ r. added at m.0 (nodes.members m.1) >>= λ p. Ok (with_raised (n.0).0 (i.0).0 p, r)) x i.2 in
-    let m = bind_ok (members_at at s o.0) (λ m. mark_at marks.Semicolon m.2 >>= λ r. added at m.0 (nodes.members m.1) >>= λ p. Ok (with_raised (n.0).0 (i.0).0 p, r)) x o.2 in
+    let n = bind_ok (declared_at s (length s.table.exceptions) text)
+    (λ n. new_repository_at s n.1 >>= λ i. mark_at marks.OpenBrace i.1 >>= λ o. members_at at s o >>= λ m. mark_at marks.Semicolon m.2
+    >>= λ r. added at m.0 (nodes.members m.1) >>= λ p. Ok (with_raised n.0 i.0 p, r)) x e in
+    let i = bind_ok (new_repository_at s (n.0).1) (λ i. mark_at marks.OpenBrace i.1 >>= λ o. members_at at s o >>= λ m. mark_at marks.Semicolon m.2
+    >>= λ r. added at m.0 (nodes.members m.1) >>= λ p. Ok (with_raised (n.0).0 i.0 p, r)) x n.2 in
+    let o = bind_ok (mark_at marks.OpenBrace (i.0).1)
+    (λ o. members_at at s o >>= λ m. mark_at marks.Semicolon m.2 >>= λ r. added at m.0 (nodes.members m.1)
+    >>= λ p. Ok (with_raised (n.0).0 (i.0).0 p, r)) x i.2 in
+    let m = bind_ok (members_at at s o.0) (λ m. mark_at marks.Semicolon m.2 >>= λ r. added at m.0 (nodes.members m.1)
+    >>= λ p. Ok (with_raised (n.0).0 (i.0).0 p, r)) x o.2 in
     let r = bind_ok (mark_at marks.Semicolon (m.0).2) (λ r. added at (m.0).0 (nodes.members (m.0).1) >>= λ p. Ok (with_raised (n.0).0 (i.0).0 p, r)) x m.2 in
     let p = bind_ok (added at (m.0).0 (nodes.members (m.0).1)) (λ p. Ok (with_raised (n.0).0 (i.0).0 p, r.0)) x r.2 in
     subst (TakenDeclaration s whole) (ok_is (with_raised (n.0).0 (i.0).0 p.0, r.0) x p.2)
-    (raise_made s whole text o.0 n.0 i.0 m.0 r.0 (with_raised (n.0).0 (i.0).0 p.0) before (declared_takes s (length s.table.exceptions) text n.0 n.1) (new_repository_takes s (n.0).1 i.0 i.1) o.1 (members_takes at 257 [] [] s o.0 m.0 m.1) r.1)
+    (raise_made s whole text o.0 n.0 i.0 m.0 r.0 (with_raised (n.0).0 (i.0).0 p.0) before (declared_takes s (length s.table.exceptions) text n.0 n.1)
+    (new_repository_takes s (n.0).1 i.0 i.1) o.1 (members_takes at 257 [] [] s o.0 m.0 m.1) r.1)

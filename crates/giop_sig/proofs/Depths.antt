@@ -23,14 +23,17 @@ depth_by shapes.Encapsulation f = 1 + f 0
 depth_by shapes.Tagged f = 1 + max 1 (most 3 f)
 depth_by s f = 1
 
-pub depth_grown : (tree : ℕ → Ty) (node : Node) → depth (grow tree node) ≡ depth_by (shape_of node) (λ i. depth (tree (type_of (part_at node i))))
+pub depth_grown : (tree : ℕ → Ty) (node : Node)
+    → depth (grow tree node) ≡ depth_by (shape_of node)
+    (λ i. depth (tree (type_of (part_at node i))))
 unfolding depth
 depth_grown tree (nodes.prim p) = refl
 depth_grown tree (nodes.enumeration names) = refl
 depth_grown tree (nodes.text bound) = refl
 depth_grown tree (nodes.octets bound) = refl
 depth_grown tree (nodes.members parts) = ap (λ n. 1 + n) (most_same (length parts) _ _ (λ i lt. ap depth (sym (part_grown tree (nodes.members parts) i lt))))
-depth_grown tree (nodes.union switch cases otherwise) = ap (λ n. 1 + max 1 n) (most_same (length cases) _ _ (λ i lt. ap depth (sym (part_grown tree (nodes.union switch cases otherwise) i lt))))
+depth_grown tree (nodes.union switch cases otherwise) =
+    ap (λ n. 1 + max 1 n) (most_same (length cases) _ _ (λ i lt. ap depth (sym (part_grown tree (nodes.union switch cases otherwise) i lt))))
 depth_grown tree (nodes.sequence bound element) = refl
 depth_grown tree (nodes.array count element) = refl
 depth_grown tree (nodes.encapsulation held) = refl
@@ -38,23 +41,27 @@ depth_grown tree (nodes.tagged special tag inner other) =
     ap (λ n. 1 + max 1 n) (most_same 3 _ _ (λ i lt. ap depth (sym (part_grown tree (nodes.tagged special tag inner other) i lt))))
 
 -- the depth of a node's tree, at its shape
-pub depth_at_shape : (types : List Node) (node : Node) (s : Shape) → s ≡ shape_of node → depth (grow (type_in types) node) ≡ depth_by s (part_depth types node)
+pub depth_at_shape : (types : List Node) (node : Node) (s : Shape) → s ≡ shape_of node
+    → depth (grow (type_in types) node) ≡ depth_by s (part_depth types node)
 depth_at_shape types node s e = depth_grown (type_in types) node ∙ ap (λ (t : Shape). depth_by t (part_depth types node)) (sym e)
 
 -- ---- the depths of a table
 
-pub depths_read : (Ts : List Ty) (i : ℕ) → i < length Ts → get_or (depths Ts) i 0 ≡ depth (tree_in Ts i)
+pub depths_read : (Ts : List Ty) (i : ℕ) → i < length Ts
+    → get_or (depths Ts) i 0 ≡ depth (tree_in Ts i)
 depths_read [] i lt = absurd (omega arith)
 depths_read (T ∷ Ts) zero lt = refl
 depths_read (T ∷ Ts) (suc i) lt = depths_read Ts i (omega arith)
 
-pub depth_most : (Ts : List Ty) (i : ℕ) → i < length Ts → depth (tree_in Ts i) ≤ greatest (depths Ts)
+pub depth_most : (Ts : List Ty) (i : ℕ) → i < length Ts
+    → depth (tree_in Ts i) ≤ greatest (depths Ts)
 depth_most [] i lt = absurd (omega arith)
 depth_most (T ∷ Ts) zero lt = omega arith
 depth_most (T ∷ Ts) (suc i) lt = omega (arith, depth_most Ts i (omega arith))
 
 -- no type is deeper than the deepest
-pub depth_within : (types : List Node) (i : ℕ) → i < length types → depth (type_in types i) ≤ depth_of types
+pub depth_within : (types : List Node) (i : ℕ) → i < length types
+    → depth (type_in types i) ≤ depth_of types
 unfolding depth_of type_in
 depth_within types i lt = depth_most (trees_of types) i (omega (arith, length_after [] types))
 
@@ -67,9 +74,12 @@ greatest_append [] n = omega arith
 greatest_append (m ∷ ms) n = ap (max m) (greatest_append ms n) ∙ omega arith
 
 -- the depths, once a type is added
-pub depths_added : (types : List Node) (node : Node) → depths (trees_of (types ++ node ∷ [])) ≡ depths (trees_of types) ++ depth (grow (type_in types) node) ∷ []
+pub depths_added : (types : List Node) (node : Node)
+    → depths (trees_of (types ++ node ∷ []))
+    ≡ depths (trees_of types) ++ depth (grow (type_in types) node) ∷ []
 depths_added types node = ap depths (trees_added types node) ∙ depths_append (trees_of types) (grow (type_in types) node ∷ [])
 
-pub deepest_added : (types : List Node) (node : Node) → depth_of (types ++ node ∷ []) ≡ max (depth_of types) (depth (grow (type_in types) node))
+pub deepest_added : (types : List Node) (node : Node)
+    → depth_of (types ++ node ∷ []) ≡ max (depth_of types) (depth (grow (type_in types) node))
 unfolding depth_of
 deepest_added types node = ap greatest (depths_added types node) ∙ greatest_append (depths (trees_of types)) (depth (grow (type_in types) node))

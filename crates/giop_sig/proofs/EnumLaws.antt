@@ -1,5 +1,5 @@
 -- Reading enums against their spelling.
-use Rattle.std.proofs.Common.{◌≡◌, ℕ, zero, suc, ◌+◌, ◌<◌, ◌≤◌, Bool, true, false, cond, ◌||◌, ltb, leb, List, [], ◌∷◌, ◌++◌, map, length, Option, Some, None, Result, Ok, Err, append_assoc, ltb-true, ltb-false, leb-true, leb-false, refl, sym, ap, subst, ◌∙◌, arith}
+use Rattle.std.proofs.Common.{◌≡◌, inl, ℕ, zero, suc, ◌+◌, ◌<◌, ◌≤◌, Bool, true, false, cond, ◌||◌, ltb, leb, List, [], ◌∷◌, ◌++◌, map, length, Option, Some, None, Result, Ok, Err, append_assoc, ltb-true, ltb-false, leb-true, leb-false, refl, sym, ap, subst, ◌∙◌, arith}
 use Rattle.std.specs.List.{list_any}
 use Rattle.std.proofs.lemmas.Bool.{false≢true}
 use Rattle.std.specs.List.{All}
@@ -15,7 +15,6 @@ use Rattle.giop_tokens.specs.Names.{too_long, identifier_at}
 use Rattle.giop_tokens.proofs.ReaderLaws.{bind_ok, ok_is, Takes, mark_again, mark_if_again, identifier_again, identifier_long, mark_takes, mark_if_takes, identifier_word, identifier_takes}
 use Rattle.giop_sig.specs.Table.{Node}
 use Rattle.giop_sig.specs.Table as nodes
-use Rattle.giop_sig.specs.Trees.{depth_of}
 use Rattle.giop_sig.specs.Grammar.{spell_more_names, spell_names, Enumeration}
 use Rattle.giop_sig.specs.Scopes.{Scope, with_named, declare}
 use Rattle.giop_sig.specs.Validity.{Kind, IsFree, OfNewName, OfSome, OfNames, OfDeclaration, is_among}
@@ -24,26 +23,34 @@ use Rattle.giop_sig.specs.TypeReading.{added}
 use Rattle.giop_sig.specs.ItemReading.{declared_at, Declared}
 use Rattle.giop_sig.specs.Repeats.{in_steps}
 use Rattle.giop_sig.specs.EnumReading.{NamesRead, enumerator_at, names_end, names_step, too_many_names, names_by, names_at, enumeration_at}
-use Rattle.giop_sig.proofs.PlaceLaws.{node_deeper}
+use Rattle.giop_sig.proofs.PlaceLaws.{Within, within_same, node_more}
 use Rattle.giop_sig.proofs.ReadingLaws.{lift, Out, good, broken, out_bind, if_apart, Took}
 use Rattle.giop_sig.proofs.TypeLaws.{added_bind}
 use Rattle.giop_sig.proofs.ItemTaken.{declared_takes}
 use Rattle.giop_sig.proofs.ItemLaws.{declared_reads}
 
-pub any_of : {X Y : Type 0} (p : Y → Bool) (f : X → Y) (xs : List X) → list_any p (map f xs) ≡ list_any (λ x. p (f x)) xs
+pub any_of : {X Y : Type 0} (p : Y → Bool) (f : X → Y) (xs : List X)
+    → list_any p (map f xs) ≡ list_any (λ x. p (f x)) xs
 any_of p f [] = refl
 any_of p f (x ∷ xs) = ap (λ b. p (f x) || b) (any_of p f xs)
 
 -- what is read, told otherwise
-pub out_as : {X : Type 0} {made made2 : List ℕ → X} {rule rule2 : Kind → Type 0} {types types2 : List Node} {more : List Token} (r : Result X Refusal) → Out made rule types more r
-    → ((rest : List ℕ) → made rest ≡ made2 rest) → ((k : Kind) → rule k → rule2 k) → ((k : Kind) → rule2 k → rule k) → depth_of types ≤ depth_of types2 → Out made2 rule2 types2 more r
-out_as (Ok x) o same on up le = let g = o.out in record { out = record { rest = g.rest; is = g.is ∙ same g.rest; tokens = g.tokens; keeps = λ k. on k (g.keeps k) } }
-out_as {rule = rule} {rule2 = rule2} {types = types} {types2 = types2} (Err e) o same on up le = record { out = lift e.kind rule rule2 types types2 up le o.out }
+pub out_as : {X : Type 0} {made made2 : List ℕ → X} {rule rule2 : Kind → Type 0}
+    {types types2 : List Node} {more : List Token} (r : Result X Refusal)
+    → Out made rule types more r
+    → ((rest : List ℕ) → made rest ≡ made2 rest) → ((k : Kind) → rule k → rule2 k)
+    → ((k : Kind) → rule2 k → rule k) → Within types types2 → Out made2 rule2 types2 more r
+out_as (Ok x) o same on up le =
+    let g = o.out in
+    record { out = record { rest = g.rest; is = g.is ∙ same g.rest; tokens = g.tokens; keeps = λ k. on k (g.keeps k) } }
+out_as {rule = rule} {rule2 = rule2} {types = types} {types2 = types2} (Err e) o same on up le =
+    record { out = lift e.kind rule rule2 types types2 up le o.out }
 
 -- ---- a text that is spelled so
 
 -- what is asked of a name that is new
-pub new_name : (k : Kind) (most : ℕ) (seen : List (List ℕ)) (w : List ℕ) → IsFree w → length w ≤ 64 → length seen < most → is_among seen w ≡ false → OfNewName k most seen w
+pub new_name : (k : Kind) (most : ℕ) (seen : List (List ℕ)) (w : List ℕ) → IsFree w → length w ≤ 64
+    → length seen < most → is_among seen w ≡ false → OfNewName k most seen w
 new_name kinds.Token most seen w free short few new = tt
 new_name kinds.Syntax most seen w free short few new = free
 new_name kinds.UnknownType most seen w free short few new = tt
@@ -66,85 +73,112 @@ some_cons kinds.Label x xs = tt
 some_cons kinds.Empty x xs = tt
 some_cons kinds.OutOfMemory x xs = tt
 
-enumerator_by : (seen : List (List ℕ)) (w text : List ℕ) (types : List Node) (ts : List Token) (free : IsFree w) (h : AreTokens text (word w ∷ ts)) (a b c : Bool) → ltb 64 (length w) ≡ a → is_among seen w ≡ b → leb 1024 (length seen) ≡ c
-    → Out (λ rest. (seen ++ w ∷ [], rest)) (λ k. OfNewName k 1024 seen w) types ts (enumerator_at seen text)
+enumerator_by : (seen : List (List ℕ)) (w text : List ℕ) (types : List Node) (ts : List Token)
+    (free : IsFree w) (h : AreTokens text (word w ∷ ts)) (a b c : Bool) → ltb 64 (length w) ≡ a
+    → is_among seen w ≡ b → leb 1024 (length seen) ≡ c
+    → Out (λ rest. (seen ++ w ∷ [], rest)) (λ k. OfNewName k 1024 seen w) types ts
+    (enumerator_at seen text)
 unfolding enumerator_at
 enumerator_by seen w text types ts free h true b c p q r =
     let long = ltb-true 64 (length w) p in
-    rw (identifier_long text w ts h free long) (broken (too_long text) (λ k. let short = k.0 in omega arith))
+    rw (identifier_long text w ts h free long) (broken (too_long text) (inl (λ k. let short = k.0 in omega arith)))
 enumerator_by seen w text types ts free h false true c p q r =
     rw (identifier_again text w ts h free (ltb-false 64 (length w) p), q) (broken (refused kinds.Duplicate text) (λ k. absurd (false≢true (sym k ∙ q))))
 enumerator_by seen w text types ts free h false false true p q r =
     let many = leb-true 1024 (length seen) r in
-    rw (identifier_again text w ts h free (ltb-false 64 (length w) p), q, r) (broken (refused kinds.Limit text) (λ k. let few = k.1 in omega arith))
+    rw (identifier_again text w ts h free (ltb-false 64 (length w) p), q, r) (broken (refused kinds.Limit text) (inl (λ k. let few = k.1 in omega arith)))
 enumerator_by seen w text types ts free h false false false p q r =
     let short = ltb-false 64 (length w) p in
     let few : length seen < 1024 = let m = leb-false 1024 (length seen) r in omega arith in
     rw (identifier_again text w ts h free short, q, r) (good h.0 h.2 (λ k. new_name k 1024 seen w free short few q))
 
-pub enumerator_reads : (seen : List (List ℕ)) (w text : List ℕ) (types : List Node) (ts : List Token) → IsFree w → AreTokens text (word w ∷ ts)
-    → Out (λ rest. (seen ++ w ∷ [], rest)) (λ k. OfNewName k 1024 seen w) types ts (enumerator_at seen text)
-enumerator_reads seen w text types ts free h = enumerator_by seen w text types ts free h (ltb 64 (length w)) (is_among seen w) (leb 1024 (length seen)) refl refl refl
+pub enumerator_reads : (seen : List (List ℕ)) (w text : List ℕ) (types : List Node)
+    (ts : List Token) → IsFree w → AreTokens text (word w ∷ ts)
+    → Out (λ rest. (seen ++ w ∷ [], rest)) (λ k. OfNewName k 1024 seen w) types ts
+    (enumerator_at seen text)
+enumerator_reads seen w text types ts free h =
+    enumerator_by seen w text types ts free h (ltb 64 (length w)) (is_among seen w) (leb 1024 (length seen)) refl refl refl
 
-step_last : (seen : List (List ℕ)) (w text : List ℕ) (types : List Node) (more : List Token) → IsFree w → AreTokens text (word w ∷ mark marks.CloseBrace ∷ more)
-    → Out (λ rest. (true, (seen ++ w ∷ [], rest))) (λ k. OfNewName k 1024 seen w) types more (names_step (seen, text))
+step_last : (seen : List (List ℕ)) (w text : List ℕ) (types : List Node) (more : List Token)
+    → IsFree w → AreTokens text (word w ∷ mark marks.CloseBrace ∷ more)
+    → Out (λ rest. (true, (seen ++ w ∷ [], rest))) (λ k. OfNewName k 1024 seen w) types more
+    (names_step (seen, text))
 unfolding names_step
 step_last seen w text types more free h =
-    out_bind (enumerator_at seen text) (λ names. mark_if marks.Comma names.1 >>= names_end names) (enumerator_reads seen w text types (mark marks.CloseBrace ∷ more) free h)
-    (λ rest tokens keeps. rw (if_apart marks.Comma rest (mark marks.CloseBrace ∷ more) refl tokens, mark_again marks.CloseBrace rest more tokens) (good tokens.0 tokens.2 keeps))
-    (λ k whole. whole) (omega arith)
+    out_bind (enumerator_at seen text) (λ names. mark_if marks.Comma names.1 >>= names_end names)
+    (enumerator_reads seen w text types (mark marks.CloseBrace ∷ more) free h)
+    (λ rest tokens keeps. rw (if_apart marks.Comma rest (mark marks.CloseBrace ∷ more) refl tokens, mark_again marks.CloseBrace rest more tokens)
+    (good tokens.0 tokens.2 keeps))
+    (λ k whole. whole) within_same
 
-step_on : (seen : List (List ℕ)) (w text : List ℕ) (types : List Node) (ts : List Token) → IsFree w → AreTokens text (word w ∷ mark marks.Comma ∷ ts)
-    → Out (λ rest. (false, (seen ++ w ∷ [], rest))) (λ k. OfNewName k 1024 seen w) types ts (names_step (seen, text))
+step_on : (seen : List (List ℕ)) (w text : List ℕ) (types : List Node) (ts : List Token) → IsFree w
+    → AreTokens text (word w ∷ mark marks.Comma ∷ ts)
+    → Out (λ rest. (false, (seen ++ w ∷ [], rest))) (λ k. OfNewName k 1024 seen w) types ts
+    (names_step (seen, text))
 unfolding names_step
 step_on seen w text types ts free h =
-    out_bind (enumerator_at seen text) (λ names. mark_if marks.Comma names.1 >>= names_end names) (enumerator_reads seen w text types (mark marks.Comma ∷ ts) free h)
+    out_bind (enumerator_at seen text) (λ names. mark_if marks.Comma names.1 >>= names_end names)
+    (enumerator_reads seen w text types (mark marks.Comma ∷ ts) free h)
     (λ rest tokens keeps. rw (mark_if_again marks.Comma rest ts tokens) (good tokens.0 tokens.2 keeps))
-    (λ k whole. whole) (omega arith)
+    (λ k whole. whole) within_same
 
 abbrev then_names : ℕ → Bool × NamesRead → Result NamesRead Refusal
 then_names left x = cond x.0 (Ok x.1) (in_steps names_step too_many_names left x.1)
 
 -- enumerators behind others, of which there were so few that the steps suffice
-names_reads : (left : ℕ) (names : List (List ℕ)) (seen : List (List ℕ)) (w text : List ℕ) (types : List Node) (more : List Token) → left + length seen ≡ 1025 → OfNames kinds.Syntax seen (w ∷ names) → AreTokens text (word w ∷ spell_more_names names more)
-    → Out (λ rest. (seen ++ w ∷ names, rest)) (λ k. OfNames k seen (w ∷ names)) types more (in_steps names_step too_many_names left (seen, text))
+names_reads : (left : ℕ) (names : List (List ℕ)) (seen : List (List ℕ)) (w text : List ℕ)
+    (types : List Node) (more : List Token) → left + length seen ≡ 1025
+    → OfNames kinds.Syntax seen (w ∷ names) → AreTokens text (word w ∷ spell_more_names names more)
+    → Out (λ rest. (seen ++ w ∷ names, rest)) (λ k. OfNames k seen (w ∷ names)) types more
+    (in_steps names_step too_many_names left (seen, text))
 unfolding in_steps OfNames
-names_reads zero names seen w text types more room free h = broken (refused kinds.Limit text) (λ k. let few = (k.0).1 in omega arith)
+names_reads zero names seen w text types more room free h = broken (refused kinds.Limit text) (inl (λ k. let few = (k.0).1 in omega arith))
 names_reads (suc left) [] seen w text types more room free h =
-    out_bind (names_step (seen, text)) (then_names left) (step_last seen w text types more free.0 h) (λ rest tokens keeps. good rest tokens (λ k. (keeps k, tt))) (λ k whole. whole.0) (omega arith)
+    out_bind (names_step (seen, text)) (then_names left) (step_last seen w text types more free.0 h)
+    (λ rest tokens keeps. good rest tokens (λ k. (keeps k, tt))) (λ k whole. whole.0) within_same
 names_reads (suc left) (n ∷ names) seen w text types more room free h =
     out_bind (names_step (seen, text)) (then_names left) (step_on seen w text types (word n ∷ spell_more_names names more) free.0 h)
     (λ rest tokens keeps.
     out_as (in_steps names_step too_many_names left (seen ++ w ∷ [], rest))
     (names_reads left names (seen ++ w ∷ []) n rest types more (omega (arith, length-append seen (w ∷ []))) free.1 tokens)
-    (λ after. ap (λ all. (all, after)) (append_assoc seen (w ∷ []) (n ∷ names))) (λ k others. (keeps k, others)) (λ k whole. whole.1) (omega arith))
-    (λ k whole. whole.0) (omega arith)
+    (λ after. ap (λ all. (all, after)) (append_assoc seen (w ∷ []) (n ∷ names))) (λ k others. (keeps k, others)) (λ k whole. whole.1) within_same)
+    (λ k whole. whole.0) within_same
 
-pub all_names_reads : (names : List (List ℕ)) (text : List ℕ) (types : List Node) (more : List Token) → OfNames kinds.Syntax [] names → AreTokens text (spell_names names more)
-    → Out (λ rest. (names, rest)) (λ k. OfSome k names × OfNames k [] names) types more (names_at text)
+pub all_names_reads : (names : List (List ℕ)) (text : List ℕ) (types : List Node)
+    (more : List Token) → OfNames kinds.Syntax [] names → AreTokens text (spell_names names more)
+    → Out (λ rest. (names, rest)) (λ k. OfSome k names × OfNames k [] names)
+    types more (names_at text)
 unfolding names_at
 all_names_reads [] text types more free h = rw (mark_if_again marks.CloseBrace text more h) (broken (refused kinds.Empty text) (λ k. k.0))
 all_names_reads (n ∷ names) text types more free h =
     rw (if_apart marks.CloseBrace text (word n ∷ spell_more_names names more) refl h)
-    (out_as (in_steps names_step too_many_names 1025 ([], text)) (names_reads 1025 names [] n text types more refl free h) (λ rest. refl) (λ k keeps. (some_cons k n names, keeps)) (λ k whole. whole.1) (omega arith))
+    (out_as (in_steps names_step too_many_names 1025 ([], text)) (names_reads 1025 names [] n text types more refl free h) (λ rest. refl)
+    (λ k keeps. (some_cons k n names, keeps)) (λ k whole. whole.1) within_same)
 
 -- what reading gives of a text that begins with an enum, behind its word
-pub enumeration_reads : (n : List ℕ) (names : List (List ℕ)) (s : Scope) (text : List ℕ) (more : List Token) → OfDeclaration kinds.Syntax s (Enumeration n names) → AreTokens text (word n ∷ mark marks.OpenBrace ∷ spell_names names (mark marks.Semicolon ∷ more))
-    → Out (λ rest. (declare s (Enumeration n names), rest)) (λ k. OfDeclaration k s (Enumeration n names)) (declare s (Enumeration n names)).table.types more (enumeration_at s text)
+pub enumeration_reads : (n : List ℕ) (names : List (List ℕ)) (s : Scope) (text : List ℕ)
+    (more : List Token) → OfDeclaration kinds.Syntax s (Enumeration n names)
+    → AreTokens text (word n ∷ mark marks.OpenBrace
+    ∷ spell_names names (mark marks.Semicolon ∷ more))
+    → Out (λ rest. (declare s (Enumeration n names), rest))
+    (λ k. OfDeclaration k s (Enumeration n names)) (declare s (Enumeration n names)).table.types
+    more (enumeration_at s text)
 unfolding enumeration_at OfDeclaration declare
 enumeration_reads n names s text more free h =
     let node = nodes.enumeration names in
     let tail = spell_names names (mark marks.Semicolon ∷ more) in
     out_bind (declared_at s s.table.declared text)
-    (λ d. mark_at marks.OpenBrace d.1 >>= λ o. names_at o >>= λ ns. mark_at marks.Semicolon ns.1 >>= λ r. added (left_of text) s (nodes.enumeration ns.0) >>= λ p. Ok (with_named d.0 p, r))
+    (λ d. mark_at marks.OpenBrace d.1 >>= λ o. names_at o >>= λ ns. mark_at marks.Semicolon ns.1 >>= λ r. added (left_of text) s (nodes.enumeration ns.0)
+    >>= λ p. Ok (with_named d.0 p, r))
     (declared_reads s.table.types s s.table.declared text n (mark marks.OpenBrace ∷ tail) free.0 h)
     (λ a ta ka.
     rw (mark_again marks.OpenBrace a tail ta)
     (out_bind (names_at ta.0) (λ ns. mark_at marks.Semicolon ns.1 >>= λ r. added (left_of text) s (nodes.enumeration ns.0) >>= λ p. Ok (with_named n p, r))
     (all_names_reads names ta.0 s.table.types (mark marks.Semicolon ∷ more) free.2 ta.2)
-    (λ b tb kb. rw (mark_again marks.Semicolon b more tb) (added_bind (left_of text) s node (λ p. Ok (with_named n p, tb.0)) (omega arith) (good tb.0 tb.2 (λ k. (ka k, (kb k).0, (kb k).1)))))
-    (λ k w. (w.1, w.2)) (node_deeper s node)))
-    (λ k w. w.0) (node_deeper s node)
+    (λ b tb kb. rw (mark_again marks.Semicolon b more tb)
+    (added_bind (left_of text) s node (λ p. Ok (with_named n p, tb.0)) within_same (good tb.0 tb.2 (λ k. (ka k, (kb k).0, (kb k).1)))))
+    (λ k w. (w.1, w.2)) (node_more s node)))
+    (λ k w. w.0) (node_more s node)
 
 -- ---- a text that was read
 
@@ -161,22 +195,30 @@ record TakenName (seen : List (List ℕ)) (text : List ℕ) (x : NamesRead) : Ty
   front : Takes text (word name) x.1
   fits : AreEnumerators seen → AreEnumerators (seen ++ name ∷ [])
 
-name_fits : (seen : List (List ℕ)) (name : List ℕ) → length name ≤ 64 → length seen < 1024 → AreEnumerators seen → AreEnumerators (seen ++ name ∷ [])
-name_fits seen name short few are = record { few = omega (arith, length-append seen (name ∷ [])); short = All-push (λ n. length n ≤ 64) seen name are.short short }
+name_fits : (seen : List (List ℕ)) (name : List ℕ) → length name ≤ 64 → length seen < 1024
+    → AreEnumerators seen → AreEnumerators (seen ++ name ∷ [])
+name_fits seen name short few are =
+    record { few = omega (arith, length-append seen (name ∷ [])); short = All-push (λ n. length n ≤ 64) seen name are.short short }
 
-taken_by : (seen : List (List ℕ)) (text : List ℕ) (w : List ℕ × List ℕ) (x : NamesRead) (b c : Bool) → leb 1024 (length seen) ≡ c → identifier_at text ≡ Ok w
-    → cond b (Err (refused kinds.Duplicate text)) (cond c (Err (refused kinds.Limit text)) (Ok (seen ++ w.0 ∷ [], w.1))) ≡ Ok x → TakenName seen text x
+taken_by : (seen : List (List ℕ)) (text : List ℕ) (w : List ℕ × List ℕ) (x : NamesRead) (b c : Bool)
+    → leb 1024 (length seen) ≡ c → identifier_at text ≡ Ok w
+    → cond b (Err (refused kinds.Duplicate text))
+    (cond c (Err (refused kinds.Limit text)) (Ok (seen ++ w.0 ∷ [], w.1)))
+    ≡ Ok x → TakenName seen text x
 taken_by seen text w x true c q i e = absurd cc
 taken_by seen text w x false true q i e = absurd cc
 taken_by seen text w x false false q i e =
     let k = identifier_word text w i in
     let few : length seen < 1024 = let m = leb-false 1024 (length seen) q in omega arith in
-    subst (TakenName seen text) (ok_is (seen ++ w.0 ∷ [], w.1) x e) (record { name = w.0; all = refl; free = k.1; front = identifier_takes text w i; fits = name_fits seen w.0 k.2 few })
+    subst (TakenName seen text) (ok_is (seen ++ w.0 ∷ [], w.1) x e)
+    (record { name = w.0; all = refl; free = k.1; front = identifier_takes text w i; fits = name_fits seen w.0 k.2 few })
 
-name_taken : (seen : List (List ℕ)) (text : List ℕ) (x : NamesRead) → enumerator_at seen text ≡ Ok x → TakenName seen text x
+name_taken : (seen : List (List ℕ)) (text : List ℕ) (x : NamesRead)
+    → enumerator_at seen text ≡ Ok x → TakenName seen text x
 unfolding enumerator_at
 name_taken seen text x e =
-    let a = bind_ok (identifier_at text) (λ w. cond (is_among seen w.0) (Err (refused kinds.Duplicate text)) (cond (leb 1024 (length seen)) (Err (refused kinds.Limit text)) (Ok (seen ++ w.0 ∷ [], w.1)))) x e in
+    let a = bind_ok (identifier_at text) (λ w. cond (is_among seen w.0) (Err (refused kinds.Duplicate text))
+    (cond (leb 1024 (length seen)) (Err (refused kinds.Limit text)) (Ok (seen ++ w.0 ∷ [], w.1)))) x e in
     taken_by seen text a.0 x (is_among seen (a.0).0) (leb 1024 (length seen)) refl a.1 a.2
 
 -- names that were read behind others
@@ -184,10 +226,13 @@ record TakenNames (seen : List (List ℕ)) (text : List ℕ) (x : NamesRead) : T
   name : List ℕ
   others : List (List ℕ)
   all : x.0 ≡ seen ++ name ∷ others
-  took : Took (λ more. word name ∷ spell_more_names others more) (OfNames kinds.Syntax seen (name ∷ others)) text x.1
+  took : Took (λ more. word name ∷ spell_more_names others more)
+      (OfNames kinds.Syntax seen (name ∷ others)) text x.1
   fits : AreEnumerators seen → AreEnumerators x.0
 
-last_name : (left : ℕ) (seen : List (List ℕ)) (text rest : List ℕ) (y x : NamesRead) → TakenName seen text y → mark_at marks.CloseBrace y.1 ≡ Ok rest → then_names left (true, (y.0, rest)) ≡ Ok x → TakenNames seen text x
+last_name : (left : ℕ) (seen : List (List ℕ)) (text rest : List ℕ) (y x : NamesRead)
+    → TakenName seen text y → mark_at marks.CloseBrace y.1 ≡ Ok rest
+    → then_names left (true, (y.0, rest)) ≡ Ok x → TakenNames seen text x
 unfolding OfNames
 last_name left seen text rest y x n close e = subst (TakenNames seen text) (ok_is (y.0, rest) x e) (record {
   name = n.name;
@@ -197,7 +242,8 @@ last_name left seen text rest y x n close e = subst (TakenNames seen text) (ok_i
   fits = λ are. subst AreEnumerators (sym n.all) (n.fits are);
 })
 
-next_name : (seen : List (List ℕ)) (text rest : List ℕ) (y x : NamesRead) → TakenName seen text y → mark_if marks.Comma y.1 ≡ Ok (Some rest) → TakenNames y.0 rest x → TakenNames seen text x
+next_name : (seen : List (List ℕ)) (text rest : List ℕ) (y x : NamesRead) → TakenName seen text y
+    → mark_if marks.Comma y.1 ≡ Ok (Some rest) → TakenNames y.0 rest x → TakenNames seen text x
 unfolding OfNames
 next_name seen text rest y x n comma k =
     let all = subst (λ ns. x.0 ≡ ns ++ k.name ∷ k.others) n.all k.all ∙ append_assoc seen (n.name ∷ []) (k.name ∷ k.others) in
@@ -206,20 +252,28 @@ next_name seen text rest y x n comma k =
       name = n.name;
       others = k.name ∷ k.others;
       all = all;
-      took = record { free = (n.free, free); front = λ more m. n.front (mark marks.Comma ∷ word k.name ∷ spell_more_names k.others more) (mark_if_takes marks.Comma y.1 rest comma (word k.name ∷ spell_more_names k.others more) ((k.took).front more m)) };
+      took = record {
+        free = (n.free, free);
+        front = λ more m. n.front (mark marks.Comma ∷ word k.name ∷ spell_more_names k.others more)
+            (mark_if_takes marks.Comma y.1 rest comma (word k.name ∷ spell_more_names k.others more) ((k.took).front more m));
+      };
       fits = λ are. k.fits (subst AreEnumerators (sym n.all) (n.fits are));
     }
 
-behind_name : (left : ℕ) (seen : List (List ℕ)) (text : List ℕ) (y : NamesRead) (o : Option (List ℕ)) (s : Bool × NamesRead) (x : NamesRead)
-    → ((seen : List (List ℕ)) (text : List ℕ) (x : NamesRead) → in_steps names_step too_many_names left (seen, text) ≡ Ok x → TakenNames seen text x)
-    → TakenName seen text y → mark_if marks.Comma y.1 ≡ Ok o → names_end y o ≡ Ok s → then_names left s ≡ Ok x → TakenNames seen text x
+behind_name : (left : ℕ) (seen : List (List ℕ)) (text : List ℕ) (y : NamesRead)
+    (o : Option (List ℕ)) (s : Bool × NamesRead) (x : NamesRead)
+    → ((seen : List (List ℕ)) (text : List ℕ) (x : NamesRead)
+    → in_steps names_step too_many_names left (seen, text) ≡ Ok x → TakenNames seen text x)
+    → TakenName seen text y → mark_if marks.Comma y.1 ≡ Ok o → names_end y o ≡ Ok s
+    → then_names left s ≡ Ok x → TakenNames seen text x
 behind_name left seen text y None s x on n m e f =
     let c = bind_ok (mark_at marks.CloseBrace y.1) (λ rest. Ok (true, (y.0, rest))) s e in
     last_name left seen text c.0 y x n c.1 (ap (then_names left) (ok_is (true, (y.0, c.0)) s c.2) ∙ f)
 behind_name left seen text y (Some rest) s x on n m e f =
     next_name seen text rest y x n m (on y.0 rest x (ap (then_names left) (ok_is (false, (y.0, rest)) s e) ∙ f))
 
-names_taken : (left : ℕ) (seen : List (List ℕ)) (text : List ℕ) (x : NamesRead) → in_steps names_step too_many_names left (seen, text) ≡ Ok x → TakenNames seen text x
+names_taken : (left : ℕ) (seen : List (List ℕ)) (text : List ℕ) (x : NamesRead)
+    → in_steps names_step too_many_names left (seen, text) ≡ Ok x → TakenNames seen text x
 unfolding in_steps names_step
 names_taken zero seen text x e = absurd cc
 names_taken (suc left) seen text x e =
@@ -232,7 +286,8 @@ pub record TakenAll (text : List ℕ) (x : NamesRead) : Type 0 where
   pub took : Took (spell_names x.0) (OfNames kinds.Syntax [] x.0) text x.1
   pub fits : AreEnumerators x.0
 
-all_by : (text : List ℕ) (x : NamesRead) (o : Option (List ℕ)) → names_by text o ≡ Ok x → TakenAll text x
+all_by : (text : List ℕ) (x : NamesRead) (o : Option (List ℕ))
+    → names_by text o ≡ Ok x → TakenAll text x
 all_by text x (Some rest) e = absurd cc
 all_by text x None e =
     let k = names_taken 1025 [] text x e in
@@ -247,15 +302,24 @@ all_names_taken text x e = let a = bind_ok (mark_if marks.CloseBrace text) (name
 pub record TakenEnumeration (s : Scope) (text : List ℕ) (x : Declared) : Type 0 where
   pub name : List ℕ
   pub names : List (List ℕ)
-  pub took : Took (λ more. word name ∷ mark marks.OpenBrace ∷ spell_names names (mark marks.Semicolon ∷ more)) (OfDeclaration kinds.Syntax s (Enumeration name names)) text x.1
+  pub took : Took (λ more. word name ∷ mark marks.OpenBrace
+      ∷ spell_names names (mark marks.Semicolon ∷ more))
+      (OfDeclaration kinds.Syntax s (Enumeration name names)) text x.1
 
-pub enumeration_takes : (s : Scope) (text : List ℕ) (x : Declared) → enumeration_at s text ≡ Ok x → TakenEnumeration s text x
+pub enumeration_takes : (s : Scope) (text : List ℕ) (x : Declared) → enumeration_at s text ≡ Ok x
+    → TakenEnumeration s text x
 unfolding enumeration_at OfDeclaration
 enumeration_takes s text x e =
-    let d = bind_ok (declared_at s s.table.declared text) (λ d. mark_at marks.OpenBrace d.1 >>= λ o. names_at o >>= λ ns. mark_at marks.Semicolon ns.1 >>= λ r. added (left_of text) s (nodes.enumeration ns.0) >>= λ p. Ok (with_named d.0 p, r)) x e in
-    let o = bind_ok (mark_at marks.OpenBrace (d.0).1) (λ o. names_at o >>= λ ns. mark_at marks.Semicolon ns.1 >>= λ r. added (left_of text) s (nodes.enumeration ns.0) >>= λ p. Ok (with_named (d.0).0 p, r)) x d.2 in
-    let ns = bind_ok (names_at o.0) (λ ns. mark_at marks.Semicolon ns.1 >>= λ r. added (left_of text) s (nodes.enumeration ns.0) >>= λ p. Ok (with_named (d.0).0 p, r)) x o.2 in
-    let r = bind_ok (mark_at marks.Semicolon (ns.0).1) (λ r. added (left_of text) s (nodes.enumeration (ns.0).0) >>= λ p. Ok (with_named (d.0).0 p, r)) x ns.2 in
+    let d = bind_ok (declared_at s s.table.declared text)
+    (λ d. mark_at marks.OpenBrace d.1 >>= λ o. names_at o >>= λ ns. mark_at marks.Semicolon ns.1 >>= λ r. added (left_of text) s (nodes.enumeration ns.0)
+    >>= λ p. Ok (with_named d.0 p, r)) x e in
+    let o = bind_ok (mark_at marks.OpenBrace (d.0).1)
+    (λ o. names_at o >>= λ ns. mark_at marks.Semicolon ns.1 >>= λ r. added (left_of text) s (nodes.enumeration ns.0)
+    >>= λ p. Ok (with_named (d.0).0 p, r)) x d.2 in
+    let ns = bind_ok (names_at o.0) (λ ns. mark_at marks.Semicolon ns.1 >>= λ r. added (left_of text) s (nodes.enumeration ns.0)
+    >>= λ p. Ok (with_named (d.0).0 p, r)) x o.2 in
+    let r = bind_ok (mark_at marks.Semicolon (ns.0).1)
+    (λ r. added (left_of text) s (nodes.enumeration (ns.0).0) >>= λ p. Ok (with_named (d.0).0 p, r)) x ns.2 in
     let p = bind_ok (added (left_of text) s (nodes.enumeration (ns.0).0)) (λ p. Ok (with_named (d.0).0 p, r.0)) x r.2 in
     let a = declared_takes s s.table.declared text d.0 d.1 in
     let b = (all_names_taken o.0 ns.0 ns.1).took in
@@ -264,6 +328,8 @@ enumeration_takes s text x e =
       names = (ns.0).0;
       took = record {
         free = (a.free, tt, b.free);
-        front = λ more m. a.front (mark marks.OpenBrace ∷ spell_names (ns.0).0 (mark marks.Semicolon ∷ more)) (mark_takes marks.OpenBrace (d.0).1 o.0 o.1 (spell_names (ns.0).0 (mark marks.Semicolon ∷ more)) (b.front (mark marks.Semicolon ∷ more) (mark_takes marks.Semicolon (ns.0).1 r.0 r.1 more m)));
+        front = λ more m. a.front (mark marks.OpenBrace ∷ spell_names (ns.0).0 (mark marks.Semicolon ∷ more))
+            (mark_takes marks.OpenBrace (d.0).1 o.0 o.1 (spell_names (ns.0).0 (mark marks.Semicolon ∷ more))
+            (b.front (mark marks.Semicolon ∷ more) (mark_takes marks.Semicolon (ns.0).1 r.0 r.1 more m)));
       };
     })

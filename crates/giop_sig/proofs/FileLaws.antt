@@ -1,5 +1,5 @@
 -- What reading gives of a signature file, and what one that was read is spelled as.
-use Rattle.std.proofs.Common.{◌≡◌, ℕ, zero, suc, ◌+◌, ◌<◌, ◌≤◌, Bool, true, false, cond, List, [], ◌∷◌, ◌++◌, length, Option, Some, None, Result, Ok, Err, refl, sym, ap, subst, ◌∙◌, lit<, arith}
+use Rattle.std.proofs.Common.{◌≡◌, ℕ, zero, suc, ◌<◌, ◌≤◌, Bool, true, false, cond, List, [], ◌∷◌, ◌++◌, length, Option, Some, None, Result, Ok, Err, refl, sym, ap, subst, ◌∙◌, lit<, arith}
 use Rattle.std.specs.Prelude.{MatchResult, codes}
 use Rattle.std.specs.Str.{bytes_eq}
 use Rattle.std.proofs.lemmas.Slice.Eq.{bytes_eq-Decides}
@@ -11,118 +11,166 @@ use Rattle.giop_tokens.specs.Reading.{◌>>=◌}
 use Rattle.giop_tokens.specs.Readers.{misplaced, word_at, number_at, mark_at, keyword_at, is_end, end_at}
 use Rattle.giop_tokens.proofs.ReaderLaws.{bind_ok, ok_is, Takes, word_again, number_again, mark_again, keyword_again, end_again, end_other, word_takes, number_takes, mark_takes, keyword_takes}
 use Rattle.giop_sig.specs.Grammar.{TypeExpr, Item, UnionCase, spell_type, spell_names, spell_items, spell_cases, spell_params, spell_return, Declaration, Enumeration, Structure, Choice, Raise, Call, spell, spell_all, SignatureFile, is_version, spell_file}
-use Rattle.giop_sig.specs.Scopes.{Scope, first_scope, declare, scope_after, table}
-use Rattle.giop_sig.specs.Validity.{Kind, OfDeclaration, IsShallow, HasItsWords, Each, Rule, IsValid, Spells, IsBroken, Refuses}
+use Rattle.giop_sig.specs.Scopes.{Scope, first_scope, declare, scope_after}
+use Rattle.giop_sig.specs.Validity.{Kind, OfDeclaration, HasItsWords, Each, Spells}
 use Rattle.giop_sig.specs.ItemReading.{Declared, structure_at, raise_at}
 use Rattle.giop_sig.specs.CallReading.{operation_at}
 use Rattle.giop_sig.specs.EnumReading.{enumeration_at}
 use Rattle.giop_sig.specs.UnionReading.{union_at}
 use Rattle.giop_sig.specs.FileReading.{declaration_after, declaration_at, declarations_run, version_at, head_at, file_at}
-use Rattle.giop_sig.proofs.PlaceLaws.{deepest, size, declare_longer, scope_deeper}
+use Rattle.giop_sig.proofs.PlaceLaws.{size, declare_more}
 use Rattle.giop_sig.proofs.ReadingLaws.{Breaks, Out}
 use Rattle.giop_sig.proofs.DeclaredLaws.{TakenDeclaration, structure_reads, structure_takes, raise_reads, raise_takes}
 use Rattle.giop_sig.proofs.CallLaws.{operation_reads, operation_takes}
 use Rattle.giop_sig.proofs.EnumLaws.{enumeration_reads, TakenEnumeration, enumeration_takes}
 use Rattle.giop_sig.proofs.TokensFew.{tokens_few, next_none}
 use Rattle.giop_sig.proofs.SpellLaws.{spelled_few}
-use Rattle.giop_sig.proofs.SizeLaws.{types_few}
 use Rattle.giop_sig.specs.Builtin.{builtin_types}
 
 -- ---- a declaration
 
 abbrev spell_raise : List ℕ → List ℕ → List Item → List Token → List Token
-spell_raise n r is more = word n ∷ repository r ∷ mark marks.OpenBrace ∷ spell_items is (mark marks.Semicolon ∷ more)
+spell_raise n r is more =
+    word n ∷ repository r ∷ mark marks.OpenBrace ∷ spell_items is (mark marks.Semicolon ∷ more)
 
 abbrev pub DeclarationOut : Scope → Declaration → List Token → Result Declared Refusal → Type 0
-DeclarationOut s d more r = Out {X = Declared} (λ rest. (declare s d, rest)) (λ k. OfDeclaration k s d) (declare s d).table.types more r
+DeclarationOut s d more r =
+    Out {X = Declared} (λ rest. (declare s d, rest)) (λ k. OfDeclaration k s d)
+    (declare s d).table.types more r
 
 -- what is read of a union
 abbrev pub UnionReads : Type 0
-UnionReads = (s : Scope) (n : List ℕ) (e : TypeExpr) (cs : List UnionCase) (text : List ℕ) (more : List Token) → 0 < size s → OfDeclaration kinds.Syntax s (Choice n e cs)
-    → AreTokens text (word n ∷ word (codes "switch") ∷ mark marks.OpenParenthesis ∷ spell_type e (mark marks.CloseParenthesis ∷ mark marks.OpenBrace ∷ spell_cases cs (mark marks.Semicolon ∷ more)))
+UnionReads =
+    (s : Scope) (n : List ℕ) (e : TypeExpr) (cs : List UnionCase) (text : List ℕ)
+    (more : List Token) → 0 < size s → OfDeclaration kinds.Syntax s (Choice n e cs)
+    → AreTokens text (word n ∷ word (codes "switch") ∷ mark marks.OpenParenthesis
+    ∷ spell_type e (mark marks.CloseParenthesis ∷ mark marks.OpenBrace
+    ∷ spell_cases cs (mark marks.Semicolon ∷ more)))
     → DeclarationOut s (Choice n e cs) more (union_at s text)
 
 abbrev pub UnionTakes : Type 0
-UnionTakes = (s : Scope) (whole text : List ℕ) (x : Declared) → Takes whole (word (codes "union")) text → union_at s text ≡ Ok x → TakenDeclaration s whole x
+UnionTakes =
+    (s : Scope) (whole text : List ℕ) (x : Declared) → Takes whole (word (codes "union")) text
+    → union_at s text ≡ Ok x → TakenDeclaration s whole x
 
-declaration_reads : UnionReads → (d : Declaration) (s : Scope) (text : List ℕ) (more : List Token) → 0 < size s → OfDeclaration kinds.Syntax s d → AreTokens text (spell d more) → DeclarationOut s d more (declaration_at s text)
+declaration_reads : UnionReads → (d : Declaration) (s : Scope) (text : List ℕ) (more : List Token)
+    → 0 < size s → OfDeclaration kinds.Syntax s d → AreTokens text (spell d more)
+    → DeclarationOut s d more (declaration_at s text)
 unfolding declaration_at
 declaration_reads union (Enumeration n names) s text more some free h =
-    rw (word_again text (codes "enum") (word n ∷ mark marks.OpenBrace ∷ spell_names names (mark marks.Semicolon ∷ more)) h) (enumeration_reads n names s h.0 more free h.2)
+    rw (word_again text (codes "enum") (word n ∷ mark marks.OpenBrace ∷ spell_names names (mark marks.Semicolon ∷ more)) h)
+    (enumeration_reads n names s h.0 more free h.2)
 declaration_reads union (Structure n is) s text more some free h =
-    rw (word_again text (codes "struct") (word n ∷ mark marks.OpenBrace ∷ spell_items is (mark marks.Semicolon ∷ more)) h) (structure_reads s n is h.0 more some free h.2)
+    rw (word_again text (codes "struct") (word n ∷ mark marks.OpenBrace ∷ spell_items is (mark marks.Semicolon ∷ more)) h)
+    (structure_reads s n is h.0 more some free h.2)
 declaration_reads union (Choice n e cs) s text more some free h =
-    rw (word_again text (codes "union") (word n ∷ word (codes "switch") ∷ mark marks.OpenParenthesis ∷ spell_type e (mark marks.CloseParenthesis ∷ mark marks.OpenBrace ∷ spell_cases cs (mark marks.Semicolon ∷ more))) h) (union s n e cs h.0 more some free h.2)
+    rw (word_again text (codes "union") (word n ∷ word (codes "switch") ∷ mark marks.OpenParenthesis
+    ∷ spell_type e (mark marks.CloseParenthesis ∷ mark marks.OpenBrace ∷ spell_cases cs (mark marks.Semicolon ∷ more))) h)
+    (union s n e cs h.0 more some free h.2)
 declaration_reads union (Raise n r is) s text more some free h =
     rw (word_again text (codes "exception") (spell_raise n r is more) h) (raise_reads s n r is h.0 more some free h.2)
 declaration_reads union (Call o n ps) s text more some free h =
-    rw (word_again text (codes "operation") (spell_return o (word n ∷ mark marks.OpenParenthesis ∷ spell_params ps (mark marks.Semicolon ∷ more))) h) (operation_reads s o n ps h.0 more some free h.2)
+    rw (word_again text (codes "operation") (spell_return o (word n ∷ mark marks.OpenParenthesis ∷ spell_params ps (mark marks.Semicolon ∷ more))) h)
+    (operation_reads s o n ps h.0 more some free h.2)
 
-enumeration_taken : (s : Scope) (whole text : List ℕ) (x : Declared) → Takes whole (word (codes "enum")) text → TakenEnumeration s text x → TakenDeclaration s whole x
+enumeration_taken : (s : Scope) (whole text : List ℕ) (x : Declared)
+    → Takes whole (word (codes "enum")) text → TakenEnumeration s text x
+    → TakenDeclaration s whole x
 enumeration_taken s whole text x before t = record {
   declaration = Enumeration t.name t.names;
-  took = record { free = t.took.free; front = λ more m. before (word t.name ∷ mark marks.OpenBrace ∷ spell_names t.names (mark marks.Semicolon ∷ more)) (t.took.front more m) };
+  took = record {
+    free = t.took.free;
+    front = λ more m. before
+        (word t.name ∷ mark marks.OpenBrace ∷ spell_names t.names (mark marks.Semicolon ∷ more)) (t.took.front more m);
+  };
 }
 
-after_by : UnionTakes → (s : Scope) (text w rest : List ℕ) (x : Declared) (a b c d e : Bool) → bytes_eq w (codes "enum") ≡ a → bytes_eq w (codes "struct") ≡ b → bytes_eq w (codes "union") ≡ c → bytes_eq w (codes "exception") ≡ d → bytes_eq w (codes "operation") ≡ e
-    → Takes text (word w) rest → cond a (enumeration_at s rest) (cond b (structure_at s rest) (cond c (union_at s rest) (cond d (raise_at s rest) (cond e (operation_at s rest) (Err (misplaced text)))))) ≡ Ok x → TakenDeclaration s text x
+after_by : UnionTakes → (s : Scope) (text w rest : List ℕ) (x : Declared) (a b c d e : Bool)
+    → bytes_eq w (codes "enum") ≡ a → bytes_eq w (codes "struct") ≡ b
+    → bytes_eq w (codes "union") ≡ c → bytes_eq w (codes "exception") ≡ d
+    → bytes_eq w (codes "operation") ≡ e
+    → Takes text (word w) rest → cond a (enumeration_at s rest)
+    (cond b (structure_at s rest)
+    (cond c (union_at s rest) (cond d (raise_at s rest)
+    (cond e (operation_at s rest) (Err (misplaced text)))))) ≡ Ok x → TakenDeclaration s text x
 after_by union s text w rest x true b c d e p q r u v t h =
     enumeration_taken s text rest x (subst (λ v. Takes text (word v) rest) ((bytes_eq-Decides w (codes "enum")).0 p) t) (enumeration_takes s rest x h)
-after_by union s text w rest x false true c d e p q r u v t h = structure_takes s text rest x (subst (λ v. Takes text (word v) rest) ((bytes_eq-Decides w (codes "struct")).0 q) t) h
-after_by union s text w rest x false false true d e p q r u v t h = union s text rest x (subst (λ v. Takes text (word v) rest) ((bytes_eq-Decides w (codes "union")).0 r) t) h
-after_by union s text w rest x false false false true e p q r u v t h = raise_takes s text rest x (subst (λ v. Takes text (word v) rest) ((bytes_eq-Decides w (codes "exception")).0 u) t) h
-after_by union s text w rest x false false false false true p q r u v t h = operation_takes s text rest x (subst (λ v. Takes text (word v) rest) ((bytes_eq-Decides w (codes "operation")).0 v) t) h
+after_by union s text w rest x false true c d e p q r u v t h =
+    structure_takes s text rest x (subst (λ v. Takes text (word v) rest) ((bytes_eq-Decides w (codes "struct")).0 q) t) h
+after_by union s text w rest x false false true d e p q r u v t h =
+    union s text rest x (subst (λ v. Takes text (word v) rest) ((bytes_eq-Decides w (codes "union")).0 r) t) h
+after_by union s text w rest x false false false true e p q r u v t h =
+    raise_takes s text rest x (subst (λ v. Takes text (word v) rest) ((bytes_eq-Decides w (codes "exception")).0 u) t) h
+after_by union s text w rest x false false false false true p q r u v t h =
+    operation_takes s text rest x (subst (λ v. Takes text (word v) rest) ((bytes_eq-Decides w (codes "operation")).0 v) t) h
 after_by union s text w rest x false false false false false p q r u v t h = absurd cc
 
-declaration_takes : UnionTakes → (s : Scope) (text : List ℕ) (x : Declared) → declaration_at s text ≡ Ok x → TakenDeclaration s text x
+declaration_takes : UnionTakes → (s : Scope) (text : List ℕ) (x : Declared)
+    → declaration_at s text ≡ Ok x → TakenDeclaration s text x
 unfolding declaration_at
 declaration_takes union s text x e =
     let w = bind_ok (word_at text) (λ w. declaration_after s text w.0 w.1) x e in
     let v = (w.0).0 in
-    after_by union s text v (w.0).1 x (bytes_eq v (codes "enum")) (bytes_eq v (codes "struct")) (bytes_eq v (codes "union")) (bytes_eq v (codes "exception")) (bytes_eq v (codes "operation")) refl refl refl refl refl (word_takes text w.0 w.1) w.2
+    after_by union s text v (w.0).1 x (bytes_eq v (codes "enum")) (bytes_eq v (codes "struct")) (bytes_eq v (codes "union")) (bytes_eq v (codes "exception"))
+    (bytes_eq v (codes "operation")) refl refl refl refl refl (word_takes text w.0 w.1) w.2
 
 -- ---- declarations
 
--- one of the declarations breaks a rule, or makes the types too deep
+-- one of the declarations breaks a rule, or makes the types too deep or too many
 pub record BrokenIn (k : Kind) (s : Scope) (ds : List Declaration) : Type 0 where
   pub before : List Declaration
   pub broken : Declaration
   pub after : List Declaration
   pub all : ds ≡ before ++ broken ∷ after
-  pub breaks : Breaks k (λ k. OfDeclaration k (scope_after s before) broken) (declare (scope_after s before) broken).table.types
+  pub breaks : Breaks k (λ k. OfDeclaration k (scope_after s before) broken)
+      (declare (scope_after s before) broken).table.types
 
-broken_later : (k : Kind) (s : Scope) (d : Declaration) (ds : List Declaration) → BrokenIn k (declare s d) ds → BrokenIn k s (d ∷ ds)
+broken_later : (k : Kind) (s : Scope) (d : Declaration) (ds : List Declaration)
+    → BrokenIn k (declare s d) ds → BrokenIn k s (d ∷ ds)
 broken_later k s d ds b = record { before = d ∷ b.before; broken = b.broken; after = b.after; all = ap (λ es. d ∷ es) b.all; breaks = b.breaks }
 
 -- what is read of declarations
-abbrev FileOut : Scope → List Declaration → Result Scope Refusal → Type 0
-FileOut s ds r = MatchResult r (λ t. (t ≡ scope_after s ds) × ((k : Kind) → Each (λ s d. OfDeclaration k s d) s ds)) (λ e. BrokenIn e.kind s ds)
+abbrev pub FileOut : Scope → List Declaration → Result Scope Refusal → Type 0
+FileOut s ds r =
+    MatchResult r (λ t. (t ≡ scope_after s ds)
+    × ((k : Kind) → Each (λ s d. OfDeclaration k s d) s ds)) (λ e. BrokenIn e.kind s ds)
 
-file_more : (s : Scope) (d : Declaration) (ds : List Declaration) (r : Result Scope Refusal) → ((k : Kind) → OfDeclaration k s d) → FileOut (declare s d) ds r → FileOut s (d ∷ ds) r
+file_more : (s : Scope) (d : Declaration) (ds : List Declaration) (r : Result Scope Refusal)
+    → ((k : Kind) → OfDeclaration k s d) → FileOut (declare s d) ds r → FileOut s (d ∷ ds) r
 unfolding Each
 file_more s d ds (Ok t) keeps o = (o.0, λ k. (keeps k, o.1 k))
 file_more s d ds (Err e) keeps o = broken_later e.kind s d ds o
 
-file_on : (n : ℕ) (s : Scope) (d : Declaration) (ds : List Declaration) (r : Result Declared Refusal) → DeclarationOut s d (spell_all ds) r
-    → ((rest : List ℕ) → AreTokens rest (spell_all ds) → FileOut (declare s d) ds (declarations_run n (declare s d) rest)) → FileOut s (d ∷ ds) (r >>= λ x. declarations_run n x.0 x.1)
+file_on : (n : ℕ) (s : Scope) (d : Declaration) (ds : List Declaration)
+    (r : Result Declared Refusal) → DeclarationOut s d (spell_all ds) r
+    → ((rest : List ℕ) → AreTokens rest (spell_all ds)
+    → FileOut (declare s d) ds (declarations_run n (declare s d) rest))
+    → FileOut s (d ∷ ds) (r >>= λ x. declarations_run n x.0 x.1)
 file_on n s d ds (Ok x) o on =
     let g = o.out in
-    subst (λ (y : Declared). FileOut s (d ∷ ds) (declarations_run n y.0 y.1)) (sym g.is) (file_more s d ds (declarations_run n (declare s d) g.rest) g.keeps (on g.rest g.tokens))
+    subst (λ (y : Declared). FileOut s (d ∷ ds) (declarations_run n y.0 y.1)) (sym g.is)
+    (file_more s d ds (declarations_run n (declare s d) g.rest) g.keeps (on g.rest g.tokens))
 file_on n s d ds (Err e) o on = record { before = []; broken = d; after = ds; all = refl; breaks = o.out }
 
-not_over : (d : Declaration) (text : List ℕ) (more : List Token) → AreTokens text (spell d more) → end_at text ≡ Ok false
-not_over (Enumeration n names) text more h = end_other text (word (codes "enum")) (word n ∷ mark marks.OpenBrace ∷ spell_names names (mark marks.Semicolon ∷ more)) h
+not_over : (d : Declaration) (text : List ℕ) (more : List Token)
+    → AreTokens text (spell d more) → end_at text ≡ Ok false
+not_over (Enumeration n names) text more h =
+    end_other text (word (codes "enum")) (word n ∷ mark marks.OpenBrace ∷ spell_names names (mark marks.Semicolon ∷ more)) h
 not_over (Structure n is) text more h = end_other text (word (codes "struct")) (word n ∷ mark marks.OpenBrace ∷ spell_items is (mark marks.Semicolon ∷ more)) h
 not_over (Choice n e cs) text more h =
-    end_other text (word (codes "union")) (word n ∷ word (codes "switch") ∷ mark marks.OpenParenthesis ∷ spell_type e (mark marks.CloseParenthesis ∷ mark marks.OpenBrace ∷ spell_cases cs (mark marks.Semicolon ∷ more))) h
+    end_other text (word (codes "union")) (word n ∷ word (codes "switch") ∷ mark marks.OpenParenthesis
+    ∷ spell_type e (mark marks.CloseParenthesis ∷ mark marks.OpenBrace ∷ spell_cases cs (mark marks.Semicolon ∷ more))) h
 not_over (Raise n r is) text more h = end_other text (word (codes "exception")) (spell_raise n r is more) h
-not_over (Call o n ps) text more h = end_other text (word (codes "operation")) (spell_return o (word n ∷ mark marks.OpenParenthesis ∷ spell_params ps (mark marks.Semicolon ∷ more))) h
+not_over (Call o n ps) text more h =
+    end_other text (word (codes "operation")) (spell_return o (word n ∷ mark marks.OpenParenthesis ∷ spell_params ps (mark marks.Semicolon ∷ more))) h
 
-run_on : (n : ℕ) (s : Scope) (text : List ℕ) → end_at text ≡ Ok false → declarations_run (suc n) s text ≡ (declaration_at s text >>= λ d. declarations_run n d.0 d.1)
+run_on : (n : ℕ) (s : Scope) (text : List ℕ) → end_at text ≡ Ok false
+    → declarations_run (suc n) s text ≡ (declaration_at s text >>= λ d. declarations_run n d.0 d.1)
 unfolding declarations_run
 run_on n s text h = rw h refl
 
-run_over : (n : ℕ) (s : Scope) (text : List ℕ) → end_at text ≡ Ok true → declarations_run (suc n) s text ≡ Ok s
+run_over : (n : ℕ) (s : Scope) (text : List ℕ) → end_at text ≡ Ok true
+    → declarations_run (suc n) s text ≡ Ok s
 unfolding declarations_run
 run_over n s text h = rw h refl
 
@@ -135,7 +183,8 @@ declarations_read union (d ∷ ds) zero s text lt some free h = absurd (omega ar
 declarations_read union [] (suc n) s text lt some free h = rw (run_over n s text (end_again text h)) (refl, λ k. tt)
 declarations_read union (d ∷ ds) (suc n) s text lt some free h =
     rw (run_on n s text (not_over d text (spell_all ds) h))
-    (file_on n s d ds (declaration_at s text) (declaration_reads union d s text (spell_all ds) some free.0 h) (λ rest m. declarations_read union ds n (declare s d) rest (omega arith) (omega (arith, declare_longer s d)) free.1 m))
+    (file_on n s d ds (declaration_at s text) (declaration_reads union d s text (spell_all ds) some free.0 h)
+    (λ rest m. declarations_read union ds n (declare s d) rest (omega arith) (omega (arith, (declare_more s d).longer)) free.1 m))
 
 -- ---- the whole file
 
@@ -172,7 +221,8 @@ pub record TakenAll (s : Scope) (text : List ℕ) : Type 0 where
   pub words : 0 < size s → Each HasItsWords s declarations
   pub tokens : AreTokens text (spell_all declarations)
 
-end_none : (text : List ℕ) (o : Option Token) (rest : List ℕ) → next text ≡ Ok (o, rest) → is_end o ≡ true → AreTokens text []
+end_none : (text : List ℕ) (o : Option Token) (rest : List ℕ) → next text ≡ Ok (o, rest)
+    → is_end o ≡ true → AreTokens text []
 end_none text None rest h e = h ∙ ap (λ r. Ok (None, r)) (next_none text rest h)
 end_none text (Some t) rest h e = absurd cc
 
@@ -195,7 +245,7 @@ declared_is union s d text more x some words h e =
 more_words : (s t : Scope) (d : Declaration) (ds : List Declaration) → 0 < size s → t ≡ declare s d
     → (0 < size t → Each HasItsWords t ds) → Each HasItsWords (declare s d) ds
 more_words s t d ds some is words =
-    subst (λ u. Each HasItsWords u ds) is (words (omega (arith, declare_longer s d, ap size is)))
+    subst (λ u. Each HasItsWords u ds) is (words (omega (arith, (declare_more s d).longer, ap size is)))
 
 over_by : (n : ℕ) (s : Scope) (text : List ℕ) (t : Scope) (v : Bool) → end_at text ≡ Ok v
     → cond v (Ok s) (declaration_at s text >>= λ d. declarations_run n d.0 d.1) ≡ Ok t → UnionReads
@@ -281,64 +331,3 @@ file_takes reads takes text t short e =
         words = all.words (built_in (h.0).0);
       },
     )
-
--- ---- in the words of the contract
-
-each_shallow : (ds : List Declaration) (s : Scope) → deepest (scope_after s ds) ≤ 24 → Each IsShallow s ds
-unfolding Each
-each_shallow [] s le = tt
-each_shallow (d ∷ ds) s le = (omega (arith, scope_deeper (declare s d) ds), each_shallow ds (declare s d) le)
-
--- what was read is the table of a valid file
-pub file_valid : UnionReads → (text : List ℕ) (t : Scope) (file : SignatureFile) → Spells text file
-    → file_at text ≡ Ok t → deepest t ≤ 24 → IsValid file × (t.table ≡ table file)
-file_valid union text t file spells e shallow =
-    let s = first_scope file.version in
-    let ds = file.declarations in
-    let o : FileOut s ds (Ok t) = subst (FileOut s ds) e (file_reads union text file spells) in (
-      record {
-        known = o.1 kinds.UnknownType;
-        distinct = o.1 kinds.Duplicate;
-        some = o.1 kinds.Empty;
-        labels = o.1 kinds.Label;
-        shallow = each_shallow ds s (subst (λ (x : Scope). deepest x ≤ 24) o.0 shallow);
-        within = o.1 kinds.Limit;
-      },
-      ap (λ (x : Scope). x.table) o.0,
-    )
-
--- it adds no more types than the text has octets
-pub file_few : UnionReads → UnionTakes → (text : List ℕ) (t : Scope) → length text ≤ 1048576 → file_at text ≡ Ok t → size t ≤ length builtin_types + length text
-file_few reads takes text t short e =
-    let f = file_takes reads takes text t short e in
-    let s = first_scope (f.0).version in
-    let ds = (f.0).declarations in
-    let o : FileOut s ds (Ok t) = subst (FileOut s ds) e (file_reads reads text f.0 f.1) in
-    omega (arith, ap size o.0, tokens_few (spell_file f.0) text (f.1).tokens, types_few s ds)
-
-is_broken : (k : Kind) (file : SignatureFile)
-    → (b : BrokenIn k (first_scope file.version) file.declarations)
-    → (Rule k (scope_after (first_scope file.version) b.before) b.broken → ⊥) → IsBroken k file
-is_broken k file b breaks =
-    record { before = b.before; broken = b.broken; after = b.after; all = b.all; breaks = breaks }
-
-refuses : (k : Kind) (file : SignatureFile)
-    → BrokenIn k (first_scope file.version) file.declarations → Refuses k file
-refuses kinds.Token file b = b.breaks
-refuses kinds.Syntax file b = b.breaks
-refuses kinds.OutOfMemory file b = tt
-refuses kinds.Depth file b = is_broken kinds.Depth file b (λ le. let deep = b.breaks in omega arith)
-refuses kinds.UnknownType file b = is_broken kinds.UnknownType file b b.breaks
-refuses kinds.Duplicate file b = is_broken kinds.Duplicate file b b.breaks
-refuses kinds.Limit file b = is_broken kinds.Limit file b b.breaks
-refuses kinds.Label file b = is_broken kinds.Label file b b.breaks
-refuses kinds.Empty file b = is_broken kinds.Empty file b b.breaks
-
--- a text that spells a file is refused for a rule that one of its declarations breaks
-pub file_refuses : UnionReads → (text : List ℕ) (e : Refusal) (file : SignatureFile)
-    → Spells text file → file_at text ≡ Err e → Refuses e.kind file
-file_refuses union text e file spells h =
-    let s = first_scope file.version in
-    let ds = file.declarations in
-    let o : FileOut s ds (Err e) = subst (FileOut s ds) h (file_reads union text file spells) in
-    refuses e.kind file o

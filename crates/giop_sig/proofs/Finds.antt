@@ -10,22 +10,26 @@ use Rattle.std.proofs.lemmas.Slice.Eq.{bytes_eq-Decides}
 use mathlib.Core.Path.{fun_ext}
 use Rattle.arrayvec.specs.ArrayVec.{ArrayVec}
 use Rattle.giop_sig.specs.declared.types.TypeId.{TypeId}
-use Rattle.giop_sig.specs.declared.types.OpId.{OpId}
 use Rattle.giop_sig.specs.declared.catalogue.Signature.{Signature}
-use Rattle.giop_sig.specs.Table.{Operation, Exception, Table, op_id, type_id, no_operation, no_exception, operation_in, operation_at, exception_in, members_at}
+use Rattle.giop_sig.specs.Table.{Operation, Exception, Table, op_id, type_id, no_operation, no_exception, operation_in, exception_in, members_at}
 use Rattle.giop_sig.specs.Headers.{IsCall, IsRaised, IsTable}
 use Rattle.giop_sig.specs.Entries.{operation_view, exception_view}
 
-position_or_len-map : {X Y : Type 0} (p : Y → Bool) (f : X → Y) (xs : List X) → position_or_len p (map f xs) ≡ position_or_len (λ x. p (f x)) xs
+position_or_len-map : {X Y : Type 0} (p : Y → Bool) (f : X → Y) (xs : List X)
+    → position_or_len p (map f xs) ≡ position_or_len (λ x. p (f x)) xs
 position_or_len-map p f [] = refl
 position_or_len-map p f (x ∷ xs) = ap (λ n. cond (not (p (f x))) (1 + n) 0) (position_or_len-map p f xs)
 
-pub position-map : {X Y : Type 0} (p : Y → Bool) (f : X → Y) (xs : List X) → position p (map f xs) ≡ position (λ x. p (f x)) xs
+pub position-map : {X Y : Type 0} (p : Y → Bool) (f : X → Y) (xs : List X)
+    → position p (map f xs) ≡ position (λ x. p (f x)) xs
 position-map p f xs = rw (position_or_len-map p f xs, length-map xs f) refl
 
 -- a name of a key is found where the key is
-place_of : {K V X : Type 0} (items : K → List ℕ) (view : K × V → X) (name_in : X → List ℕ) (es : List (K × V)) (key name : List ℕ) → key ≡ name
-    → ((e : K × V) → name_in (view e) ≡ items e.0) → position (λ k. bytes_eq key (items k)) (map (λ (e : K × V). e.0) es) ≡ position (λ x. bytes_eq name (name_in x)) (map view es)
+place_of : {K V X : Type 0} (items : K → List ℕ) (view : K × V → X) (name_in : X → List ℕ)
+    (es : List (K × V)) (key name : List ℕ) → key ≡ name
+    → ((e : K × V) → name_in (view e) ≡ items e.0)
+    → position (λ k. bytes_eq key (items k)) (map (λ (e : K × V). e.0) es)
+    ≡ position (λ x. bytes_eq name (name_in x)) (map view es)
 place_of {K} {V} items view name_in es key name same named =
     position-map (λ k. bytes_eq key (items k)) (λ (e : K × V). e.0) es
     ∙ ap (λ (n : List ℕ). position (λ (e : K × V). bytes_eq n (items e.0)) es) same
@@ -37,7 +41,9 @@ none_from None h = refl
 none_from (Some i) h = absurd (h i refl)
 
 -- a name longer than all is not found
-not_there : {X : Type 0} (name_in : X → List ℕ) (xs : List X) (d : X) (name : List ℕ) → ((i : ℕ) → i < length xs → length (name_in (get_or xs i d)) ≤ 128) → 128 < length name → position (λ x. bytes_eq name (name_in x)) xs ≡ None
+not_there : {X : Type 0} (name_in : X → List ℕ) (xs : List X) (d : X) (name : List ℕ)
+    → ((i : ℕ) → i < length xs → length (name_in (get_or xs i d)) ≤ 128) → 128 < length name
+    → position (λ x. bytes_eq name (name_in x)) xs ≡ None
 not_there name_in xs d name short long = none_from (position (λ x. bytes_eq name (name_in x)) xs) (λ i e.
     let s = position-Some (λ x. bytes_eq name (name_in x)) xs i d e in
     let same = (bytes_eq-Decides name (name_in (get_or xs i d))).0 s.1 in
@@ -45,28 +51,22 @@ not_there name_in xs d name short long = none_from (position (λ x. bytes_eq nam
 
 -- ---- operations
 
-pub no_operation_long : (t : Table) (name : List ℕ) → IsTable t → 128 < length name → None ≡ operation_in t name
-no_operation_long t name laws long = sym (ap (option_map op_id) (not_there (λ (o : Operation). o.name) t.operations no_operation name (λ i lt. (laws.operations i no_operation lt).short) long))
+pub no_operation_long : (t : Table) (name : List ℕ) → IsTable t → 128 < length name
+    → None ≡ operation_in t name
+no_operation_long t name laws long =
+    sym (ap (option_map op_id) (not_there (λ (o : Operation). o.name) t.operations no_operation name (λ i lt. (laws.operations i no_operation lt).short) long))
 
 -- what is found among the keys is the table's
-pub operation_found : (es : List (ArrayVec ℕ × Signature)) (t : Table) (key name : List ℕ) (r : Option ℕ) → map operation_view es ≡ t.operations → key ≡ name
-    → r ≡ position (λ (k : ArrayVec ℕ). bytes_eq key k.items) (map (λ (e : ArrayVec ℕ × Signature). e.0) es) → option_map op_id r ≡ operation_in t name
+pub operation_found : (es : List (ArrayVec ℕ × Signature)) (t : Table) (key name : List ℕ)
+    (r : Option ℕ) → map operation_view es ≡ t.operations → key ≡ name
+    → r ≡ position (λ (k : ArrayVec ℕ). bytes_eq key k.items)
+    (map (λ (e : ArrayVec ℕ × Signature). e.0) es) → option_map op_id r ≡ operation_in t name
 operation_found es t key name r view same is =
     ap (option_map op_id) (is ∙ place_of (λ (k : ArrayVec ℕ). k.items) operation_view (λ (o : Operation). o.name) es key name same (λ e. refl)
     ∙ ap (λ (os : List Operation). position (λ (o : Operation). bytes_eq name o.name) os) view)
 
-taken : (o : Option ℕ) (i : OpId) → option_map op_id o ≡ Some i → o ≡ Some i.0
-taken None i e = absurd cc
-taken (Some k) i e = ap (option_map (λ (x : OpId). x.0)) e
-
--- two names of one operation are one
-pub operation_in_one : (t : Table) (m n : List ℕ) (i : OpId) → operation_in t m ≡ Some i → operation_in t n ≡ Some i → m ≡ n
-operation_in_one t m n i p q =
-    let a = (position-Some (λ (o : Operation). bytes_eq m o.name) t.operations i.0 no_operation (taken (position (λ (o : Operation). bytes_eq m o.name) t.operations) i p)).1 in
-    let b = (position-Some (λ (o : Operation). bytes_eq n o.name) t.operations i.0 no_operation (taken (position (λ (o : Operation). bytes_eq n o.name) t.operations) i q)).1 in
-    (bytes_eq-Decides m (operation_at t i.0).name).0 a ∙ sym ((bytes_eq-Decides n (operation_at t i.0).name).0 b)
-
-read_map : {X Y : Type 0} (f : X → Y) (xs : List X) (i : ℕ) (x : X) (d : Y) → slice_get xs i ≡ Some x → get_or (map f xs) i d ≡ f x
+read_map : {X Y : Type 0} (f : X → Y) (xs : List X) (i : ℕ) (x : X) (d : Y)
+    → slice_get xs i ≡ Some x → get_or (map f xs) i d ≡ f x
 read_map f [] i x d e = absurd cc
 read_map f (y ∷ xs) zero x d e = let same : y ≡ x = cc in ap f same
 read_map f (y ∷ xs) (suc i) x d e = read_map f xs i x d e
@@ -77,38 +77,55 @@ inside_by (y ∷ xs) zero x e = omega arith
 inside_by (y ∷ xs) (suc i) x e = omega (arith, inside_by xs i x e)
 
 -- the operation that was read is known
-pub signature_known : (es : List (ArrayVec ℕ × Signature)) (view t : Table) (i : ℕ) (e : ArrayVec ℕ × Signature) → IsTable view → view ≡ t → view.operations ≡ map operation_view es → slice_get es i ≡ Some e
+pub signature_known : (es : List (ArrayVec ℕ × Signature)) (view t : Table) (i : ℕ)
+    (e : ArrayVec ℕ × Signature) → IsTable view → view ≡ t → view.operations ≡ map operation_view es
+    → slice_get es i ≡ Some e
     → (e.1.request.0 < length t.types) × (e.1.reply.0 < length t.types)
 signature_known es view t i e laws same kept at =
     let lt : i < length view.operations = omega (arith, ap length kept, length-map es operation_view, inside_by es i e at) in
     let call = laws.operations i no_operation lt in
-    let is : get_or view.operations i no_operation ≡ operation_view e = ap (λ (os : List Operation). get_or os i no_operation) kept ∙ read_map operation_view es i e no_operation at in
+    let is : get_or view.operations i no_operation ≡ operation_view e =
+    ap (λ (os : List Operation). get_or os i no_operation) kept ∙ read_map operation_view es i e no_operation at in
     let known = subst (IsCall view.types) is call in
     subst (λ (u : Table). (e.1.request.0 < length u.types) × (e.1.reply.0 < length u.types)) same (known.request, known.reply)
 
 -- ---- exceptions
 
-pub no_exception_long : (t : Table) (name : List ℕ) → IsTable t → 128 < length name → None ≡ exception_in t name
-no_exception_long t name laws long = sym (ap (option_map (members_at t)) (not_there (λ (e : Exception). e.repository) t.exceptions no_exception name (λ i lt. (laws.exceptions i no_exception lt).short) long))
+pub no_exception_long : (t : Table) (name : List ℕ) → IsTable t → 128 < length name
+    → None ≡ exception_in t name
+no_exception_long t name laws long =
+    sym (ap (option_map (members_at t)) (not_there (λ (e : Exception). e.repository) t.exceptions no_exception name
+    (λ i lt. (laws.exceptions i no_exception lt).short) long))
 
-exception_place : (es : List (ArrayVec ℕ × TypeId)) (t : Table) (key name : List ℕ) (r : Option ℕ) → map exception_view es ≡ t.exceptions → key ≡ name
-    → r ≡ position (λ (k : ArrayVec ℕ). bytes_eq key k.items) (map (λ (e : ArrayVec ℕ × TypeId). e.0) es) → option_map (members_at t) r ≡ exception_in t name
+exception_place : (es : List (ArrayVec ℕ × TypeId)) (t : Table) (key name : List ℕ) (r : Option ℕ)
+    → map exception_view es ≡ t.exceptions → key ≡ name
+    → r ≡ position (λ (k : ArrayVec ℕ). bytes_eq key k.items)
+    (map (λ (e : ArrayVec ℕ × TypeId). e.0) es) → option_map (members_at t) r ≡ exception_in t name
 exception_place es t key name r view same is =
     ap (option_map (members_at t)) (is ∙ place_of (λ (k : ArrayVec ℕ). k.items) exception_view (λ (e : Exception). e.repository) es key name same (λ e. refl)
     ∙ ap (λ (xs : List Exception). position (λ (e : Exception). bytes_eq name e.repository) xs) view)
 
-pub exception_none : (es : List (ArrayVec ℕ × TypeId)) (t : Table) (key name : List ℕ) → map exception_view es ≡ t.exceptions → key ≡ name
-    → None ≡ position (λ (k : ArrayVec ℕ). bytes_eq key k.items) (map (λ (e : ArrayVec ℕ × TypeId). e.0) es) → None ≡ exception_in t name
+pub exception_none : (es : List (ArrayVec ℕ × TypeId)) (t : Table) (key name : List ℕ)
+    → map exception_view es ≡ t.exceptions → key ≡ name
+    → None ≡ position (λ (k : ArrayVec ℕ). bytes_eq key k.items)
+    (map (λ (e : ArrayVec ℕ × TypeId). e.0) es) → None ≡ exception_in t name
 exception_none es t key name view same is = exception_place es t key name None view same is
 
-pub exception_found : (es : List (ArrayVec ℕ × TypeId)) (t : Table) (key name : List ℕ) (i : ℕ) (e : ArrayVec ℕ × TypeId) → map exception_view es ≡ t.exceptions → key ≡ name
-    → Some i ≡ position (λ (k : ArrayVec ℕ). bytes_eq key k.items) (map (λ (e : ArrayVec ℕ × TypeId). e.0) es) → slice_get es i ≡ Some e → Some e.1 ≡ exception_in t name
+pub exception_found : (es : List (ArrayVec ℕ × TypeId)) (t : Table) (key name : List ℕ) (i : ℕ)
+    (e : ArrayVec ℕ × TypeId) → map exception_view es ≡ t.exceptions → key ≡ name
+    → Some i ≡ position (λ (k : ArrayVec ℕ). bytes_eq key k.items)
+    (map (λ (e : ArrayVec ℕ × TypeId). e.0) es) → slice_get es i ≡ Some e
+    → Some e.1 ≡ exception_in t name
 exception_found es t key name i e view same is at =
-    let read : get_or t.exceptions i no_exception ≡ exception_view e = ap (λ (xs : List Exception). get_or xs i no_exception) (sym view) ∙ read_map exception_view es i e no_exception at in
+    let read : get_or t.exceptions i no_exception ≡ exception_view e =
+    ap (λ (xs : List Exception). get_or xs i no_exception) (sym view) ∙ read_map exception_view es i e no_exception at in
     ap (λ (x : Exception). Some (type_id x.members)) (sym read) ∙ exception_place es t key name (Some i) view same is
 
-pub exception_known : (es : List (ArrayVec ℕ × TypeId)) (t : Table) (i : ℕ) (e : ArrayVec ℕ × TypeId) → IsTable t → map exception_view es ≡ t.exceptions → slice_get es i ≡ Some e → e.1.0 < length t.types
+pub exception_known : (es : List (ArrayVec ℕ × TypeId)) (t : Table) (i : ℕ)
+    (e : ArrayVec ℕ × TypeId) → IsTable t → map exception_view es ≡ t.exceptions
+    → slice_get es i ≡ Some e → e.1.0 < length t.types
 exception_known es t i e laws view at =
     let lt : i < length t.exceptions = omega (arith, ap length view, length-map es exception_view, inside_by es i e at) in
-    let is : get_or t.exceptions i no_exception ≡ exception_view e = ap (λ (xs : List Exception). get_or xs i no_exception) (sym view) ∙ read_map exception_view es i e no_exception at in
+    let is : get_or t.exceptions i no_exception ≡ exception_view e =
+    ap (λ (xs : List Exception). get_or xs i no_exception) (sym view) ∙ read_map exception_view es i e no_exception at in
     (subst (IsRaised t.types) is (laws.exceptions i no_exception lt)).members

@@ -19,14 +19,16 @@ on_some P None p e h = absurd cc
 on_some P (Some q) p e h = let same : q ≡ p = cc in subst P same h
 
 -- the part that is read in a place
-part_in : (types : List Node) (n : ℕ) (ps : List Part) (i : ℕ) → AllByRecursion (IsPart types n) ps → i < length ps
+part_in : (types : List Node) (n : ℕ) (ps : List Part) (i : ℕ)
+    → AllByRecursion (IsPart types n) ps → i < length ps
     → IsPart types n (record { name = name_of (slice_get ps i); type = type_of (slice_get ps i) })
 part_in types n [] i all lt = absurd (omega arith)
 part_in types n (p ∷ ps) zero all lt = record { inner = all.0.inner; short = all.0.short }
 part_in types n (p ∷ ps) (suc i) all lt = part_in types n ps i all.1 (omega arith)
 
 -- the part in a place is one that the whole can have
-pub part_formed : (types : List Node) (n : ℕ) (node : Node) (i : ℕ) → IsFormed types n node → HasPlace (shape_of node) i → IsInner types n (type_of (part_at node i))
+pub part_formed : (types : List Node) (n : ℕ) (node : Node) (i : ℕ) → IsFormed types n node
+    → HasPlace (shape_of node) i → IsInner types n (type_of (part_at node i))
 part_formed types n (nodes.prim p) i formed has = absurd has
 part_formed types n (nodes.enumeration names) i formed has = absurd has
 part_formed types n (nodes.text bound) i formed has = absurd has
@@ -35,7 +37,8 @@ part_formed types n (nodes.members parts) i formed has =
     (part_in types n parts i (recursion_from_All (IsPart types n) parts formed.1) has).inner
 part_formed types n (nodes.union switch cases otherwise) i formed has =
     let there = part_there (nodes.union switch cases otherwise) i has in
-    let is = on_some (IsPart types n) (case_part (slice_get cases i)) there.0 there.1 (case_read (IsPart types n) cases i (recursion_from_All (λ (c : Case). IsPart types n c.part) cases formed.2)) in
+    let is = on_some (IsPart types n) (case_part (slice_get cases i)) there.0 there.1
+    (case_read (IsPart types n) cases i (recursion_from_All (λ (c : Case). IsPart types n c.part) cases formed.2)) in
     subst (λ o. IsInner types n (type_of o)) (sym there.1) is.inner
 part_formed types n (nodes.sequence bound element) i formed has = formed
 part_formed types n (nodes.array count element) i formed has = formed.1
@@ -44,7 +47,8 @@ part_formed types n (nodes.tagged special tag inner other) i formed has =
     (part_in types n (tag ∷ inner ∷ other ∷ []) i (formed.1, (formed.2, (formed.3, tt))) has).inner
 
 -- the names of parts are short
-pub name_short : (types : List Node) (n : ℕ) (node : Node) (i : ℕ) → IsFormed types n node → HasMember (shape_of node) i → length (name_of (part_at node i)) ≤ 64
+pub name_short : (types : List Node) (n : ℕ) (node : Node) (i : ℕ) → IsFormed types n node
+    → HasMember (shape_of node) i → length (name_of (part_at node i)) ≤ 64
 name_short types n (nodes.prim p) i formed has = absurd has
 name_short types n (nodes.enumeration names) i formed has = absurd has
 name_short types n (nodes.text bound) i formed has = absurd has
@@ -53,7 +57,8 @@ name_short types n (nodes.members parts) i formed has =
     (part_in types n parts i (recursion_from_All (IsPart types n) parts formed.1) has).short
 name_short types n (nodes.union switch cases otherwise) i formed has =
     let there = part_there (nodes.union switch cases otherwise) i has in
-    let is = on_some (IsPart types n) (case_part (slice_get cases i)) there.0 there.1 (case_read (IsPart types n) cases i (recursion_from_All (λ (c : Case). IsPart types n c.part) cases formed.2)) in
+    let is = on_some (IsPart types n) (case_part (slice_get cases i)) there.0 there.1
+    (case_read (IsPart types n) cases i (recursion_from_All (λ (c : Case). IsPart types n c.part) cases formed.2)) in
     subst (λ o. length (name_of o) ≤ 64) (sym there.1) is.short
 name_short types n (nodes.sequence bound element) i formed has = absurd has
 name_short types n (nodes.array count element) i formed has = absurd has
@@ -61,7 +66,8 @@ name_short types n (nodes.encapsulation held) i formed has = absurd has
 name_short types n (nodes.tagged special tag inner other) i formed has =
     (part_in types n (tag ∷ inner ∷ other ∷ []) i (formed.1, (formed.2, (formed.3, tt))) has).short
 
-pub switch_formed : (types : List Node) (n : ℕ) (node : Node) → IsFormed types n node → IsUnion (shape_of node) → IsSwitch types n (switch_at node)
+pub switch_formed : (types : List Node) (n : ℕ) (node : Node) → IsFormed types n node
+    → IsUnion (shape_of node) → IsSwitch types n (switch_at node)
 switch_formed types n (nodes.prim p) formed is = absurd is
 switch_formed types n (nodes.enumeration names) formed is = absurd is
 switch_formed types n (nodes.text bound) formed is = absurd is
@@ -74,12 +80,14 @@ switch_formed types n (nodes.encapsulation held) formed is = absurd is
 switch_formed types n (nodes.tagged special tag inner other) formed is = formed.0
 
 -- the names of an enum are short
-names_short : (names : List (List ℕ)) (n : ℕ) → AllByRecursion (λ name. length name ≤ 64) names → IfSome (slice_get names n) (λ name. length name ≤ 64)
+names_short : (names : List (List ℕ)) (n : ℕ) → AllByRecursion (λ name. length name ≤ 64) names
+    → IfSome (slice_get names n) (λ name. length name ≤ 64)
 names_short [] n all = tt
 names_short (x ∷ xs) zero all = all.0
 names_short (x ∷ xs) (suc n) all = names_short xs n all.1
 
-pub enum_name_short : (types : List Node) (i : ℕ) (node : Node) (n : ℕ) → IsFormed types i node → IfSome (name_at node n) (λ name. length name ≤ 64)
+pub enum_name_short : (types : List Node) (i : ℕ) (node : Node) (n : ℕ) → IsFormed types i node
+    → IfSome (name_at node n) (λ name. length name ≤ 64)
 enum_name_short types i (nodes.prim p) n formed = tt
 enum_name_short types i (nodes.enumeration names) n formed = names_short names n (recursion_from_All (λ name. length name ≤ 64) names formed.1)
 enum_name_short types i (nodes.text bound) n formed = tt
@@ -109,17 +117,21 @@ sized types n (entries.Tagged t) formed = tt
 abbrev pub SameNodes : List Node → List Node → ℕ → Type 0
 SameNodes types others n = (i : ℕ) → i < n → node_in types i ≡ node_in others i
 
-inner_moved : (types others : List Node) (n i : ℕ) → SameNodes types others n → IsInner types n i → IsInner others n i
+inner_moved : (types others : List Node) (n i : ℕ) → SameNodes types others n
+    → IsInner types n i → IsInner others n i
 inner_moved types others n i same is = record { below = is.below; takes = subst TakesOctet (same i is.below) is.takes }
 
-part_moved : (types others : List Node) (n : ℕ) (p : Part) → SameNodes types others n → IsPart types n p → IsPart others n p
+part_moved : (types others : List Node) (n : ℕ) (p : Part) → SameNodes types others n
+    → IsPart types n p → IsPart others n p
 part_moved types others n p same is = record { inner = inner_moved types others n p.type same is.inner; short = is.short }
 
-switch_moved : (types others : List Node) (n i : ℕ) → SameNodes types others n → IsSwitch types n i → IsSwitch others n i
+switch_moved : (types others : List Node) (n i : ℕ) → SameNodes types others n
+    → IsSwitch types n i → IsSwitch others n i
 switch_moved types others n i same is = record { below = is.below; scalar = subst IsScalarNode (same i is.below) is.scalar }
 
 -- what can stand at a number depends on the nodes below it alone
-pub formed_moved : (types others : List Node) (n : ℕ) (node : Node) → SameNodes types others n → IsFormed types n node → IsFormed others n node
+pub formed_moved : (types others : List Node) (n : ℕ) (node : Node) → SameNodes types others n
+    → IsFormed types n node → IsFormed others n node
 formed_moved types others n (nodes.prim p) same formed = tt
 formed_moved types others n (nodes.enumeration names) same formed = formed
 formed_moved types others n (nodes.text bound) same formed = tt
@@ -142,5 +154,7 @@ formed_moved types others n (nodes.tagged special tag inner other) same formed =
 )
 
 -- what can stand at a number can still stand there once types are added behind
-pub formed_stays : (types more : List Node) (n : ℕ) (node : Node) → n ≤ length types → IsFormed types n node → IsFormed (types ++ more) n node
-formed_stays types more n node le formed = formed_moved types (types ++ more) n node (λ i lt. sym (get_or_append_left types more (nodes.prim Octet) i (omega arith))) formed
+pub formed_stays : (types more : List Node) (n : ℕ) (node : Node) → n ≤ length types
+    → IsFormed types n node → IsFormed (types ++ more) n node
+formed_stays types more n node le formed =
+    formed_moved types (types ++ more) n node (λ i lt. sym (get_or_append_left types more (nodes.prim Octet) i (omega arith))) formed

@@ -1,5 +1,5 @@
 -- What reading gives of a text that begins with members.
-use Rattle.std.proofs.Common.{◌≡◌, ℕ, zero, suc, ◌+◌, ◌<◌, ◌≤◌, Bool, true, false, cond, ltb, leb, List, [], ◌∷◌, ◌++◌, length, Option, Some, None, Result, Ok, Err, append_assoc, refl, sym, subst, ◌∙◌, arith}
+use Rattle.std.proofs.Common.{◌≡◌, inl, ℕ, zero, suc, ◌+◌, ◌<◌, ◌≤◌, Bool, true, false, cond, ltb, leb, List, [], ◌∷◌, ◌++◌, length, Option, Some, None, Result, Ok, Err, append_assoc, refl, sym, subst, ◌∙◌, arith}
 use Rattle.std.specs.Map.{lookup}
 use Rattle.std.specs.Option.{is_some}
 use Rattle.std.specs.Str.{bytes_eq}
@@ -21,13 +21,15 @@ use Rattle.giop_sig.specs.Validity.{Kind, IsFree, is_among, OfNewName, OfItem, O
 use Rattle.giop_sig.specs.Outcomes.{refused}
 use Rattle.giop_sig.specs.TypeReading.{enclosed_at, type_at}
 use Rattle.giop_sig.specs.ItemReading.{new_name_at, declared_at, array_type, ItemRead, item_at, Members, member_at, member_step, MembersRead, members_run}
-use Rattle.giop_sig.proofs.PlaceLaws.{size, length_deeper, item_longer, item_names, items_deeper}
+use Rattle.giop_sig.proofs.PlaceLaws.{size, within_same, length_more, item_more, item_names, items_more}
 use Rattle.giop_sig.proofs.ReadingLaws.{Out, good, broken, out_bind, out_more, Apart, if_apart}
-use Rattle.giop_sig.proofs.TypeLaws.{added_bind, enclosed_reads, type_reads}
+use Rattle.giop_sig.proofs.SizeReads.{enclosed_reads}
+use Rattle.giop_sig.proofs.TypeLaws.{added_bind, type_reads}
 
 -- ---- names
 
-name_keeps : (most : ℕ) (seen : List (List ℕ)) (w : List ℕ) → IsFree w → length w ≤ 64 → length seen < most → is_among seen w ≡ false → (k : Kind) → OfNewName k most seen w
+name_keeps : (most : ℕ) (seen : List (List ℕ)) (w : List ℕ) → IsFree w → length w ≤ 64
+    → length seen < most → is_among seen w ≡ false → (k : Kind) → OfNewName k most seen w
 name_keeps most seen w free short few new kinds.Token = tt
 name_keeps most seen w free short few new kinds.Syntax = free
 name_keeps most seen w free short few new kinds.UnknownType = tt
@@ -38,24 +40,38 @@ name_keeps most seen w free short few new kinds.Label = tt
 name_keeps most seen w free short few new kinds.Empty = tt
 name_keeps most seen w free short few new kinds.OutOfMemory = tt
 
-name_by : (types : List Node) (most : ℕ) (seen : List (List ℕ)) (text w rest : List ℕ) (more : List Token) (a b : Bool) → is_among seen w ≡ a → leb most (length seen) ≡ b → IsFree w → length w ≤ 64 → AreTokens rest more
-    → Out {X = List ℕ × List ℕ} (λ rest. (w, rest)) (λ k. OfNewName k most seen w) types more (cond a (Err (refused kinds.Duplicate text)) (cond b (Err (refused kinds.Limit text)) (Ok (w, rest))))
+name_by : (types : List Node) (most : ℕ) (seen : List (List ℕ)) (text w rest : List ℕ)
+    (more : List Token) (a b : Bool) → is_among seen w ≡ a → leb most (length seen) ≡ b → IsFree w
+    → length w ≤ 64 → AreTokens rest more
+    → Out {X = List ℕ × List ℕ} (λ rest. (w, rest)) (λ k. OfNewName k most seen w) types more
+    (cond a (Err (refused kinds.Duplicate text))
+    (cond b (Err (refused kinds.Limit text)) (Ok (w, rest))))
 name_by types most seen text w rest more true b p q free short m = broken (refused kinds.Duplicate text) (λ h. false≢true (sym h ∙ p))
-name_by types most seen text w rest more false true p q free short m = broken (refused kinds.Limit text) (λ h. let z = leb-true most (length seen) q in let f = h.1 in omega arith)
+name_by types most seen text w rest more false true p q free short m =
+    broken (refused kinds.Limit text) (inl (λ h. let z = leb-true most (length seen) q in let f = h.1 in omega arith))
 name_by types most seen text w rest more false false p q free short m = good rest m (name_keeps most seen w free short (leb-false most (length seen) q) p)
 
-long_by : (types : List Node) (most : ℕ) (seen : List (List ℕ)) (text w : List ℕ) (more : List Token) (v : Bool) → ltb 64 (length w) ≡ v → IsFree w → AreTokens text (word w ∷ more)
-    → Out {X = List ℕ × List ℕ} (λ rest. (w, rest)) (λ k. OfNewName k most seen w) types more (new_name_at most seen text)
+long_by : (types : List Node) (most : ℕ) (seen : List (List ℕ)) (text w : List ℕ)
+    (more : List Token) (v : Bool) → ltb 64 (length w) ≡ v → IsFree w
+    → AreTokens text (word w ∷ more)
+    → Out {X = List ℕ × List ℕ} (λ rest. (w, rest)) (λ k. OfNewName k most seen w) types more
+    (new_name_at most seen text)
 unfolding new_name_at
-long_by types most seen text w more true e free h = rw (identifier_long text w more h free (ltb-true 64 (length w) e)) (broken (too_long text) (λ r. let z = ltb-true 64 (length w) e in let f = r.0 in omega arith))
+long_by types most seen text w more true e free h =
+    rw (identifier_long text w more h free (ltb-true 64 (length w) e))
+    (broken (too_long text) (inl (λ r. let z = ltb-true 64 (length w) e in let f = r.0 in omega arith)))
 long_by types most seen text w more false e free h =
-    rw (identifier_again text w more h free (ltb-false 64 (length w) e)) (name_by types most seen text w h.0 more (is_among seen w) (leb most (length seen)) refl refl free (ltb-false 64 (length w) e) h.2)
+    rw (identifier_again text w more h free (ltb-false 64 (length w) e))
+    (name_by types most seen text w h.0 more (is_among seen w) (leb most (length seen)) refl refl free (ltb-false 64 (length w) e) h.2)
 
-pub new_name_reads : (types : List Node) (most : ℕ) (seen : List (List ℕ)) (text w : List ℕ) (more : List Token) → IsFree w → AreTokens text (word w ∷ more)
-    → Out {X = List ℕ × List ℕ} (λ rest. (w, rest)) (λ k. OfNewName k most seen w) types more (new_name_at most seen text)
+pub new_name_reads : (types : List Node) (most : ℕ) (seen : List (List ℕ)) (text w : List ℕ)
+    (more : List Token) → IsFree w → AreTokens text (word w ∷ more)
+    → Out {X = List ℕ × List ℕ} (λ rest. (w, rest)) (λ k. OfNewName k most seen w) types more
+    (new_name_at most seen text)
 new_name_reads types most seen text w more free h = long_by types most seen text w more (ltb 64 (length w)) refl free h
 
-declared_keeps : (s : Scope) (count : ℕ) (w : List ℕ) → IsFree w → length w ≤ 64 → count < 4096 → lookup (bytes_eq w) s.names.known ≡ None → (k : Kind) → OfDeclared k s count w
+declared_keeps : (s : Scope) (count : ℕ) (w : List ℕ) → IsFree w → length w ≤ 64 → count < 4096
+    → lookup (bytes_eq w) s.names.known ≡ None → (k : Kind) → OfDeclared k s count w
 declared_keeps s count w free short few new kinds.Token = tt
 declared_keeps s count w free short few new kinds.Syntax = free
 declared_keeps s count w free short few new kinds.UnknownType = tt
@@ -74,49 +90,72 @@ pub no_none : {X : Type 0} (o : Option X) → is_some o ≡ false → o ≡ None
 no_none None e = refl
 no_none (Some x) e = absurd cc
 
-declared_by : (types : List Node) (s : Scope) (count : ℕ) (text w rest : List ℕ) (more : List Token) (a b : Bool) → is_some (lookup (bytes_eq w) s.names.known) ≡ a → leb 4096 count ≡ b → IsFree w → length w ≤ 64 → AreTokens rest more
-    → Out {X = List ℕ × List ℕ} (λ rest. (w, rest)) (λ k. OfDeclared k s count w) types more (cond a (Err (refused kinds.Duplicate text)) (cond b (Err (refused kinds.Limit text)) (Ok (w, rest))))
+declared_by : (types : List Node) (s : Scope) (count : ℕ) (text w rest : List ℕ) (more : List Token)
+    (a b : Bool) → is_some (lookup (bytes_eq w) s.names.known) ≡ a → leb 4096 count ≡ b → IsFree w
+    → length w ≤ 64 → AreTokens rest more
+    → Out {X = List ℕ × List ℕ} (λ rest. (w, rest)) (λ k. OfDeclared k s count w) types more
+    (cond a (Err (refused kinds.Duplicate text))
+    (cond b (Err (refused kinds.Limit text)) (Ok (w, rest))))
 declared_by types s count text w rest more true b p q free short m = broken (refused kinds.Duplicate text) (some_none (lookup (bytes_eq w) s.names.known) p)
-declared_by types s count text w rest more false true p q free short m = broken (refused kinds.Limit text) (λ h. let z = leb-true 4096 count q in let f = h.1 in omega arith)
-declared_by types s count text w rest more false false p q free short m = good rest m (declared_keeps s count w free short (leb-false 4096 count q) (no_none (lookup (bytes_eq w) s.names.known) p))
+declared_by types s count text w rest more false true p q free short m =
+    broken (refused kinds.Limit text) (inl (λ h. let z = leb-true 4096 count q in let f = h.1 in omega arith))
+declared_by types s count text w rest more false false p q free short m =
+    good rest m (declared_keeps s count w free short (leb-false 4096 count q) (no_none (lookup (bytes_eq w) s.names.known) p))
 
-long_declared : (types : List Node) (s : Scope) (count : ℕ) (text w : List ℕ) (more : List Token) (v : Bool) → ltb 64 (length w) ≡ v → IsFree w → AreTokens text (word w ∷ more)
-    → Out {X = List ℕ × List ℕ} (λ rest. (w, rest)) (λ k. OfDeclared k s count w) types more (declared_at s count text)
+long_declared : (types : List Node) (s : Scope) (count : ℕ) (text w : List ℕ) (more : List Token)
+    (v : Bool) → ltb 64 (length w) ≡ v → IsFree w → AreTokens text (word w ∷ more)
+    → Out {X = List ℕ × List ℕ} (λ rest. (w, rest)) (λ k. OfDeclared k s count w) types more
+    (declared_at s count text)
 unfolding declared_at
-long_declared types s count text w more true e free h = rw (identifier_long text w more h free (ltb-true 64 (length w) e)) (broken (too_long text) (λ r. let z = ltb-true 64 (length w) e in let f = r.0 in omega arith))
+long_declared types s count text w more true e free h =
+    rw (identifier_long text w more h free (ltb-true 64 (length w) e))
+    (broken (too_long text) (inl (λ r. let z = ltb-true 64 (length w) e in let f = r.0 in omega arith)))
 long_declared types s count text w more false e free h =
-    rw (identifier_again text w more h free (ltb-false 64 (length w) e)) (declared_by types s count text w h.0 more (is_some (lookup (bytes_eq w) s.names.known)) (leb 4096 count) refl refl free (ltb-false 64 (length w) e) h.2)
+    rw (identifier_again text w more h free (ltb-false 64 (length w) e))
+    (declared_by types s count text w h.0 more (is_some (lookup (bytes_eq w) s.names.known)) (leb 4096 count) refl refl free (ltb-false 64 (length w) e) h.2)
 
-pub declared_reads : (types : List Node) (s : Scope) (count : ℕ) (text w : List ℕ) (more : List Token) → IsFree w → AreTokens text (word w ∷ more)
-    → Out {X = List ℕ × List ℕ} (λ rest. (w, rest)) (λ k. OfDeclared k s count w) types more (declared_at s count text)
+pub declared_reads : (types : List Node) (s : Scope) (count : ℕ) (text w : List ℕ)
+    (more : List Token) → IsFree w → AreTokens text (word w ∷ more)
+    → Out {X = List ℕ × List ℕ} (λ rest. (w, rest)) (λ k. OfDeclared k s count w) types more
+    (declared_at s count text)
 declared_reads types s count text w more free h = long_declared types s count text w more (ltb 64 (length w)) refl free h
 
 -- ---- items
 
-array_reads : (at : ℕ) (s : Scope) (e : ℕ) (o : Option ℕ) (rule : Kind → Type 0) (w rest : List ℕ) (more : List Token) → AreTokens rest more → ((k : Kind) → rule k)
-    → Out {X = ItemRead} (λ rest. ((place_length o (s, e)).0, part w (place_length o (s, e)).1, rest)) rule (place_length o (s, e)).0.table.types more (array_type at s e o >>= λ p. Ok (p.0, part w p.1, rest))
+array_reads : (at : ℕ) (s : Scope) (e : ℕ) (o : Option ℕ) (rule : Kind → Type 0) (w rest : List ℕ)
+    (more : List Token) → AreTokens rest more → ((k : Kind) → rule k)
+    → Out {X = ItemRead} (λ rest.
+    ((place_length o (s, e)).0, part w (place_length o (s, e)).1, rest)) rule
+    (place_length o (s, e)).0.table.types more
+    (array_type at s e o >>= λ p. Ok (p.0, part w p.1, rest))
 array_reads at s e None rule w rest more m keeps = good rest m keeps
-array_reads at s e (Some n) rule w rest more m keeps = added_bind at s (nodes.array n e) (λ p. Ok (p.0, part w p.1, rest)) (omega arith) (good rest m keeps)
+array_reads at s e (Some n) rule w rest more m keeps = added_bind at s (nodes.array n e) (λ p. Ok (p.0, part w p.1, rest)) within_same (good rest m keeps)
 
 abbrev pub made_item : Scope → Item → List ℕ → ItemRead
 made_item s i rest = ((place_item s i).0, item_part i (place_item s i), rest)
 
-pub item_reads : (at most : ℕ) (seen : List (List ℕ)) (s : Scope) (i : Item) (text : List ℕ) (more : List Token) → 0 < size s → OfItem kinds.Syntax s.names most seen i → Apart marks.OpenBracket more → AreTokens text (spell_item i more)
-    → Out (made_item s i) (λ k. OfItem k s.names most seen i) (place_item s i).0.table.types more (item_at at most seen s text)
+pub item_reads : (at most : ℕ) (seen : List (List ℕ)) (s : Scope) (i : Item) (text : List ℕ)
+    (more : List Token) → 0 < size s → OfItem kinds.Syntax s.names most seen i
+    → Apart marks.OpenBracket more → AreTokens text (spell_item i more)
+    → Out (made_item s i) (λ k. OfItem k s.names most seen i) (place_item s i).0.table.types more
+    (item_at at most seen s text)
 unfolding item_at
 item_reads at most seen s i text more some free apart h =
-    out_bind (type_at at 25 s text) (λ t. new_name_at most seen t.2 >>= λ n. enclosed_at marks.OpenBracket marks.CloseBracket n.1 >>= λ l. array_type at t.0 t.1 l.0 >>= λ p. Ok (p.0, part n.0 p.1, l.1))
+    out_bind (type_at at 25 s text) (λ t. new_name_at most seen t.2 >>= λ n. enclosed_at marks.OpenBracket marks.CloseBracket n.1
+    >>= λ l. array_type at t.0 t.1 l.0 >>= λ p. Ok (p.0, part n.0 p.1, l.1))
     (type_reads at s i.type text (word i.name ∷ spell_length i.length more) some free.0 refl h)
     (λ a ta ka.
-    out_bind (new_name_at most seen a) (λ n. enclosed_at marks.OpenBracket marks.CloseBracket n.1 >>= λ l. array_type at (place s i.type).0 (place s i.type).1 l.0 >>= λ p. Ok (p.0, part n.0 p.1, l.1))
+    out_bind (new_name_at most seen a) (λ n. enclosed_at marks.OpenBracket marks.CloseBracket n.1
+    >>= λ l. array_type at (place s i.type).0 (place s i.type).1 l.0 >>= λ p. Ok (p.0, part n.0 p.1, l.1))
     (new_name_reads (place s i.type).0.table.types most seen a i.name (spell_length i.length more) free.1 ta)
     (λ b tb kb.
-    out_bind (enclosed_at marks.OpenBracket marks.CloseBracket b) (λ l. array_type at (place s i.type).0 (place s i.type).1 l.0 >>= λ p. Ok (p.0, part i.name p.1, l.1))
+    out_bind (enclosed_at marks.OpenBracket marks.CloseBracket b)
+    (λ l. array_type at (place s i.type).0 (place s i.type).1 l.0 >>= λ p. Ok (p.0, part i.name p.1, l.1))
     (enclosed_reads (place s i.type).0.table.types marks.OpenBracket marks.CloseBracket b i.length more apart tb)
     (λ c tc kc. array_reads at (place s i.type).0 (place s i.type).1 i.length (λ k. OfItem k s.names most seen i) i.name c more tc (λ k. (ka k, kb k, kc k)))
-    (λ k w. w.2) (length_deeper i.length (place s i.type)))
-    (λ k w. w.1) (length_deeper i.length (place s i.type)))
-    (λ k w. w.0) (length_deeper i.length (place s i.type))
+    (λ k w. w.2) (length_more i.length (place s i.type)))
+    (λ k w. w.1) (length_more i.length (place s i.type)))
+    (λ k w. w.0) (length_more i.length (place s i.type))
 
 -- ---- members
 
@@ -130,69 +169,112 @@ type_apart (SequenceOf e o) more = refl
 type_apart (EncapsulationOf e) more = refl
 
 abbrev made_member : List (List ℕ) → List Part → Scope → Item → List ℕ → Members
-made_member seen parts s i rest = record { scope = (place_item s i).0; seen = seen ++ i.name ∷ []; parts = parts ++ item_part i (place_item s i) ∷ []; rest = rest; closed = false }
+made_member seen parts s i rest =
+    record {
+      scope = (place_item s i).0;
+      seen = seen ++ i.name ∷ [];
+      parts = parts ++ item_part i (place_item s i) ∷ [];
+      rest = rest;
+      closed = false;
+    }
 
-member_reads : (at : ℕ) (seen : List (List ℕ)) (parts : List Part) (s : Scope) (i : Item) (text : List ℕ) (more : List Token) → 0 < size s → OfItem kinds.Syntax s.names 256 seen i → AreTokens text (spell_item i (mark marks.Semicolon ∷ more))
-    → Out (made_member seen parts s i) (λ k. OfItem k s.names 256 seen i) (place_item s i).0.table.types more (member_at at seen parts s text)
+member_reads : (at : ℕ) (seen : List (List ℕ)) (parts : List Part) (s : Scope) (i : Item)
+    (text : List ℕ) (more : List Token) → 0 < size s → OfItem kinds.Syntax s.names 256 seen i
+    → AreTokens text (spell_item i (mark marks.Semicolon ∷ more))
+    → Out (made_member seen parts s i) (λ k. OfItem k s.names 256 seen i)
+    (place_item s i).0.table.types more (member_at at seen parts s text)
 unfolding member_at
 member_reads at seen parts s i text more some free h =
-    out_bind (item_at at 256 seen s text) (λ i. mark_at marks.Semicolon i.2 >>= λ r. Ok (record { scope = i.0; seen = seen ++ (i.1).name ∷ []; parts = parts ++ i.1 ∷ []; rest = r; closed = false }))
+    out_bind (item_at at 256 seen s text) (λ i. mark_at marks.Semicolon i.2
+    >>= λ r. Ok (record { scope = i.0; seen = seen ++ (i.1).name ∷ []; parts = parts ++ i.1 ∷ []; rest = r; closed = false }))
     (item_reads at 256 seen s i text (mark marks.Semicolon ∷ more) some free refl h)
-    (λ rest m keeps. rw (mark_again marks.Semicolon rest more m) (good m.0 m.2 keeps)) (λ k w. w) (omega arith)
+    (λ rest m keeps. rw (mark_again marks.Semicolon rest more m) (good m.0 m.2 keeps)) (λ k w. w) within_same
 
 abbrev pub made_members : List Part → Scope → List Item → List ℕ → MembersRead
 made_members parts s is rest = ((place_items s is).0, parts ++ (place_items s is).1, rest)
 
-run_on : (at n : ℕ) (seen : List (List ℕ)) (parts : List Part) (s : Scope) (text : List ℕ) → mark_if marks.CloseBrace text ≡ Ok None
-    → members_run at (suc n) seen parts s text ≡ (member_at at seen parts s text >>= λ m. cond m.closed (Ok (m.scope, m.parts, m.rest)) (members_run at n m.seen m.parts m.scope m.rest))
+run_on : (at n : ℕ) (seen : List (List ℕ)) (parts : List Part) (s : Scope) (text : List ℕ)
+    → mark_if marks.CloseBrace text ≡ Ok None
+    → members_run at (suc n) seen parts s text
+    ≡ (member_at at seen parts s text
+    >>= λ m. cond m.closed (Ok (m.scope, m.parts, m.rest))
+    (members_run at n m.seen m.parts m.scope m.rest))
 unfolding members_run member_step
 run_on at n seen parts s text h = rw h refl
 
-run_end : (at n : ℕ) (seen : List (List ℕ)) (parts : List Part) (s : Scope) (text rest : List ℕ) → mark_if marks.CloseBrace text ≡ Ok (Some rest) → members_run at (suc n) seen parts s text ≡ Ok (s, parts, rest)
+run_end : (at n : ℕ) (seen : List (List ℕ)) (parts : List Part) (s : Scope) (text rest : List ℕ)
+    → mark_if marks.CloseBrace text ≡ Ok (Some rest)
+    → members_run at (suc n) seen parts s text ≡ Ok (s, parts, rest)
 unfolding members_run member_step
 run_end at n seen parts s text rest h = rw h refl
 
-closes : (seen : List (List ℕ)) (parts : List Part) (s : Scope) (names : Names) (rest : List ℕ) (more : List Token) → AreTokens rest more
-    → Out (made_members parts s []) (λ k. OfItems k names 256 seen []) (place_items s []).0.table.types more (Ok (s, parts, rest))
+closes : (seen : List (List ℕ)) (parts : List Part) (s : Scope) (names : Names) (rest : List ℕ)
+    (more : List Token) → AreTokens rest more
+    → Out (made_members parts s []) (λ k. OfItems k names 256 seen [])
+    (place_items s []).0.table.types more (Ok (s, parts, rest))
 unfolding OfItems place_items
-closes seen parts s names rest more m = subst (λ ps. Out {X = MembersRead} (λ rest. (s, ps, rest)) (λ k. Unit {0}) s.table.types more (Ok (s, parts, rest))) (sym (append-nil parts)) (good rest m (λ k. tt))
+closes seen parts s names rest more m =
+    subst (λ ps. Out {X = MembersRead} (λ rest. (s, ps, rest)) (λ k. Unit {0}) s.table.types more (Ok (s, parts, rest)))
+    (sym (append-nil parts)) (good rest m (λ k. tt))
 
-made_on : (parts : List Part) (s : Scope) (i : Item) (is : List Item) (names : Names) (seen : List (List ℕ)) (more : List Token) (r : Result MembersRead Refusal)
+made_on : (parts : List Part) (s : Scope) (i : Item) (is : List Item) (names : Names)
+    (seen : List (List ℕ)) (more : List Token) (r : Result MembersRead Refusal)
     → ((k : Kind) → OfItem k names 256 seen i)
-    → Out (made_members (parts ++ item_part i (place_item s i) ∷ []) (place_item s i).0 is) (λ k. OfItems k names 256 (seen ++ i.name ∷ []) is) (place_items (place_item s i).0 is).0.table.types more r
-    → Out (made_members parts s (i ∷ is)) (λ k. OfItems k names 256 seen (i ∷ is)) (place_items s (i ∷ is)).0.table.types more r
+    → Out (made_members (parts ++ item_part i (place_item s i) ∷ []) (place_item s i).0 is)
+    (λ k. OfItems k names 256 (seen ++ i.name ∷ []) is)
+    (place_items (place_item s i).0 is).0.table.types more r
+    → Out (made_members parts s (i ∷ is)) (λ k. OfItems k names 256 seen (i ∷ is))
+    (place_items s (i ∷ is)).0.table.types more r
 unfolding OfItems place_items
 made_on parts s i is names seen more r first o =
     let same = append_assoc parts (item_part i (place_item s i) ∷ []) (place_items (place_item s i).0 is).1 in
-    out_more (subst (λ ps. Out {X = MembersRead} (λ rest. ((place_items (place_item s i).0 is).0, ps, rest)) (λ k. OfItems k names 256 (seen ++ i.name ∷ []) is) (place_items (place_item s i).0 is).0.table.types more r) same o)
+    out_more (subst (λ ps. Out {X = MembersRead} (λ rest. ((place_items (place_item s i).0 is).0, ps, rest)) (λ k. OfItems k names 256 (seen ++ i.name ∷ []) is)
+    (place_items (place_item s i).0 is).0.table.types more r) same o)
     (λ k w. (first k, w)) (λ k w. w.1)
 
 -- a member, and then the others
-member_on : (at n : ℕ) (seen : List (List ℕ)) (parts : List Part) (s : Scope) (names : Names) (i : Item) (is : List Item) (more : List Token) → s.names ≡ names → (r : Result Members Refusal)
-    → Out (made_member seen parts s i) (λ k. OfItem k names 256 seen i) (place_item s i).0.table.types (spell_items is more) r
-    → ((rest : List ℕ) → AreTokens rest (spell_items is more) → ((k : Kind) → OfItem k names 256 seen i)
-    → Out (made_members (parts ++ item_part i (place_item s i) ∷ []) (place_item s i).0 is) (λ k. OfItems k names 256 (seen ++ i.name ∷ []) is) (place_items (place_item s i).0 is).0.table.types more (members_run at n (seen ++ i.name ∷ []) (parts ++ item_part i (place_item s i) ∷ []) (place_item s i).0 rest))
-    → Out (made_members parts s (i ∷ is)) (λ k. OfItems k names 256 seen (i ∷ is)) (place_items s (i ∷ is)).0.table.types more (r >>= λ m. cond m.closed (Ok (m.scope, m.parts, m.rest)) (members_run at n m.seen m.parts m.scope m.rest))
+member_on : (at n : ℕ) (seen : List (List ℕ)) (parts : List Part) (s : Scope) (names : Names)
+    (i : Item) (is : List Item) (more : List Token) → s.names ≡ names → (r : Result Members Refusal)
+    → Out (made_member seen parts s i) (λ k. OfItem k names 256 seen i)
+    (place_item s i).0.table.types (spell_items is more) r
+    → ((rest : List ℕ) → AreTokens rest (spell_items is more)
+    → ((k : Kind) → OfItem k names 256 seen i)
+    → Out (made_members (parts ++ item_part i (place_item s i) ∷ []) (place_item s i).0 is)
+    (λ k. OfItems k names 256 (seen ++ i.name ∷ []) is)
+    (place_items (place_item s i).0 is).0.table.types more
+    (members_run at n (seen ++ i.name ∷ []) (parts ++ item_part i (place_item s i) ∷ [])
+    (place_item s i).0 rest))
+    → Out (made_members parts s (i ∷ is)) (λ k. OfItems k names 256 seen (i ∷ is))
+    (place_items s (i ∷ is)).0.table.types more
+    (r >>= λ m. cond m.closed (Ok (m.scope, m.parts, m.rest))
+    (members_run at n m.seen m.parts m.scope m.rest))
 unfolding OfItems place_items
 member_on at n seen parts s names i is more same r o on =
     out_bind r (λ m. cond m.closed (Ok (m.scope, m.parts, m.rest)) (members_run at n m.seen m.parts m.scope m.rest)) o
-    (λ rest m keeps. made_on parts s i is names seen more (members_run at n (seen ++ i.name ∷ []) (parts ++ item_part i (place_item s i) ∷ []) (place_item s i).0 rest) keeps (on rest m keeps))
-    (λ k w. w.0) (items_deeper (place_item s i).0 is)
+    (λ rest m keeps. made_on parts s i is names seen more
+    (members_run at n (seen ++ i.name ∷ []) (parts ++ item_part i (place_item s i) ∷ []) (place_item s i).0 rest) keeps (on rest m keeps))
+    (λ k w. w.0) (items_more (place_item s i).0 is)
 
-pub members_reads : (is : List Item) (at n : ℕ) (seen : List (List ℕ)) (parts : List Part) (s : Scope) (names : Names) (text : List ℕ) (more : List Token) → s.names ≡ names → 0 < size s → n + length seen ≡ 257 → length seen ≤ 256
+pub members_reads : (is : List Item) (at n : ℕ) (seen : List (List ℕ)) (parts : List Part)
+    (s : Scope) (names : Names) (text : List ℕ) (more : List Token) → s.names ≡ names → 0 < size s
+    → n + length seen ≡ 257 → length seen ≤ 256
     → OfItems kinds.Syntax names 256 seen is → AreTokens text (spell_items is more)
-    → Out (made_members parts s is) (λ k. OfItems k names 256 seen is) (place_items s is).0.table.types more (members_run at n seen parts s text)
+    → Out (made_members parts s is) (λ k. OfItems k names 256 seen is)
+    (place_items s is).0.table.types more (members_run at n seen parts s text)
 unfolding OfItems
 members_reads [] at zero seen parts s names text more same some n few free h = absurd (omega arith)
 members_reads (i ∷ is) at zero seen parts s names text more same some n few free h = absurd (omega arith)
 members_reads [] at (suc n) seen parts s names text more same some fuel few free h =
     rw (run_end at n seen parts s text h.0 (mark_if_again marks.CloseBrace text more h)) (closes seen parts s names h.0 more h.2)
 members_reads (i ∷ is) at (suc n) seen parts s names text more same some fuel few free h =
-    let apart = if_apart marks.CloseBrace text (spell_item i (mark marks.Semicolon ∷ spell_items is more)) (type_apart i.type (word i.name ∷ spell_length i.length (mark marks.Semicolon ∷ spell_items is more))) h in
+    let apart = if_apart marks.CloseBrace text (spell_item i (mark marks.Semicolon ∷ spell_items is more))
+    (type_apart i.type (word i.name ∷ spell_length i.length (mark marks.Semicolon ∷ spell_items is more))) h in
     rw (run_on at n seen parts s text apart)
     (member_on at n seen parts s names i is more same (member_at at seen parts s text)
-    (subst (λ ns. Out (made_member seen parts s i) (λ k. OfItem k ns 256 seen i) (place_item s i).0.table.types (spell_items is more) (member_at at seen parts s text)) same
+    (subst (λ ns. Out (made_member seen parts s i) (λ k. OfItem k ns 256 seen i) (place_item s i).0.table.types (spell_items is more)
+    (member_at at seen parts s text)) same
     (member_reads at seen parts s i text (spell_items is more) some (subst (λ ns. OfItem kinds.Syntax ns 256 seen i) (sym same) free.0) h))
     (λ rest m keeps.
     let lt = (keeps kinds.Limit).1.1 in
-    members_reads is at n (seen ++ i.name ∷ []) (parts ++ item_part i (place_item s i) ∷ []) (place_item s i).0 names rest more (item_names s i ∙ same) (omega (arith, item_longer s i)) (omega (arith, length-append seen (i.name ∷ []))) (omega (arith, length-append seen (i.name ∷ []))) free.1 m))
+    members_reads is at n (seen ++ i.name ∷ []) (parts ++ item_part i (place_item s i) ∷ []) (place_item s i).0 names rest more (item_names s i ∙ same)
+    (omega (arith, (item_more s i).longer)) (omega (arith, length-append seen (i.name ∷ []))) (omega (arith, length-append seen (i.name ∷ []))) free.1 m))

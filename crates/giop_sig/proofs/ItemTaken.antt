@@ -25,36 +25,50 @@ use Rattle.giop_sig.specs.Outcomes.{refused}
 use Rattle.giop_sig.specs.TypeReading.{TypeRead, added, enclosed_at, type_at}
 use Rattle.giop_sig.specs.ItemReading.{new_name_at, declared_at, array_type, ItemRead, item_at, Members, member_at, member_after, member_step, MembersRead, members_run, members_at, unless_closed, filled_at, new_repository_at}
 use Rattle.giop_sig.proofs.ReadingLaws.{Took}
-use Rattle.giop_sig.proofs.TypeTaken.{Grows, grows_none, grows_on, grows_known, Sound, sound_added, added_grows, added_is, node_known, TakenType, type_takes, enclosed_takes, bound_free}
+use Rattle.giop_sig.proofs.TypeTaken.{Grows, grows_none, grows_on, grows_known, Sound, sound_added, added_grows, added_is, node_known, TakenType, type_takes}
+use Rattle.giop_sig.proofs.SizeTaken.{enclosed_takes, bound_free}
 
 -- ---- names
 
-pub record NameTaken (most : ℕ) (seen : List (List ℕ)) (text : List ℕ) (x : List ℕ × List ℕ) : Type 0 where
+pub record NameTaken (most : ℕ) (seen : List (List ℕ)) (text : List ℕ)
+    (x : List ℕ × List ℕ) : Type 0 where
   pub free : IsFree x.0
   pub short : length x.0 ≤ 64
   pub few : length seen < most
   pub front : Takes text (word x.0) x.1
 
-new_by : (most : ℕ) (seen : List (List ℕ)) (text : List ℕ) (n x : List ℕ × List ℕ) (a b : Bool) → leb most (length seen) ≡ b → cond a (Err (refused kinds.Duplicate text)) (cond b (Err (refused kinds.Limit text)) (Ok (n.0, n.1))) ≡ Ok x
+new_by : (most : ℕ) (seen : List (List ℕ)) (text : List ℕ) (n x : List ℕ × List ℕ) (a b : Bool)
+    → leb most (length seen) ≡ b → cond a (Err (refused kinds.Duplicate text))
+    (cond b (Err (refused kinds.Limit text)) (Ok (n.0, n.1))) ≡ Ok x
     → NameTaken most seen text n → NameTaken most seen text x
 new_by most seen text n x true b few e t = absurd cc
 new_by most seen text n x false true few e t = absurd cc
 new_by most seen text n x false false few e t = subst (NameTaken most seen text) (ok_is n x e) t
 
-few_by : (most : ℕ) (seen : List (List ℕ)) (text : List ℕ) (n x : List ℕ × List ℕ) (a b : Bool) → leb most (length seen) ≡ b → cond a (Err (refused kinds.Duplicate text)) (cond b (Err (refused kinds.Limit text)) (Ok (n.0, n.1))) ≡ Ok x → length seen < most
+few_by : (most : ℕ) (seen : List (List ℕ)) (text : List ℕ) (n x : List ℕ × List ℕ) (a b : Bool)
+    → leb most (length seen) ≡ b → cond a (Err (refused kinds.Duplicate text))
+    (cond b (Err (refused kinds.Limit text)) (Ok (n.0, n.1))) ≡ Ok x → length seen < most
 few_by most seen text n x true b few e = absurd cc
 few_by most seen text n x false true few e = absurd cc
 few_by most seen text n x false false few e = leb-false most (length seen) few
 
-pub new_name_takes : (most : ℕ) (seen : List (List ℕ)) (text : List ℕ) (x : List ℕ × List ℕ) → new_name_at most seen text ≡ Ok x → NameTaken most seen text x
+pub new_name_takes : (most : ℕ) (seen : List (List ℕ)) (text : List ℕ) (x : List ℕ × List ℕ)
+    → new_name_at most seen text ≡ Ok x → NameTaken most seen text x
 unfolding new_name_at
 new_name_takes most seen text x e =
-    let a = bind_ok (identifier_at text) (λ n. cond (is_among seen n.0) (Err (refused kinds.Duplicate text)) (cond (leb most (length seen)) (Err (refused kinds.Limit text)) (Ok (n.0, n.1)))) x e in
+    let a = bind_ok (identifier_at text) (λ n. cond (is_among seen n.0) (Err (refused kinds.Duplicate text))
+    (cond (leb most (length seen)) (Err (refused kinds.Limit text)) (Ok (n.0, n.1)))) x e in
     let w = identifier_word text a.0 a.1 in
     new_by most seen text a.0 x (is_among seen (a.0).0) (leb most (length seen)) refl a.2
-    (record { free = w.1; short = w.2; few = few_by most seen text a.0 x (is_among seen (a.0).0) (leb most (length seen)) refl a.2; front = word_takes text a.0 w.0 })
+    (record {
+      free = w.1;
+      short = w.2;
+      few = few_by most seen text a.0 x (is_among seen (a.0).0) (leb most (length seen)) refl a.2;
+      front = word_takes text a.0 w.0;
+    })
 
-pub record DeclaredTaken (s : Scope) (count : ℕ) (text : List ℕ) (x : List ℕ × List ℕ) : Type 0 where
+pub record DeclaredTaken (s : Scope) (count : ℕ) (text : List ℕ)
+    (x : List ℕ × List ℕ) : Type 0 where
   pub free : IsFree x.0
   pub short : length x.0 ≤ 64
   pub new : lookup (bytes_eq x.0) s.names.known ≡ None
@@ -65,31 +79,40 @@ none_of : {X : Type 0} (o : Option X) → is_some o ≡ false → o ≡ None
 none_of None e = refl
 none_of (Some x) e = absurd cc
 
-declared_by : (s : Scope) (count : ℕ) (text : List ℕ) (n x : List ℕ × List ℕ) (a b : Bool) → is_some (lookup (bytes_eq n.0) s.names.known) ≡ a → leb 4096 count ≡ b → (IsFree n.0) × (length n.0 ≤ 64) × Takes text (word n.0) n.1
-    → cond a (Err (refused kinds.Duplicate text)) (cond b (Err (refused kinds.Limit text)) (Ok (n.0, n.1))) ≡ Ok x → DeclaredTaken s count text x
+declared_by : (s : Scope) (count : ℕ) (text : List ℕ) (n x : List ℕ × List ℕ) (a b : Bool)
+    → is_some (lookup (bytes_eq n.0) s.names.known) ≡ a → leb 4096 count ≡ b
+    → (IsFree n.0) × (length n.0 ≤ 64) × Takes text (word n.0) n.1
+    → cond a (Err (refused kinds.Duplicate text))
+    (cond b (Err (refused kinds.Limit text)) (Ok (n.0, n.1))) ≡ Ok x → DeclaredTaken s count text x
 declared_by s count text n x true b p q w e = absurd cc
 declared_by s count text n x false true p q w e = absurd cc
 declared_by s count text n x false false p q w e =
-    subst (DeclaredTaken s count text) (ok_is n x e) (record { free = w.0; short = w.1; new = none_of (lookup (bytes_eq n.0) s.names.known) p; few = leb-false 4096 count q; front = w.2 })
+    subst (DeclaredTaken s count text) (ok_is n x e)
+    (record { free = w.0; short = w.1; new = none_of (lookup (bytes_eq n.0) s.names.known) p; few = leb-false 4096 count q; front = w.2 })
 
-pub declared_takes : (s : Scope) (count : ℕ) (text : List ℕ) (x : List ℕ × List ℕ) → declared_at s count text ≡ Ok x → DeclaredTaken s count text x
+pub declared_takes : (s : Scope) (count : ℕ) (text : List ℕ) (x : List ℕ × List ℕ)
+    → declared_at s count text ≡ Ok x → DeclaredTaken s count text x
 unfolding declared_at
 declared_takes s count text x e =
-    let a = bind_ok (identifier_at text) (λ n. cond (is_some (lookup (bytes_eq n.0) s.names.known)) (Err (refused kinds.Duplicate text)) (cond (leb 4096 count) (Err (refused kinds.Limit text)) (Ok (n.0, n.1)))) x e in
+    let a = bind_ok (identifier_at text) (λ n. cond (is_some (lookup (bytes_eq n.0) s.names.known)) (Err (refused kinds.Duplicate text))
+    (cond (leb 4096 count) (Err (refused kinds.Limit text)) (Ok (n.0, n.1)))) x e in
     let w = identifier_word text a.0 a.1 in
     declared_by s count text a.0 x (is_some (lookup (bytes_eq (a.0).0) s.names.known)) (leb 4096 count) refl refl (w.1, w.2, word_takes text a.0 w.0) a.2
 
 -- ---- items
 
-array_grows : (at : ℕ) (s : Scope) (element : ℕ) (o : Option ℕ) (p : Placed) → array_type at s element o ≡ Ok p → Grows s p.0
+array_grows : (at : ℕ) (s : Scope) (element : ℕ) (o : Option ℕ) (p : Placed)
+    → array_type at s element o ≡ Ok p → Grows s p.0
 array_grows at s element None p e = subst (λ (q : Placed). Grows s q.0) (ok_is (s, element) p e) (grows_none s)
 array_grows at s element (Some n) p e = added_grows at s (nodes.array n element) p e
 
-array_sound : (at : ℕ) (s : Scope) (element : ℕ) (o : Option ℕ) (p : Placed) → array_type at s element o ≡ Ok p → Sound (s, element) → Sound p
+array_sound : (at : ℕ) (s : Scope) (element : ℕ) (o : Option ℕ) (p : Placed)
+    → array_type at s element o ≡ Ok p → Sound (s, element) → Sound p
 array_sound at s element None p e is = subst Sound (ok_is (s, element) p e) is
 array_sound at s element (Some n) p e is = sound_added at s (nodes.array n element) p e is.scope tt
 
-pub record TakenItem (s : Scope) (most : ℕ) (seen : List (List ℕ)) (text : List ℕ) (x : ItemRead) : Type 0 where
+pub record TakenItem (s : Scope) (most : ℕ) (seen : List (List ℕ)) (text : List ℕ)
+    (x : ItemRead) : Type 0 where
   pub item : Item
   pub named : item.name ≡ (x.1).name
   pub took : Took (spell_item item) (OfItem kinds.Syntax s.names most seen item) text x.2
@@ -98,34 +121,46 @@ pub record TakenItem (s : Scope) (most : ℕ) (seen : List (List ℕ)) (text : L
   pub short : length (x.1).name ≤ 64
   pub few : length seen < most
 
-item_made : (at most : ℕ) (seen : List (List ℕ)) (s : Scope) (text : List ℕ) (t : TypeRead) (n : List ℕ × List ℕ) (l : Option ℕ × List ℕ) (p : Placed) → TakenType s text t → NameTaken most seen t.2 n
-    → Took (spell_length l.0) (Unit {0}) n.1 l.1 → array_type at t.0 t.1 l.0 ≡ Ok p → TakenItem s most seen text (p.0, part n.0 p.1, l.1)
+item_made : (at most : ℕ) (seen : List (List ℕ)) (s : Scope) (text : List ℕ) (t : TypeRead)
+    (n : List ℕ × List ℕ) (l : Option ℕ × List ℕ) (p : Placed) → TakenType s text t
+    → NameTaken most seen t.2 n
+    → Took (spell_length l.0) (Unit {0}) n.1 l.1 → array_type at t.0 t.1 l.0 ≡ Ok p
+    → TakenItem s most seen text (p.0, part n.0 p.1, l.1)
 item_made at most seen s text t n l p a b c e = record {
   item = record { type = a.expr; name = n.0; length = l.0 };
   named = refl;
-  took = record { free = (a.took.free, b.free, bound_free l.0); front = λ more m. a.took.front (word n.0 ∷ spell_length l.0 more) (b.front (spell_length l.0 more) (c.front more m)) };
+  took = record {
+    free = (a.took.free, b.free, bound_free l.0);
+    front = λ more m. a.took.front (word n.0 ∷ spell_length l.0 more) (b.front (spell_length l.0 more) (c.front more m));
+  };
   grows = grows_on s t.0 p.0 a.grows (array_grows at t.0 t.1 l.0 p e);
   sound = λ is. array_sound at t.0 t.1 l.0 p e (a.sound is);
   short = b.short;
   few = b.few;
 }
 
-pub item_takes : (at most : ℕ) (seen : List (List ℕ)) (s : Scope) (text : List ℕ) (x : ItemRead) → item_at at most seen s text ≡ Ok x → TakenItem s most seen text x
+pub item_takes : (at most : ℕ) (seen : List (List ℕ)) (s : Scope) (text : List ℕ) (x : ItemRead)
+    → item_at at most seen s text ≡ Ok x → TakenItem s most seen text x
 unfolding item_at
 item_takes at most seen s text x e =
-    let t = bind_ok (type_at at 25 s text) (λ t. new_name_at most seen t.2 >>= λ n. enclosed_at marks.OpenBracket marks.CloseBracket n.1 >>= λ l. array_type at t.0 t.1 l.0 >>= λ p. Ok (p.0, part n.0 p.1, l.1)) x e in
-    let n = bind_ok (new_name_at most seen (t.0).2) (λ n. enclosed_at marks.OpenBracket marks.CloseBracket n.1 >>= λ l. array_type at (t.0).0 (t.0).1 l.0 >>= λ p. Ok (p.0, part n.0 p.1, l.1)) x t.2 in
-    let l = bind_ok (enclosed_at marks.OpenBracket marks.CloseBracket (n.0).1) (λ l. array_type at (t.0).0 (t.0).1 l.0 >>= λ p. Ok (p.0, part (n.0).0 p.1, l.1)) x n.2 in
+    let t = bind_ok (type_at at 25 s text) (λ t. new_name_at most seen t.2 >>= λ n. enclosed_at marks.OpenBracket marks.CloseBracket n.1
+    >>= λ l. array_type at t.0 t.1 l.0 >>= λ p. Ok (p.0, part n.0 p.1, l.1)) x e in
+    let n = bind_ok (new_name_at most seen (t.0).2)
+    (λ n. enclosed_at marks.OpenBracket marks.CloseBracket n.1 >>= λ l. array_type at (t.0).0 (t.0).1 l.0 >>= λ p. Ok (p.0, part n.0 p.1, l.1)) x t.2 in
+    let l = bind_ok (enclosed_at marks.OpenBracket marks.CloseBracket (n.0).1)
+    (λ l. array_type at (t.0).0 (t.0).1 l.0 >>= λ p. Ok (p.0, part (n.0).0 p.1, l.1)) x n.2 in
     let p = bind_ok (array_type at (t.0).0 (t.0).1 (l.0).0) (λ p. Ok (p.0, part (n.0).0 p.1, (l.0).1)) x l.2 in
     subst (TakenItem s most seen text) (ok_is ((p.0).0, part (n.0).0 (p.0).1, (l.0).1) x p.2)
-    (item_made at most seen s text t.0 n.0 l.0 p.0 (type_takes at 25 s text t.0 t.1) (new_name_takes most seen (t.0).2 n.0 n.1) (enclosed_takes marks.OpenBracket marks.CloseBracket (n.0).1 l.0 l.1) p.1)
+    (item_made at most seen s text t.0 n.0 l.0 p.0 (type_takes at 25 s text t.0 t.1) (new_name_takes most seen (t.0).2 n.0 n.1)
+    (enclosed_takes marks.OpenBracket marks.CloseBracket (n.0).1 l.0 l.1) p.1)
 
 -- ---- members
 
 abbrev pub AreParts : Scope → List Part → Type 0
 AreParts s ps = All (IsPart s.table.types (length s.table.types)) ps
 
-part_stays : (s t : Scope) (p : Part) → Grows s t → IsPart s.table.types (length s.table.types) p → IsPart t.table.types (length t.table.types) p
+part_stays : (s t : Scope) (p : Part) → Grows s t → IsPart s.table.types (length s.table.types) p
+    → IsPart t.table.types (length t.table.types) p
 part_stays s t p g is = record { inner = grows_known s t p.type g is.inner; short = is.short }
 
 pub parts_stay : (s t : Scope) (ps : List Part) → Grows s t → AreParts s ps → AreParts t ps
@@ -135,7 +170,8 @@ pub record SoundMembers (x : MembersRead) : Type 0 where
   pub scope : IsScope x.0
   pub parts : AreParts x.0 x.1
 
-pub record TakenMembers (n : ℕ) (seen : List (List ℕ)) (parts : List Part) (s : Scope) (text : List ℕ) (x : MembersRead) : Type 0 where
+pub record TakenMembers (n : ℕ) (seen : List (List ℕ)) (parts : List Part) (s : Scope)
+    (text : List ℕ) (x : MembersRead) : Type 0 where
   pub items : List Item
   pub took : Took (spell_items items) (OfItems kinds.Syntax s.names 256 seen items) text x.2
   pub few : length x.1 < length parts + n
@@ -147,7 +183,9 @@ pub record TakenMembers (n : ℕ) (seen : List (List ℕ)) (parts : List Part) (
 abbrev Found : Type 0
 Found = Option (List ℕ)
 
-closes : (n : ℕ) (seen : List (List ℕ)) (parts : List Part) (s : Scope) (text r : List ℕ) → mark_if marks.CloseBrace text ≡ Ok (Some r) → TakenMembers (suc n) seen parts s text (s, parts, r)
+closes : (n : ℕ) (seen : List (List ℕ)) (parts : List Part) (s : Scope) (text r : List ℕ)
+    → mark_if marks.CloseBrace text ≡ Ok (Some r)
+    → TakenMembers (suc n) seen parts s text (s, parts, r)
 unfolding OfItems
 closes n seen parts s text r h = record {
   items = [];
@@ -159,14 +197,22 @@ closes n seen parts s text r h = record {
   sound = λ is all. record { scope = is; parts = all };
 }
 
-member_on : (n : ℕ) (seen : List (List ℕ)) (parts : List Part) (s : Scope) (text r : List ℕ) (i : ItemRead) (x : MembersRead) → TakenItem s 256 seen text i → mark_at marks.Semicolon i.2 ≡ Ok r
-    → TakenMembers n (seen ++ (i.1).name ∷ []) (parts ++ i.1 ∷ []) i.0 r x → TakenMembers (suc n) seen parts s text x
+member_on : (n : ℕ) (seen : List (List ℕ)) (parts : List Part) (s : Scope) (text r : List ℕ)
+    (i : ItemRead) (x : MembersRead) → TakenItem s 256 seen text i
+    → mark_at marks.Semicolon i.2 ≡ Ok r
+    → TakenMembers n (seen ++ (i.1).name ∷ []) (parts ++ i.1 ∷ []) i.0 r x
+    → TakenMembers (suc n) seen parts s text x
 unfolding OfItems
 member_on n seen parts s text r i x a e t = record {
   items = a.item ∷ t.items;
   took = record {
-    free = (a.took.free, subst (λ w. OfItems kinds.Syntax s.names 256 (seen ++ w ∷ []) t.items) (sym a.named) (subst (λ ns. OfItems kinds.Syntax ns 256 (seen ++ (i.1).name ∷ []) t.items) a.grows.names t.took.free));
-    front = λ more m. a.took.front (mark marks.Semicolon ∷ spell_items t.items more) (mark_takes marks.Semicolon i.2 r e (spell_items t.items more) (t.took.front more m));
+    free = (
+      a.took.free,
+      subst (λ w. OfItems kinds.Syntax s.names 256 (seen ++ w ∷ []) t.items) (sym a.named)
+          (subst (λ ns. OfItems kinds.Syntax ns 256 (seen ++ (i.1).name ∷ []) t.items) a.grows.names t.took.free),
+    );
+    front = λ more m. a.took.front (mark marks.Semicolon ∷ spell_items t.items more)
+        (mark_takes marks.Semicolon i.2 r e (spell_items t.items more) (t.took.front more m));
   };
   few = let f = t.few in omega (arith, length-append parts (i.1 ∷ []));
   kept = let k = t.kept in omega (arith, length-append parts (i.1 ∷ []));
@@ -174,25 +220,43 @@ member_on n seen parts s text r i x a e t = record {
   grows = grows_on s i.0 x.0 a.grows t.grows;
   sound = λ is all.
       let h = a.sound is in
-      t.sound h.scope (All-push (IsPart (i.0).table.types (length (i.0).table.types)) parts i.1 (parts_stay s i.0 parts a.grows all) (record { inner = h.known; short = a.short }));
+      t.sound h.scope (All-push (IsPart (i.0).table.types (length (i.0).table.types)) parts i.1 (parts_stay s i.0 parts a.grows all)
+      (record { inner = h.known; short = a.short }));
 }
 
 abbrev then_run : ℕ → ℕ → Members → Result MembersRead Refusal
-then_run at n m = cond m.closed (Ok (m.scope, m.parts, m.rest)) (members_run at n m.seen m.parts m.scope m.rest)
+then_run at n m =
+    cond m.closed (Ok (m.scope, m.parts, m.rest)) (members_run at n m.seen m.parts m.scope m.rest)
 
-member_by : (at n : ℕ) (seen : List (List ℕ)) (parts : List Part) (s : Scope) (text : List ℕ) (m : Members) (x : MembersRead) (c : Found) → mark_if marks.CloseBrace text ≡ Ok c → member_after at seen parts s text c ≡ Ok m → then_run at n m ≡ Ok x
-    → ((seen : List (List ℕ)) (parts : List Part) (s : Scope) (text : List ℕ) → members_run at n seen parts s text ≡ Ok x → TakenMembers n seen parts s text x) → TakenMembers (suc n) seen parts s text x
+member_by : (at n : ℕ) (seen : List (List ℕ)) (parts : List Part) (s : Scope) (text : List ℕ)
+    (m : Members) (x : MembersRead) (c : Found) → mark_if marks.CloseBrace text ≡ Ok c
+    → member_after at seen parts s text c ≡ Ok m → then_run at n m ≡ Ok x
+    → ((seen : List (List ℕ)) (parts : List Part) (s : Scope) (text : List ℕ)
+    → members_run at n seen parts s text ≡ Ok x → TakenMembers n seen parts s text x)
+    → TakenMembers (suc n) seen parts s text x
 unfolding member_at
 member_by at n seen parts s text m x (Some r) h e run on =
     let last : Ok (s, parts, r) ≡ Ok x = ap (then_run at n) (ok_is (record { scope = s; seen = seen; parts = parts; rest = r; closed = true }) m e) ∙ run in
     subst (TakenMembers (suc n) seen parts s text) (ok_is (s, parts, r) x last) (closes n seen parts s text r h)
 member_by at n seen parts s text m x None h e run on =
-    let i = bind_ok (item_at at 256 seen s text) (λ i. mark_at marks.Semicolon i.2 >>= λ r. Ok (record { scope = i.0; seen = seen ++ (i.1).name ∷ []; parts = parts ++ i.1 ∷ []; rest = r; closed = false })) m e in
-    let r = bind_ok (mark_at marks.Semicolon (i.0).2) (λ r. Ok (record { scope = (i.0).0; seen = seen ++ ((i.0).1).name ∷ []; parts = parts ++ (i.0).1 ∷ []; rest = r; closed = false })) m i.2 in
-    let last : members_run at n (seen ++ ((i.0).1).name ∷ []) (parts ++ (i.0).1 ∷ []) (i.0).0 r.0 ≡ Ok x = ap (then_run at n) (ok_is (record { scope = (i.0).0; seen = seen ++ ((i.0).1).name ∷ []; parts = parts ++ (i.0).1 ∷ []; rest = r.0; closed = false }) m r.2) ∙ run in
-    member_on n seen parts s text r.0 i.0 x (item_takes at 256 seen s text i.0 i.1) r.1 (on (seen ++ ((i.0).1).name ∷ []) (parts ++ (i.0).1 ∷ []) (i.0).0 r.0 last)
+    let i = bind_ok (item_at at 256 seen s text) (λ i. mark_at marks.Semicolon i.2
+    >>= λ r. Ok (record { scope = i.0; seen = seen ++ (i.1).name ∷ []; parts = parts ++ i.1 ∷ []; rest = r; closed = false })) m e in
+    let r = bind_ok (mark_at marks.Semicolon (i.0).2)
+    (λ r. Ok (record { scope = (i.0).0; seen = seen ++ ((i.0).1).name ∷ []; parts = parts ++ (i.0).1 ∷ []; rest = r; closed = false })) m i.2 in
+    let last : members_run at n (seen ++ ((i.0).1).name ∷ []) (parts ++ (i.0).1 ∷ []) (i.0).0 r.0 ≡ Ok x =
+    ap (then_run at n) (ok_is (record {
+      scope = (i.0).0;
+      seen = seen ++ ((i.0).1).name ∷ [];
+      parts = parts ++ (i.0).1 ∷ [];
+      rest = r.0;
+      closed = false;
+    }) m r.2) ∙ run in
+    member_on n seen parts s text r.0 i.0 x (item_takes at 256 seen s text i.0 i.1) r.1
+    (on (seen ++ ((i.0).1).name ∷ []) (parts ++ (i.0).1 ∷ []) (i.0).0 r.0 last)
 
-pub members_takes : (at n : ℕ) (seen : List (List ℕ)) (parts : List Part) (s : Scope) (text : List ℕ) (x : MembersRead) → members_run at n seen parts s text ≡ Ok x → TakenMembers n seen parts s text x
+pub members_takes : (at n : ℕ) (seen : List (List ℕ)) (parts : List Part) (s : Scope)
+    (text : List ℕ) (x : MembersRead) → members_run at n seen parts s text ≡ Ok x
+    → TakenMembers n seen parts s text x
 unfolding members_run member_step
 members_takes at zero seen parts s text x e = absurd cc
 members_takes at (suc n) seen parts s text x e =
@@ -200,11 +264,13 @@ members_takes at (suc n) seen parts s text x e =
     let c = bind_ok (mark_if marks.CloseBrace text) (member_after at seen parts s text) m.0 m.1 in
     member_by at n seen parts s text m.0 x c.0 c.1 c.2 m.2 (λ seen parts s text run. members_takes at n seen parts s text x run)
 
-filled_by : (text x : List ℕ) (c : Found) → mark_if marks.CloseBrace text ≡ Ok c → unless_closed text c ≡ Ok x → (text ≡ x) × (mark_if marks.CloseBrace text ≡ Ok None)
+filled_by : (text x : List ℕ) (c : Found) → mark_if marks.CloseBrace text ≡ Ok c
+    → unless_closed text c ≡ Ok x → (text ≡ x) × (mark_if marks.CloseBrace text ≡ Ok None)
 filled_by text x None h e = (ok_is text x e, h)
 filled_by text x (Some r) h e = absurd cc
 
-pub filled_takes : (text x : List ℕ) → filled_at text ≡ Ok x → (text ≡ x) × (mark_if marks.CloseBrace text ≡ Ok None)
+pub filled_takes : (text x : List ℕ) → filled_at text ≡ Ok x
+    → (text ≡ x) × (mark_if marks.CloseBrace text ≡ Ok None)
 unfolding filled_at
 filled_takes text x e = let c = bind_ok (mark_if marks.CloseBrace text) (unless_closed text) x e in filled_by text x c.0 c.1 c.2
 
@@ -214,12 +280,14 @@ no_parts : (s : Scope) → AreParts s []
 no_parts s = λ k d lt. absurd (omega arith)
 
 -- members that were read can be a struct's
-pub struct_formed : (at : ℕ) (s : Scope) (text : List ℕ) (m : MembersRead) → members_at at s text ≡ Ok m → IsScope s → (length m.1 ≤ 256) × AreParts m.0 m.1
+pub struct_formed : (at : ℕ) (s : Scope) (text : List ℕ) (m : MembersRead)
+    → members_at at s text ≡ Ok m → IsScope s → (length m.1 ≤ 256) × AreParts m.0 m.1
 struct_formed at s text m e is =
     let t = members_takes at 257 [] [] s text m e in
     (let f = t.few in omega arith, (t.sound is (no_parts s)).parts)
 
-pub members_grow : (at : ℕ) (s : Scope) (text : List ℕ) (m : MembersRead) (p : Placed) → members_at at s text ≡ Ok m → added at m.0 (nodes.members m.1) ≡ Ok p → Grows s p.0
+pub members_grow : (at : ℕ) (s : Scope) (text : List ℕ) (m : MembersRead) (p : Placed)
+    → members_at at s text ≡ Ok m → added at m.0 (nodes.members m.1) ≡ Ok p → Grows s p.0
 members_grow at s text m p e put = grows_on s m.0 p.0 (members_takes at 257 [] [] s text m e).grows (added_grows at m.0 (nodes.members m.1) p put)
 
 some_octet : (ps : List Part) → 0 < length ps → TakesOctet (nodes.members ps)
@@ -227,7 +295,9 @@ some_octet [] lt = absurd (omega arith)
 some_octet (p ∷ ps) lt = tt
 
 -- a struct of some members can be a part
-pub struct_known : (at : ℕ) (s : Scope) (o f : List ℕ) (m : MembersRead) (p : Placed) → filled_at o ≡ Ok f → members_at at s f ≡ Ok m → added at m.0 (nodes.members m.1) ≡ Ok p → IsKnown (p.0).table.types p.1
+pub struct_known : (at : ℕ) (s : Scope) (o f : List ℕ) (m : MembersRead) (p : Placed)
+    → filled_at o ≡ Ok f → members_at at s f ≡ Ok m → added at m.0 (nodes.members m.1) ≡ Ok p
+    → IsKnown (p.0).table.types p.1
 struct_known at s o f m p fill e put =
     let k = filled_takes o f fill in
     let some : mark_if marks.CloseBrace f ≡ Ok None = subst (λ t. mark_if marks.CloseBrace t ≡ Ok None) k.0 k.1 in
@@ -235,7 +305,8 @@ struct_known at s o f m p fill e put =
     (node_known m.0 (nodes.members m.1) (some_octet m.1 ((members_takes at 257 [] [] s f m e).some some)))
 
 -- a name that was new is new still
-pub still_new : (s t : Scope) (w : List ℕ) → Grows s t → lookup (bytes_eq w) s.names.known ≡ None → lookup (bytes_eq w) t.names.known ≡ None
+pub still_new : (s t : Scope) (w : List ℕ) → Grows s t → lookup (bytes_eq w) s.names.known ≡ None
+    → lookup (bytes_eq w) t.names.known ≡ None
 still_new s t w g e = ap (λ ns. lookup (bytes_eq w) ns.known) g.names ∙ e
 
 pub record RepositoryTaken (s : Scope) (text : List ℕ) (x : List ℕ × List ℕ) : Type 0 where
@@ -243,21 +314,30 @@ pub record RepositoryTaken (s : Scope) (text : List ℕ) (x : List ℕ × List �
   pub new : exception_in s.table x.0 ≡ None
   pub front : Takes text (repository x.0) x.1
 
-repository_by : (s : Scope) (text : List ℕ) (i x : List ℕ × List ℕ) (a b : Bool) → ltb 128 (length i.0) ≡ a → is_some (exception_in s.table i.0) ≡ b → Takes text (repository i.0) i.1
-    → cond a (Err (refused kinds.Limit text)) (cond b (Err (refused kinds.Duplicate text)) (Ok (i.0, i.1))) ≡ Ok x → RepositoryTaken s text x
+repository_by : (s : Scope) (text : List ℕ) (i x : List ℕ × List ℕ) (a b : Bool)
+    → ltb 128 (length i.0) ≡ a → is_some (exception_in s.table i.0) ≡ b
+    → Takes text (repository i.0) i.1
+    → cond a (Err (refused kinds.Limit text))
+    (cond b (Err (refused kinds.Duplicate text)) (Ok (i.0, i.1))) ≡ Ok x → RepositoryTaken s text x
 repository_by s text i x true b p q t e = absurd cc
 repository_by s text i x false true p q t e = absurd cc
-repository_by s text i x false false p q t e = subst (RepositoryTaken s text) (ok_is i x e) (record { short = ltb-false 128 (length i.0) p; new = none_of (exception_in s.table i.0) q; front = t })
+repository_by s text i x false false p q t e =
+    subst (RepositoryTaken s text) (ok_is i x e) (record { short = ltb-false 128 (length i.0) p; new = none_of (exception_in s.table i.0) q; front = t })
 
-pub new_repository_takes : (s : Scope) (text : List ℕ) (x : List ℕ × List ℕ) → new_repository_at s text ≡ Ok x → RepositoryTaken s text x
+pub new_repository_takes : (s : Scope) (text : List ℕ) (x : List ℕ × List ℕ)
+    → new_repository_at s text ≡ Ok x → RepositoryTaken s text x
 unfolding new_repository_at
 new_repository_takes s text x e =
-    let a = bind_ok (repository_at text) (λ i. cond (ltb 128 (length i.0)) (Err (refused kinds.Limit text)) (cond (is_some (exception_in s.table i.0)) (Err (refused kinds.Duplicate text)) (Ok (i.0, i.1)))) x e in
+    let a = bind_ok (repository_at text) (λ i. cond (ltb 128 (length i.0)) (Err (refused kinds.Limit text))
+    (cond (is_some (exception_in s.table i.0)) (Err (refused kinds.Duplicate text)) (Ok (i.0, i.1)))) x e in
     repository_by s text a.0 x (ltb 128 (length (a.0).0)) (is_some (exception_in s.table (a.0).0)) refl refl (repository_takes text a.0 a.1) a.2
 
 -- an id that was new is new still
-pub still_different : (s t : Scope) (r : List ℕ) → Grows s t → exception_in s.table r ≡ None → exception_in t.table r ≡ None
+pub still_different : (s t : Scope) (r : List ℕ) → Grows s t → exception_in s.table r ≡ None
+    → exception_in t.table r ≡ None
 still_different s t r g e = ap (λ es. exception_in (record s.table { exceptions = es }) r) g.exceptions ∙ e
 
-pub added_below : (at : ℕ) (s : Scope) (n : Node) (p : Placed) → added at s n ≡ Ok p → p.1 < length (p.0).table.types
-added_below at s n p e = subst (λ (q : Placed). q.1 < length (q.0).table.types) (sym (added_is at s n p e)) (omega (arith, length-append s.table.types (n ∷ [])))
+pub added_below : (at : ℕ) (s : Scope) (n : Node) (p : Placed) → added at s n ≡ Ok p
+    → p.1 < length (p.0).table.types
+added_below at s n p e =
+    subst (λ (q : Placed). q.1 < length (q.0).table.types) (sym (added_is at s n p e)) (omega (arith, length-append s.table.types (n ∷ [])))

@@ -120,13 +120,16 @@ from_below : (n : ℕ) → 0 < n → value_from (numbers.Signed (below n)) ≡ B
 from_below zero lt = absurd (omega arith)
 from_below (suc n) lt = ap (λ z. value_from (numbers.Signed z)) (+ℤ_idl (negsuc n))
 
-plain_again : (m n : Number) (most k : ℕ) → value_from m ≡ Plain k → if_at_most most k m ≡ Some n → value_from n ≡ Plain k
+plain_again : (m n : Number) (most k : ℕ) → value_from m ≡ Plain k
+    → if_at_most most k m ≡ Some n → value_from n ≡ Plain k
 plain_again m n most k is e = ap value_from (sym (within (leb k most) m n e)) ∙ is
 
-below_again : (n : Number) (most k : ℕ) → 0 < k → if_at_most most k (numbers.Signed (below k)) ≡ Some n → value_from n ≡ Below k
+below_again : (n : Number) (most k : ℕ) → 0 < k
+    → if_at_most most k (numbers.Signed (below k)) ≡ Some n → value_from n ≡ Below k
 below_again n most k lt e = ap value_from (sym (within (leb k most) (numbers.Signed (below k)) n e)) ∙ from_below k lt
 
-prim_again : (p : Primitive) (v : Value) (n : Number) → IsAbove v → label_number (nodes.prim p) v ≡ Some n → value_from n ≡ v
+prim_again : (p : Primitive) (v : Value) (n : Number) → IsAbove v
+    → label_number (nodes.prim p) v ≡ Some n → value_from n ≡ v
 prim_again prims.Octet v n above e = absurd cc
 prim_again prims.Char (Plain k) n above e = plain_again (numbers.Char k) n 255 k refl e
 prim_again prims.Char (Below k) n above e = absurd cc
@@ -163,7 +166,9 @@ prim_again prims.ULongLong (Enumerator k) n above e = absurd cc
 prim_again prims.Float v n above e = absurd cc
 prim_again prims.Double v n above e = absurd cc
 
-numbered_is : (names : List (List ℕ)) (w : List ℕ) (o : Option ℕ) (n : Number) → position (bytes_eq w) names ≡ o → numbered o ≡ Some n → (i : ℕ) × (n ≡ numbers.Unsigned i) × (w ≡ get_or names i [])
+numbered_is : (names : List (List ℕ)) (w : List ℕ) (o : Option ℕ) (n : Number)
+    → position (bytes_eq w) names ≡ o → numbered o ≡ Some n
+    → (i : ℕ) × (n ≡ numbers.Unsigned i) × (w ≡ get_or names i [])
 numbered_is names w None n p e = absurd cc
 numbered_is names w (Some i) n p e =
     let same : n ≡ numbers.Unsigned i = cc in
@@ -172,13 +177,16 @@ numbered_is names w (Some i) n p e =
 unsigned_same : (i j : ℕ) → numbers.Unsigned i ≡ numbers.Unsigned j → i ≡ j
 unsigned_same i j e = cc
 
-enumerators_again : (names : List (List ℕ)) (v w : List ℕ) (n : Number) → numbered (position (bytes_eq v) names) ≡ Some n → numbered (position (bytes_eq w) names) ≡ Some n → v ≡ w
+enumerators_again : (names : List (List ℕ)) (v w : List ℕ) (n : Number)
+    → numbered (position (bytes_eq v) names) ≡ Some n
+    → numbered (position (bytes_eq w) names) ≡ Some n → v ≡ w
 enumerators_again names v w n e f =
     let a = numbered_is names v (position (bytes_eq v) names) n refl e in
     let b = numbered_is names w (position (bytes_eq w) names) n refl f in
     a.2 ∙ ap (λ i. get_or names i []) (unsigned_same a.0 b.0 (sym a.1 ∙ b.1)) ∙ sym b.2
 
-values_again : (node : Node) (v w : Value) (n : Number) → IsAbove v → IsAbove w → label_number node v ≡ Some n → label_number node w ≡ Some n → v ≡ w
+values_again : (node : Node) (v w : Value) (n : Number) → IsAbove v → IsAbove w
+    → label_number node v ≡ Some n → label_number node w ≡ Some n → v ≡ w
 values_again (nodes.prim p) v w n above also e f = sym (prim_again p v n above e) ∙ prim_again p w n also f
 values_again (nodes.enumeration names) (Enumerator v) (Enumerator w) n above also e f = ap Enumerator (enumerators_again names v w n e f)
 values_again (nodes.enumeration names) (Enumerator v) (Plain w) n above also e f = absurd cc
@@ -211,7 +219,8 @@ IsKept node (Of v) = (n : Number) × (label_number node v ≡ Some n) × IsAbove
 some_same : (m n : Number) → Some m ≡ Some n → m ≡ n
 some_same m n e = cc
 
-of_marks : (node : Node) (v w : Value) (m n : Number) → IsAbove v → IsAbove w → label_number node v ≡ Some m → label_number node w ≡ Some n → same_number n m ≡ same_value v w
+of_marks : (node : Node) (v w : Value) (m n : Number) → IsAbove v → IsAbove w
+    → label_number node v ≡ Some m → label_number node w ≡ Some n → same_number n m ≡ same_value v w
 of_marks node v w m n above also e f =
     bool_same (same_number n m) (same_value v w)
     (λ t. let same : n ≡ m = number_same n m t in
@@ -221,13 +230,17 @@ of_marks node v w m n above also e f =
     let same : n ≡ m = some_same n m (sym f ∙ ap (label_number node) (sym one) ∙ e) in
     subst (λ k. same_number n k ≡ true) same (number_self n))
 
-same_marks : (node : Node) (x y : Label) → IsKept node x → IsKept node y → same_mark (mark_of node y) (mark_of node x) ≡ same_label x y
+same_marks : (node : Node) (x y : Label) → IsKept node x → IsKept node y
+    → same_mark (mark_of node y) (mark_of node x) ≡ same_label x y
 same_marks node Default Default k l = refl
 same_marks node Default (Of w) k l = rw l.1 refl
 same_marks node (Of v) Default k l = rw k.1 refl
 same_marks node (Of v) (Of w) k l = rw (k.1, l.1) (of_marks node v w k.0 l.0 k.2 l.2 k.1 l.1)
 
 -- a label stands among others where its number does
-pub any_marks : (node : Node) (x : Label) (seen : List Label) → IsKept node x → AllByRecursion (IsKept node) seen → list_any (λ s. same_mark s (mark_of node x)) (map (mark_of node) seen) ≡ list_any (same_label x) seen
+pub any_marks : (node : Node) (x : Label) (seen : List Label) → IsKept node x
+    → AllByRecursion (IsKept node) seen
+    → list_any (λ s. same_mark s (mark_of node x)) (map (mark_of node) seen)
+    ≡ list_any (same_label x) seen
 any_marks node x [] k all = refl
 any_marks node x (y ∷ ys) k all = rw (same_marks node x y k all.0, any_marks node x ys k all.1) refl

@@ -1,5 +1,5 @@
 -- What reading gives of a text that begins with the labels of a case.
-use Rattle.std.proofs.Common.{◌≡◌, ℕ, zero, suc, ◌+◌, ◌<◌, ◌≤◌, Bool, true, false, cond, ◌||◌, ltb, leb, List, [], ◌∷◌, ◌++◌, map, length, Option, Some, None, Result, Ok, Err, append_assoc, ltb-true, ltb-false, leb-true, leb-false, refl, sym, subst, ◌∙◌, arith}
+use Rattle.std.proofs.Common.{◌≡◌, inl, ℕ, zero, suc, ◌+◌, ◌<◌, ◌≤◌, Bool, true, false, cond, ◌||◌, ltb, leb, List, [], ◌∷◌, ◌++◌, map, length, Option, Some, None, Result, Ok, Err, append_assoc, ltb-true, ltb-false, leb-true, leb-false, refl, sym, subst, ◌∙◌, arith}
 use Rattle.std.specs.Prelude.{codes}
 use Rattle.std.specs.List.{list_any, AllByRecursion}
 use Rattle.std.specs.Str.{bytes_eq}
@@ -23,6 +23,7 @@ use Rattle.giop_sig.specs.Validity.{Kind, IsFree, OfType, OfEnumerator, OfFit, O
 use Rattle.giop_sig.specs.Outcomes.{refused}
 use Rattle.giop_sig.specs.Repeats.{in_steps}
 use Rattle.giop_sig.specs.UnionReading.{value_at, Mark, LabelRead, fitting, number_of_value, fresh, label_at, LabelsRead, with_label, begins_label, labels_step, too_many_labels, labels_at}
+use Rattle.giop_sig.proofs.PlaceLaws.{within_same}
 use Rattle.giop_sig.proofs.ReadingLaws.{Out, good, broken, out_bind, out_more}
 use Rattle.giop_sig.proofs.TypeLaws.{is_not}
 use Rattle.giop_sig.proofs.EnumLaws.{out_as}
@@ -42,9 +43,11 @@ enumerator_keeps w free short kinds.Label = tt
 enumerator_keeps w free short kinds.Empty = tt
 enumerator_keeps w free short kinds.OutOfMemory = tt
 
-enumerator_by : (w text rest : List ℕ) (types : List Node) (more : List Token) (v : Bool) → ltb 64 (length w) ≡ v → IsFree w → AreTokens rest more
-    → Out {X = Value × List ℕ} (λ rest. (Enumerator w, rest)) (λ k. OfEnumerator k w) types more (cond v (Err (refused kinds.Limit text)) (Ok (Enumerator w, rest)))
-enumerator_by w text rest types more true e free m = broken (refused kinds.Limit text) (λ short. let long = ltb-true 64 (length w) e in omega arith)
+enumerator_by : (w text rest : List ℕ) (types : List Node) (more : List Token) (v : Bool)
+    → ltb 64 (length w) ≡ v → IsFree w → AreTokens rest more
+    → Out {X = Value × List ℕ} (λ rest. (Enumerator w, rest)) (λ k. OfEnumerator k w) types more
+    (cond v (Err (refused kinds.Limit text)) (Ok (Enumerator w, rest)))
+enumerator_by w text rest types more true e free m = broken (refused kinds.Limit text) (inl (λ short. let long = ltb-true 64 (length w) e in omega arith))
 enumerator_by w text rest types more false e free m = good rest m (enumerator_keeps w free (ltb-false 64 (length w) e))
 
 not_true : (w : List ℕ) → IsFree w → bytes_eq w (codes "true") ≡ false
@@ -55,7 +58,8 @@ not_false : (w : List ℕ) → IsFree w → bytes_eq w (codes "false") ≡ false
 unfolding is_reserved
 not_false w free = is_not w (codes "false") free refl
 
-value_reads : (v : Value) (text : List ℕ) (types : List Node) (more : List Token) → OfValueName kinds.Syntax v → AreTokens text (spell_value v more)
+value_reads : (v : Value) (text : List ℕ) (types : List Node) (more : List Token)
+    → OfValueName kinds.Syntax v → AreTokens text (spell_value v more)
     → Out (λ rest. (v, rest)) (λ k. OfValueName k v) types more (value_at text)
 unfolding value_at
 value_reads (Plain n) text types more free h = rw h.1 (good h.0 h.2 (λ k. tt))
@@ -65,7 +69,8 @@ value_reads (Truth false) text types more free h = rw h.1 (good h.0 h.2 (λ k. t
 value_reads (Enumerator w) text types more free h =
     rw (h.1, not_true w free, not_false w free, free) (enumerator_by w text h.0 types more (ltb 64 (length w)) refl free h.2)
 
-fit_keeps : (node : Node) (v : Value) (n : Number) → label_number node v ≡ Some n → (k : Kind) → OfFit k node v
+fit_keeps : (node : Node) (v : Value) (n : Number) → label_number node v ≡ Some n
+    → (k : Kind) → OfFit k node v
 fit_keeps node v n e kinds.Token = tt
 fit_keeps node v n e kinds.Syntax = tt
 fit_keeps node v n e kinds.UnknownType = tt
@@ -80,21 +85,27 @@ no_fit : (o : Option Number) → o ≡ None → (n : Number) × (o ≡ Some n) �
 no_fit None e k = absurd cc
 no_fit (Some n) e k = absurd cc
 
-fit_by : (node : Node) (v : Value) (text rest : List ℕ) (types : List Node) (more : List Token) (o : Option Number) → label_number node v ≡ o → AreTokens rest more → ((k : Kind) → OfValueName k v)
-    → Out {X = LabelRead} (λ rest. (label_number node v, rest)) (λ k. OfValueName k v × OfFit k node v) types more (fitting text rest o)
+fit_by : (node : Node) (v : Value) (text rest : List ℕ) (types : List Node) (more : List Token)
+    (o : Option Number) → label_number node v ≡ o → AreTokens rest more
+    → ((k : Kind) → OfValueName k v)
+    → Out {X = LabelRead} (λ rest. (label_number node v, rest))
+    (λ k. OfValueName k v × OfFit k node v) types more (fitting text rest o)
 fit_by node v text rest types more None e m keeps = broken (refused kinds.Label text) (λ k. no_fit (label_number node v) e k.1)
 fit_by node v text rest types more (Some n) e m keeps = rw e (good rest m (λ k. (keeps k, fit_keeps node v n e k)))
 
-number_reads : (node : Node) (v : Value) (text : List ℕ) (types : List Node) (more : List Token) → OfValueName kinds.Syntax v → AreTokens text (spell_value v more)
-    → Out (λ rest. (label_number node v, rest)) (λ k. OfValueName k v × OfFit k node v) types more (number_of_value node text)
+number_reads : (node : Node) (v : Value) (text : List ℕ) (types : List Node) (more : List Token)
+    → OfValueName kinds.Syntax v → AreTokens text (spell_value v more)
+    → Out (λ rest. (label_number node v, rest)) (λ k. OfValueName k v × OfFit k node v) types more
+    (number_of_value node text)
 unfolding number_of_value
 number_reads node v text types more free h =
     out_bind (value_at text) (λ x. fitting text x.1 (label_number node x.0)) (value_reads v text types more free h)
-    (λ rest m keeps. fit_by node v text rest types more (label_number node v) refl m keeps) (λ k w. w.0) (omega arith)
+    (λ rest m keeps. fit_by node v text rest types more (label_number node v) refl m keeps) (λ k w. w.0) within_same
 
 -- ---- a label
 
-new_keeps : (seen : List Label) (l : Label) → length seen < 1024 → list_any (same_label l) seen ≡ false → (k : Kind) → OfNewLabel k seen l
+new_keeps : (seen : List Label) (l : Label) → length seen < 1024
+    → list_any (same_label l) seen ≡ false → (k : Kind) → OfNewLabel k seen l
 new_keeps seen l few new kinds.Token = tt
 new_keeps seen l few new kinds.Syntax = tt
 new_keeps seen l few new kinds.UnknownType = tt
@@ -108,47 +119,66 @@ new_keeps seen l few new kinds.OutOfMemory = tt
 abbrev pub marks_of : Node → List Label → List Mark
 marks_of node ls = map (mark_of node) ls
 
-fresh_by : (node : Node) (seen : List Label) (l : Label) (text rest : List ℕ) (types : List Node) (more : List Token) (a b : Bool) → list_any (same_label l) seen ≡ a → leb 1024 (length seen) ≡ b → AreTokens rest (mark marks.Colon ∷ more)
+fresh_by : (node : Node) (seen : List Label) (l : Label) (text rest : List ℕ) (types : List Node)
+    (more : List Token) (a b : Bool) → list_any (same_label l) seen ≡ a → leb 1024 (length seen) ≡ b
+    → AreTokens rest (mark marks.Colon ∷ more)
     → Out {X = LabelRead} (λ rest. (mark_of node l, rest)) (λ k. OfNewLabel k seen l) types more
-    (cond a (Err (refused kinds.Duplicate text)) (cond b (Err (refused kinds.Limit text)) (Ok (mark_of node l))) >>= λ m. mark_at marks.Colon rest >>= λ r. Ok (m, r))
+    (cond a (Err (refused kinds.Duplicate text))
+    (cond b (Err (refused kinds.Limit text)) (Ok (mark_of node l)))
+    >>= λ m. mark_at marks.Colon rest >>= λ r. Ok (m, r))
 fresh_by node seen l text rest types more true b p q m = broken (refused kinds.Duplicate text) (λ k. false≢true (sym k ∙ p))
-fresh_by node seen l text rest types more false true p q m = broken (refused kinds.Limit text) (λ k. let many = leb-true 1024 (length seen) q in omega arith)
-fresh_by node seen l text rest types more false false p q m = rw (mark_again marks.Colon rest more m) (good m.0 m.2 (new_keeps seen l (leb-false 1024 (length seen) q) p))
+fresh_by node seen l text rest types more false true p q m =
+    broken (refused kinds.Limit text) (inl (λ k. let many = leb-true 1024 (length seen) q in omega arith))
+fresh_by node seen l text rest types more false false p q m =
+    rw (mark_again marks.Colon rest more m) (good m.0 m.2 (new_keeps seen l (leb-false 1024 (length seen) q) p))
 
-fresh_reads : (node : Node) (seen : List Label) (l : Label) (text rest : List ℕ) (types : List Node) (more : List Token) → IsKept node l → AllByRecursion (IsKept node) seen → AreTokens rest (mark marks.Colon ∷ more)
-    → Out {X = LabelRead} (λ rest. (mark_of node l, rest)) (λ k. OfNewLabel k seen l) types more (fresh (marks_of node seen) (mark_of node l) text >>= λ m. mark_at marks.Colon rest >>= λ r. Ok (m, r))
+fresh_reads : (node : Node) (seen : List Label) (l : Label) (text rest : List ℕ) (types : List Node)
+    (more : List Token) → IsKept node l → AllByRecursion (IsKept node) seen
+    → AreTokens rest (mark marks.Colon ∷ more)
+    → Out {X = LabelRead} (λ rest. (mark_of node l, rest)) (λ k. OfNewLabel k seen l) types more
+    (fresh (marks_of node seen) (mark_of node l) text
+    >>= λ m. mark_at marks.Colon rest >>= λ r. Ok (m, r))
 unfolding fresh
 fresh_reads node seen l text rest types more kept all m =
-    rw (any_marks node l seen kept all, length-map seen (mark_of node)) (fresh_by node seen l text rest types more (list_any (same_label l) seen) (leb 1024 (length seen)) refl refl m)
+    rw (any_marks node l seen kept all, length-map seen (mark_of node))
+    (fresh_by node seen l text rest types more (list_any (same_label l) seen) (leb 1024 (length seen)) refl refl m)
 
 -- the word of the default isn't that of a value
-not_case : (text : List ℕ) (ts : List Token) → AreTokens text (word (codes "default") ∷ ts) → keyword_if (codes "case") text ≡ Ok None
+not_case : (text : List ℕ) (ts : List Token) → AreTokens text (word (codes "default") ∷ ts)
+    → keyword_if (codes "case") text ≡ Ok None
 not_case text ts h = if_other (is_the_word (codes "case")) text (word (codes "default")) ts h refl
 
-not_default : (text : List ℕ) (ts : List Token) → AreTokens text (word (codes "case") ∷ ts) → keyword_if (codes "default") text ≡ Ok None
+not_default : (text : List ℕ) (ts : List Token) → AreTokens text (word (codes "case") ∷ ts)
+    → keyword_if (codes "default") text ≡ Ok None
 not_default text ts h = if_other (is_the_word (codes "default")) text (word (codes "case")) ts h refl
 
 -- a value of a text is none below zero that is 0
-value_above : (v : Value) (text : List ℕ) (more : List Token) → AreTokens text (spell_value v more) → IsAbove v
+value_above : (v : Value) (text : List ℕ) (more : List Token)
+    → AreTokens text (spell_value v more) → IsAbove v
 value_above (Plain n) text more h = tt
 value_above (Below n) text more h = negative_some text h.0 n h.1
 value_above (Truth b) text more h = tt
 value_above (Enumerator w) text more h = tt
 
-abbrev IsAboveLabel : Label → Type 0
+abbrev pub IsAboveLabel : Label → Type 0
 IsAboveLabel Default = Unit {0}
 IsAboveLabel (Of v) = IsAbove v
 
-label_above : (l : Label) (text : List ℕ) (more : List Token) → AreTokens text (spell_label l more) → IsAboveLabel l
+pub label_above : (l : Label) (text : List ℕ) (more : List Token)
+    → AreTokens text (spell_label l more) → IsAboveLabel l
 label_above Default text more h = tt
 label_above (Of v) text more h = value_above v h.0 (mark marks.Colon ∷ more) h.2
 
-label_kept : (node : Node) (l : Label) → IsAboveLabel l → OfLabelValue kinds.Label node l → IsKept node l
+pub label_kept : (node : Node) (l : Label) → IsAboveLabel l
+    → OfLabelValue kinds.Label node l → IsKept node l
 label_kept node Default above fit = tt
 label_kept node (Of v) above fit = let f = fit.1 in (f.0, f.1, above)
 
-label_reads : (node : Node) (seen : List Label) (l : Label) (text : List ℕ) (types : List Node) (more : List Token) → AllByRecursion (IsKept node) seen → OfLabel kinds.Syntax node seen l → AreTokens text (spell_label l more)
-    → Out {X = LabelRead} (λ rest. (mark_of node l, rest)) (λ k. OfLabel k node seen l) types more (label_at node (marks_of node seen) text)
+label_reads : (node : Node) (seen : List Label) (l : Label) (text : List ℕ) (types : List Node)
+    (more : List Token) → AllByRecursion (IsKept node) seen → OfLabel kinds.Syntax node seen l
+    → AreTokens text (spell_label l more)
+    → Out {X = LabelRead} (λ rest. (mark_of node l, rest)) (λ k. OfLabel k node seen l) types more
+    (label_at node (marks_of node seen) text)
 unfolding label_at
 label_reads node seen Default text types more all free h =
     rw (not_case text (mark marks.Colon ∷ more) h, keyword_again (codes "default") text (mark marks.Colon ∷ more) h)
@@ -156,23 +186,28 @@ label_reads node seen Default text types more all free h =
 label_reads node seen (Of v) text types more all free h =
     let tail = mark marks.Colon ∷ more in
     rw (keyword_if_again (codes "case") text (spell_value v tail) h)
-    (out_bind (number_of_value node h.0) (λ x. fresh (marks_of node seen) x.0 h.0 >>= λ m. mark_at marks.Colon x.1 >>= λ r. Ok (m, r)) (number_reads node v h.0 types tail free.0.0 h.2)
+    (out_bind (number_of_value node h.0) (λ x. fresh (marks_of node seen) x.0 h.0 >>= λ m. mark_at marks.Colon x.1 >>= λ r. Ok (m, r))
+    (number_reads node v h.0 types tail free.0.0 h.2)
     (λ rest m keeps.
     let fit = (keeps kinds.Label).1 in
     out_more (fresh_reads node seen (Of v) h.0 rest types more (fit.0, fit.1, value_above v h.0 tail h.2) all m) (λ k w. (keeps k, w)) (λ k w. w.1))
-    (λ k w. w.0) (omega arith))
+    (λ k w. w.0) within_same)
 
 -- ---- where labels end
 
-no_label : (text w : List ℕ) (ts : List Token) → bytes_eq w (codes "case") ≡ false → bytes_eq w (codes "default") ≡ false → AreTokens text (word w ∷ ts) → begins_label text ≡ Ok false
+no_label : (text w : List ℕ) (ts : List Token) → bytes_eq w (codes "case") ≡ false
+    → bytes_eq w (codes "default") ≡ false → AreTokens text (word w ∷ ts)
+    → begins_label text ≡ Ok false
 unfolding begins_label
 no_label text w ts a b h = rw (if_other (is_the_word (codes "case")) text (word w) ts h a, if_other (is_the_word (codes "default")) text (word w) ts h b) refl
 
-not_label : (text w : List ℕ) (ts : List Token) → IsFree w → AreTokens text (word w ∷ ts) → begins_label text ≡ Ok false
+not_label : (text w : List ℕ) (ts : List Token) → IsFree w → AreTokens text (word w ∷ ts)
+    → begins_label text ≡ Ok false
 unfolding is_reserved
 not_label text w ts free h = no_label text w ts (is_not w (codes "case") free refl) (is_not w (codes "default") free refl) h
 
-no_base : (p : Primitive) (text : List ℕ) (ts : List Token) → AreTokens text (word (base_word p) ∷ ts) → begins_label text ≡ Ok false
+no_base : (p : Primitive) (text : List ℕ) (ts : List Token)
+    → AreTokens text (word (base_word p) ∷ ts) → begins_label text ≡ Ok false
 no_base prims.Octet text ts h = no_label text (codes "octet") ts refl refl h
 no_base prims.Char text ts h = no_label text (codes "char") ts refl refl h
 no_base prims.Boolean text ts h = no_label text (codes "boolean") ts refl refl h
@@ -186,17 +221,22 @@ no_base prims.Float text ts h = no_label text (codes "float") ts refl refl h
 no_base prims.Double text ts h = no_label text (codes "double") ts refl refl h
 
 -- a type doesn't begin with a label
-pub type_no_label : (e : TypeExpr) (names : Names) (text : List ℕ) (more : List Token) → OfType kinds.Syntax names e → AreTokens text (spell_type e more) → begins_label text ≡ Ok false
+pub type_no_label : (e : TypeExpr) (names : Names) (text : List ℕ) (more : List Token)
+    → OfType kinds.Syntax names e → AreTokens text (spell_type e more)
+    → begins_label text ≡ Ok false
 unfolding OfType
 type_no_label (Base p) names text more free h = no_base p text more h
 type_no_label (Text o) names text more free h = no_label text (codes "string") (spell_bound o more) refl refl h
 type_no_label Reference names text more free h = no_label text (codes "Object") more refl refl h
 type_no_label (Named w) names text more free h = not_label text w more free h
-type_no_label (SequenceOf e o) names text more free h = no_label text (codes "sequence") (mark marks.OpenAngle ∷ spell_type e (spell_most o (mark marks.CloseAngle ∷ more))) refl refl h
-type_no_label (EncapsulationOf e) names text more free h = no_label text (codes "encapsulation") (mark marks.OpenAngle ∷ spell_type e (mark marks.CloseAngle ∷ more)) refl refl h
+type_no_label (SequenceOf e o) names text more free h =
+    no_label text (codes "sequence") (mark marks.OpenAngle ∷ spell_type e (spell_most o (mark marks.CloseAngle ∷ more))) refl refl h
+type_no_label (EncapsulationOf e) names text more free h =
+    no_label text (codes "encapsulation") (mark marks.OpenAngle ∷ spell_type e (mark marks.CloseAngle ∷ more)) refl refl h
 
 -- a label does
-label_begins : (l : Label) (text : List ℕ) (more : List Token) → AreTokens text (spell_label l more) → begins_label text ≡ Ok true
+label_begins : (l : Label) (text : List ℕ) (more : List Token) → AreTokens text (spell_label l more)
+    → begins_label text ≡ Ok true
 unfolding begins_label
 label_begins Default text more h = rw (not_case text (mark marks.Colon ∷ more) h, keyword_if_again (codes "default") text (mark marks.Colon ∷ more) h) refl
 label_begins (Of v) text more h =
@@ -206,7 +246,8 @@ label_begins (Of v) text more h =
 
 -- what is kept of labels behind those of the union and of the case
 abbrev pub labelled : Node → List Label → List Number → Bool → List Label → List ℕ → LabelsRead
-labelled node seen own default ls rest = (marks_of node (seen ++ ls), own ++ label_numbers node ls, default || has_default ls, rest)
+labelled node seen own default ls rest =
+    (marks_of node (seen ++ ls), own ++ label_numbers node ls, default || has_default ls, rest)
 
 or_true : (b : Bool) → (b || true) ≡ true
 or_true true = refl
@@ -221,102 +262,105 @@ or_assoc true b c = refl
 or_assoc false b c = refl
 
 -- one label more
-with_one : (node : Node) (seen : List Label) (own : List Number) (default : Bool) (text rest : List ℕ) (l : Label) → IsKept node l
-    → with_label (marks_of node seen, own, default, text) (mark_of node l, rest) ≡ labelled node seen own default (l ∷ []) rest
+with_one : (node : Node) (seen : List Label) (own : List Number) (default : Bool)
+    (text rest : List ℕ) (l : Label) → IsKept node l
+    → with_label (marks_of node seen, own, default, text) (mark_of node l, rest)
+    ≡ labelled node seen own default (l ∷ []) rest
 with_one node seen own default text rest Default kept = rw (map-append (mark_of node) seen (Default ∷ []), append-nil own, or_true default) refl
 with_one node seen own default text rest (Of v) kept = rw (map-append (mark_of node) seen (Of v ∷ []), kept.1, or_false default) refl
 
-numbers_cons : (node : Node) (l : Label) (ls : List Label) → IsKept node l → label_numbers node (l ∷ []) ++ label_numbers node ls ≡ label_numbers node (l ∷ ls)
+numbers_cons : (node : Node) (l : Label) (ls : List Label) → IsKept node l
+    → label_numbers node (l ∷ []) ++ label_numbers node ls ≡ label_numbers node (l ∷ ls)
 numbers_cons node Default ls kept = refl
 numbers_cons node (Of v) ls kept = rw kept.1 refl
 
-default_cons : (l : Label) (ls : List Label) → (has_default (l ∷ []) || has_default ls) ≡ has_default (l ∷ ls)
+default_cons : (l : Label) (ls : List Label)
+    → (has_default (l ∷ []) || has_default ls) ≡ has_default (l ∷ ls)
 default_cons Default ls = refl
 default_cons (Of v) ls = refl
 
-labelled_on : (node : Node) (seen : List Label) (own : List Number) (default : Bool) (l : Label) (ls : List Label) (rest : List ℕ) → IsKept node l
-    → labelled node (seen ++ l ∷ []) (own ++ label_numbers node (l ∷ [])) (default || has_default (l ∷ [])) ls rest ≡ labelled node seen own default (l ∷ ls) rest
+labelled_on : (node : Node) (seen : List Label) (own : List Number) (default : Bool) (l : Label)
+    (ls : List Label) (rest : List ℕ) → IsKept node l
+    → labelled node (seen ++ l ∷ []) (own ++ label_numbers node (l ∷ []))
+    (default || has_default (l ∷ [])) ls rest ≡ labelled node seen own default (l ∷ ls) rest
 labelled_on node seen own default l ls rest kept =
-    rw (append_assoc seen (l ∷ []) ls, append_assoc own (label_numbers node (l ∷ [])) (label_numbers node ls), numbers_cons node l ls kept, or_assoc default (has_default (l ∷ [])) (has_default ls), default_cons l ls) refl
+    rw (
+      append_assoc seen (l ∷ []) ls,
+      append_assoc own (label_numbers node (l ∷ [])) (label_numbers node ls),
+      numbers_cons node l ls kept,
+      or_assoc default (has_default (l ∷ [])) (has_default ls),
+      default_cons l ls,
+    ) refl
 
-labelled_end : (node : Node) (seen : List Label) (own : List Number) (default : Bool) (rest : List ℕ) → (marks_of node seen, own, default, rest) ≡ labelled node seen own default [] rest
+labelled_end : (node : Node) (seen : List Label) (own : List Number) (default : Bool)
+    (rest : List ℕ) → (marks_of node seen, own, default, rest)
+    ≡ labelled node seen own default [] rest
 labelled_end node seen own default rest = rw (append-nil seen, append-nil own, or_false default) refl
 
-step_on : (node : Node) (seen : List Label) (own : List Number) (default : Bool) (l : Label) (text : List ℕ) (types : List Node) (more : List Token) → AllByRecursion (IsKept node) seen → OfLabel kinds.Syntax node seen l → AreTokens text (spell_label l more)
-    → Out {X = Bool × LabelsRead} (λ rest. (false, labelled node seen own default (l ∷ []) rest)) (λ k. OfLabel k node seen l) types more (labels_step node (marks_of node seen, own, default, text))
+step_on : (node : Node) (seen : List Label) (own : List Number) (default : Bool) (l : Label)
+    (text : List ℕ) (types : List Node) (more : List Token) → AllByRecursion (IsKept node) seen
+    → OfLabel kinds.Syntax node seen l → AreTokens text (spell_label l more)
+    → Out {X = Bool × LabelsRead} (λ rest. (false, labelled node seen own default (l ∷ []) rest))
+    (λ k. OfLabel k node seen l) types more
+    (labels_step node (marks_of node seen, own, default, text))
 unfolding labels_step
 step_on node seen own default l text types more all free h =
     rw (label_begins l text more h)
-    (out_bind (label_at node (marks_of node seen) text) (λ x. Ok (false, with_label (marks_of node seen, own, default, text) x)) (label_reads node seen l text types more all free h)
+    (out_bind (label_at node (marks_of node seen) text) (λ x. Ok (false, with_label (marks_of node seen, own, default, text) x))
+    (label_reads node seen l text types more all free h)
     (λ rest m keeps.
     let kept = label_kept node l (label_above l text more h) (keeps kinds.Label).0 in
-    subst (λ (y : LabelsRead). Out {X = Bool × LabelsRead} (λ rest. (false, labelled node seen own default (l ∷ []) rest)) (λ k. OfLabel k node seen l) types more (Ok (false, y)))
+    subst (λ (y : LabelsRead). Out {X = Bool × LabelsRead} (λ rest. (false, labelled node seen own default (l ∷ []) rest)) (λ k. OfLabel k node seen l)
+    types more (Ok (false, y)))
     (sym (with_one node seen own default text rest l kept)) (good rest m keeps))
-    (λ k w. w) (omega arith))
+    (λ k w. w) within_same)
 
-step_end : (node : Node) (ls : LabelsRead) → begins_label ls.3 ≡ Ok false → labels_step node ls ≡ Ok (true, ls)
+step_end : (node : Node) (ls : LabelsRead) → begins_label ls.3 ≡ Ok false
+    → labels_step node ls ≡ Ok (true, ls)
 unfolding labels_step
 step_end node ls e = rw e refl
 
-pub all_push : {X : Type 0} (P : X → Type 0) (xs : List X) (x : X) → AllByRecursion P xs → P x → AllByRecursion P (xs ++ x ∷ [])
+pub all_push : {X : Type 0} (P : X → Type 0) (xs : List X) (x : X) → AllByRecursion P xs → P x
+    → AllByRecursion P (xs ++ x ∷ [])
 all_push P [] x all p = (p, tt)
 all_push P (y ∷ ys) x all p = (all.0, all_push P ys x all.1 p)
 
 abbrev pub then_labels : Node → ℕ → Bool × LabelsRead → Result LabelsRead Refusal
 then_labels node left x = cond x.0 (Ok x.1) (in_steps (labels_step node) too_many_labels left x.1)
 
-labels_run : (ls : List Label) (left : ℕ) (node : Node) (seen : List Label) (own : List Number) (default : Bool) (text : List ℕ) (types : List Node) (more : List Token)
-    → ((rest : List ℕ) → AreTokens rest more → begins_label rest ≡ Ok false) → AllByRecursion (IsKept node) seen → length seen ≤ 1024 → 1025 ≤ left + length seen → OfLabels kinds.Syntax node seen ls → AreTokens text (spell_labels ls more)
-    → Out (labelled node seen own default ls) (λ k. OfLabels k node seen ls) types more (in_steps (labels_step node) too_many_labels left (marks_of node seen, own, default, text))
+labels_run : (ls : List Label) (left : ℕ) (node : Node) (seen : List Label) (own : List Number)
+    (default : Bool) (text : List ℕ) (types : List Node) (more : List Token)
+    → ((rest : List ℕ) → AreTokens rest more → begins_label rest ≡ Ok false)
+    → AllByRecursion (IsKept node) seen → length seen ≤ 1024 → 1025 ≤ left + length seen
+    → OfLabels kinds.Syntax node seen ls → AreTokens text (spell_labels ls more)
+    → Out (labelled node seen own default ls) (λ k. OfLabels k node seen ls) types more
+    (in_steps (labels_step node) too_many_labels left (marks_of node seen, own, default, text))
 unfolding in_steps OfLabels
 labels_run [] zero node seen own default text types more ended all few room free h = absurd (omega arith)
 labels_run (l ∷ ls) zero node seen own default text types more ended all few room free h = absurd (omega arith)
 labels_run [] (suc left) node seen own default text types more ended all few room free h =
     rw (step_end node (marks_of node seen, own, default, text) (ended text h))
-    (subst (λ (y : LabelsRead). Out {X = LabelsRead} (labelled node seen own default []) (λ k. Unit {0}) types more (Ok y)) (sym (labelled_end node seen own default text)) (good text h (λ k. tt)))
+    (subst (λ (y : LabelsRead). Out {X = LabelsRead} (labelled node seen own default []) (λ k. Unit {0}) types more (Ok y))
+    (sym (labelled_end node seen own default text)) (good text h (λ k. tt)))
 labels_run (l ∷ ls) (suc left) node seen own default text types more ended all few room free h =
-    out_bind (labels_step node (marks_of node seen, own, default, text)) (then_labels node left) (step_on node seen own default l text types (spell_labels ls more) all free.0 h)
+    out_bind (labels_step node (marks_of node seen, own, default, text)) (then_labels node left)
+    (step_on node seen own default l text types (spell_labels ls more) all free.0 h)
     (λ rest m keeps.
     let kept = label_kept node l (label_above l text (spell_labels ls more) h) (keeps kinds.Label).0 in
     let below = (keeps kinds.Limit).1 in
     out_as (in_steps (labels_step node) too_many_labels left (labelled node seen own default (l ∷ []) rest))
-    (labels_run ls left node (seen ++ l ∷ []) (own ++ label_numbers node (l ∷ [])) (default || has_default (l ∷ [])) rest types more ended (all_push (IsKept node) seen l all kept) (omega (arith, length-append seen (l ∷ []))) (omega (arith, length-append seen (l ∷ []))) free.1 m)
-    (λ after. labelled_on node seen own default l ls after kept) (λ k w. (keeps k, w)) (λ k w. w.1) (omega arith))
-    (λ k w. w.0) (omega arith)
+    (labels_run ls left node (seen ++ l ∷ []) (own ++ label_numbers node (l ∷ [])) (default || has_default (l ∷ [])) rest types more ended
+    (all_push (IsKept node) seen l all kept) (omega (arith, length-append seen (l ∷ []))) (omega (arith, length-append seen (l ∷ []))) free.1 m)
+    (λ after. labelled_on node seen own default l ls after kept) (λ k w. (keeps k, w)) (λ k w. w.1) within_same)
+    (λ k w. w.0) within_same
 
-pub labels_reads : (node : Node) (seen : List Label) (l : Label) (ls : List Label) (text : List ℕ) (types : List Node) (more : List Token)
-    → ((rest : List ℕ) → AreTokens rest more → begins_label rest ≡ Ok false) → AllByRecursion (IsKept node) seen → length seen ≤ 1024 → OfLabels kinds.Syntax node seen (l ∷ ls) → AreTokens text (spell_labels (l ∷ ls) more)
-    → Out (labelled node seen [] false (l ∷ ls)) (λ k. OfLabels k node seen (l ∷ ls)) types more (labels_at node (marks_of node seen) text)
+pub labels_reads : (node : Node) (seen : List Label) (l : Label) (ls : List Label) (text : List ℕ)
+    (types : List Node) (more : List Token)
+    → ((rest : List ℕ) → AreTokens rest more → begins_label rest ≡ Ok false)
+    → AllByRecursion (IsKept node) seen → length seen ≤ 1024
+    → OfLabels kinds.Syntax node seen (l ∷ ls) → AreTokens text (spell_labels (l ∷ ls) more)
+    → Out (labelled node seen [] false (l ∷ ls)) (λ k. OfLabels k node seen (l ∷ ls)) types more
+    (labels_at node (marks_of node seen) text)
 unfolding labels_at
 labels_reads node seen l ls text types more ended all few free h =
     rw (label_begins l text (spell_labels ls more) h) (labels_run (l ∷ ls) 1025 node seen [] false text types more ended all few (omega arith) free h)
-
--- ---- what is known behind them
-
-label_rest : (l : Label) (text : List ℕ) (more : List Token) → AreTokens text (spell_label l more) → (rest : List ℕ) × AreTokens rest more
-label_rest Default text more h = let c = h.2 in (c.0, c.2)
-label_rest (Of (Plain n)) text more h = let c = (h.2).2 in (c.0, c.2)
-label_rest (Of (Below n)) text more h = let c = (h.2).2 in (c.0, c.2)
-label_rest (Of (Truth b)) text more h = let c = (h.2).2 in (c.0, c.2)
-label_rest (Of (Enumerator w)) text more h = let c = (h.2).2 in (c.0, c.2)
-
-labels_above : (ls : List Label) (text : List ℕ) (more : List Token) → AreTokens text (spell_labels ls more) → AllByRecursion IsAboveLabel ls
-labels_above [] text more h = tt
-labels_above (l ∷ ls) text more h = let r = label_rest l text (spell_labels ls more) h in (label_above l text (spell_labels ls more) h, labels_above ls r.0 more r.1)
-
-all_kept : (node : Node) (ls seen : List Label) → AllByRecursion IsAboveLabel ls → OfLabels kinds.Label node seen ls → AllByRecursion (IsKept node) seen → AllByRecursion (IsKept node) (seen ++ ls)
-unfolding OfLabels
-all_kept node [] seen above fit all = subst (AllByRecursion (IsKept node)) (sym (append-nil seen)) all
-all_kept node (l ∷ ls) seen above fit all =
-    subst (AllByRecursion (IsKept node)) (append_assoc seen (l ∷ []) ls)
-    (all_kept node ls (seen ++ l ∷ []) above.1 fit.1 (all_push (IsKept node) seen l all (label_kept node l above.0 (fit.0).0)))
-
-pub labels_kept : (node : Node) (ls seen : List Label) (text : List ℕ) (more : List Token) → AreTokens text (spell_labels ls more) → OfLabels kinds.Label node seen ls → AllByRecursion (IsKept node) seen → AllByRecursion (IsKept node) (seen ++ ls)
-labels_kept node ls seen text more h fit all = all_kept node ls seen (labels_above ls text more h) fit all
-
-pub labels_few : (node : Node) (ls seen : List Label) → length seen ≤ 1024 → OfLabels kinds.Limit node seen ls → length (seen ++ ls) ≤ 1024
-unfolding OfLabels
-labels_few node [] seen few fit = omega (arith, length-append seen [])
-labels_few node (l ∷ ls) seen few fit =
-    let below = (fit.0).1 in
-    subst (λ all. length all ≤ 1024) (append_assoc seen (l ∷ []) ls) (labels_few node ls (seen ++ l ∷ []) (omega (arith, length-append seen (l ∷ []))) fit.1)

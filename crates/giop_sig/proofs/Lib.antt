@@ -19,7 +19,9 @@ mod OneList
 mod ScopeLaws
 mod ReadingLaws
 mod PlaceLaws
+mod SizeTaken
 mod TypeTaken
+mod SizeReads
 mod TypeLaws
 mod TypeSteps
 mod MemberLoop
@@ -37,10 +39,12 @@ mod SpellLaws
 mod SizeLaws
 mod FileLoop
 mod FileLaws
+mod FileRules
 mod Told
 mod UnionWhole
 mod Negatives
 mod LabelReads
+mod LabelsKept
 mod UnionLaws
 mod UnionReads
 mod UnionTaken

@@ -19,18 +19,24 @@ digits_no_space : (ds : List ℕ) → AllDigits 10 ds → NonePass is_space ds
 digits_no_space [] h = tt
 digits_no_space (d ∷ ds) h = (no_space d h.0, digits_no_space ds h.1)
 
-pub entry_cut : (line : List ℕ) (e : Entry) → IsEntry e → line ≡ line_of e → Cut is_space line (decimal e.id) 32 e.name
-entry_cut line e h parts = cut_made is_space line (decimal e.id) 32 e.name parts (digits_no_space (decimal e.id) (is_written (decimal e.id) e.id (omega (arith, h.id)) refl).digits) refl
+pub entry_cut : (line : List ℕ) (e : Entry) → IsEntry e → line ≡ line_of e
+    → Cut is_space line (decimal e.id) 32 e.name
+entry_cut line e h parts =
+    cut_made is_space line (decimal e.id) 32 e.name parts
+    (digits_no_space (decimal e.id) (is_written (decimal e.id) e.id (omega (arith, h.id)) refl).digits) refl
 
 pub no_entry : (line : List ℕ) → NonePass is_space line → IsEntryLine line → ⊥
 no_entry line none h = let e = none_cut is_space (decimal h.0.id) 32 h.0.name (subst (λ (xs : List ℕ). NonePass is_space xs) h.2 none) in absurd cc
 
 -- what stands before and after the first space of an entry's line
-pub entry_parts : (line : List ℕ) (k : ℕ) → CutAt is_space line k → (h : IsEntryLine line) → (take k line ≡ decimal h.0.id) × (drop (k + 1) line ≡ h.0.name)
+pub entry_parts : (line : List ℕ) (k : ℕ) → CutAt is_space line k → (h : IsEntryLine line)
+    → (take k line ≡ decimal h.0.id) × (drop (k + 1) line ≡ h.0.name)
 entry_parts line k c h = cut_is is_space line (decimal h.0.id) 32 h.0.name k (entry_cut line h.0 h.1 h.2) c
 
-pub no_number : (line : List ℕ) (k : ℕ) → CutAt is_space line k → ((n : ℕ) → n < 2 ^ 32 → take k line ≡ decimal n → ⊥) → IsEntryLine line → ⊥
+pub no_number : (line : List ℕ) (k : ℕ) → CutAt is_space line k
+    → ((n : ℕ) → n < 2 ^ 32 → take k line ≡ decimal n → ⊥) → IsEntryLine line → ⊥
 no_number line k c none h = none h.0.id h.1.id (entry_parts line k c h).0
 
-pub no_name : (line : List ℕ) (k : ℕ) → CutAt is_space line k → (IsName (drop (k + 1) line) → ⊥) → IsEntryLine line → ⊥
+pub no_name : (line : List ℕ) (k : ℕ) → CutAt is_space line k
+    → (IsName (drop (k + 1) line) → ⊥) → IsEntryLine line → ⊥
 no_name line k c none h = none (subst IsName (sym (entry_parts line k c h).1) h.1.name)

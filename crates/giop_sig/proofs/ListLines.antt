@@ -25,7 +25,12 @@ module _ {X : Type 0} (p : X → Bool) where
 
   cuts_on : (x : X) (xs : List X) → p x ≡ false → Cuts xs → Cuts (x ∷ xs)
   cuts_on x xs e (inl h) = inl ((e, h.0), rw e (omega (arith, h.1)))
-  cuts_on x xs e (inr h) = inr (x ∷ h.0, h.1, h.2, record { parts = ap (λ (ys : List X). x ∷ ys) h.3.parts; none = (e, h.3.none); passes = h.3.passes; place = rw e (omega (arith, h.3.place)) })
+  cuts_on x xs e (inr h) = inr (
+    x ∷ h.0,
+    h.1,
+    h.2,
+    record { parts = ap (λ (ys : List X). x ∷ ys) h.3.parts; none = (e, h.3.none); passes = h.3.passes; place = rw e (omega (arith, h.3.place)) },
+  )
 
   cuts_cons : (x : X) (xs : List X) (v : Bool) → p x ≡ v → Cuts xs → Cuts (x ∷ xs)
   cuts_cons x xs true e h = inr ([], x, xs, record { parts = refl; none = tt; passes = e; place = rw e refl })
@@ -43,7 +48,12 @@ module _ {X : Type 0} (p : X → Bool) where
   place_made (x ∷ front) y back none e = place_on x (front ++ y ∷ back) (length front) none.0 (place_made front y back none.1 e)
 
   pub cut_made : (xs front : List X) (y : X) (back : List X) → xs ≡ front ++ y ∷ back → NonePass front → p y ≡ true → Cut xs front y back
-  cut_made xs front y back parts none e = record { parts = parts; none = none; passes = e; place = ap (position_or_len p) parts ∙ place_made front y back none e }
+  cut_made xs front y back parts none e = record {
+    parts = parts;
+    none = none;
+    passes = e;
+    place = ap (position_or_len p) parts ∙ place_made front y back none e;
+  }
 
   pub none_cut : (front : List X) (y : X) (back : List X) → NonePass (front ++ y ∷ back) → p y ≡ false
   none_cut [] y back none = none.0
@@ -63,7 +73,8 @@ module _ {X : Type 0} (p : X → Bool) where
   cut_at : (xs front : List X) (y : X) (back : List X) → Cut xs front y back → CutAt xs (length front)
   cut_at xs front y back c =
       let t : take (length front) xs ≡ front = ap (take (length front)) c.parts ∙ take_at front (y ∷ back) (length front) refl in
-      let d : drop (length front + 1) xs ≡ back = ap (drop (length front + 1)) (c.parts ∙ sym (append_assoc front (y ∷ []) back)) ∙ drop_at (front ++ y ∷ []) back (length front + 1) (length-append front (y ∷ [])) in
+      let d : drop (length front + 1) xs ≡ back = ap (drop (length front + 1)) (c.parts ∙ sym (append_assoc front (y ∷ []) back))
+      ∙ drop_at (front ++ y ∷ []) back (length front + 1) (length-append front (y ∷ [])) in
       record { first = y; parts = rw (t, d) c.parts; none = rw t c.none; passes = c.passes; inside = inside_of xs front y back c }
 
   -- a list is cut in one way
@@ -73,7 +84,8 @@ module _ {X : Type 0} (p : X → Bool) where
       let e : position_or_len p xs ≡ k = ap (position_or_len p) d.parts ∙ place_made (take k xs) d.first (drop (k + 1) xs) d.none d.passes ∙ len in
       let l : length front ≡ k = sym c.place ∙ e in
       let t : take k xs ≡ front = ap (take k) c.parts ∙ take_at front (y ∷ back) k l in
-      let r : drop (k + 1) xs ≡ back = ap (drop (k + 1)) (c.parts ∙ sym (append_assoc front (y ∷ []) back)) ∙ drop_at (front ++ y ∷ []) back (k + 1) (length-append front (y ∷ []) ∙ ap (λ (n : ℕ). n + 1) l) in
+      let r : drop (k + 1) xs ≡ back = ap (drop (k + 1)) (c.parts ∙ sym (append_assoc front (y ∷ []) back))
+      ∙ drop_at (front ++ y ∷ []) back (k + 1) (length-append front (y ∷ []) ∙ ap (λ (n : ℕ). n + 1) l) in
       (t, r)
 
   pub cut_same : (xs f : List X) (y : X) (b g : List X) (z : X) (e : List X) → Cut xs f y b → Cut xs g z e → (f ≡ g) × (b ≡ e)
@@ -86,7 +98,8 @@ module _ {X : Type 0} (p : X → Bool) where
   found_by xs (inl h) = rw (h.1, le-ltb (length xs) (length xs) (omega arith)) h.0
   found_by xs (inr h) = rw (h.3.place, lt-ltb (length h.0) (length xs) (inside_of xs h.0 h.1 h.2 h.3)) (cut_at xs h.0 h.1 h.2 h.3)
 
-  pub found : (xs : List X) (r : Option ℕ) → r ≡ cond (ltb (position_or_len p xs) (length xs)) (Some (position_or_len p xs)) None → MatchOption r (NonePass xs) (CutAt xs)
+  pub found : (xs : List X) (r : Option ℕ) → r ≡ cond (ltb (position_or_len p xs) (length xs)) (Some (position_or_len p xs)) None
+      → MatchOption r (NonePass xs) (CutAt xs)
   found xs r e = rw e (found_by xs (cuts xs))
 
 pub to_end : {X : Type 0} (n : ℕ) (xs : List X) → take (length xs - n) (drop n xs) ≡ drop n xs
@@ -94,10 +107,12 @@ to_end n xs = take_all (length xs - n) (drop n xs) (omega (arith, length-drop n 
 
 -- ---- lines
 
-on_line : (b : ℕ) (bs : List ℕ) (ls : List (List ℕ)) → is_lf b ≡ false → lines bs ≡ ls → lines (b ∷ bs) ≡ onto_first b ls
+on_line : (b : ℕ) (bs : List ℕ) (ls : List (List ℕ)) → is_lf b ≡ false → lines bs ≡ ls
+    → lines (b ∷ bs) ≡ onto_first b ls
 on_line b bs ls e h = rw (e, h) refl
 
-pub lines_cut : (front : List ℕ) (y : ℕ) (back : List ℕ) → NonePass is_lf front → is_lf y ≡ true → lines (front ++ y ∷ back) ≡ front ∷ lines back
+pub lines_cut : (front : List ℕ) (y : ℕ) (back : List ℕ) → NonePass is_lf front → is_lf y ≡ true
+    → lines (front ++ y ∷ back) ≡ front ∷ lines back
 lines_cut [] y back none e = rw e refl
 lines_cut (b ∷ front) y back none e = on_line b (front ++ y ∷ back) (front ∷ lines back) none.0 (lines_cut front y back none.1 e)
 
@@ -105,7 +120,8 @@ pub lines_only : (b : ℕ) (bs : List ℕ) → NonePass is_lf (b ∷ bs) → lin
 lines_only b [] none = on_line b [] [] none.0 refl
 lines_only b (d ∷ bs) none = on_line b (d ∷ bs) ((d ∷ bs) ∷ []) none.0 (lines_only d bs none.1)
 
-pub lines_at : (bs : List ℕ) (k : ℕ) → CutAt is_lf bs k → lines bs ≡ take k bs ∷ lines (drop (k + 1) bs)
+pub lines_at : (bs : List ℕ) (k : ℕ) → CutAt is_lf bs k
+    → lines bs ≡ take k bs ∷ lines (drop (k + 1) bs)
 lines_at bs k c = ap lines c.parts ∙ lines_cut (take k bs) c.first (drop (k + 1) bs) c.none c.passes
 
 pub lines_one : (bs : List ℕ) → 0 < length bs → NonePass is_lf bs → lines bs ≡ bs ∷ []

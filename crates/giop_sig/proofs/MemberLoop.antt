@@ -9,8 +9,10 @@ use Rattle.giop_sig.specs.Scopes.{Scope}
 use Rattle.giop_sig.specs.Outcomes.{Stops, refused}
 use Rattle.giop_sig.specs.ItemReading.{Members, member_step, MembersRead, members_run}
 
-module _ (at i : ℕ) (seen : List (List ℕ)) (parts : List Part) (s : Scope) (text : List ℕ) (total : Result MembersRead Refusal) (so_far : members_run at (257 - i) seen parts s text ≡ total) where
-  pub goes_on : i < 257 → (m : Members) → member_step at seen parts s text ≡ Ok m → m.closed ≡ false → members_run at (257 - (i + 1)) m.seen m.parts m.scope m.rest ≡ total
+module _ (at i : ℕ) (seen : List (List ℕ)) (parts : List Part) (s : Scope) (text : List ℕ) (total : Result MembersRead Refusal)
+    (so_far : members_run at (257 - i) seen parts s text ≡ total) where
+  pub goes_on : i < 257 → (m : Members) → member_step at seen parts s text ≡ Ok m → m.closed ≡ false
+      → members_run at (257 - (i + 1)) m.seen m.parts m.scope m.rest ≡ total
   unfolding members_run
   goes_on lt m h c =
       let k : 257 - i ≡ suc (257 - (i + 1)) = omega arith in

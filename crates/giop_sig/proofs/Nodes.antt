@@ -37,13 +37,15 @@ read_below [] i lt = absurd (omega arith)
 read_below (p ∷ ps) zero lt = (p, refl)
 read_below (p ∷ ps) (suc i) lt = read_below ps i (omega arith)
 
-case_below : (cs : List Case) (i : ℕ) → i < length cs → (p : Part) × (case_part (slice_get cs i) ≡ Some p)
+case_below : (cs : List Case) (i : ℕ) → i < length cs
+    → (p : Part) × (case_part (slice_get cs i) ≡ Some p)
 case_below [] i lt = absurd (omega arith)
 case_below (c ∷ cs) zero lt = (c.part, refl)
 case_below (c ∷ cs) (suc i) lt = case_below cs i (omega arith)
 
 -- the part in a place is there
-pub part_there : (node : Node) (i : ℕ) → HasPlace (shape_of node) i → (p : Part) × (part_at node i ≡ Some p)
+pub part_there : (node : Node) (i : ℕ) → HasPlace (shape_of node) i
+    → (p : Part) × (part_at node i ≡ Some p)
 part_there (nodes.prim p) i has = absurd has
 part_there (nodes.enumeration names) i has = absurd has
 part_there (nodes.text bound) i has = absurd has
@@ -55,7 +57,8 @@ part_there (nodes.array count element) i has = (nodes.element_part element, refl
 part_there (nodes.encapsulation held) i has = (nodes.element_part held, refl)
 part_there (nodes.tagged special tag inner other) i has = read_below (tag ∷ inner ∷ other ∷ []) i has
 
-pub part_grown : (tree : ℕ → Ty) (node : Node) (i : ℕ) → HasPlace (shape_of node) i → tree (type_of (part_at node i)) ≡ part_of (grow tree node) i
+pub part_grown : (tree : ℕ → Ty) (node : Node) (i : ℕ) → HasPlace (shape_of node) i
+    → tree (type_of (part_at node i)) ≡ part_of (grow tree node) i
 part_grown tree (nodes.prim p) i has = absurd has
 part_grown tree (nodes.enumeration names) i has = absurd has
 part_grown tree (nodes.text bound) i has = absurd has
@@ -68,7 +71,8 @@ part_grown tree (nodes.encapsulation held) i has = refl
 part_grown tree (nodes.tagged special tag inner other) i has =
     let p = read_below (tag ∷ inner ∷ other ∷ []) i has in rw (p.1) refl
 
-pub name_grown : (tree : ℕ → Ty) (node : Node) (i : ℕ) → HasMember (shape_of node) i → name_of (part_at node i) ≡ name_in (grow tree node) i
+pub name_grown : (tree : ℕ → Ty) (node : Node) (i : ℕ) → HasMember (shape_of node) i
+    → name_of (part_at node i) ≡ name_in (grow tree node) i
 name_grown tree (nodes.prim p) i has = absurd has
 name_grown tree (nodes.enumeration names) i has = absurd has
 name_grown tree (nodes.text bound) i has = absurd has
@@ -84,12 +88,15 @@ ltb_suc_by : (v : Bool) (a b : ℕ) → nat_lt a b ≡ v → nat_lt (suc a) (suc
 ltb_suc_by true a b e = lt-ltb (suc a) (suc b) (let h = ltb-true a b e in omega arith)
 ltb_suc_by false a b e = le-ltb (suc a) (suc b) (let h = ltb-false a b e in omega arith)
 
-names_read : (names : List (List ℕ)) (n : ℕ) → slice_get names n ≡ cond (nat_lt n (length names)) (Some (name_or (slice_get names n))) None
+names_read : (names : List (List ℕ)) (n : ℕ)
+    → slice_get names n ≡ cond (nat_lt n (length names)) (Some (name_or (slice_get names n))) None
 names_read [] n = rw (le-ltb n 0 (omega arith)) refl
 names_read (x ∷ xs) zero = rw (lt-ltb 0 (suc (length xs)) (omega arith)) refl
-names_read (x ∷ xs) (suc n) = names_read xs n ∙ ap (λ b. cond b (Some (name_or (slice_get xs n))) None) (sym (ltb_suc_by (nat_lt n (length xs)) n (length xs) refl))
+names_read (x ∷ xs) (suc n) =
+    names_read xs n ∙ ap (λ b. cond b (Some (name_or (slice_get xs n))) None) (sym (ltb_suc_by (nat_lt n (length xs)) n (length xs) refl))
 
-pub enum_name_grown : (tree : ℕ → Ty) (node : Node) (n : ℕ) → name_at node n ≡ enum_name_in (grow tree node) n
+pub enum_name_grown : (tree : ℕ → Ty) (node : Node) (n : ℕ)
+    → name_at node n ≡ enum_name_in (grow tree node) n
 enum_name_grown tree (nodes.prim p) n = refl
 enum_name_grown tree (nodes.enumeration names) n = names_read names n
 enum_name_grown tree (nodes.text bound) n = refl
@@ -102,7 +109,9 @@ enum_name_grown tree (nodes.encapsulation held) n = refl
 enum_name_grown tree (nodes.tagged special tag inner other) n = refl
 
 -- a value that the octets spell selects as their whole number does
-pub select_grown : (tree : ℕ → Ty) (node : Node) (number : Number) (n : ℕ) → taken_in (switch_of (grow tree node)) n ≡ Some number → selected node number ≡ select_in (grow tree node) n
+pub select_grown : (tree : ℕ → Ty) (node : Node) (number : Number) (n : ℕ)
+    → taken_in (switch_of (grow tree node)) n ≡ Some number
+    → selected node number ≡ select_in (grow tree node) n
 select_grown tree (nodes.prim p) number n e = refl
 select_grown tree (nodes.enumeration names) number n e = refl
 select_grown tree (nodes.text bound) number n e = refl

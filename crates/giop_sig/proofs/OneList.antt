@@ -19,7 +19,8 @@ one_entry e f p q h =
     let id : e.id ≡ f.id = decimal_injective e.id f.id (let a = p.id in omega arith) (let b = q.id in omega arith) same.0 in
     ap (λ (x : ℕ × List ℕ). record { id = x.0; name = x.1 }) (ap (λ (i : ℕ). (i, e.name)) id ∙ ap (λ (n : List ℕ). (f.id, n)) same.1)
 
-one_by : (es fs : List Entry) → AllByRecursion IsEntry es → AllByRecursion IsEntry fs → map line_of es ≡ map line_of fs → es ≡ fs
+one_by : (es fs : List Entry) → AllByRecursion IsEntry es → AllByRecursion IsEntry fs
+    → map line_of es ≡ map line_of fs → es ≡ fs
 one_by [] [] p q h = refl
 one_by [] (f ∷ fs) p q h = absurd cc
 one_by (e ∷ es) [] p q h = absurd cc
@@ -34,23 +35,32 @@ pub one_list : (text : List ℕ) (es fs : List Entry) → Lists text es → List
 one_list text es fs p q = one_by es fs (recursion_from_All IsEntry es p.entries) (recursion_from_All IsEntry fs q.entries) (sym p.spelled ∙ q.spelled)
 
 -- the k-th line of a list is an entry's
-line_at : (es : List Entry) (before : List (List ℕ)) (line : List ℕ) (after : List (List ℕ)) → AllByRecursion IsEntry es → map line_of es ≡ before ++ line ∷ after → IsEntryLine line × (length before < length es)
+line_at : (es : List Entry) (before : List (List ℕ)) (line : List ℕ) (after : List (List ℕ))
+    → AllByRecursion IsEntry es → map line_of es ≡ before ++ line ∷ after
+    → IsEntryLine line × (length before < length es)
 line_at [] [] line after p h = absurd cc
 line_at [] (b ∷ before) line after p h = absurd cc
 line_at (e ∷ es) [] line after p h = let is : line ≡ line_of e = cc in ((e, p.0, is), omega arith)
-line_at (e ∷ es) (b ∷ before) line after p h = let tail : map line_of es ≡ before ++ line ∷ after = cc in let k = line_at es before line after p.1 tail in (k.0, omega (arith, k.1))
+line_at (e ∷ es) (b ∷ before) line after p h =
+    let tail : map line_of es ≡ before ++ line ∷ after = cc in
+    let k = line_at es before line after p.1 tail in
+    (k.0, omega (arith, k.1))
 
-reached : (text : List ℕ) (es fs : List Entry) (line : List ℕ) (k : ℕ) → Lists text es → ReachesLine text fs line k → IsEntryLine line × (length fs < length es)
+reached : (text : List ℕ) (es fs : List Entry) (line : List ℕ) (k : ℕ) → Lists text es
+    → ReachesLine text fs line k → IsEntryLine line × (length fs < length es)
 reached text es fs line k p r =
     let a = line_at es (map line_of fs) line r.rest.0 (recursion_from_All IsEntry es p.entries) (sym p.spelled ∙ r.rest.1) in
     (a.0, omega (arith, a.1, length-map fs line_of))
 
-pub refused_for_memory : (text : List ℕ) (es : List Entry) (k : ℕ) (kind : ListFaultKind) → Lists text es → IsRefusedAs text k kind → kind ≡ OutOfMemory
+pub refused_for_memory : (text : List ℕ) (es : List Entry) (k : ℕ) (kind : ListFaultKind)
+    → Lists text es → IsRefusedAs text k kind → kind ≡ OutOfMemory
 refused_for_memory text es k Syntax p h = absurd (h.4 (reached text es h.0 h.1 k p h.2).0)
 refused_for_memory text es k Limit p (inl h) = absurd (omega (arith, h.0, p.octets))
 refused_for_memory text es k Limit p (inr h) = absurd (omega (arith, (reached text es h.0 h.1 k p h.2).1, h.3, p.count))
 refused_for_memory text es k OutOfMemory p h = refl
 
-pub only_for_memory : {T : Type 0} (text : List ℕ) (es : List Entry) (r : Result T ListFault) → Lists text es → IfErr r (λ f. IsRefusedAs text f.line f.kind) → IfErr r (λ f. f.kind ≡ OutOfMemory)
+pub only_for_memory : {T : Type 0} (text : List ℕ) (es : List Entry) (r : Result T ListFault)
+    → Lists text es → IfErr r (λ f. IsRefusedAs text f.line f.kind)
+    → IfErr r (λ f. f.kind ≡ OutOfMemory)
 only_for_memory text es (Ok x) p h = tt
 only_for_memory text es (Err f) p h = refused_for_memory text es f.line f.kind p h

@@ -16,7 +16,8 @@ pub record PartIs (t : Table) (id i part : ℕ) : Type 0 where
 at_number : (t : Table) (id : ℕ) → IsTable t → id < length t.types → Entered t id (node_at t id)
 at_number t id laws known = entered t t id (node_at t id) laws refl known refl
 
-pub part_is : (t : Table) (id i : ℕ) → IsTable t → id < length t.types → HasPlace (shape_in (tree t id)) i → PartIs t id i (part_number t id i)
+pub part_is : (t : Table) (id i : ℕ) → IsTable t → id < length t.types
+    → HasPlace (shape_in (tree t id)) i → PartIs t id i (part_number t id i)
 part_is t id i laws known has =
     let e = at_number t id laws known in
     record { below = part_below t id i (part_number t id i) (node_at t id) e has refl; same = part_tree t id i (part_number t id i) (node_at t id) e has refl }

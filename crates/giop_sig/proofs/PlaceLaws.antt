@@ -7,7 +7,7 @@ use Rattle.giop_sig.specs.Table.{Node, node_at}
 use Rattle.giop_sig.specs.Table as nodes
 use Rattle.giop_sig.specs.Trees.{grow, type_in, depth_of}
 use Rattle.giop_sig.specs.Grammar.{TypeExpr, Base, Text, Reference, Named, SequenceOf, EncapsulationOf, Item, UnionCase, Param, Declaration, Enumeration, Structure, Choice, Raise, Call}
-use Rattle.giop_sig.specs.Scopes.{Scope, Placed, with_node, sequence_node, place, place_length, place_item, place_items, place_cases, default_from, place_params, place_return, declare, scope_after}
+use Rattle.giop_sig.specs.Scopes.{Scope, Placed, with_node, sequence_node, place, place_length, place_item, place_items, place_cases, default_from, place_params, place_return, place_struct, declare, scope_after}
 use Rattle.giop_sig.proofs.TreeLaws.{tree_added}
 use Rattle.giop_sig.proofs.Depths.{deepest_added, depth_within}
 
@@ -18,33 +18,41 @@ deepest s = depth_of s.table.types
 abbrev pub size : Scope → ℕ
 size s = length s.table.types
 
-pub node_deeper : (s : Scope) (n : Node) → deepest s ≤ deepest (with_node s n).0
-node_deeper s n = omega (arith, deepest_added s.table.types n)
+-- some types are no more than others, and no deeper
+pub record Within (types more : List Node) : Type 0 where
+  pub longer : length types ≤ length more
+  pub deeper : depth_of types ≤ depth_of more
 
-pub node_longer : (s : Scope) (n : Node) → size s ≤ size (with_node s n).0
-node_longer s n = omega (arith, length-append s.table.types (n ∷ []))
+pub within_same : {types : List Node} → Within types types
+within_same = record { longer = omega arith; deeper = omega arith }
 
-pub place_deeper : (s : Scope) (e : TypeExpr) → deepest s ≤ deepest (place s e).0
+pub within_on : {a b c : List Node} → Within a b → Within b c → Within a c
+within_on first second = record {
+  longer = let f = first.longer in let s = second.longer in omega arith;
+  deeper = let f = first.deeper in let s = second.deeper in omega arith;
+}
+
+-- what is placed in a scope leaves its types within those of the other
+abbrev pub Grown : Scope → Scope → Type 0
+Grown s t = Within s.table.types t.table.types
+
+pub node_more : (s : Scope) (n : Node) → Grown s (with_node s n).0
+node_more s n = record {
+  longer = omega (arith, length-append s.table.types (n ∷ []));
+  deeper = omega (arith, deepest_added s.table.types n);
+}
+
+pub place_more : (s : Scope) (e : TypeExpr) → Grown s (place s e).0
 unfolding place
-place_deeper s (Base p) = omega arith
-place_deeper s (Text None) = omega arith
-place_deeper s (Text (Some n)) = node_deeper s (nodes.text (Some n))
-place_deeper s Reference = omega arith
-place_deeper s (Named w) = omega arith
-place_deeper s (SequenceOf e bound) = omega (arith, place_deeper s e, node_deeper (place s e).0 (sequence_node bound (place s e).1))
-place_deeper s (EncapsulationOf e) =
-    omega (arith, place_deeper s e, node_deeper (place s e).0 (nodes.encapsulation (place s e).1))
-
-pub place_longer : (s : Scope) (e : TypeExpr) → size s ≤ size (place s e).0
-unfolding place
-place_longer s (Base p) = omega arith
-place_longer s (Text None) = omega arith
-place_longer s (Text (Some n)) = node_longer s (nodes.text (Some n))
-place_longer s Reference = omega arith
-place_longer s (Named w) = omega arith
-place_longer s (SequenceOf e bound) = omega (arith, place_longer s e, node_longer (place s e).0 (sequence_node bound (place s e).1))
-place_longer s (EncapsulationOf e) =
-    omega (arith, place_longer s e, node_longer (place s e).0 (nodes.encapsulation (place s e).1))
+place_more s (Base p) = within_same
+place_more s (Text None) = within_same
+place_more s (Text (Some n)) = node_more s (nodes.text (Some n))
+place_more s Reference = within_same
+place_more s (Named w) = within_same
+place_more s (SequenceOf e bound) =
+    let p = place s e in within_on (place_more s e) (node_more p.0 (sequence_node bound p.1))
+place_more s (EncapsulationOf e) =
+    let p = place s e in within_on (place_more s e) (node_more p.0 (nodes.encapsulation p.1))
 
 pub place_names : (s : Scope) (e : TypeExpr) → (place s e).0.names ≡ s.names
 unfolding place
@@ -58,50 +66,34 @@ place_names s (EncapsulationOf e) = place_names s e
 
 -- ---- items
 
-pub length_deeper : (o : Option ℕ) (p : Placed) → deepest p.0 ≤ deepest (place_length o p).0
-length_deeper None p = omega arith
-length_deeper (Some n) p = node_deeper p.0 (nodes.array n p.1)
-
-length_longer : (o : Option ℕ) (p : Placed) → size p.0 ≤ size (place_length o p).0
-length_longer None p = omega arith
-length_longer (Some n) p = node_longer p.0 (nodes.array n p.1)
+pub length_more : (o : Option ℕ) (p : Placed) → Grown p.0 (place_length o p).0
+length_more None p = within_same
+length_more (Some n) p = node_more p.0 (nodes.array n p.1)
 
 length_names : (o : Option ℕ) (p : Placed) → (place_length o p).0.names ≡ p.0.names
 length_names None p = refl
 length_names (Some n) p = refl
 
-pub item_deeper : (s : Scope) (i : Item) → deepest s ≤ deepest (place_item s i).0
-item_deeper s i = omega (arith, place_deeper s i.type, length_deeper i.length (place s i.type))
-
-pub item_longer : (s : Scope) (i : Item) → size s ≤ size (place_item s i).0
-item_longer s i = omega (arith, place_longer s i.type, length_longer i.length (place s i.type))
+pub item_more : (s : Scope) (i : Item) → Grown s (place_item s i).0
+item_more s i = within_on (place_more s i.type) (length_more i.length (place s i.type))
 
 pub item_names : (s : Scope) (i : Item) → (place_item s i).0.names ≡ s.names
 item_names s i = length_names i.length (place s i.type) ∙ place_names s i.type
 
-pub items_deeper : (s : Scope) (is : List Item) → deepest s ≤ deepest (place_items s is).0
+pub items_more : (s : Scope) (is : List Item) → Grown s (place_items s is).0
 unfolding place_items
-items_deeper s [] = omega arith
-items_deeper s (i ∷ is) = omega (arith, item_deeper s i, items_deeper (place_item s i).0 is)
-
-pub items_longer : (s : Scope) (is : List Item) → size s ≤ size (place_items s is).0
-unfolding place_items
-items_longer s [] = omega arith
-items_longer s (i ∷ is) = omega (arith, item_longer s i, items_longer (place_item s i).0 is)
-
-pub items_names : (s : Scope) (is : List Item) → (place_items s is).0.names ≡ s.names
-unfolding place_items
-items_names s [] = refl
-items_names s (i ∷ is) = items_names (place_item s i).0 is ∙ item_names s i
+items_more s [] = within_same
+items_more s (i ∷ is) = within_on (item_more s i) (items_more (place_item s i).0 is)
 
 -- ---- parameters
 
-pub params_deeper : (s : Scope) (ps : List Param) → deepest s ≤ deepest (place_params s ps).0
+pub params_more : (s : Scope) (ps : List Param) → Grown s (place_params s ps).0
 unfolding place_params
-params_deeper s [] = omega arith
-params_deeper s (p ∷ ps) = omega (arith, item_deeper s p.item, params_deeper (place_item s p.item).0 ps)
+params_more s [] = within_same
+params_more s (p ∷ ps) = within_on (item_more s p.item) (params_more (place_item s p.item).0 ps)
 
-pub place_operations : (s : Scope) (e : TypeExpr) → (place s e).0.table.operations ≡ s.table.operations
+pub place_operations : (s : Scope) (e : TypeExpr)
+    → (place s e).0.table.operations ≡ s.table.operations
 unfolding place
 place_operations s (Base p) = refl
 place_operations s (Text None) = refl
@@ -111,74 +103,57 @@ place_operations s (Named w) = refl
 place_operations s (SequenceOf e bound) = place_operations s e
 place_operations s (EncapsulationOf e) = place_operations s e
 
-pub return_deeper : (s : Scope) (o : Option TypeExpr) → deepest s ≤ deepest (place_return s o).0
-return_deeper s None = omega arith
-return_deeper s (Some e) = place_deeper s e
-
-pub return_longer : (s : Scope) (o : Option TypeExpr) → size s ≤ size (place_return s o).0
-return_longer s None = omega arith
-return_longer s (Some e) = place_longer s e
+pub return_more : (s : Scope) (o : Option TypeExpr) → Grown s (place_return s o).0
+return_more s None = within_same
+return_more s (Some e) = place_more s e
 
 pub return_names : (s : Scope) (o : Option TypeExpr) → (place_return s o).0.names ≡ s.names
 return_names s None = refl
 return_names s (Some e) = place_names s e
 
-pub return_operations : (s : Scope) (o : Option TypeExpr) → (place_return s o).0.table.operations ≡ s.table.operations
+pub return_operations : (s : Scope) (o : Option TypeExpr)
+    → (place_return s o).0.table.operations ≡ s.table.operations
 return_operations s None = refl
 return_operations s (Some e) = place_operations s e
 
-pub params_longer : (s : Scope) (ps : List Param) → size s ≤ size (place_params s ps).0
-unfolding place_params
-params_longer s [] = omega arith
-params_longer s (p ∷ ps) = omega (arith, item_longer s p.item, params_longer (place_item s p.item).0 ps)
-
 -- ---- cases
 
-pub cases_deeper : (s : Scope) (node : Node) (cs : List UnionCase) → deepest s ≤ deepest (place_cases s node cs).0
+pub cases_more : (s : Scope) (node : Node) (cs : List UnionCase) → Grown s (place_cases s node cs).0
 unfolding place_cases
-cases_deeper s node [] = omega arith
-cases_deeper s node (c ∷ cs) = omega (arith, item_deeper s c.item, cases_deeper (place_item s c.item).0 node cs)
-
-pub cases_longer : (s : Scope) (node : Node) (cs : List UnionCase) → size s ≤ size (place_cases s node cs).0
-unfolding place_cases
-cases_longer s node [] = omega arith
-cases_longer s node (c ∷ cs) = omega (arith, item_longer s c.item, cases_longer (place_item s c.item).0 node cs)
+cases_more s node [] = within_same
+cases_more s node (c ∷ cs) =
+    within_on (item_more s c.item) (cases_more (place_item s c.item).0 node cs)
 
 -- ---- declarations
 
-pub declare_deeper : (s : Scope) (d : Declaration) → deepest s ≤ deepest (declare s d)
+pub struct_more : (s : Scope) (is : List Item) → Grown s (place_struct (place_items s is)).0
+struct_more s is =
+    let x = place_items s is in within_on (items_more s is) (node_more x.0 (nodes.members x.1))
+
+-- the two structs of an operation
+pub structs_more : (s : Scope) (a b : Node) → Grown s (with_node (with_node s a).0 b).0
+structs_more s a b = within_on (node_more s a) (node_more (with_node s a).0 b)
+
+pub declare_more : (s : Scope) (d : Declaration) → Grown s (declare s d)
 unfolding declare
-declare_deeper s (Enumeration n names) = node_deeper s (nodes.enumeration names)
-declare_deeper s (Structure n is) = omega (arith, items_deeper s is, node_deeper (place_items s is).0 (nodes.members (place_items s is).1))
-declare_deeper s (Choice n e cs) =
+declare_more s (Enumeration n names) = node_more s (nodes.enumeration names)
+declare_more s (Structure n is) = struct_more s is
+declare_more s (Choice n e cs) =
     let p = place s e in
-    let x = place_cases p.0 (node_at (p.0).table p.1) cs in
-    omega (arith, place_deeper s e, cases_deeper p.0 (node_at (p.0).table p.1) cs, node_deeper x.0 (nodes.union p.1 x.1 (default_from 0 cs)))
-declare_deeper s (Raise n r is) = omega (arith, items_deeper s is, node_deeper (place_items s is).0 (nodes.members (place_items s is).1))
-declare_deeper s (Call o n ps) =
+    let node = node_at (p.0).table p.1 in
+    let x = place_cases p.0 node cs in
+    let union = node_more x.0 (nodes.union p.1 x.1 (default_from 0 cs)) in
+    within_on (place_more s e) (within_on (cases_more p.0 node cs) union)
+declare_more s (Raise n r is) = struct_more s is
+declare_more s (Call o n ps) =
     let t = place_return s o in
     let x = place_params t.0 ps in
-    let q = with_node x.0 (nodes.members x.1) in
-    omega (arith, return_deeper s o, params_deeper t.0 ps, node_deeper x.0 (nodes.members x.1), node_deeper q.0 (nodes.members (t.1 ++ x.2)))
+    let structs = structs_more x.0 (nodes.members x.1) (nodes.members (t.1 ++ x.2)) in
+    within_on (return_more s o) (within_on (params_more t.0 ps) structs)
 
-pub declare_longer : (s : Scope) (d : Declaration) → size s ≤ size (declare s d)
-unfolding declare
-declare_longer s (Enumeration n names) = node_longer s (nodes.enumeration names)
-declare_longer s (Structure n is) = omega (arith, items_longer s is, node_longer (place_items s is).0 (nodes.members (place_items s is).1))
-declare_longer s (Choice n e cs) =
-    let p = place s e in
-    let x = place_cases p.0 (node_at (p.0).table p.1) cs in
-    omega (arith, place_longer s e, cases_longer p.0 (node_at (p.0).table p.1) cs, node_longer x.0 (nodes.union p.1 x.1 (default_from 0 cs)))
-declare_longer s (Raise n r is) = omega (arith, items_longer s is, node_longer (place_items s is).0 (nodes.members (place_items s is).1))
-declare_longer s (Call o n ps) =
-    let t = place_return s o in
-    let x = place_params t.0 ps in
-    let q = with_node x.0 (nodes.members x.1) in
-    omega (arith, return_longer s o, params_longer t.0 ps, node_longer x.0 (nodes.members x.1), node_longer q.0 (nodes.members (t.1 ++ x.2)))
-
-pub scope_deeper : (s : Scope) (ds : List Declaration) → deepest s ≤ deepest (scope_after s ds)
-scope_deeper s [] = omega arith
-scope_deeper s (d ∷ ds) = omega (arith, declare_deeper s d, scope_deeper (declare s d) ds)
+pub scope_more : (s : Scope) (ds : List Declaration) → Grown s (scope_after s ds)
+scope_more s [] = within_same
+scope_more s (d ∷ ds) = within_on (declare_more s d) (scope_more (declare s d) ds)
 
 -- ---- a type of many levels is deep
 
@@ -198,10 +173,14 @@ nest_none s (Base p) some zeroth = refl
 nest_none s (Text bound) some zeroth = refl
 nest_none s Reference some zeroth = refl
 nest_none s (Named w) some zeroth = refl
-nest_none s (SequenceOf e bound) some zeroth = absurd (omega (arith, place_longer s e, zeroth))
-nest_none s (EncapsulationOf e) some zeroth = absurd (omega (arith, place_longer s e, zeroth))
+nest_none s (SequenceOf e bound) some zeroth =
+    absurd (omega (arith, (place_more s e).longer, zeroth))
+nest_none s (EncapsulationOf e) some zeroth =
+    absurd (omega (arith, (place_more s e).longer, zeroth))
 
-sequence_depth : (f : ℕ → Ty) (bound : Option ℕ) (n k : ℕ) (v : Bool) → eqb n 0 ≡ v → (n ≡ 0 → k ≡ 0) → k ≤ depth (f n) → suc k ≤ depth (grow f (cond v (nodes.octets bound) (nodes.sequence bound n)))
+sequence_depth : (f : ℕ → Ty) (bound : Option ℕ) (n k : ℕ) (v : Bool) → eqb n 0 ≡ v
+    → (n ≡ 0 → k ≡ 0) → k ≤ depth (f n)
+    → suc k ≤ depth (grow f (cond v (nodes.octets bound) (nodes.sequence bound n)))
 unfolding depth
 sequence_depth f bound n k true is leaf le = let z = leaf (eqb-true n 0 is) in omega arith
 sequence_depth f bound n k false is leaf le = omega arith
@@ -211,7 +190,8 @@ held_depth : (f : ℕ → Ty) (n k : ℕ) → k ≤ depth (f n)
 unfolding depth
 held_depth f n k le = omega arith
 
-nest_depth : (s : Scope) (e : TypeExpr) → 0 < size s → nest e ≤ depth (type_in (place s e).0.table.types (place s e).1)
+nest_depth : (s : Scope) (e : TypeExpr) → 0 < size s
+    → nest e ≤ depth (type_in (place s e).0.table.types (place s e).1)
 unfolding place
 nest_depth s (Base p) some = omega arith
 nest_depth s (Text bound) some = omega arith
@@ -220,7 +200,8 @@ nest_depth s (Named w) some = omega arith
 nest_depth s (SequenceOf e bound) some =
     let types = (place s e).0.table.types in
     let node = sequence_node bound (place s e).1 in
-    let more : suc (nest e) ≤ depth (grow (type_in types) node) = sequence_depth (type_in types) bound (place s e).1 (nest e) (eqb (place s e).1 0) refl (nest_none s e some) (nest_depth s e some) in
+    let more : suc (nest e) ≤ depth (grow (type_in types) node) =
+    sequence_depth (type_in types) bound (place s e).1 (nest e) (eqb (place s e).1 0) refl (nest_none s e some) (nest_depth s e some) in
     omega (arith, more, ap depth (tree_added types node))
 nest_depth s (EncapsulationOf e) some =
     let types = (place s e).0.table.types in
@@ -239,7 +220,8 @@ last_within s node =
     depth_within (types ++ node ∷ []) (length types) last
 
 -- as many levels as that are in the table
-pub nest_deepest : (s : Scope) (e : TypeExpr) → 0 < size s → 0 < nest e → nest e ≤ deepest (place s e).0
+pub nest_deepest : (s : Scope) (e : TypeExpr) → 0 < size s → 0 < nest e
+    → nest e ≤ deepest (place s e).0
 unfolding place
 nest_deepest s (Base p) some lt = absurd (omega arith)
 nest_deepest s (Text bound) some lt = absurd (omega arith)

@@ -1,6 +1,6 @@
 -- What reading gives of a text that is spelled so, and what a text that was read is spelled as: the forms of the laws,
 -- and how two readings after one another go together.
-use Rattle.std.proofs.Common.{◌≡◌, ℕ, ◌<◌, ◌≤◌, false, List, [], ◌∷◌, None, Result, Ok, Err, refl, sym, subst, arith}
+use Rattle.std.proofs.Common.{◌≡◌, ℕ, ◌^◌, ◌<◌, ◌≤◌, ◌⊎◌, inl, inr, false, List, [], ◌∷◌, length, None, Result, Ok, Err, refl, sym, subst, arith}
 use Rattle.std.specs.Prelude.{MatchResult}
 use Rattle.giop_tokens.specs.declared.fault.Refusal.{Refusal}
 use Rattle.giop_tokens.specs.declared.fault.SigFaultKind.TheVariants as kinds
@@ -12,10 +12,11 @@ use Rattle.giop_tokens.proofs.ReaderLaws.{if_ended, if_other}
 use Rattle.giop_sig.specs.Table.{Node}
 use Rattle.giop_sig.specs.Trees.{depth_of}
 use Rattle.giop_sig.specs.Validity.{Kind}
+use Rattle.giop_sig.proofs.PlaceLaws.{Within, within_same}
 
 -- ---- a text that is spelled so
 
--- a refusal of this kind is right: what the kind asks doesn't hold, or the types become too deep
+-- a refusal of this kind is right: what the kind asks doesn't hold, or the types become too deep or too many
 abbrev pub Breaks : Kind → (Kind → Type 0) → List Node → Type 0
 Breaks kinds.Token rule types = ⊥
 Breaks kinds.Syntax rule types = ⊥
@@ -23,61 +24,77 @@ Breaks kinds.OutOfMemory rule types = ⊥
 Breaks kinds.Depth rule types = 24 < depth_of types
 Breaks kinds.UnknownType rule types = rule kinds.UnknownType → ⊥
 Breaks kinds.Duplicate rule types = rule kinds.Duplicate → ⊥
-Breaks kinds.Limit rule types = rule kinds.Limit → ⊥
+Breaks kinds.Limit rule types = (rule kinds.Limit → ⊥) ⊎ (2 ^ 32 ≤ length types)
 Breaks kinds.Label rule types = rule kinds.Label → ⊥
 Breaks kinds.Empty rule types = rule kinds.Empty → ⊥
 
 -- what is broken in a part is broken in the whole
-pub lift : (k : Kind) (rule whole : Kind → Type 0) (types more : List Node) → ((j : Kind) → whole j → rule j) → depth_of types ≤ depth_of more → Breaks k rule types → Breaks k whole more
+pub lift : (k : Kind) (rule whole : Kind → Type 0) (types more : List Node)
+    → ((j : Kind) → whole j → rule j) → Within types more
+    → Breaks k rule types → Breaks k whole more
 lift kinds.Token rule whole types more up le b = b
 lift kinds.Syntax rule whole types more up le b = b
 lift kinds.OutOfMemory rule whole types more up le b = b
-lift kinds.Depth rule whole types more up le b = omega arith
+lift kinds.Depth rule whole types more up le b = let deeper = le.deeper in omega arith
 lift kinds.UnknownType rule whole types more up le b = λ h. b (up kinds.UnknownType h)
 lift kinds.Duplicate rule whole types more up le b = λ h. b (up kinds.Duplicate h)
-lift kinds.Limit rule whole types more up le b = λ h. b (up kinds.Limit h)
+lift kinds.Limit rule whole types more up le (inl b) = inl (λ h. b (up kinds.Limit h))
+lift kinds.Limit rule whole types more up le (inr b) = let longer = le.longer in inr (omega arith)
 lift kinds.Label rule whole types more up le b = λ h. b (up kinds.Label h)
 lift kinds.Empty rule whole types more up le b = λ h. b (up kinds.Empty h)
 
 -- what was read is made of a rest that has the remaining tokens, and keeps the rules
-pub record Good {X : Type 0} (made : List ℕ → X) (rule : Kind → Type 0) (more : List Token) (x : X) : Type 0 where
+pub record Good {X : Type 0} (made : List ℕ → X) (rule : Kind → Type 0)
+    (more : List Token) (x : X) : Type 0 where
   pub rest : List ℕ
   pub is : x ≡ made rest
   pub tokens : AreTokens rest more
   pub keeps : (k : Kind) → rule k
 
 -- reading gives what is made, or breaks a rule
-pub record Out {X : Type 0} (made : List ℕ → X) (rule : Kind → Type 0) (types : List Node) (more : List Token) (r : Result X Refusal) : Type 0 where
+pub record Out {X : Type 0} (made : List ℕ → X) (rule : Kind → Type 0) (types : List Node)
+    (more : List Token) (r : Result X Refusal) : Type 0 where
   pub out : MatchResult r (Good made rule more) (λ e. Breaks e.kind rule types)
 
-pub good : {X : Type 0} {made : List ℕ → X} {rule : Kind → Type 0} {types : List Node} {more : List Token} (rest : List ℕ) → AreTokens rest more → ((k : Kind) → rule k) → Out made rule types more (Ok (made rest))
+pub good : {X : Type 0} {made : List ℕ → X} {rule : Kind → Type 0} {types : List Node}
+    {more : List Token} (rest : List ℕ) → AreTokens rest more → ((k : Kind) → rule k)
+    → Out made rule types more (Ok (made rest))
 good rest tokens keeps = record { out = record { rest = rest; is = refl; tokens = tokens; keeps = keeps } }
 
-pub broken : {X : Type 0} {made : List ℕ → X} {rule : Kind → Type 0} {types : List Node} {more : List Token} (e : Refusal) → Breaks e.kind rule types → Out made rule types more (Err e)
+pub broken : {X : Type 0} {made : List ℕ → X} {rule : Kind → Type 0} {types : List Node}
+    {more : List Token} (e : Refusal) → Breaks e.kind rule types → Out made rule types more (Err e)
 broken e b = record { out = b }
 
-pub out_bind : {X Y : Type 0} {made : List ℕ → X} {rule : Kind → Type 0} {types : List Node} {more : List Token} {made2 : List ℕ → Y} {rule2 : Kind → Type 0} {types2 : List Node} {more2 : List Token}
+pub out_bind : {X Y : Type 0} {made : List ℕ → X} {rule : Kind → Type 0} {types : List Node}
+    {more : List Token} {made2 : List ℕ → Y} {rule2 : Kind → Type 0}
+    {types2 : List Node} {more2 : List Token}
     (r : Result X Refusal) (h : X → Result Y Refusal) → Out made rule types more r
-    → ((rest : List ℕ) → AreTokens rest more → ((k : Kind) → rule k) → Out made2 rule2 types2 more2 (h (made rest)))
-    → ((k : Kind) → rule2 k → rule k) → depth_of types ≤ depth_of types2 → Out made2 rule2 types2 more2 (r >>= h)
+    → ((rest : List ℕ) → AreTokens rest more → ((k : Kind) → rule k)
+    → Out made2 rule2 types2 more2 (h (made rest)))
+    → ((k : Kind) → rule2 k → rule k) → Within types types2 → Out made2 rule2 types2 more2 (r >>= h)
 out_bind {made2 = made2} {rule2 = rule2} {types2 = types2} {more2 = more2} (Ok x) h o on up le =
     let g = o.out in subst (λ y. Out made2 rule2 types2 more2 (h y)) (sym g.is) (on g.rest g.tokens g.keeps)
 out_bind {rule = rule} {types = types} {rule2 = rule2} {types2 = types2} (Err e) h o on up le = record { out = lift e.kind rule rule2 types types2 up le o.out }
 
-good_more : {X : Type 0} {made : List ℕ → X} {rule whole : Kind → Type 0} {types : List Node} {more : List Token} (r : Result X Refusal) → Out made rule types more r
-    → ((k : Kind) → rule k → whole k) → ((k : Kind) → whole k → rule k) → Out made whole types more r
+good_more : {X : Type 0} {made : List ℕ → X} {rule whole : Kind → Type 0} {types : List Node}
+    {more : List Token} (r : Result X Refusal) → Out made rule types more r
+    → ((k : Kind) → rule k → whole k) → ((k : Kind) → whole k → rule k)
+    → Out made whole types more r
 good_more (Ok x) o on up = let g = o.out in record { out = record { rest = g.rest; is = g.is; tokens = g.tokens; keeps = λ k. on k (g.keeps k) } }
-good_more {rule = rule} {whole = whole} {types = types} (Err e) o on up = record { out = lift e.kind rule whole types types up (omega arith) o.out }
+good_more {rule = rule} {whole = whole} {types = types} (Err e) o on up = record { out = lift e.kind rule whole types types up within_same o.out }
 
 -- the same under rules that say the same
-pub out_more : {X : Type 0} {made : List ℕ → X} {rule whole : Kind → Type 0} {types : List Node} {more : List Token} {r : Result X Refusal} → Out made rule types more r
-    → ((k : Kind) → rule k → whole k) → ((k : Kind) → whole k → rule k) → Out made whole types more r
+pub out_more : {X : Type 0} {made : List ℕ → X} {rule whole : Kind → Type 0} {types : List Node}
+    {more : List Token} {r : Result X Refusal} → Out made rule types more r
+    → ((k : Kind) → rule k → whole k) → ((k : Kind) → whole k → rule k)
+    → Out made whole types more r
 out_more {r = r} o on up = good_more r o on up
 
 -- ---- a text that was read
 
 -- the text is spelled so, up to the rest, and what is asked of its names holds
-pub record Took (spelled : List Token → List Token) (Free : Type 0) (text rest : List ℕ) : Type 0 where
+pub record Took (spelled : List Token → List Token) (Free : Type 0)
+    (text rest : List ℕ) : Type 0 where
   pub free : Free
   pub front : (more : List Token) → AreTokens rest more → AreTokens text (spelled more)
 
@@ -88,6 +105,7 @@ abbrev pub Apart : Mark → List Token → Type 0
 Apart m [] = Unit {0}
 Apart m (t ∷ ts) = is_the_mark m t ≡ false
 
-pub if_apart : (m : Mark) (text : List ℕ) (ts : List Token) → Apart m ts → AreTokens text ts → mark_if m text ≡ Ok None
+pub if_apart : (m : Mark) (text : List ℕ) (ts : List Token) → Apart m ts → AreTokens text ts
+    → mark_if m text ≡ Ok None
 if_apart m text [] apart h = if_ended (is_the_mark m) text h
 if_apart m text (t ∷ ts) apart h = if_other (is_the_mark m) text t ts h apart

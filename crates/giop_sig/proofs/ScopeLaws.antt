@@ -25,14 +25,18 @@ number_of_id t = option_map (λ (x : TypeId). x.0) t
 abbrev pub key_is : ArrayVec ℕ → ArrayVec ℕ → Bool
 key_is a b = bytes_eq a.items b.items
 
-cond_map : {X Y : Type 0} (f : X → Y) (v : Bool) (x : X) (o : Option X) → cond v (Some (f x)) (option_map f o) ≡ option_map f (cond v (Some x) o)
+cond_map : {X Y : Type 0} (f : X → Y) (v : Bool) (x : X) (o : Option X)
+    → cond v (Some (f x)) (option_map f o) ≡ option_map f (cond v (Some x) o)
 cond_map f true x o = refl
 cond_map f false x o = refl
 
-view_found : (key : ArrayVec ℕ) (es : List (ArrayVec ℕ × Option TypeId)) → lookup (bytes_eq key.items) (map name_view es) ≡ option_map number_of_id (lookup (key_is key) es)
+view_found : (key : ArrayVec ℕ) (es : List (ArrayVec ℕ × Option TypeId))
+    → lookup (bytes_eq key.items) (map name_view es)
+    ≡ option_map number_of_id (lookup (key_is key) es)
 view_found key [] = refl
 view_found key (e ∷ es) =
-    ap (λ o. cond (bytes_eq key.items (e.0).items) (Some (number_of_id e.1)) o) (view_found key es) ∙ cond_map number_of_id (bytes_eq key.items (e.0).items) e.1 (lookup (key_is key) es)
+    ap (λ o. cond (bytes_eq key.items (e.0).items) (Some (number_of_id e.1)) o) (view_found key es)
+    ∙ cond_map number_of_id (bytes_eq key.items (e.0).items) e.1 (lookup (key_is key) es)
 
 some_map : {X Y : Type 0} (f : X → Y) (o : Option X) → is_some (option_map f o) ≡ is_some o
 some_map f None = refl
@@ -47,13 +51,15 @@ pub name_found : (s : Scope) (version : ℕ) (t : Table) (es : List (ArrayVec �
     (key : ArrayVec ℕ) (w : List ℕ)
     → scope_view version t es ≡ s → key.items ≡ w
     → lookup (bytes_eq w) s.names.known ≡ option_map number_of_id (lookup (key_is key) es)
-name_found s version t es key w view same = ap (λ (x : Scope). lookup (bytes_eq w) x.names.known) (sym view) ∙ ap (λ v. lookup (bytes_eq v) (map name_view es)) (sym same) ∙ view_found key es
+name_found s version t es key w view same =
+    ap (λ (x : Scope). lookup (bytes_eq w) x.names.known) (sym view) ∙ ap (λ v. lookup (bytes_eq v) (map name_view es)) (sym same) ∙ view_found key es
 
 pub name_declared : (s : Scope) (version : ℕ) (t : Table) (es : List (ArrayVec ℕ × Option TypeId))
     (key : ArrayVec ℕ) (w : List ℕ)
     → scope_view version t es ≡ s → key.items ≡ w
     → is_some (lookup (key_is key) es) ≡ is_some (lookup (bytes_eq w) s.names.known)
-name_declared s version t es key w view same = sym (some_map number_of_id (lookup (key_is key) es)) ∙ ap is_some (sym (name_found s version t es key w view same))
+name_declared s version t es key w view same =
+    sym (some_map number_of_id (lookup (key_is key) es)) ∙ ap is_some (sym (name_found s version t es key w view same))
 
 pub name_typed : (s : Scope) (version : ℕ) (t : Table) (es : List (ArrayVec ℕ × Option TypeId))
     (key : ArrayVec ℕ) (w : List ℕ)
@@ -69,7 +75,8 @@ known_stays types more i is = record {
   takes = subst TakesOctet (sym (get_or_append_left types more (nodes.prim Octet) i is.below)) is.takes;
 }
 
-type_stays : (types more : List Node) (o : Option ℕ) → IsKnownType types o → IsKnownType (types ++ more) o
+type_stays : (types more : List Node) (o : Option ℕ) → IsKnownType types o
+    → IsKnownType (types ++ more) o
 type_stays types more None is = tt
 type_stays types more (Some i) is = known_stays types more i is
 
@@ -98,12 +105,18 @@ some_copied (Some x) = refl
 
 -- ---- a name more
 
-none_by : (key : ArrayVec ℕ) (e : ArrayVec ℕ × Option TypeId) (es : List (ArrayVec ℕ × Option TypeId)) (v : Bool) → key_is key e.0 ≡ v → cond v (Some e.1) (lookup (key_is key) es) ≡ None
-    → (lookup (key_is key) es ≡ None → list_any (λ (x : ArrayVec ℕ × Option TypeId). key_is key x.0) es ≡ false) → (v || list_any (λ (x : ArrayVec ℕ × Option TypeId). key_is key x.0) es) ≡ false
+none_by : (key : ArrayVec ℕ) (e : ArrayVec ℕ × Option TypeId)
+    (es : List (ArrayVec ℕ × Option TypeId)) (v : Bool) → key_is key e.0 ≡ v
+    → cond v (Some e.1) (lookup (key_is key) es) ≡ None
+    → (lookup (key_is key) es ≡ None
+    → list_any (λ (x : ArrayVec ℕ × Option TypeId). key_is key x.0) es ≡ false)
+    → (v || list_any (λ (x : ArrayVec ℕ × Option TypeId). key_is key x.0) es) ≡ false
 none_by key e es true same h on = absurd cc
 none_by key e es false same h on = on h
 
-none_found : (key : ArrayVec ℕ) (es : List (ArrayVec ℕ × Option TypeId)) → lookup (key_is key) es ≡ None → list_any (λ (x : ArrayVec ℕ × Option TypeId). key_is key x.0) es ≡ false
+none_found : (key : ArrayVec ℕ) (es : List (ArrayVec ℕ × Option TypeId))
+    → lookup (key_is key) es ≡ None
+    → list_any (λ (x : ArrayVec ℕ × Option TypeId). key_is key x.0) es ≡ false
 none_found key [] h = refl
 none_found key (e ∷ es) h = none_by key e es (key_is key e.0) refl h (none_found key es)
 
@@ -129,5 +142,7 @@ all_last types [] e all is = (is, tt)
 all_last types (n ∷ ns) e all is = (all.0, all_last types ns e all.1 is)
 
 -- a scope with a name more
-pub scope_named : (s : Scope) (w : List ℕ) (o : Option ℕ) → IsScope s → length w ≤ 64 → IsKnownType s.table.types o → IsScope (with_name s w o)
-scope_named s w o is short known = record { begins = is.begins; names = all_last s.table.types s.names.known (w, o) is.names (record { short = short; type = known }) }
+pub scope_named : (s : Scope) (w : List ℕ) (o : Option ℕ) → IsScope s → length w ≤ 64
+    → IsKnownType s.table.types o → IsScope (with_name s w o)
+scope_named s w o is short known =
+    record { begins = is.begins; names = all_last s.table.types s.names.known (w, o) is.names (record { short = short; type = known }) }

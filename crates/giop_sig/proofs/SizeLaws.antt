@@ -14,7 +14,8 @@ one_more : (s : Scope) (n : Node) → size (with_node s n).0 ≤ suc (size s)
 one_more s n = omega (arith, length-append s.table.types (n ∷ []))
 
 -- a type has one token more than types, at least
-typed : (s : Scope) (e : TypeExpr) (more : List Token) → size (place s e).0 + length more < size s + length (spell_type e more)
+typed : (s : Scope) (e : TypeExpr) (more : List Token)
+    → size (place s e).0 + length more < size s + length (spell_type e more)
 unfolding place
 typed s (Base p) more = omega arith
 typed s (Text None) more = omega arith
@@ -26,40 +27,54 @@ typed s (SequenceOf e o) more =
     omega (arith, typed s e (spell_most o (mark marks.CloseAngle ∷ more)), most o (mark marks.CloseAngle ∷ more), one_more p.0 (sequence_node o p.1))
 typed s (EncapsulationOf e) more = let p = place s e in omega (arith, typed s e (mark marks.CloseAngle ∷ more), one_more p.0 (nodes.encapsulation p.1))
 
-lengthened : (p : Placed) (o : Option ℕ) (more : List Token) → size (place_length o p).0 + length more ≤ size p.0 + length (spell_length o more)
+lengthened : (p : Placed) (o : Option ℕ) (more : List Token)
+    → size (place_length o p).0 + length more ≤ size p.0 + length (spell_length o more)
 lengthened p None more = omega arith
 lengthened p (Some n) more = omega (arith, one_more p.0 (nodes.array n p.1))
 
-item : (s : Scope) (i : Item) (more : List Token) → size (place_item s i).0 + length more ≤ size s + length (spell_item i more)
+item : (s : Scope) (i : Item) (more : List Token)
+    → size (place_item s i).0 + length more ≤ size s + length (spell_item i more)
 item s i more = omega (arith, typed s i.type (word i.name ∷ spell_length i.length more), lengthened (place s i.type) i.length more)
 
-items : (s : Scope) (is : List Item) (more : List Token) → size (place_items s is).0 + length more ≤ size s + length (spell_items is more)
+items : (s : Scope) (is : List Item) (more : List Token)
+    → size (place_items s is).0 + length more ≤ size s + length (spell_items is more)
 unfolding place_items
 items s [] more = omega arith
 items s (i ∷ is) more = omega (arith, item s i (mark marks.Semicolon ∷ spell_items is more), items (place_item s i).0 is more)
 
-cases : (s : Scope) (node : Node) (cs : List UnionCase) (more : List Token) → size (place_cases s node cs).0 + length more ≤ size s + length (spell_cases cs more)
+cases : (s : Scope) (node : Node) (cs : List UnionCase) (more : List Token)
+    → size (place_cases s node cs).0 + length more ≤ size s + length (spell_cases cs more)
 unfolding place_cases
 cases s node [] more = omega arith
 cases s node (c ∷ cs) more =
     let tail = mark marks.Semicolon ∷ spell_cases cs more in
-    omega (arith, label c.label (spell_labels c.others (spell_item c.item tail)), labels c.others (spell_item c.item tail), item s c.item tail, cases (place_item s c.item).0 node cs more)
+    omega (
+      arith,
+      label c.label (spell_labels c.others (spell_item c.item tail)),
+      labels c.others (spell_item c.item tail),
+      item s c.item tail,
+      cases (place_item s c.item).0 node cs more,
+    )
 
-more_params : (s : Scope) (ps : List Param) (more : List Token) → size (place_params s ps).0 + length more ≤ size s + length (spell_more_params ps more)
+more_params : (s : Scope) (ps : List Param) (more : List Token)
+    → size (place_params s ps).0 + length more ≤ size s + length (spell_more_params ps more)
 unfolding place_params
 more_params s [] more = omega arith
 more_params s (p ∷ ps) more = omega (arith, item s p.item (spell_more_params ps more), more_params (place_item s p.item).0 ps more)
 
-params : (s : Scope) (ps : List Param) (more : List Token) → size (place_params s ps).0 + length more ≤ size s + length (spell_params ps more)
+params : (s : Scope) (ps : List Param) (more : List Token)
+    → size (place_params s ps).0 + length more ≤ size s + length (spell_params ps more)
 unfolding place_params
 params s [] more = omega arith
 params s (p ∷ ps) more = omega (arith, item s p.item (spell_more_params ps more), more_params (place_item s p.item).0 ps more)
 
-returned : (s : Scope) (o : Option TypeExpr) (more : List Token) → size (place_return s o).0 + length more ≤ size s + length (spell_return o more)
+returned : (s : Scope) (o : Option TypeExpr) (more : List Token)
+    → size (place_return s o).0 + length more ≤ size s + length (spell_return o more)
 returned s None more = omega arith
 returned s (Some e) more = omega (arith, typed s e more)
 
-declared : (s : Scope) (d : Declaration) (more : List Token) → size (declare s d) + length more ≤ size s + length (spell d more)
+declared : (s : Scope) (d : Declaration) (more : List Token)
+    → size (declare s d) + length more ≤ size s + length (spell d more)
 unfolding declare
 declared s (Enumeration n ns) more = omega (arith, one_more s (nodes.enumeration ns), names ns (mark marks.Semicolon ∷ more))
 declared s (Structure n is) more = omega (arith, items s is (mark marks.Semicolon ∷ more), one_more (place_items s is).0 (nodes.members (place_items s is).1))
@@ -67,16 +82,36 @@ declared s (Choice n e cs) more =
     let p = place s e in
     let x = place_cases p.0 (node_at (p.0).table p.1) cs in
     let tail = mark marks.Semicolon ∷ more in
-    omega (arith, typed s e (mark marks.CloseParenthesis ∷ mark marks.OpenBrace ∷ spell_cases cs tail), cases p.0 (node_at (p.0).table p.1) cs tail, one_more x.0 (nodes.union p.1 x.1 (default_from 0 cs)))
+    omega (
+      arith,
+      typed s e (mark marks.CloseParenthesis ∷ mark marks.OpenBrace ∷ spell_cases cs tail),
+      cases p.0 (node_at (p.0).table p.1) cs tail,
+      one_more x.0 (nodes.union p.1 x.1 (default_from 0 cs)),
+    )
 declared s (Raise n r is) more = omega (arith, items s is (mark marks.Semicolon ∷ more), one_more (place_items s is).0 (nodes.members (place_items s is).1))
 declared s (Call o n ps) more =
     let t = place_return s o in
     let x = place_params t.0 ps in
     let q = with_node x.0 (nodes.members x.1) in
     let tail = mark marks.Semicolon ∷ more in
-    omega (arith, returned s o (word n ∷ mark marks.OpenParenthesis ∷ spell_params ps tail), params t.0 ps tail, one_more x.0 (nodes.members x.1), one_more q.0 (nodes.members (t.1 ++ x.2)))
+    omega (
+      arith,
+      returned s o (word n ∷ mark marks.OpenParenthesis ∷ spell_params ps tail),
+      params t.0 ps tail,
+      one_more x.0 (nodes.members x.1),
+      one_more q.0 (nodes.members (t.1 ++ x.2)),
+    )
+
+-- up to each declaration, no more types than tokens, beside those that were there
+pub types_fewer : (s : Scope) (before : List Declaration) (d : Declaration)
+    (after : List Declaration)
+    → size (declare (scope_after s before) d) ≤ size s + length (spell_all (before ++ d ∷ after))
+types_fewer s [] d after = omega (arith, declared s d (spell_all after))
+types_fewer s (b ∷ bs) d after =
+    omega (arith, declared s b (spell_all (bs ++ d ∷ after)), types_fewer (declare s b) bs d after)
 
 -- no more types than tokens, beside those that were there
-pub types_few : (s : Scope) (ds : List Declaration) → size (scope_after s ds) ≤ size s + length (spell_all ds)
+pub types_few : (s : Scope) (ds : List Declaration)
+    → size (scope_after s ds) ≤ size s + length (spell_all ds)
 types_few s [] = omega arith
 types_few s (d ∷ ds) = omega (arith, declared s d (spell_all ds), types_few (declare s d) ds)

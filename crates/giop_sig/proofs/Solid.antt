@@ -19,29 +19,35 @@ use Rattle.giop_sig.proofs.Depths.{depth_within}
 
 -- ---- what is selected is a case that is there
 
-case_of_below : (count : ℕ) (found : Option ℕ) (otherwise : Selected) (i : ℕ) → ((k : ℕ) → found ≡ Some k → k < count) → IsCaseBelow count otherwise → case_or found otherwise ≡ selecteds.Case i → i < count
+case_of_below : (count : ℕ) (found : Option ℕ) (otherwise : Selected) (i : ℕ)
+    → ((k : ℕ) → found ≡ Some k → k < count) → IsCaseBelow count otherwise
+    → case_or found otherwise ≡ selecteds.Case i → i < count
 case_of_below count (Some k) otherwise i found below e = let same : k ≡ i = cc in let lt = found k refl in omega arith
 case_of_below count None otherwise i found below e = subst (IsCaseBelow count) e below
 
-tag_below : (v : Bool) (i : ℕ) → cond v (selecteds.Case 1) (selecteds.Case 2) ≡ selecteds.Case i → i < 3
+tag_below : (v : Bool) (i : ℕ)
+    → cond v (selecteds.Case 1) (selecteds.Case 2) ≡ selecteds.Case i → i < 3
 tag_below true i e = let same : 1 ≡ i = cc in omega arith
 tag_below false i e = let same : 2 ≡ i = cc in omega arith
 
-pub selected_below : (types : List Node) (n : ℕ) (node : Node) (number : Number) (i : ℕ) → IsFormed types n node → selected node number ≡ selecteds.Case i → HasMember (shape_of node) i
+pub selected_below : (types : List Node) (n : ℕ) (node : Node) (number : Number) (i : ℕ)
+    → IsFormed types n node → selected node number ≡ selecteds.Case i → HasMember (shape_of node) i
 selected_below types n (nodes.prim p) number i formed e = absurd cc
 selected_below types n (nodes.enumeration names) number i formed e = absurd cc
 selected_below types n (nodes.text bound) number i formed e = absurd cc
 selected_below types n (nodes.octets bound) number i formed e = absurd cc
 selected_below types n (nodes.members parts) number i formed e = absurd cc
 selected_below types n (nodes.union switch cases otherwise) number i formed e =
-    case_of_below (length cases) (case_with number cases) otherwise i (λ k at. (position-Some (λ c. list_any (λ label. same_number label number) c.labels) cases k no_case at).0) formed.3 e
+    case_of_below (length cases) (case_with number cases) otherwise i
+    (λ k at. (position-Some (λ c. list_any (λ label. same_number label number) c.labels) cases k no_case at).0) formed.3 e
 selected_below types n (nodes.sequence bound element) number i formed e = absurd cc
 selected_below types n (nodes.array count element) number i formed e = absurd cc
 selected_below types n (nodes.encapsulation held) number i formed e = absurd cc
 selected_below types n (nodes.tagged special tag inner other) number i formed e =
     tag_below (same_number (numbers.Unsigned special) number) i e
 
-taken_below : (types : List Node) (n : ℕ) (node : Node) (o : Option Number) (i : ℕ) → IsFormed types n node
+taken_below : (types : List Node) (n : ℕ) (node : Node) (o : Option Number)
+    (i : ℕ) → IsFormed types n node
     → selected_by (selected node) o ≡ selecteds.Case i → HasMember (shape_of node) i
 taken_below types n node None i formed e = absurd cc
 taken_below types n node (Some number) i formed e = selected_below types n node number i formed e
@@ -55,12 +61,14 @@ some_part p ps = omega arith
 abbrev InnerSolid : List Node → ℕ → Type 0
 InnerSolid types n = (i : ℕ) → IsInner types n i → IsSolid (type_in types i)
 
-part_solid : (types : List Node) (n : ℕ) (node : Node) (i : ℕ) → IsFormed types n node → InnerSolid types n
+part_solid : (types : List Node) (n : ℕ) (node : Node) (i : ℕ)
+    → IsFormed types n node → InnerSolid types n
     → HasPlace (shape_of node) i → IsSolid (part_of (grow (type_in types) node) i)
 part_solid types n node i formed inner has =
     subst IsSolid (part_grown (type_in types) node i has) (inner (type_of (part_at node i)) (part_formed types n node i formed has))
 
-grown_solid : (types : List Node) (n : ℕ) (node : Node) → IsFormed types n node → TakesOctet node → InnerSolid types n → IsSolid (grow (type_in types) node)
+grown_solid : (types : List Node) (n : ℕ) (node : Node) → IsFormed types n node → TakesOctet node
+    → InnerSolid types n → IsSolid (grow (type_in types) node)
 unfolding IsSolid
 grown_solid types n (nodes.prim p) formed takes inner = tt
 grown_solid types n (nodes.enumeration names) formed takes inner = tt
@@ -81,18 +89,22 @@ grown_solid types n (nodes.tagged special tag one other) formed takes inner = (
   λ i lt. part_solid types n (nodes.tagged special tag one other) i formed inner lt,
 )
 
-solid_below : (types : List Node) (fuel i : ℕ) → AreTypes types → i < fuel → i < length types → TakesOctet (node_in types i) → IsSolid (type_in types i)
+solid_below : (types : List Node) (fuel i : ℕ) → AreTypes types → i < fuel → i < length types
+    → TakesOctet (node_in types i) → IsSolid (type_in types i)
 solid_below types zero i are lt known takes = absurd (omega arith)
 solid_below types (suc fuel) i are lt known takes =
     subst IsSolid (sym (tree_of_parts types i are known))
-    (grown_solid types i (node_in types i) (are.formed i known) takes (λ k is. solid_below types fuel k are (let b = is.below in omega arith) (let b = is.below in omega arith) is.takes))
+    (grown_solid types i (node_in types i) (are.formed i known) takes
+    (λ k is. solid_below types fuel k are (let b = is.below in omega arith) (let b = is.below in omega arith) is.takes))
 
-pub solid_at : (types : List Node) (i : ℕ) → AreTypes types → i < length types → TakesOctet (node_in types i) → IsSolid (type_in types i)
+pub solid_at : (types : List Node) (i : ℕ) → AreTypes types → i < length types
+    → TakesOctet (node_in types i) → IsSolid (type_in types i)
 solid_at types i are known takes = solid_below types (suc i) i are (omega arith) known takes
 
 -- ---- room for a type
 
-most_last : (n : ℕ) (f : ℕ → ℕ) (i : ℕ) → (i < n → f i ≤ most n f) → i < suc n → (i < n) ⊎ (n ≤ i) → f i ≤ max (most n f) (f n)
+most_last : (n : ℕ) (f : ℕ → ℕ) (i : ℕ) → (i < n → f i ≤ most n f) → i < suc n → (i < n) ⊎ (n ≤ i)
+    → f i ≤ max (most n f) (f n)
 most_last n f i rest lt (inl h) = omega (arith, rest h)
 most_last n f i rest lt (inr h) = let e : i ≡ n = omega arith in omega (arith, ap f e)
 
@@ -121,8 +133,10 @@ fit_by (Encapsulation T) (suc d) solid le = fit_by T d solid (omega arith)
 fit_by (Array count T) zero solid le = absurd (omega arith)
 fit_by (Array count T) (suc d) solid le = (solid.0, fit_by T d solid.1 (omega arith))
 
-pub fit_at : (types : List Node) (i : ℕ) → AreTypes types → i < length types → TakesOctet (node_in types i) → IsFit 24 (type_in types i)
-fit_at types i are known takes = fit_by (type_in types i) 24 (solid_at types i are known takes) (let shallow = are.shallow in omega (arith, depth_within types i known))
+pub fit_at : (types : List Node) (i : ℕ) → AreTypes types → i < length types
+    → TakesOctet (node_in types i) → IsFit 24 (type_in types i)
+fit_at types i are known takes =
+    fit_by (type_in types i) 24 (solid_at types i are known takes) (let shallow = are.shallow in omega (arith, depth_within types i known))
 
 takes_or_empty : (node : Node) → TakesOctet node ⊎ (node ≡ nodes.members [])
 takes_or_empty (nodes.prim p) = inl tt
@@ -138,7 +152,8 @@ takes_or_empty (nodes.encapsulation held) = inl tt
 takes_or_empty (nodes.tagged special tag inner other) = inl tt
 
 -- each type of a table can stand at the root of a message
-pub root_at : (types : List Node) (i : ℕ) → AreTypes types → i < length types → IsRoot (type_in types i)
+pub root_at : (types : List Node) (i : ℕ) → AreTypes types → i < length types
+    → IsRoot (type_in types i)
 root_at types i are known = by (takes_or_empty (node_in types i))
   where
     by : TakesOctet (node_in types i) ⊎ (node_in types i ≡ nodes.members []) → IsRoot (type_in types i)

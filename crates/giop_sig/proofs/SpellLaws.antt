@@ -5,7 +5,8 @@ use Rattle.giop_tokens.specs.declared.marks.Mark.TheVariants as marks
 use Rattle.giop_tokens.specs.Tokens.{Token, word, mark}
 use Rattle.giop_sig.specs.Grammar.{TypeExpr, Base, Text, Reference, Named, SequenceOf, EncapsulationOf, spell_between, spell_most, spell_type, Item, spell_length, spell_item, spell_items, spell_more_names, spell_names, Value, Plain, Below, Truth, Enumerator, spell_value, Label, Default, Of, spell_label, spell_labels, UnionCase, spell_cases, Param, spell_more_params, spell_params, spell_return, Declaration, Enumeration, Structure, Choice, Raise, Call, spell, spell_all}
 
-between : (a b : Mark) (o : Option ℕ) (more : List Token) → length more ≤ length (spell_between a b o more)
+between : (a b : Mark) (o : Option ℕ) (more : List Token)
+    → length more ≤ length (spell_between a b o more)
 between a b None more = omega arith
 between a b (Some n) more = omega arith
 
@@ -28,7 +29,8 @@ items : (is : List Item) (more : List Token) → length more ≤ length (spell_i
 items [] more = omega arith
 items (i ∷ is) more = omega (arith, item i (mark marks.Semicolon ∷ spell_items is more), items is more)
 
-more_names : (ns : List (List ℕ)) (more : List Token) → length more ≤ length (spell_more_names ns more)
+more_names : (ns : List (List ℕ)) (more : List Token)
+    → length more ≤ length (spell_more_names ns more)
 more_names [] more = omega arith
 more_names (n ∷ ns) more = omega (arith, more_names ns more)
 
@@ -56,7 +58,8 @@ cases (c ∷ cs) more =
     let tail = mark marks.Semicolon ∷ spell_cases cs more in
     omega (arith, label c.label (spell_labels c.others (spell_item c.item tail)), labels c.others (spell_item c.item tail), item c.item tail, cases cs more)
 
-more_params : (ps : List Param) (more : List Token) → length more ≤ length (spell_more_params ps more)
+more_params : (ps : List Param) (more : List Token)
+    → length more ≤ length (spell_more_params ps more)
 more_params [] more = omega arith
 more_params (p ∷ ps) more = omega (arith, item p.item (spell_more_params ps more), more_params ps more)
 
@@ -72,9 +75,13 @@ returned (Some e) more = typed e more
 pub spelled_more : (d : Declaration) (more : List Token) → length more < length (spell d more)
 spelled_more (Enumeration n ns) more = omega (arith, names ns (mark marks.Semicolon ∷ more))
 spelled_more (Structure n is) more = omega (arith, items is (mark marks.Semicolon ∷ more))
-spelled_more (Choice n e cs) more = let tail = spell_cases cs (mark marks.Semicolon ∷ more) in omega (arith, typed e (mark marks.CloseParenthesis ∷ mark marks.OpenBrace ∷ tail), cases cs (mark marks.Semicolon ∷ more))
+spelled_more (Choice n e cs) more =
+    let tail = spell_cases cs (mark marks.Semicolon ∷ more) in
+    omega (arith, typed e (mark marks.CloseParenthesis ∷ mark marks.OpenBrace ∷ tail), cases cs (mark marks.Semicolon ∷ more))
 spelled_more (Raise n r is) more = omega (arith, items is (mark marks.Semicolon ∷ more))
-spelled_more (Call o n ps) more = let tail = spell_params ps (mark marks.Semicolon ∷ more) in omega (arith, returned o (word n ∷ mark marks.OpenParenthesis ∷ tail), params ps (mark marks.Semicolon ∷ more))
+spelled_more (Call o n ps) more =
+    let tail = spell_params ps (mark marks.Semicolon ∷ more) in
+    omega (arith, returned o (word n ∷ mark marks.OpenParenthesis ∷ tail), params ps (mark marks.Semicolon ∷ more))
 
 -- as many tokens as declarations, at least
 pub spelled_few : (ds : List Declaration) → length ds ≤ length (spell_all ds)

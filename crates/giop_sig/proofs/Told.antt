@@ -10,7 +10,8 @@ use Rattle.giop_tokens.specs.Lines.{fault_of}
 abbrev pub HasLine : SigFault → Type 0
 HasLine f = (f.line ≡ 0) ↔ (f.kind ≡ kinds.OutOfMemory)
 
-told : (text : List ℕ) (k : SigFaultKind) (left : ℕ) → HasLine (fault_of text (record { kind = k; left = left }))
+told : (text : List ℕ) (k : SigFaultKind) (left : ℕ)
+    → HasLine (fault_of text (record { kind = k; left = left }))
 told text kinds.Token left = (λ e. absurd (omega arith), λ e. absurd cc)
 told text kinds.Syntax left = (λ e. absurd (omega arith), λ e. absurd cc)
 told text kinds.UnknownType left = (λ e. absurd (omega arith), λ e. absurd cc)

@@ -7,10 +7,10 @@ use Rattle.std.proofs.lemmas.List.{length-append, get_or_append_left}
 use Rattle.std.proofs.Math.Seq.{get_or-append_seam}
 use Rattle.std.proofs.lemmas.List.Elements.{recursion_from_All}
 use Rattle.giop_cdr.specs.declared.prim.Primitive.TheVariants.{Octet}
-use Rattle.giop_sig.specs.Types.{Choice, Cases, Tag, Ty, Single, Struct, Union, Sequence, Array, Encapsulation, taken_by, switch_of, IsUnion}
+use Rattle.giop_sig.specs.Types.{Choice, Cases, Tag, Ty, Single, Struct, Sequence, Array, Encapsulation, switch_of, IsUnion}
 use Rattle.giop_sig.specs.Table.{Node, Part, Case, node_in, shape_of, part_at, switch_at, IsFormed, IsPart, IsScalarNode, case_part, name_of, selected}
 use Rattle.giop_sig.specs.Table as nodes
-use Rattle.giop_sig.specs.Trees.{grow, grown_part, union_of, grown_union, octet_type, scalar_of, selected_by, tree_in, trees_after, trees_of, type_in, AreTypes}
+use Rattle.giop_sig.specs.Trees.{grow, grown_part, union_of, grown_union, octet_type, scalar_of, tree_in, trees_after, trees_of, type_in, AreTypes}
 
 abbrev SameBelow : ℕ → (ℕ → Ty) → (ℕ → Ty) → Type 0
 SameBelow n f g = (i : ℕ) → i < n → f i ≡ g i
@@ -20,27 +20,33 @@ abbrev pub OnPart : (Part → Type 0) → Option Part → Type 0
 OnPart P None = Unit {0}
 OnPart P (Some p) = P p
 
-pub part_read : (P : Part → Type 0) (ps : List Part) (i : ℕ) → AllByRecursion P ps → OnPart P (slice_get ps i)
+pub part_read : (P : Part → Type 0) (ps : List Part) (i : ℕ) → AllByRecursion P ps
+    → OnPart P (slice_get ps i)
 part_read P [] i all = tt
 part_read P (p ∷ ps) zero all = all.0
 part_read P (p ∷ ps) (suc i) all = part_read P ps i all.1
 
-pub case_read : (P : Part → Type 0) (cs : List Case) (i : ℕ) → AllByRecursion (λ c. P c.part) cs → OnPart P (case_part (slice_get cs i))
+pub case_read : (P : Part → Type 0) (cs : List Case) (i : ℕ) → AllByRecursion (λ c. P c.part) cs
+    → OnPart P (case_part (slice_get cs i))
 case_read P [] i all = tt
 case_read P (c ∷ cs) zero all = all.0
 case_read P (c ∷ cs) (suc i) all = case_read P cs i all.1
 
-part_same : (types : List Node) (n : ℕ) (f g : ℕ → Ty) (o : Option Part) → SameBelow n f g → OnPart (IsPart types n) o → grown_part f o ≡ grown_part g o
+part_same : (types : List Node) (n : ℕ) (f g : ℕ → Ty) (o : Option Part) → SameBelow n f g
+    → OnPart (IsPart types n) o → grown_part f o ≡ grown_part g o
 part_same types n f g None same h = refl
 part_same types n f g (Some p) same h = same p.type h.inner.below
 
-union_same : (types : List Node) (n : ℕ) (f g : ℕ → Ty) (choice : Choice) (node : Node) → SameBelow n f g
-    → f (switch_at node) ≡ g (switch_at node) → ((i : ℕ) → OnPart (IsPart types n) (part_at node i)) → grown_union f choice node ≡ grown_union g choice node
+union_same : (types : List Node) (n : ℕ) (f g : ℕ → Ty) (choice : Choice)
+    (node : Node) → SameBelow n f g
+    → f (switch_at node) ≡ g (switch_at node) → ((i : ℕ) → OnPart (IsPart types n) (part_at node i))
+    → grown_union f choice node ≡ grown_union g choice node
 union_same types n f g choice node same switch parts =
     ap (λ T. union_of choice node T (λ i. grown_part f (part_at node i))) switch
     ∙ ap (union_of choice node (g (switch_at node))) (fun_ext (λ i. part_same types n f g (part_at node i) same (parts i)))
 
-grow_same : (types : List Node) (n : ℕ) (f g : ℕ → Ty) (node : Node) → SameBelow n f g → IsFormed types n node → grow f node ≡ grow g node
+grow_same : (types : List Node) (n : ℕ) (f g : ℕ → Ty) (node : Node) → SameBelow n f g
+    → IsFormed types n node → grow f node ≡ grow g node
 grow_same types n f g (nodes.prim p) same formed = refl
 grow_same types n f g (nodes.enumeration names) same formed = refl
 grow_same types n f g (nodes.text bound) same formed = refl
@@ -59,15 +65,19 @@ grow_same types n f g (nodes.tagged special tag inner other) same formed =
     (λ i. part_read (IsPart types n) (tag ∷ inner ∷ other ∷ []) i (formed.1, (formed.2, (formed.3, tt))))
 
 -- what is done stays
-kept : (done : List Ty) (ns : List Node) (i : ℕ) → i < length done → tree_in (trees_after done ns) i ≡ tree_in done i
+kept : (done : List Ty) (ns : List Node) (i : ℕ) → i < length done
+    → tree_in (trees_after done ns) i ≡ tree_in done i
 unfolding trees_after
 kept done [] i lt = refl
 kept done (n ∷ ns) i lt =
-    kept (done ++ grow (tree_in done) n ∷ []) ns i (omega (arith, length-append done (grow (tree_in done) n ∷ []))) ∙ get_or_append_left done (grow (tree_in done) n ∷ []) octet_type i lt
+    kept (done ++ grow (tree_in done) n ∷ []) ns i (omega (arith, length-append done (grow (tree_in done) n ∷ [])))
+    ∙ get_or_append_left done (grow (tree_in done) n ∷ []) octet_type i lt
 
-made : (types : List Node) (done : List Ty) (ns : List Node) (j i : ℕ) → j < length ns → i ≡ length done + j
+made : (types : List Node) (done : List Ty) (ns : List Node) (j i : ℕ)
+    → j < length ns → i ≡ length done + j
     → ((k : ℕ) → k < length ns → IsFormed types (length done + k) (get_or ns k (nodes.prim Octet)))
-    → tree_in (trees_after done ns) i ≡ grow (tree_in (trees_after done ns)) (get_or ns j (nodes.prim Octet))
+    → tree_in (trees_after done ns) i
+    ≡ grow (tree_in (trees_after done ns)) (get_or ns j (nodes.prim Octet))
 unfolding trees_after
 made types done [] j i lt at formed = absurd (omega arith)
 made types done (n ∷ ns) zero i lt at formed =
@@ -80,16 +90,19 @@ made types done (n ∷ ns) zero i lt at formed =
 made types done (n ∷ ns) (suc j) i lt at formed =
     let more = done ++ grow (tree_in done) n ∷ [] in
     let len : length more ≡ length done + 1 = length-append done (grow (tree_in done) n ∷ []) in
-    made types more ns j i (omega arith) (omega (arith, len)) (λ k h. subst (λ m. IsFormed types m (get_or ns k (nodes.prim Octet))) (omega (arith, len)) (formed (suc k) (omega arith)))
+    made types more ns j i (omega arith) (omega (arith, len))
+    (λ k h. subst (λ m. IsFormed types m (get_or ns k (nodes.prim Octet))) (omega (arith, len)) (formed (suc k) (omega arith)))
 
 -- the tree of a type is its node over the trees of its parts
-pub tree_of_parts : (types : List Node) (i : ℕ) → AreTypes types → i < length types → type_in types i ≡ grow (type_in types) (get_or types i (nodes.prim Octet))
+pub tree_of_parts : (types : List Node) (i : ℕ) → AreTypes types → i < length types
+    → type_in types i ≡ grow (type_in types) (get_or types i (nodes.prim Octet))
 unfolding type_in
 tree_of_parts types i are lt = made types [] types i i lt (omega arith) (λ k h. rw zero-add (are.formed k h))
 
 -- ---- the discriminator
 
-single_of : (f : ℕ → Ty) (node : Node) → IsScalarNode node → grow f node ≡ Single (scalar_of (grow f node))
+single_of : (f : ℕ → Ty) (node : Node) → IsScalarNode node
+    → grow f node ≡ Single (scalar_of (grow f node))
 single_of f (nodes.prim p) is = refl
 single_of f (nodes.enumeration names) is = refl
 single_of f (nodes.text bound) is = absurd is
@@ -102,12 +115,15 @@ single_of f (nodes.encapsulation held) is = absurd is
 single_of f (nodes.tagged special tag inner other) is = absurd is
 
 -- the type of one number that a union's discriminator has
-pub single_at : (types : List Node) (i : ℕ) → AreTypes types → i < length types → IsScalarNode (node_in types i) → type_in types i ≡ Single (scalar_of (type_in types i))
+pub single_at : (types : List Node) (i : ℕ) → AreTypes types → i < length types
+    → IsScalarNode (node_in types i) → type_in types i ≡ Single (scalar_of (type_in types i))
 single_at types i are lt is =
     let e = tree_of_parts types i are lt in
     e ∙ single_of (type_in types) (node_in types i) is ∙ ap (λ (T : Ty). Single (scalar_of T)) (sym e)
 
-pub switch_grown : (types : List Node) (n : ℕ) (node : Node) → IsFormed types n node → AreTypes types → n ≤ length types → IsUnion (shape_of node) → type_in types (switch_at node) ≡ switch_of (grow (type_in types) node)
+pub switch_grown : (types : List Node) (n : ℕ) (node : Node) → IsFormed types n node
+    → AreTypes types → n ≤ length types → IsUnion (shape_of node)
+    → type_in types (switch_at node) ≡ switch_of (grow (type_in types) node)
 switch_grown types n (nodes.prim p) formed are le is = absurd is
 switch_grown types n (nodes.enumeration names) formed are le is = absurd is
 switch_grown types n (nodes.text bound) formed are le is = absurd is
@@ -122,12 +138,14 @@ switch_grown types n (nodes.tagged special tag inner other) formed are le is =
 
 -- ---- a table that grows
 
-pub after_append : (done : List Ty) (ns ms : List Node) → trees_after done (ns ++ ms) ≡ trees_after (trees_after done ns) ms
+pub after_append : (done : List Ty) (ns ms : List Node)
+    → trees_after done (ns ++ ms) ≡ trees_after (trees_after done ns) ms
 unfolding trees_after
 after_append done [] ms = refl
 after_append done (n ∷ ns) ms = after_append (done ++ grow (tree_in done) n ∷ []) ns ms
 
-pub length_after : (done : List Ty) (ns : List Node) → length (trees_after done ns) ≡ length done + length ns
+pub length_after : (done : List Ty) (ns : List Node)
+    → length (trees_after done ns) ≡ length done + length ns
 unfolding trees_after
 length_after done [] = omega arith
 length_after done (n ∷ ns) = omega (arith, length_after (done ++ grow (tree_in done) n ∷ []) ns, length-append done (grow (tree_in done) n ∷ []))
@@ -138,12 +156,14 @@ unfolding type_in
 tree_stays ns ms i lt = ap (λ ts. tree_in ts i) (after_append [] ns ms) ∙ kept (trees_of ns) ms i (omega (arith, length_after [] ns))
 
 -- the trees, once a type is added
-pub trees_added : (ns : List Node) (n : Node) → trees_of (ns ++ n ∷ []) ≡ trees_of ns ++ grow (type_in ns) n ∷ []
+pub trees_added : (ns : List Node) (n : Node)
+    → trees_of (ns ++ n ∷ []) ≡ trees_of ns ++ grow (type_in ns) n ∷ []
 unfolding trees_after type_in
 trees_added ns n = after_append [] ns (n ∷ [])
 
 -- the tree of the type that was added
-pub tree_added : (ns : List Node) (n : Node) → type_in (ns ++ n ∷ []) (length ns) ≡ grow (type_in ns) n
+pub tree_added : (ns : List Node) (n : Node)
+    → type_in (ns ++ n ∷ []) (length ns) ≡ grow (type_in ns) n
 unfolding type_in
 tree_added ns n =
     let len : length ns ≡ length (trees_of ns) = omega (arith, length_after [] ns) in

@@ -1,103 +1,82 @@
 -- What reading gives of a text that begins with a type.
-use Rattle.std.proofs.Common.{◌≡◌, ℕ, zero, suc, ◌^◌, ◌<◌, ◌≤◌, ◌⊎◌, inl, inr, Bool, true, false, cond, eqb, ltb, leb, List, ◌∷◌, length, Option, Some, None, Result, Ok, Err, refl, sym, ap, subst, ◌∙◌, arith}
+use Rattle.std.proofs.Common.{◌≡◌, ℕ, zero, suc, ◌<◌, ◌≤◌, ◌⊎◌, inl, inr, Bool, true, false, cond, ltb, leb, List, [], ◌∷◌, length, Option, Some, None, Result, Ok, Err, refl, sym, ap, subst, ◌∙◌, arith}
 use Rattle.std.specs.Prelude.{MatchResult, codes}
 use Rattle.std.specs.Str.{bytes_eq}
+use Rattle.std.proofs.lemmas.List.{length-append}
 use Rattle.std.proofs.lemmas.Slice.Eq.{bytes_eq-Decides}
-use Rattle.std.proofs.lemmas.Bool.{eqb-true, eqb-false, ltb-true, ltb-false, leb-false, false≢true}
+use Rattle.std.proofs.lemmas.Bool.{ltb-true, ltb-false, leb-true, leb-false, false≢true}
 use Rattle.giop_cdr.specs.declared.prim.Primitive.{Primitive}
 use Rattle.giop_cdr.specs.declared.prim.Primitive.TheVariants as prims
 use Rattle.giop_tokens.specs.declared.fault.Refusal.{Refusal}
 use Rattle.giop_tokens.specs.declared.fault.SigFaultKind.TheVariants as kinds
-use Rattle.giop_tokens.specs.declared.marks.Mark.{Mark}
 use Rattle.giop_tokens.specs.declared.marks.Mark.TheVariants as marks
-use Rattle.giop_tokens.specs.Tokens.{Token, number, mark, AreTokens}
+use Rattle.giop_tokens.specs.Tokens.{Token, mark, AreTokens}
 use Rattle.giop_tokens.specs.Reading.{◌>>=◌}
 use Rattle.giop_tokens.specs.Readers.{mark_at}
 use Rattle.giop_tokens.specs.Names.{is_reserved}
-use Rattle.giop_tokens.proofs.ReaderLaws.{word_again, number_again, mark_again, mark_if_again}
+use Rattle.giop_tokens.proofs.ReaderLaws.{word_again, mark_again}
 use Rattle.giop_sig.specs.declared.numbers.TheConstants.{IOR}
 use Rattle.giop_sig.specs.Types.{depth}
 use Rattle.giop_sig.specs.Table.{Node}
 use Rattle.giop_sig.specs.Table as nodes
-use Rattle.giop_sig.specs.Trees.{grow, tree, depth_of}
-use Rattle.giop_sig.specs.Grammar.{TypeExpr, Base, Text, Reference, Named, SequenceOf, EncapsulationOf, base_word, spell_between, spell_bound, spell_most, spell_type}
+use Rattle.giop_sig.specs.Trees.{grow, tree}
+use Rattle.giop_sig.specs.Grammar.{TypeExpr, Base, Text, Reference, Named, SequenceOf, EncapsulationOf, base_word, spell_bound, spell_most, spell_type}
 use Rattle.giop_sig.specs.Scopes.{Names, has_encapsulations, Scope, Placed, named, base_number, number_or, with_node, sequence_node, place_text, place}
-use Rattle.giop_sig.specs.Validity.{Kind, IsFree, OfTypeName, OfSize, OfBound, OfVersion, OfType}
+use Rattle.giop_sig.specs.Validity.{Kind, IsFree, OfTypeName, OfBound, OfVersion, OfType}
 use Rattle.giop_sig.specs.Outcomes.{refused}
-use Rattle.giop_sig.specs.TypeReading.{too_deep, added, size_at, enclosed_at, most_at, TypeRead, base_of, text_type, text_at, behind_element, behind_held, found_type, named_type, leaf_at, type_after, type_at}
+use Rattle.giop_sig.specs.TypeReading.{too_deep, too_many, added, enclosed_at, most_at, TypeRead, base_of, text_type, text_at, behind_element, behind_held, found_type, named_type, leaf_at, type_after, type_at}
 use Rattle.giop_sig.proofs.Depths.{deepest_added}
-use Rattle.giop_sig.proofs.PlaceLaws.{deepest, size, nest, node_deeper, nest_deepest}
-use Rattle.giop_sig.proofs.ReadingLaws.{Breaks, lift, Good, Out, good, broken, out_bind, Apart, if_apart}
+use Rattle.giop_sig.proofs.PlaceLaws.{size, Within, within_same, Grown, node_more, nest, nest_deepest}
+use Rattle.giop_sig.proofs.SizeReads.{enclosed_reads, most_reads}
+use Rattle.giop_sig.proofs.ReadingLaws.{Breaks, lift, Good, Out, good, broken, out_bind, Apart}
 
 -- ---- one node more
 
--- what is due of no rule
-abbrev pub Free : Kind → Type 0
-Free k = Unit {0}
+added_case : (rule : Kind → Type 0) (at : ℕ) (s : Scope) (n : Node) (a b : Bool)
+    → leb (depth (grow (tree s.table) n)) 24 ≡ a → leb 4294967295 (size s) ≡ b
+    → MatchResult (cond a (cond b (Err (too_many at)) (Ok (with_node s n))) (Err (too_deep at)))
+    (λ (p : Placed). p ≡ with_node s n)
+    (λ (e : Refusal). Breaks e.kind rule (with_node s n).0.table.types)
+added_case rule at s n true true p q =
+    let many = leb-true 4294967295 (size s) q in
+    inr (omega (arith, length-append s.table.types (n ∷ [])))
+added_case rule at s n true false p q = refl
+added_case rule at s n false b p q =
+    let deep = leb-false (depth (grow (tree s.table) n)) 24 p in
+    omega (arith, deepest_added s.table.types n)
 
-added_case : (at : ℕ) (s : Scope) (n : Node) (v : Bool) → leb (depth (grow (tree s.table) n)) 24 ≡ v → MatchResult (cond v (Ok (with_node s n)) (Err (too_deep at))) (λ (p : Placed). p ≡ with_node s n) (λ (e : Refusal). (e.kind ≡ kinds.Depth) × (24 < deepest (with_node s n).0))
-added_case at s n true e = refl
-added_case at s n false e = (refl, let d = leb-false (depth (grow (tree s.table) n)) 24 e in omega (arith, deepest_added s.table.types n))
-
--- a node is added, unless the types become too deep
-pub added_out : (at : ℕ) (s : Scope) (n : Node) → MatchResult (added at s n) (λ (p : Placed). p ≡ with_node s n) (λ (e : Refusal). (e.kind ≡ kinds.Depth) × (24 < deepest (with_node s n).0))
+-- a node is added, unless the types become too deep or too many
+added_out : (rule : Kind → Type 0) (at : ℕ) (s : Scope) (n : Node)
+    → MatchResult (added at s n) (λ (p : Placed). p ≡ with_node s n)
+    (λ (e : Refusal). Breaks e.kind rule (with_node s n).0.table.types)
 unfolding added
-added_out at s n = added_case at s n (leb (depth (grow (tree s.table) n)) 24) refl
+added_out rule at s n =
+    added_case rule at s n (leb (depth (grow (tree s.table) n)) 24) (leb 4294967295 (size s)) refl refl
 
-added_by : {Y : Type 0} {made : List ℕ → Y} {rule : Kind → Type 0} {types : List Node} {more : List Token} (s : Scope) (n : Node) (r : Result Placed Refusal) (h : Placed → Result Y Refusal)
-    → MatchResult r (λ (p : Placed). p ≡ with_node s n) (λ (e : Refusal). (e.kind ≡ kinds.Depth) × (24 < deepest (with_node s n).0)) → deepest (with_node s n).0 ≤ depth_of types
-    → Out made rule types more (h (with_node s n)) → Out made rule types more (r >>= h)
-added_by {made = made} {rule = rule} {types = types} {more = more} s n (Ok p) h o le on = subst (λ q. Out made rule types more (h q)) (sym o) on
-added_by {rule = rule} {types = types} s n (Err e) h o le on = broken e (subst (λ k. Breaks k rule types) (sym o.0) (let d = o.1 in omega arith))
+added_by : {Y : Type 0} {made : List ℕ → Y} {rule : Kind → Type 0}
+    {types : List Node} {more : List Token}
+    (s : Scope) (n : Node) (r : Result Placed Refusal) (h : Placed → Result Y Refusal)
+    → MatchResult r (λ (p : Placed). p ≡ with_node s n)
+    (λ (e : Refusal). Breaks e.kind rule (with_node s n).0.table.types)
+    → Within (with_node s n).0.table.types types → Out made rule types more (h (with_node s n))
+    → Out made rule types more (r >>= h)
+added_by {made = made} {rule = rule} {types = types} {more = more} s n (Ok p) h o le on =
+    subst (λ q. Out made rule types more (h q)) (sym o) on
+added_by {rule = rule} {types = types} s n (Err e) h o le on =
+    broken e (lift e.kind rule rule (with_node s n).0.table.types types (λ k w. w) le o)
 
 -- what goes on with a node more
-pub added_bind : {Y : Type 0} {made : List ℕ → Y} {rule : Kind → Type 0} {types : List Node} {more : List Token} (at : ℕ) (s : Scope) (n : Node) (h : Placed → Result Y Refusal)
-    → deepest (with_node s n).0 ≤ depth_of types → Out made rule types more (h (with_node s n)) → Out made rule types more (added at s n >>= h)
-added_bind at s n h le on = added_by s n (added at s n) h (added_out at s n) le on
-
--- ---- sizes
-
-size_keeps : (n : ℕ) → 0 < n → n < 2 ^ 32 → (k : Kind) → OfSize k n
-size_keeps n some fits kinds.Token = tt
-size_keeps n some fits kinds.Syntax = tt
-size_keeps n some fits kinds.UnknownType = tt
-size_keeps n some fits kinds.Duplicate = tt
-size_keeps n some fits kinds.Limit = fits
-size_keeps n some fits kinds.Depth = tt
-size_keeps n some fits kinds.Label = tt
-size_keeps n some fits kinds.Empty = some
-size_keeps n some fits kinds.OutOfMemory = tt
-
-size_by : (types : List Node) (text rest : List ℕ) (n : ℕ) (more : List Token) (a b : Bool) → eqb n 0 ≡ a → ltb 4294967295 n ≡ b → AreTokens rest more
-    → Out {X = ℕ × List ℕ} (λ rest. (n, rest)) (λ k. OfSize k n) types more (cond a (Err (refused kinds.Empty text)) (cond b (Err (refused kinds.Limit text)) (Ok (n, rest))))
-size_by types text rest n more true b p q m = broken (refused kinds.Empty text) (λ h. let z = eqb-true n 0 p in omega arith)
-size_by types text rest n more false true p q m = broken (refused kinds.Limit text) (λ h. let z = ltb-true 4294967295 n q in omega arith)
-size_by types text rest n more false false p q m = good rest m (size_keeps n (let z = eqb-false n 0 p in omega arith) (let z = ltb-false 4294967295 n q in omega arith))
-
-pub size_reads : (types : List Node) (text : List ℕ) (n : ℕ) (more : List Token) → AreTokens text (number n ∷ more) → Out {X = ℕ × List ℕ} (λ rest. (n, rest)) (λ k. OfSize k n) types more (size_at text)
-unfolding size_at
-size_reads types text n more h = rw (number_again text n more h) (size_by types text h.0 n more (eqb n 0) (ltb 4294967295 n) refl refl h.2)
-
-pub enclosed_reads : (types : List Node) (before close : Mark) (text : List ℕ) (o : Option ℕ) (more : List Token) → Apart before more → AreTokens text (spell_between before close o more)
-    → Out {X = Option ℕ × List ℕ} (λ rest. (o, rest)) (λ k. OfBound k o) types more (enclosed_at before close text)
-unfolding enclosed_at
-enclosed_reads types before close text None more apart h = rw (if_apart before text more apart h) (good text h (λ k. tt))
-enclosed_reads types before close text (Some n) more apart h =
-    rw (mark_if_again before text (number n ∷ mark close ∷ more) h)
-    (out_bind (size_at h.0) (λ n. mark_at close n.1 >>= λ r. Ok (Some n.0, r)) (size_reads types h.0 n (mark close ∷ more) h.2)
-    (λ rest m keeps. rw (mark_again close rest more m) (good m.0 m.2 keeps)) (λ k w. w) (omega arith))
-
-pub most_reads : (types : List Node) (text : List ℕ) (o : Option ℕ) (more : List Token) → Apart marks.Comma more → AreTokens text (spell_most o more)
-    → Out {X = Option ℕ × List ℕ} (λ rest. (o, rest)) (λ k. OfBound k o) types more (most_at text)
-unfolding most_at
-most_reads types text None more apart h = rw (if_apart marks.Comma text more apart h) (good text h (λ k. tt))
-most_reads types text (Some n) more apart h =
-    rw (mark_if_again marks.Comma text (number n ∷ more) h)
-    (out_bind (size_at h.0) (λ n. Ok (Some n.0, n.1)) (size_reads types h.0 n more h.2) (λ rest m keeps. good rest m keeps) (λ k w. w) (omega arith))
+pub added_bind : {Y : Type 0} {made : List ℕ → Y} {rule : Kind → Type 0}
+    {types : List Node} {more : List Token}
+    (at : ℕ) (s : Scope) (n : Node) (h : Placed → Result Y Refusal)
+    → Within (with_node s n).0.table.types types → Out made rule types more (h (with_node s n))
+    → Out made rule types more (added at s n >>= h)
+added_bind {rule = rule} at s n h le on = added_by s n (added at s n) h (added_out rule at s n) le on
 
 -- ---- the word of a type
 
-not_by : (w v : List ℕ) (b : Bool) → bytes_eq w v ≡ b → is_reserved w ≡ false → is_reserved v ≡ true → bytes_eq w v ≡ false
+not_by : (w v : List ℕ) (b : Bool) → bytes_eq w v ≡ b → is_reserved w ≡ false
+    → is_reserved v ≡ true → bytes_eq w v ≡ false
 not_by w v true e free reserved = absurd (false≢true (sym free ∙ ap is_reserved ((bytes_eq-Decides w v).0 e) ∙ reserved))
 not_by w v false e free reserved = e
 
@@ -171,10 +150,13 @@ Stuck left s e x =
     Breaks x.kind (λ k. OfType k s.names e) (place s e).0.table.types
     ⊎ ((x.kind ≡ kinds.Depth) × (left ≤ nest e))
 
-pub record TypeOut (left : ℕ) (s : Scope) (e : TypeExpr) (more : List Token) (r : Result TypeRead Refusal) : Type 0 where
+pub record TypeOut (left : ℕ) (s : Scope) (e : TypeExpr) (more : List Token)
+    (r : Result TypeRead Refusal) : Type 0 where
   pub out : MatchResult r (Good (placed s e) (λ k. OfType k s.names e) more) (Stuck left s e)
 
-type_by : (left : ℕ) (s : Scope) (e : TypeExpr) (more : List Token) (r : Result TypeRead Refusal) → Out (placed s e) (λ k. OfType k s.names e) (place s e).0.table.types more r → TypeOut left s e more r
+type_by : (left : ℕ) (s : Scope) (e : TypeExpr) (more : List Token) (r : Result TypeRead Refusal)
+    → Out (placed s e) (λ k. OfType k s.names e) (place s e).0.table.types more r
+    → TypeOut left s e more r
 type_by left s e more (Ok x) o = record { out = o.out }
 type_by left s e more (Err x) o = record { out = inl o.out }
 
@@ -187,23 +169,29 @@ unfolding OfType place leaf_at
 base_reads at inner s p text rest more m =
     rw (no_sequence p, no_encapsulation p, base_word_of p) (good rest m (λ k. tt))
 
-text_type_reads : (at : ℕ) (s : Scope) (o : Option ℕ) (rest : List ℕ) (more : List Token) → AreTokens rest more → ((k : Kind) → OfBound k o)
-    → Out {X = TypeRead} (λ rest. ((place_text s o).0, (place_text s o).1, rest)) (λ k. OfBound k o) (place_text s o).0.table.types more (text_type at s o >>= λ t. Ok (t.0, t.1, rest))
+text_type_reads : (at : ℕ) (s : Scope) (o : Option ℕ) (rest : List ℕ) (more : List Token)
+    → AreTokens rest more → ((k : Kind) → OfBound k o)
+    → Out {X = TypeRead} (λ rest. ((place_text s o).0, (place_text s o).1, rest)) (λ k. OfBound k o)
+    (place_text s o).0.table.types more (text_type at s o >>= λ t. Ok (t.0, t.1, rest))
 text_type_reads at s None rest more m keeps = good rest m keeps
-text_type_reads at s (Some n) rest more m keeps = added_bind at s (nodes.text (Some n)) (λ t. Ok (t.0, t.1, rest)) (omega arith) (good rest m keeps)
+text_type_reads at s (Some n) rest more m keeps = added_bind at s (nodes.text (Some n)) (λ t. Ok (t.0, t.1, rest)) within_same (good rest m keeps)
 
-text_deeper : (s : Scope) (o : Option ℕ) → deepest s ≤ deepest (place_text s o).0
-text_deeper s None = omega arith
-text_deeper s (Some n) = node_deeper s (nodes.text (Some n))
+text_more : (s : Scope) (o : Option ℕ) → Grown s (place_text s o).0
+text_more s None = within_same
+text_more s (Some n) = node_more s (nodes.text (Some n))
 
-string_reads : (at : ℕ) (s : Scope) (o : Option ℕ) (rest : List ℕ) (more : List Token) → Apart marks.OpenAngle more → AreTokens rest (spell_bound o more)
-    → Out (placed s (Text o)) (λ k. OfType k s.names (Text o)) (place s (Text o)).0.table.types more (text_at at s rest)
+string_reads : (at : ℕ) (s : Scope) (o : Option ℕ) (rest : List ℕ) (more : List Token)
+    → Apart marks.OpenAngle more → AreTokens rest (spell_bound o more)
+    → Out (placed s (Text o)) (λ k. OfType k s.names (Text o))
+    (place s (Text o)).0.table.types more (text_at at s rest)
 unfolding text_at OfType place
 string_reads at s o rest more apart h =
-    out_bind (enclosed_at marks.OpenAngle marks.CloseAngle rest) (λ b. text_type at s b.0 >>= λ t. Ok (t.0, t.1, b.1)) (enclosed_reads s.table.types marks.OpenAngle marks.CloseAngle rest o more apart h)
-    (λ r m keeps. text_type_reads at s o r more m keeps) (λ k w. w) (text_deeper s o)
+    out_bind (enclosed_at marks.OpenAngle marks.CloseAngle rest) (λ b. text_type at s b.0 >>= λ t. Ok (t.0, t.1, b.1))
+    (enclosed_reads s.table.types marks.OpenAngle marks.CloseAngle rest o more apart h)
+    (λ r m keeps. text_type_reads at s o r more m keeps) (λ k w. w) (text_more s o)
 
-named_keeps : (names : Names) (w : List ℕ) (i : ℕ) → IsFree w → length w ≤ 64 → named names w ≡ Some i → (k : Kind) → OfTypeName k names w
+named_keeps : (names : Names) (w : List ℕ) (i : ℕ) → IsFree w → length w ≤ 64
+    → named names w ≡ Some i → (k : Kind) → OfTypeName k names w
 named_keeps names w i free short is kinds.Token = tt
 named_keeps names w i free short is kinds.Syntax = free
 named_keeps names w i free short is kinds.UnknownType = (i, is)
@@ -214,21 +202,29 @@ named_keeps names w i free short is kinds.Label = tt
 named_keeps names w i free short is kinds.Empty = tt
 named_keeps names w i free short is kinds.OutOfMemory = tt
 
-not_found : (names : Names) (w : List ℕ) → named names w ≡ None → (i : ℕ) × (named names w ≡ Some i) → ⊥
+not_found : (names : Names) (w : List ℕ) → named names w ≡ None
+    → (i : ℕ) × (named names w ≡ Some i) → ⊥
 not_found names w e h = let f : None ≡ Some h.0 = sym e ∙ h.1 in absurd cc
 
-found_reads : (s : Scope) (text w rest : List ℕ) (more : List Token) (o : Option ℕ) → named s.names w ≡ o → IsFree w → length w ≤ 64 → AreTokens rest more
-    → Out {X = TypeRead} (λ rest. (s, number_or o, rest)) (λ k. OfTypeName k s.names w) s.table.types more (found_type s text rest o)
+found_reads : (s : Scope) (text w rest : List ℕ) (more : List Token) (o : Option ℕ)
+    → named s.names w ≡ o → IsFree w → length w ≤ 64 → AreTokens rest more
+    → Out {X = TypeRead} (λ rest. (s, number_or o, rest)) (λ k. OfTypeName k s.names w)
+    s.table.types more (found_type s text rest o)
 found_reads s text w rest more None e free short m = broken (refused kinds.UnknownType text) (not_found s.names w e)
 found_reads s text w rest more (Some i) e free short m = good rest m (named_keeps s.names w i free short e)
 
-long_reads : (s : Scope) (text w rest : List ℕ) (more : List Token) (v : Bool) → ltb 64 (length w) ≡ v → IsFree w → AreTokens rest more
-    → Out {X = TypeRead} (λ rest. (s, number_or (named s.names w), rest)) (λ k. OfTypeName k s.names w) s.table.types more (cond v (Err (refused kinds.Limit text)) (found_type s text rest (named s.names w)))
-long_reads s text w rest more true e free m = broken (refused kinds.Limit text) (λ short. let z = ltb-true 64 (length w) e in omega arith)
+long_reads : (s : Scope) (text w rest : List ℕ) (more : List Token) (v : Bool)
+    → ltb 64 (length w) ≡ v → IsFree w → AreTokens rest more
+    → Out {X = TypeRead} (λ rest. (s, number_or (named s.names w), rest))
+    (λ k. OfTypeName k s.names w) s.table.types more
+    (cond v (Err (refused kinds.Limit text)) (found_type s text rest (named s.names w)))
+long_reads s text w rest more true e free m = broken (refused kinds.Limit text) (inl (λ short. let z = ltb-true 64 (length w) e in omega arith))
 long_reads s text w rest more false e free m = found_reads s text w rest more (named s.names w) refl free (ltb-false 64 (length w) e) m
 
-named_reads : (s : Scope) (text w rest : List ℕ) (more : List Token) → IsFree w → AreTokens rest more
-    → Out (placed s (Named w)) (λ k. OfType k s.names (Named w)) (place s (Named w)).0.table.types more (named_type s text w rest)
+named_reads : (s : Scope) (text w rest : List ℕ) (more : List Token)
+    → IsFree w → AreTokens rest more
+    → Out (placed s (Named w)) (λ k. OfType k s.names (Named w)) (place s (Named w)).0.table.types
+    more (named_type s text w rest)
 unfolding named_type OfType place
 named_reads s text w rest more free m = rw free (long_reads s text w rest more (ltb 64 (length w)) refl free m)
 
@@ -249,15 +245,20 @@ name_reads at inner s text w rest more free m =
     (named_reads s text w rest more free m)
 
 -- a sequence behind its element
-closed_reads : (at : ℕ) (s : Scope) (e : TypeExpr) (o : Option ℕ) (rest : List ℕ) (more : List Token) → AreTokens rest (spell_most o (mark marks.CloseAngle ∷ more)) → ((k : Kind) → OfType k s.names e) → (apart : Apart marks.Comma (mark marks.CloseAngle ∷ more))
-    → Out (placed s (SequenceOf e o)) (λ k. OfType k s.names (SequenceOf e o)) (place s (SequenceOf e o)).0.table.types more
-    (most_at rest >>= λ b. mark_at marks.CloseAngle b.1 >>= λ r. added at (place s e).0 (sequence_node b.0 (place s e).1) >>= λ t. Ok (t.0, t.1, r))
+closed_reads : (at : ℕ) (s : Scope) (e : TypeExpr) (o : Option ℕ) (rest : List ℕ)
+    (more : List Token) → AreTokens rest (spell_most o (mark marks.CloseAngle ∷ more))
+    → ((k : Kind) → OfType k s.names e) → (apart : Apart marks.Comma (mark marks.CloseAngle ∷ more))
+    → Out (placed s (SequenceOf e o)) (λ k. OfType k s.names (SequenceOf e o))
+    (place s (SequenceOf e o)).0.table.types more
+    (most_at rest >>= λ b. mark_at marks.CloseAngle b.1
+    >>= λ r. added at (place s e).0 (sequence_node b.0 (place s e).1) >>= λ t. Ok (t.0, t.1, r))
 unfolding OfType place
 closed_reads at s e o rest more m keeps apart =
     out_bind (most_at rest) (λ b. mark_at marks.CloseAngle b.1 >>= λ r. added at (place s e).0 (sequence_node b.0 (place s e).1) >>= λ t. Ok (t.0, t.1, r))
     (most_reads (place s e).0.table.types rest o (mark marks.CloseAngle ∷ more) apart m)
-    (λ r n bound. rw (mark_again marks.CloseAngle r more n) (added_bind at (place s e).0 (sequence_node o (place s e).1) (λ t. Ok (t.0, t.1, n.0)) (omega arith) (good n.0 n.2 (λ k. (keeps k, bound k)))))
-    (λ k w. w.1) (node_deeper (place s e).0 (sequence_node o (place s e).1))
+    (λ r n bound. rw (mark_again marks.CloseAngle r more n)
+    (added_bind at (place s e).0 (sequence_node o (place s e).1) (λ t. Ok (t.0, t.1, n.0)) within_same (good n.0 n.2 (λ k. (keeps k, bound k)))))
+    (λ k w. w.1) (node_more (place s e).0 (sequence_node o (place s e).1))
 
 version_keeps : (names : Names) → has_encapsulations names ≡ true → (k : Kind) → OfVersion k names
 version_keeps names has kinds.Token = tt
@@ -280,30 +281,29 @@ unfolding OfType place
 held_reads at s e rest more has m keeps =
     rw (mark_again marks.CloseAngle rest more m)
     (added_bind at (place s e).0 (nodes.encapsulation (place s e).1) (λ t. Ok (t.0, t.1, m.0))
-    (omega arith) (good m.0 m.2 (λ k. (version_keeps s.names has k, keeps k))))
+    within_same (good m.0 m.2 (λ k. (version_keeps s.names has k, keeps k))))
 
-sequence_deeper : (s : Scope) (e : TypeExpr) (o : Option ℕ)
-    → deepest (place s e).0 ≤ deepest (place s (SequenceOf e o)).0
+sequence_more : (s : Scope) (e : TypeExpr) (o : Option ℕ)
+    → Grown (place s e).0 (place s (SequenceOf e o)).0
 unfolding place
-sequence_deeper s e o = node_deeper (place s e).0 (sequence_node o (place s e).1)
+sequence_more s e o = node_more (place s e).0 (sequence_node o (place s e).1)
 
-held_deeper : (s : Scope) (e : TypeExpr)
-    → deepest (place s e).0 ≤ deepest (place s (EncapsulationOf e)).0
+held_more : (s : Scope) (e : TypeExpr) → Grown (place s e).0 (place s (EncapsulationOf e)).0
 unfolding place
-held_deeper s e = node_deeper (place s e).0 (nodes.encapsulation (place s e).1)
+held_more s e = node_more (place s e).0 (nodes.encapsulation (place s e).1)
 
 -- a type that has another in it, one level deeper
 record Nests (s : Scope) (e whole : TypeExpr) : Type 0 where
   pub levels : nest whole ≡ suc (nest e)
   pub rules : (k : Kind) → OfType k s.names whole → OfType k s.names e
-  pub deeper : deepest (place s e).0 ≤ deepest (place s whole).0
+  pub grown : Grown (place s e).0 (place s whole).0
 
 inner_by : (left : ℕ) (s : Scope) (e whole : TypeExpr) (x : Refusal) → Nests s e whole
     → Stuck left s e x
     → Stuck (suc left) s whole x
 inner_by left s e whole x is (inl b) =
     inl (lift x.kind (λ k. OfType k s.names e) (λ k. OfType k s.names whole)
-    (place s e).0.table.types (place s whole).0.table.types is.rules is.deeper b)
+    (place s e).0.table.types (place s whole).0.table.types is.rules is.grown b)
 inner_by left s e whole x is (inr d) = inr (d.0, let n = d.1 in omega (arith, is.levels))
 
 nested_by : (left : ℕ) (s : Scope) (e whole : TypeExpr) (tail more : List Token)
@@ -320,25 +320,34 @@ nested_by left s e whole tail more (Ok x) h is t on =
 nested_by left s e whole tail more (Err x) h is t on =
     record { out = inner_by left s e whole x is t.out }
 
-reference_reads : (s : Scope) (rest : List ℕ) (more : List Token) → AreTokens rest more → Out (placed s Reference) (λ k. OfType k s.names Reference) (place s Reference).0.table.types more (Ok (s, IOR, rest))
+reference_reads : (s : Scope) (rest : List ℕ) (more : List Token) → AreTokens rest more
+    → Out (placed s Reference) (λ k. OfType k s.names Reference)
+    (place s Reference).0.table.types more (Ok (s, IOR, rest))
 unfolding OfType place
 reference_reads s rest more m = good rest m (λ k. tt)
 
-most_apart : (o : Option ℕ) (more : List Token) → Apart marks.OpenAngle (spell_most o (mark marks.CloseAngle ∷ more))
+most_apart : (o : Option ℕ) (more : List Token)
+    → Apart marks.OpenAngle (spell_most o (mark marks.CloseAngle ∷ more))
 most_apart None more = refl
 most_apart (Some n) more = refl
 
-type_out : (at left : ℕ) (s : Scope) (e : TypeExpr) (text : List ℕ) (more : List Token) → OfType kinds.Syntax s.names e → Apart marks.OpenAngle more → AreTokens text (spell_type e more) → TypeOut left s e more (type_at at left s text)
+type_out : (at left : ℕ) (s : Scope) (e : TypeExpr) (text : List ℕ) (more : List Token)
+    → OfType kinds.Syntax s.names e → Apart marks.OpenAngle more
+    → AreTokens text (spell_type e more) → TypeOut left s e more (type_at at left s text)
 unfolding type_at leaf_at OfType
 type_out at zero s e text more free apart h = record { out = inr (refl, omega arith) }
-type_out at (suc left) s (Base p) text more free apart h = rw (word_again text (base_word p) more h) (type_by (suc left) s (Base p) more _ (base_reads at (type_at at left s) s p text h.0 more h.2))
-type_out at (suc left) s (Text o) text more free apart h = rw (word_again text (codes "string") (spell_bound o more) h) (type_by (suc left) s (Text o) more _ (string_reads at s o h.0 more apart h.2))
-type_out at (suc left) s Reference text more free apart h = rw (word_again text (codes "Object") more h) (type_by (suc left) s Reference more _ (reference_reads s h.0 more h.2))
-type_out at (suc left) s (Named w) text more free apart h = rw (word_again text w more h) (type_by (suc left) s (Named w) more _ (name_reads at (type_at at left s) s text w h.0 more free h.2))
+type_out at (suc left) s (Base p) text more free apart h =
+    rw (word_again text (base_word p) more h) (type_by (suc left) s (Base p) more _ (base_reads at (type_at at left s) s p text h.0 more h.2))
+type_out at (suc left) s (Text o) text more free apart h =
+    rw (word_again text (codes "string") (spell_bound o more) h) (type_by (suc left) s (Text o) more _ (string_reads at s o h.0 more apart h.2))
+type_out at (suc left) s Reference text more free apart h =
+    rw (word_again text (codes "Object") more h) (type_by (suc left) s Reference more _ (reference_reads s h.0 more h.2))
+type_out at (suc left) s (Named w) text more free apart h =
+    rw (word_again text w more h) (type_by (suc left) s (Named w) more _ (name_reads at (type_at at left s) s text w h.0 more free h.2))
 type_out at (suc left) s (SequenceOf e o) text more free apart h =
     let tail = spell_most o (mark marks.CloseAngle ∷ more) in
     let nests : Nests s e (SequenceOf e o)
-    = record { levels = refl; rules = λ k w. w.0; deeper = sequence_deeper s e o } in
+    = record { levels = refl; rules = λ k w. w.0; grown = sequence_more s e o } in
     rw (
       word_again text (codes "sequence") (mark marks.OpenAngle ∷ spell_type e tail) h,
       mark_again marks.OpenAngle h.0 (spell_type e tail) h.2,
@@ -349,7 +358,7 @@ type_out at (suc left) s (SequenceOf e o) text more free apart h =
 type_out at (suc left) s (EncapsulationOf e) text more free apart h =
     let tail = mark marks.CloseAngle ∷ more in
     let nests : Nests s e (EncapsulationOf e)
-    = record { levels = refl; rules = λ k w. w.1; deeper = held_deeper s e } in
+    = record { levels = refl; rules = λ k w. w.1; grown = held_more s e } in
     rw (
       word_again text (codes "encapsulation") (mark marks.OpenAngle ∷ spell_type e tail) h,
       free.0,
@@ -362,13 +371,20 @@ type_out at (suc left) s (EncapsulationOf e) text more free apart h =
 deep_by : (s : Scope) (e : TypeExpr) (x : Refusal) → 0 < size s → Stuck 25 s e x
     → Breaks x.kind (λ k. OfType k s.names e) (place s e).0.table.types
 deep_by s e x some (inl b) = b
-deep_by s e x some (inr d) = let n = d.1 in subst (λ k. Breaks k (λ k. OfType k s.names e) (place s e).0.table.types) (sym d.0) (omega (arith, nest_deepest s e some (omega arith)))
+deep_by s e x some (inr d) =
+    let n = d.1 in
+    subst (λ k. Breaks k (λ k. OfType k s.names e) (place s e).0.table.types) (sym d.0) (omega (arith, nest_deepest s e some (omega arith)))
 
-type_from : (s : Scope) (e : TypeExpr) (more : List Token) (r : Result TypeRead Refusal) → 0 < size s → TypeOut 25 s e more r → Out (placed s e) (λ k. OfType k s.names e) (place s e).0.table.types more r
+type_from : (s : Scope) (e : TypeExpr) (more : List Token) (r : Result TypeRead Refusal)
+    → 0 < size s → TypeOut 25 s e more r
+    → Out (placed s e) (λ k. OfType k s.names e) (place s e).0.table.types more r
 type_from s e more (Ok x) some t = record { out = t.out }
 type_from s e more (Err x) some t = record { out = deep_by s e x some t.out }
 
 -- what reading gives of a text that begins with a type
-pub type_reads : (at : ℕ) (s : Scope) (e : TypeExpr) (text : List ℕ) (more : List Token) → 0 < size s → OfType kinds.Syntax s.names e → Apart marks.OpenAngle more → AreTokens text (spell_type e more)
-    → Out (placed s e) (λ k. OfType k s.names e) (place s e).0.table.types more (type_at at 25 s text)
+pub type_reads : (at : ℕ) (s : Scope) (e : TypeExpr) (text : List ℕ) (more : List Token)
+    → 0 < size s → OfType kinds.Syntax s.names e → Apart marks.OpenAngle more
+    → AreTokens text (spell_type e more)
+    → Out (placed s e) (λ k. OfType k s.names e) (place s e).0.table.types
+    more (type_at at 25 s text)
 type_reads at s e text more some free apart h = type_from s e more (type_at at 25 s text) some (type_out at 25 s e text more free apart h)

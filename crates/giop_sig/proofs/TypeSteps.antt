@@ -5,7 +5,8 @@ use Rattle.giop_tokens.specs.Readers.{word_at}
 use Rattle.giop_sig.specs.Scopes.{Scope}
 use Rattle.giop_sig.specs.TypeReading.{too_deep, type_after, type_at}
 
-pub type_at-none : (at left : ℕ) (s : Scope) (text : List ℕ) → left ≡ 0 → type_at at left s text ≡ Err (too_deep at)
+pub type_at-none : (at left : ℕ) (s : Scope) (text : List ℕ) → left ≡ 0
+    → type_at at left s text ≡ Err (too_deep at)
 unfolding type_at
 type_at-none at zero s text e = refl
 type_at-none at (suc left) s text e = absurd (omega arith)

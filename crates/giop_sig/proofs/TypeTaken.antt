@@ -11,26 +11,26 @@ use Rattle.giop_cdr.specs.declared.prim.Primitive.{Primitive}
 use Rattle.giop_cdr.specs.declared.prim.Primitive.TheVariants as prims
 use Rattle.giop_tokens.specs.declared.fault.Refusal.{Refusal}
 use Rattle.giop_tokens.specs.declared.fault.SigFaultKind.TheVariants as kinds
-use Rattle.giop_tokens.specs.declared.marks.Mark.{Mark}
 use Rattle.giop_tokens.specs.declared.marks.Mark.TheVariants as marks
 use Rattle.giop_sig.specs.declared.numbers.TheConstants.{STRING, IOR, BUILTIN_LEN}
-use Rattle.giop_tokens.specs.Tokens.{word, number, mark, AreTokens}
+use Rattle.giop_tokens.specs.Tokens.{word, mark, AreTokens}
 use Rattle.giop_tokens.specs.Reading.{◌>>=◌}
-use Rattle.giop_tokens.specs.Readers.{misplaced, word_at, number_at, mark_at, mark_if}
+use Rattle.giop_tokens.specs.Readers.{misplaced, word_at, mark_at}
 use Rattle.giop_tokens.specs.Names.{is_reserved}
-use Rattle.giop_tokens.proofs.ReaderLaws.{bind_ok, ok_is, Takes, word_takes, number_takes, mark_takes, mark_if_takes}
+use Rattle.giop_tokens.proofs.ReaderLaws.{bind_ok, ok_is, Takes, word_takes, mark_takes}
 use Rattle.giop_sig.specs.Types.{depth}
 use Rattle.giop_sig.specs.Table.{Node, node_in, TakesOctet}
 use Rattle.giop_sig.specs.Table as nodes
 use Rattle.giop_sig.specs.Trees.{grow, tree}
 use Rattle.giop_sig.specs.Builtin.{builtin_types}
 use Rattle.giop_sig.specs.RequestList.{flat}
-use Rattle.giop_sig.specs.Grammar.{TypeExpr, Base, Text, Reference, Named, SequenceOf, EncapsulationOf, base_word, spell_between, spell_most, spell_type}
+use Rattle.giop_sig.specs.Grammar.{TypeExpr, Base, Text, Reference, Named, SequenceOf, EncapsulationOf, base_word, spell_most, spell_type}
 use Rattle.giop_sig.specs.Scopes.{has_encapsulations, Scope, Placed, named, base_number, with_node, sequence_node}
-use Rattle.giop_sig.specs.Validity.{OfBound, OfType}
+use Rattle.giop_sig.specs.Validity.{OfType}
 use Rattle.giop_sig.specs.ScopeViews.{IsKnown, IsKnownType, IsDeclaredName, IsScope}
 use Rattle.giop_sig.specs.Outcomes.{refused}
-use Rattle.giop_sig.specs.TypeReading.{too_deep, added, size_at, size_within, enclosed_at, size_behind, most_at, TypeRead, base_of, text_type, text_at, behind_element, sequence_at, behind_held, held_at, encapsulation_at, found_type, named_type, leaf_after, leaf_at, type_after, type_at}
+use Rattle.giop_sig.specs.TypeReading.{too_deep, too_many, added, enclosed_at, most_at, TypeRead, base_of, text_type, text_at, behind_element, sequence_at, behind_held, held_at, encapsulation_at, found_type, named_type, leaf_after, leaf_at, type_after, type_at}
+use Rattle.giop_sig.proofs.SizeTaken.{enclosed_takes, most_takes, bound_free}
 use Rattle.giop_sig.proofs.ScopeLaws.{known_stays, scope_grows}
 use Rattle.giop_sig.proofs.ReadingLaws.{Took}
 
@@ -56,26 +56,33 @@ grows_on r s t a b = record {
   declared = b.declared ∙ a.declared;
 }
 
-pub grows_known : (s t : Scope) (i : ℕ) → Grows s t → IsKnown s.table.types i → IsKnown t.table.types i
+pub grows_known : (s t : Scope) (i : ℕ) → Grows s t → IsKnown s.table.types i
+    → IsKnown t.table.types i
 grows_known s t i g is = subst (λ ns. IsKnown ns i) (sym (g.types).1) (known_stays s.table.types (g.types).0 i is)
 
 pub node_grows : (s : Scope) (n : Node) → Grows s (with_node s n).0
 node_grows s n = record { types = (n ∷ [], refl); names = refl; operations = refl; exceptions = refl; declared = refl }
 
 -- a node that was added can be a part
-pub node_known : (s : Scope) (n : Node) → TakesOctet n → IsKnown (with_node s n).0.table.types (with_node s n).1
+pub node_known : (s : Scope) (n : Node) → TakesOctet n
+    → IsKnown (with_node s n).0.table.types (with_node s n).1
 node_known s n takes = record {
   below = omega (arith, length-append s.table.types (n ∷ []));
   takes = subst TakesOctet (sym (get_or-append_seam s.table.types n [] (nodes.prim prims.Octet))) takes;
 }
 
-added_by : (at : ℕ) (s : Scope) (n : Node) (x : Placed) (v : Bool) → cond v (Ok (with_node s n)) (Err (too_deep at)) ≡ Ok x → x ≡ with_node s n
-added_by at s n x true e = sym (ok_is (with_node s n) x e)
-added_by at s n x false e = absurd cc
+added_by : (at : ℕ) (s : Scope) (n : Node) (x : Placed) (a b : Bool)
+    → cond a (cond b (Err (too_many at)) (Ok (with_node s n))) (Err (too_deep at)) ≡ Ok x
+    → x ≡ with_node s n
+added_by at s n x true true e = absurd cc
+added_by at s n x true false e = sym (ok_is (with_node s n) x e)
+added_by at s n x false b e = absurd cc
 
-pub added_is : (at : ℕ) (s : Scope) (n : Node) (x : Placed) → added at s n ≡ Ok x → x ≡ with_node s n
+pub added_is : (at : ℕ) (s : Scope) (n : Node) (x : Placed)
+    → added at s n ≡ Ok x → x ≡ with_node s n
 unfolding added
-added_is at s n x e = added_by at s n x (leb (depth (grow (tree s.table) n)) 24) e
+added_is at s n x e =
+    added_by at s n x (leb (depth (grow (tree s.table) n)) 24) (leb 4294967295 (length s.table.types)) e
 
 -- a scope after a type, whose number can be a part's
 pub record Sound (p : Placed) : Type 0 where
@@ -86,52 +93,12 @@ pub record Sound (p : Placed) : Type 0 where
 pub sound_node : (s : Scope) (n : Node) → IsScope s → TakesOctet n → Sound (with_node s n)
 sound_node s n is takes = record { scope = scope_grows s n is; known = node_known s n takes }
 
-pub sound_added : (at : ℕ) (s : Scope) (n : Node) (x : Placed) → added at s n ≡ Ok x → IsScope s → TakesOctet n → Sound x
+pub sound_added : (at : ℕ) (s : Scope) (n : Node) (x : Placed) → added at s n ≡ Ok x
+    → IsScope s → TakesOctet n → Sound x
 sound_added at s n x e is takes = subst Sound (sym (added_is at s n x e)) (sound_node s n is takes)
 
 pub added_grows : (at : ℕ) (s : Scope) (n : Node) (x : Placed) → added at s n ≡ Ok x → Grows s x.0
 added_grows at s n x e = subst (λ (p : Placed). Grows s p.0) (sym (added_is at s n x e)) (node_grows s n)
-
--- ---- sizes
-
-size_by : (text : List ℕ) (n x : ℕ × List ℕ) (a b : Bool) → cond a (Err (refused kinds.Empty text)) (cond b (Err (refused kinds.Limit text)) (Ok (n.0, n.1))) ≡ Ok x → n ≡ x
-size_by text n x true b e = absurd cc
-size_by text n x false true e = absurd cc
-size_by text n x false false e = ok_is n x e
-
-pub size_takes : (text : List ℕ) (x : ℕ × List ℕ) → size_at text ≡ Ok x → Takes text (number x.0) x.1
-unfolding size_at
-size_takes text x e =
-    let a = bind_ok (number_at text) (λ n. cond (eqb n.0 0) (Err (refused kinds.Empty text)) (cond (ltb 4294967295 n.0) (Err (refused kinds.Limit text)) (Ok (n.0, n.1)))) x e in
-    subst (λ y. Takes text (number y.0) y.1) (size_by text a.0 x (eqb (a.0).0 0) (ltb 4294967295 (a.0).0) a.2) (number_takes text a.0 a.1)
-
-within_by : (before close : Mark) (text : List ℕ) (o : Option (List ℕ)) (x : Option ℕ × List ℕ) → mark_if before text ≡ Ok o → size_within close text o ≡ Ok x → Took (spell_between before close x.0) (Unit {0}) text x.1
-within_by before close text None x h e = subst (λ (y : Option ℕ × List ℕ). Took (spell_between before close y.0) (Unit {0}) text y.1) (ok_is (None, text) x e) (record { free = tt; front = λ more m. m })
-within_by before close text (Some inner) x h e =
-    let n = bind_ok (size_at inner) (λ n. mark_at close n.1 >>= λ r. Ok (Some n.0, r)) x e in
-    let r = bind_ok (mark_at close (n.0).1) (λ r. Ok (Some (n.0).0, r)) x n.2 in
-    subst (λ (y : Option ℕ × List ℕ). Took (spell_between before close y.0) (Unit {0}) text y.1) (ok_is (Some (n.0).0, r.0) x r.2)
-    (record { free = tt; front = λ more m. mark_if_takes before text inner h (number (n.0).0 ∷ mark close ∷ more) (size_takes inner n.0 n.1 (mark close ∷ more) (mark_takes close (n.0).1 r.0 r.1 more m)) })
-
-pub enclosed_takes : (before close : Mark) (text : List ℕ) (x : Option ℕ × List ℕ) → enclosed_at before close text ≡ Ok x → Took (spell_between before close x.0) (Unit {0}) text x.1
-unfolding enclosed_at
-enclosed_takes before close text x e = let a = bind_ok (mark_if before text) (λ inner. size_within close text inner) x e in within_by before close text a.0 x a.1 a.2
-
-behind_by : (text : List ℕ) (o : Option (List ℕ)) (x : Option ℕ × List ℕ) → mark_if marks.Comma text ≡ Ok o → size_behind text o ≡ Ok x → Took (spell_most x.0) (Unit {0}) text x.1
-behind_by text None x h e = subst (λ (y : Option ℕ × List ℕ). Took (spell_most y.0) (Unit {0}) text y.1) (ok_is (None, text) x e) (record { free = tt; front = λ more m. m })
-behind_by text (Some inner) x h e =
-    let n = bind_ok (size_at inner) (λ n. Ok (Some n.0, n.1)) x e in
-    subst (λ (y : Option ℕ × List ℕ). Took (spell_most y.0) (Unit {0}) text y.1) (ok_is (Some (n.0).0, (n.0).1) x n.2)
-    (record { free = tt; front = λ more m. mark_if_takes marks.Comma text inner h (number (n.0).0 ∷ more) (size_takes inner n.0 n.1 more m) })
-
-most_takes : (text : List ℕ) (x : Option ℕ × List ℕ) → most_at text ≡ Ok x → Took (spell_most x.0) (Unit {0}) text x.1
-unfolding most_at
-most_takes text x e = let a = bind_ok (mark_if marks.Comma text) (λ inner. size_behind text inner) x e in behind_by text a.0 x a.1 a.2
-
--- of the rule that names are free, sizes ask nothing
-pub bound_free : (o : Option ℕ) → OfBound kinds.Syntax o
-bound_free None = tt
-bound_free (Some n) = tt
 
 -- ---- types
 
@@ -141,11 +108,13 @@ pub record TakenType (s : Scope) (text : List ℕ) (x : TypeRead) : Type 0 where
   pub grows : Grows s x.0
   pub sound : IsScope s → Sound (x.0, x.1)
 
-built : (types more : List Node) (k : ℕ) → types ≡ builtin_types ++ more → k < BUILTIN_LEN → TakesOctet (node_in builtin_types k) → IsKnown types k
+built : (types more : List Node) (k : ℕ) → types ≡ builtin_types ++ more → k < BUILTIN_LEN
+    → TakesOctet (node_in builtin_types k) → IsKnown types k
 unfolding builtin_types
 built types more k e lt takes = subst (λ ns. IsKnown ns k) (sym e) (known_stays builtin_types more k (record { below = lt; takes = takes }))
 
-same_known : (s : Scope) (k : ℕ) → IsScope s → k < BUILTIN_LEN → TakesOctet (node_in builtin_types k) → Sound (s, k)
+same_known : (s : Scope) (k : ℕ) → IsScope s → k < BUILTIN_LEN
+    → TakesOctet (node_in builtin_types k) → Sound (s, k)
 same_known s k is lt takes = record { scope = is; known = built s.table.types (is.begins).0 k (is.begins).1 lt takes }
 
 base_sound : (s : Scope) (p : Primitive) → IsScope s → Sound (s, base_number p)
@@ -166,20 +135,26 @@ base_sound s prims.Double is = same_known s 10 is (lit< tt) tt
 abbrev BaseWord : List ℕ → ℕ → Type 0
 BaseWord w k = (p : Primitive) × (w ≡ base_word p) × (base_number p ≡ k)
 
-pick_by : (p : Primitive) (w : List ℕ) (k : ℕ) (o : Option ℕ) (v : Bool) → bytes_eq w (base_word p) ≡ v → cond v (Some (base_number p)) o ≡ Some k → (o ≡ Some k → BaseWord w k) → BaseWord w k
+pick_by : (p : Primitive) (w : List ℕ) (k : ℕ) (o : Option ℕ) (v : Bool)
+    → bytes_eq w (base_word p) ≡ v → cond v (Some (base_number p)) o ≡ Some k
+    → (o ≡ Some k → BaseWord w k) → BaseWord w k
 pick_by p w k o true same e on = let number : base_number p ≡ k = cc in (p, (bytes_eq-Decides w (base_word p)).0 same, number)
 pick_by p w k o false same e on = on e
 
-pick : (p : Primitive) (w : List ℕ) (k : ℕ) (o : Option ℕ) → cond (bytes_eq w (base_word p)) (Some (base_number p)) o ≡ Some k → (o ≡ Some k → BaseWord w k) → BaseWord w k
+pick : (p : Primitive) (w : List ℕ) (k : ℕ) (o : Option ℕ)
+    → cond (bytes_eq w (base_word p)) (Some (base_number p)) o ≡ Some k
+    → (o ≡ Some k → BaseWord w k) → BaseWord w k
 pick p w k o e on = pick_by p w k o (bytes_eq w (base_word p)) refl e on
 
 base_from : (w : List ℕ) (k : ℕ) → base_of w ≡ Some k → BaseWord w k
 base_from w k e =
     pick prims.Octet w k _ e (λ e. pick prims.Char w k _ e (λ e. pick prims.Boolean w k _ e (λ e. pick prims.Short w k _ e (λ e. pick prims.UShort w k _ e (λ e.
-    pick prims.Long w k _ e (λ e. pick prims.ULong w k _ e (λ e. pick prims.LongLong w k _ e (λ e. pick prims.ULongLong w k _ e (λ e. pick prims.Float w k _ e (λ e.
+    pick prims.Long w k _ e (λ e. pick prims.ULong w k _ e
+    (λ e. pick prims.LongLong w k _ e (λ e. pick prims.ULongLong w k _ e (λ e. pick prims.Float w k _ e (λ e.
     pick prims.Double w k _ e (λ e. absurd cc)))))))))))
 
-base_took : (s : Scope) (text w rest : List ℕ) (k : ℕ) → Takes text (word w) rest → BaseWord w k → TakenType s text (s, k, rest)
+base_took : (s : Scope) (text w rest : List ℕ) (k : ℕ) → Takes text (word w) rest → BaseWord w k
+    → TakenType s text (s, k, rest)
 unfolding OfType
 base_took s text w rest k t b = record {
   expr = Base b.0;
@@ -188,16 +163,19 @@ base_took s text w rest k t b = record {
   sound = λ is. subst (λ n. Sound (s, n)) b.2 (base_sound s b.0 is);
 }
 
-text_type_sound : (at : ℕ) (s : Scope) (b : Option ℕ) (p : Placed) → text_type at s b ≡ Ok p → IsScope s → Sound p
+text_type_sound : (at : ℕ) (s : Scope) (b : Option ℕ) (p : Placed)
+    → text_type at s b ≡ Ok p → IsScope s → Sound p
 unfolding builtin_types
 text_type_sound at s None p e is = subst Sound (ok_is (s, STRING) p e) (same_known s STRING is (lit< tt) tt)
 text_type_sound at s (Some n) p e is = sound_added at s (nodes.text (Some n)) p e is tt
 
-text_type_grows : (at : ℕ) (s : Scope) (b : Option ℕ) (p : Placed) → text_type at s b ≡ Ok p → Grows s p.0
+text_type_grows : (at : ℕ) (s : Scope) (b : Option ℕ) (p : Placed)
+    → text_type at s b ≡ Ok p → Grows s p.0
 text_type_grows at s None p e = subst (λ (q : Placed). Grows s q.0) (ok_is (s, STRING) p e) (grows_none s)
 text_type_grows at s (Some n) p e = added_grows at s (nodes.text (Some n)) p e
 
-text_took : (at : ℕ) (s : Scope) (text w rest : List ℕ) (x : TypeRead) → Takes text (word w) rest → w ≡ codes "string" → text_at at s rest ≡ Ok x → TakenType s text x
+text_took : (at : ℕ) (s : Scope) (text w rest : List ℕ) (x : TypeRead) → Takes text (word w) rest
+    → w ≡ codes "string" → text_at at s rest ≡ Ok x → TakenType s text x
 unfolding text_at OfType
 text_took at s text w rest x t same e =
     let b = bind_ok (enclosed_at marks.OpenAngle marks.CloseAngle rest) (λ b. text_type at s b.0 >>= λ t. Ok (t.0, t.1, b.1)) x e in
@@ -210,32 +188,42 @@ text_took at s text w rest x t same e =
       sound = λ is. text_type_sound at s (b.0).0 p.0 p.1 is;
     })
 
-sequence_takes_octet : (bound : Option ℕ) (n : ℕ) (v : Bool) → TakesOctet (cond v (nodes.octets bound) (nodes.sequence bound n))
+sequence_takes_octet : (bound : Option ℕ) (n : ℕ) (v : Bool)
+    → TakesOctet (cond v (nodes.octets bound) (nodes.sequence bound n))
 sequence_takes_octet bound n true = tt
 sequence_takes_octet bound n false = tt
 
-sequence_made : (at : ℕ) (s : Scope) (text w rest inner r : List ℕ) (y : TypeRead) (b : Option ℕ × List ℕ) (p : Placed) → Takes text (word w) rest → w ≡ codes "sequence" → mark_at marks.OpenAngle rest ≡ Ok inner → TakenType s inner y
-    → Took (spell_most b.0) (Unit {0}) y.2 b.1 → mark_at marks.CloseAngle b.1 ≡ Ok r → added at y.0 (sequence_node b.0 y.1) ≡ Ok p → TakenType s text (p.0, p.1, r)
+sequence_made : (at : ℕ) (s : Scope) (text w rest inner r : List ℕ) (y : TypeRead)
+    (b : Option ℕ × List ℕ) (p : Placed) → Takes text (word w) rest → w ≡ codes "sequence"
+    → mark_at marks.OpenAngle rest ≡ Ok inner → TakenType s inner y
+    → Took (spell_most b.0) (Unit {0}) y.2 b.1 → mark_at marks.CloseAngle b.1 ≡ Ok r
+    → added at y.0 (sequence_node b.0 y.1) ≡ Ok p → TakenType s text (p.0, p.1, r)
 unfolding OfType
 sequence_made at s text w rest inner r y b p t same o k most c put = record {
   expr = SequenceOf k.expr b.0;
   took = record {
     free = (k.took.free, bound_free b.0);
     front = λ more m.
-        let closed : AreTokens y.2 (spell_most b.0 (mark marks.CloseAngle ∷ more)) = most.front (mark marks.CloseAngle ∷ more) (mark_takes marks.CloseAngle b.1 r c more m) in
-        let opened = mark_takes marks.OpenAngle rest inner o (spell_type k.expr (spell_most b.0 (mark marks.CloseAngle ∷ more))) (k.took.front (spell_most b.0 (mark marks.CloseAngle ∷ more)) closed) in
+        let closed : AreTokens y.2 (spell_most b.0 (mark marks.CloseAngle ∷ more)) =
+        most.front (mark marks.CloseAngle ∷ more) (mark_takes marks.CloseAngle b.1 r c more m) in
+        let opened = mark_takes marks.OpenAngle rest inner o (spell_type k.expr (spell_most b.0 (mark marks.CloseAngle ∷ more)))
+        (k.took.front (spell_most b.0 (mark marks.CloseAngle ∷ more)) closed) in
         subst (λ v. Takes text (word v) rest) same t (mark marks.OpenAngle ∷ spell_type k.expr (spell_most b.0 (mark marks.CloseAngle ∷ more))) opened;
   };
   grows = grows_on s y.0 p.0 k.grows (added_grows at y.0 (sequence_node b.0 y.1) p put);
   sound = λ is. let h = k.sound is in sound_added at y.0 (sequence_node b.0 y.1) p put h.scope (sequence_takes_octet b.0 y.1 (eqb y.1 0));
 }
 
-sequence_took : (at : ℕ) (element : List ℕ → Result TypeRead Refusal) (s : Scope) (text w rest : List ℕ) (x : TypeRead) → ((inner : List ℕ) (y : TypeRead) → element inner ≡ Ok y → TakenType s inner y)
-    → Takes text (word w) rest → w ≡ codes "sequence" → sequence_at at element rest ≡ Ok x → TakenType s text x
+sequence_took : (at : ℕ) (element : List ℕ → Result TypeRead Refusal) (s : Scope)
+    (text w rest : List ℕ) (x : TypeRead)
+    → ((inner : List ℕ) (y : TypeRead) → element inner ≡ Ok y → TakenType s inner y)
+    → Takes text (word w) rest → w ≡ codes "sequence"
+    → sequence_at at element rest ≡ Ok x → TakenType s text x
 sequence_took at element s text w rest x takes t same e =
     let i = bind_ok (mark_at marks.OpenAngle rest) (λ inner. element inner >>= behind_element at) x e in
     let y = bind_ok (element i.0) (behind_element at) x i.2 in
-    let b = bind_ok (most_at (y.0).2) (λ b. mark_at marks.CloseAngle b.1 >>= λ r. added at (y.0).0 (sequence_node b.0 (y.0).1) >>= λ t. Ok (t.0, t.1, r)) x y.2 in
+    let b = bind_ok (most_at (y.0).2) (λ b. mark_at marks.CloseAngle b.1 >>= λ r. added at (y.0).0 (sequence_node b.0 (y.0).1)
+    >>= λ t. Ok (t.0, t.1, r)) x y.2 in
     let r = bind_ok (mark_at marks.CloseAngle (b.0).1) (λ r. added at (y.0).0 (sequence_node (b.0).0 (y.0).1) >>= λ t. Ok (t.0, t.1, r)) x b.2 in
     let p = bind_ok (added at (y.0).0 (sequence_node (b.0).0 (y.0).1)) (λ t. Ok (t.0, t.1, r.0)) x r.2 in
     subst (TakenType s text) (ok_is ((p.0).0, (p.0).1, r.0) x p.2)
@@ -278,17 +266,21 @@ encapsulation_took at held s text w rest x true takes t same has e =
 
 -- a name that was found is a type's
 found_known : (types : List Node) (names : List (List ℕ × Option ℕ)) (w : List ℕ) (k : ℕ) (v : Bool)
-    (e : List ℕ × Option ℕ) → bytes_eq w e.0 ≡ v → IsDeclaredName types e → (flat (lookup (bytes_eq w) names) ≡ Some k → IsKnown types k)
+    (e : List ℕ × Option ℕ) → bytes_eq w e.0 ≡ v → IsDeclaredName types e
+    → (flat (lookup (bytes_eq w) names) ≡ Some k → IsKnown types k)
     → flat (cond v (Some e.1) (lookup (bytes_eq w) names)) ≡ Some k → IsKnown types k
 found_known types names w k true e same is rest h = subst (IsKnownType types) h is.type
 found_known types names w k false e same is rest h = rest h
 
 named_known : (types : List Node) (names : List (List ℕ × Option ℕ)) (w : List ℕ) (k : ℕ)
-    → AllByRecursion (IsDeclaredName types) names → flat (lookup (bytes_eq w) names) ≡ Some k → IsKnown types k
+    → AllByRecursion (IsDeclaredName types) names
+    → flat (lookup (bytes_eq w) names) ≡ Some k → IsKnown types k
 named_known types [] w k all h = absurd cc
 named_known types (e ∷ es) w k all h = found_known types es w k (bytes_eq w e.0) e refl all.0 (named_known types es w k all.1) h
 
-found_by : (s : Scope) (text w rest : List ℕ) (x : TypeRead) (o : Option ℕ) → named s.names w ≡ o → is_reserved w ≡ false → Takes text (word w) rest → found_type s text rest o ≡ Ok x → TakenType s text x
+found_by : (s : Scope) (text w rest : List ℕ) (x : TypeRead) (o : Option ℕ) → named s.names w ≡ o
+    → is_reserved w ≡ false → Takes text (word w) rest
+    → found_type s text rest o ≡ Ok x → TakenType s text x
 unfolding OfType
 found_by s text w rest x None o free t e = absurd cc
 found_by s text w rest x (Some n) o free t e = subst (TakenType s text) (ok_is (s, n, rest) x e) (record {
@@ -299,12 +291,16 @@ found_by s text w rest x (Some n) o free t e = subst (TakenType s text) (ok_is (
       record { scope = is; known = named_known s.table.types s.names.known w n is.names o };
 })
 
-named_by : (s : Scope) (text w rest : List ℕ) (x : TypeRead) (a b : Bool) → is_reserved w ≡ a → Takes text (word w) rest → cond a (Err (misplaced text)) (cond b (Err (refused kinds.Limit text)) (found_type s text rest (named s.names w))) ≡ Ok x → TakenType s text x
+named_by : (s : Scope) (text w rest : List ℕ) (x : TypeRead) (a b : Bool) → is_reserved w ≡ a
+    → Takes text (word w) rest → cond a (Err (misplaced text))
+    (cond b (Err (refused kinds.Limit text)) (found_type s text rest (named s.names w)))
+    ≡ Ok x → TakenType s text x
 named_by s text w rest x true b free t e = absurd cc
 named_by s text w rest x false true free t e = absurd cc
 named_by s text w rest x false false free t e = found_by s text w rest x (named s.names w) refl free t e
 
-named_took : (s : Scope) (text w rest : List ℕ) (x : TypeRead) → Takes text (word w) rest → named_type s text w rest ≡ Ok x → TakenType s text x
+named_took : (s : Scope) (text w rest : List ℕ) (x : TypeRead) → Takes text (word w) rest
+    → named_type s text w rest ≡ Ok x → TakenType s text x
 unfolding named_type
 named_took s text w rest x t e = named_by s text w rest x (is_reserved w) (ltb 64 (length w)) refl t e
 
@@ -348,7 +344,8 @@ after_took at inner s text w rest x takes t false true p q e =
 after_took at inner s text w rest x takes t false false p q e =
     leaf_took at s text w rest x (base_of w) t refl e
 
-pub type_takes : (at left : ℕ) (s : Scope) (text : List ℕ) (x : TypeRead) → type_at at left s text ≡ Ok x → TakenType s text x
+pub type_takes : (at left : ℕ) (s : Scope) (text : List ℕ) (x : TypeRead)
+    → type_at at left s text ≡ Ok x → TakenType s text x
 unfolding type_at
 type_takes at zero s text x e = absurd cc
 type_takes at (suc left) s text x e =

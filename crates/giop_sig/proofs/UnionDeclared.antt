@@ -1,5 +1,5 @@
 -- A union that was read: what the code asks of it, and that it is a declaration of the text.
-use Rattle.std.proofs.Common.{◌≡◌, ℕ, ◌+◌, List, [], ◌∷◌, length, Ok, sym, ap, subst, ◌∙◌, arith}
+use Rattle.std.proofs.Common.{◌≡◌, ℕ, ◌+◌, Bool, true, false, cond, List, [], ◌∷◌, length, Ok, Err, refl, sym, ap, subst, ◌∙◌, arith}
 use Rattle.std.specs.Prelude.{codes}
 use Rattle.std.proofs.lemmas.List.{length-append}
 use Rattle.giop_tokens.specs.declared.fault.SigFaultKind.TheVariants as kinds
@@ -10,19 +10,45 @@ use Rattle.giop_tokens.specs.Readers.{mark_at, keyword_at}
 use Rattle.giop_tokens.proofs.ReaderLaws.{bind_ok, ok_is, Takes, mark_takes, keyword_takes}
 use Rattle.giop_sig.specs.Table.{Node, node_at, IsScalarNode, IsFormed}
 use Rattle.giop_sig.specs.Table as nodes
-use Rattle.giop_sig.specs.Grammar.{Choice, spell_type, spell_cases}
+use Rattle.giop_sig.specs.Grammar.{TypeExpr, Choice, spell_type, spell_cases}
 use Rattle.giop_sig.specs.Scopes.{Scope, Placed, place, with_named}
-use Rattle.giop_sig.specs.Validity.{IsDiscriminator, OfCases, OfDeclaration, placed_node}
+use Rattle.giop_sig.specs.Validity.{OfType, IsDiscriminator, OfCases, OfDeclaration, placed_node}
 use Rattle.giop_sig.specs.ScopeViews.{IsKnown, IsScope}
-use Rattle.giop_sig.specs.TypeReading.{TypeRead, added}
+use Rattle.giop_sig.specs.Outcomes.{refused}
+use Rattle.giop_sig.specs.TypeReading.{TypeRead, added, type_at}
 use Rattle.giop_sig.specs.ItemReading.{declared_at, Declared}
-use Rattle.giop_sig.specs.UnionReading.{CasesRead, cases_at, switch_at, union_at}
-use Rattle.giop_sig.proofs.TypeTaken.{Grows, grows_on, added_is, added_grows, node_known}
+use Rattle.giop_sig.specs.UnionReading.{CasesRead, cases_at, can_switch, switch_at, union_at}
+use Rattle.giop_sig.proofs.TypeTaken.{Grows, grows_on, TakenType, type_takes, added_is, added_grows, node_known}
 use Rattle.giop_sig.proofs.ItemTaken.{declared_takes}
 use Rattle.giop_sig.proofs.DeclaredLaws.{TakenDeclaration}
 use Rattle.giop_sig.proofs.UnionLaws.{node_stays}
-use Rattle.giop_sig.proofs.UnionReads.{below_size}
-use Rattle.giop_sig.proofs.UnionTaken.{switch_taken, cases_taken}
+use Rattle.giop_sig.proofs.UnionReads.{discriminates, below_size}
+use Rattle.giop_sig.proofs.UnionTaken.{cases_taken}
+use Rattle.giop_sig.proofs.ReadingLaws.{Took}
+
+-- ---- the discriminator
+
+record TakenSwitch (s : Scope) (text : List ℕ) (x : TypeRead) : Type 0 where
+  pub expr : TypeExpr
+  pub took : Took (spell_type expr) (OfType kinds.Syntax s.names expr) text x.2
+  pub grows : Grows s x.0
+  pub scope : IsScope s → IsScope x.0
+  pub is : IsDiscriminator (node_at (x.0).table x.1)
+
+switch_by : (s : Scope) (text : List ℕ) (t x : TypeRead) (v : Bool)
+    → can_switch (node_at (t.0).table t.1) ≡ v → TakenType s text t
+    → cond v (Ok t) (Err (refused kinds.Label text)) ≡ Ok x → TakenSwitch s text x
+switch_by s text t x true p k e =
+    subst (TakenSwitch s text) (ok_is t x e) (record
+    { expr = k.expr; took = k.took; grows = k.grows; scope = λ is. (k.sound is).scope; is = discriminates (node_at (t.0).table t.1) p })
+switch_by s text t x false p k e = absurd cc
+
+switch_taken : (at : ℕ) (s : Scope) (text : List ℕ) (x : TypeRead)
+    → switch_at at s text ≡ Ok x → TakenSwitch s text x
+unfolding switch_at
+switch_taken at s text x e =
+    let t = bind_ok (type_at at 25 s text) (λ t. cond (can_switch (node_at (t.0).table t.1)) (Ok t) (Err (refused kinds.Label text))) x e in
+    switch_by s text t.0 x (can_switch (node_at ((t.0).0).table (t.0).1)) refl (type_takes at 25 s text t.0 t.1) t.2
 
 -- ---- what the code asks
 
@@ -44,47 +70,62 @@ abbrev pub union_node : ℕ → CasesRead → Node
 union_node switch x = nodes.union switch (x.1).cases (x.1).otherwise
 
 -- a union that was read can stand in the table
-pub union_formed : (at : ℕ) (s : Scope) (a b : List ℕ) (t : TypeRead) (x : CasesRead) → switch_at at s a ≡ Ok t → cases_at at t.1 t.0 b ≡ Ok x → IsScope s → IsFormed (x.0).table.types (length (x.0).table.types) (union_node t.1 x)
+pub union_formed : (at : ℕ) (s : Scope) (a b : List ℕ) (t : TypeRead) (x : CasesRead)
+    → switch_at at s a ≡ Ok t → cases_at at t.1 t.0 b ≡ Ok x → IsScope s
+    → IsFormed (x.0).table.types (length (x.0).table.types) (union_node t.1 x)
 union_formed at s a b t x e f is =
     let k = switch_taken at s a t e in
     let c = cases_taken at t.1 t.0 b x f in
     let scope = k.scope is in
     let below = below_size t.0 t.1 k.is in
-    let longer : length (x.0).table.types ≡ length (t.0).table.types + length ((c.grows).types).0 = ap length ((c.grows).types).1 ∙ length-append (t.0).table.types ((c.grows).types).0 in
+    let longer : length (x.0).table.types ≡ length (t.0).table.types + length ((c.grows).types).0 =
+    ap length ((c.grows).types).1 ∙ length-append (t.0).table.types ((c.grows).types).0 in
     let scalar = subst IsScalarNode (sym (node_stays t.0 x.0 t.1 c.grows below)) (discriminator_scalar (node_at (t.0).table t.1) k.is) in
     (record { below = omega arith; scalar = scalar }, c.few scope, c.parts scope, c.below scope)
 
-pub union_grows : (at : ℕ) (s : Scope) (a b : List ℕ) (t : TypeRead) (x : CasesRead) (p : Placed) → switch_at at s a ≡ Ok t → cases_at at t.1 t.0 b ≡ Ok x → added at x.0 (union_node t.1 x) ≡ Ok p → Grows s p.0
+pub union_grows : (at : ℕ) (s : Scope) (a b : List ℕ) (t : TypeRead) (x : CasesRead) (p : Placed)
+    → switch_at at s a ≡ Ok t → cases_at at t.1 t.0 b ≡ Ok x
+    → added at x.0 (union_node t.1 x) ≡ Ok p → Grows s p.0
 union_grows at s a b t x p e f put =
     grows_on s t.0 p.0 (switch_taken at s a t e).grows (grows_on t.0 x.0 p.0 (cases_taken at t.1 t.0 b x f).grows (added_grows at x.0 (union_node t.1 x) p put))
 
 -- a union can be a part
-pub union_known : (at switch : ℕ) (x : CasesRead) (p : Placed) → added at x.0 (union_node switch x) ≡ Ok p → IsKnown (p.0).table.types p.1
-union_known at switch x p put = subst (λ (q : Placed). IsKnown (q.0).table.types q.1) (sym (added_is at x.0 (union_node switch x) p put)) (node_known x.0 (union_node switch x) tt)
+pub union_known : (at switch : ℕ) (x : CasesRead) (p : Placed)
+    → added at x.0 (union_node switch x) ≡ Ok p → IsKnown (p.0).table.types p.1
+union_known at switch x p put =
+    subst (λ (q : Placed). IsKnown (q.0).table.types q.1) (sym (added_is at x.0 (union_node switch x) p put)) (node_known x.0 (union_node switch x) tt)
 
 -- ---- the declaration
 
 -- a union that was read is spelled so
-pub union_takes : (s : Scope) (whole text : List ℕ) (x : Declared) → Takes whole (word (codes "union")) text → union_at s text ≡ Ok x → TakenDeclaration s whole x
+pub union_takes : (s : Scope) (whole text : List ℕ) (x : Declared)
+    → Takes whole (word (codes "union")) text → union_at s text ≡ Ok x → TakenDeclaration s whole x
 unfolding union_at OfDeclaration
 union_takes s whole text x before e =
     let at = left_of text in
     let d = bind_ok (declared_at s s.table.declared text)
-    (λ d. keyword_at (codes "switch") d.1 >>= λ w. mark_at marks.OpenParenthesis w >>= λ b. switch_at at s b >>= λ t. mark_at marks.CloseParenthesis t.2 >>= λ q. mark_at marks.OpenBrace q >>= λ o. cases_at at t.1 t.0 o >>= λ cs. mark_at marks.Semicolon cs.2
+    (λ d. keyword_at (codes "switch") d.1 >>= λ w. mark_at marks.OpenParenthesis w >>= λ b. switch_at at s b >>= λ t. mark_at marks.CloseParenthesis t.2
+    >>= λ q. mark_at marks.OpenBrace q >>= λ o. cases_at at t.1 t.0 o >>= λ cs. mark_at marks.Semicolon cs.2
     >>= λ r. added at cs.0 (union_node t.1 cs) >>= λ u. Ok (with_named d.0 u, r)) x e in
     let n = (d.0).0 in
     let w = bind_ok (keyword_at (codes "switch") (d.0).1)
-    (λ w. mark_at marks.OpenParenthesis w >>= λ b. switch_at at s b >>= λ t. mark_at marks.CloseParenthesis t.2 >>= λ q. mark_at marks.OpenBrace q >>= λ o. cases_at at t.1 t.0 o >>= λ cs. mark_at marks.Semicolon cs.2
+    (λ w. mark_at marks.OpenParenthesis w >>= λ b. switch_at at s b >>= λ t. mark_at marks.CloseParenthesis t.2 >>= λ q. mark_at marks.OpenBrace q
+    >>= λ o. cases_at at t.1 t.0 o >>= λ cs. mark_at marks.Semicolon cs.2
     >>= λ r. added at cs.0 (union_node t.1 cs) >>= λ u. Ok (with_named n u, r)) x d.2 in
     let b = bind_ok (mark_at marks.OpenParenthesis w.0)
-    (λ b. switch_at at s b >>= λ t. mark_at marks.CloseParenthesis t.2 >>= λ q. mark_at marks.OpenBrace q >>= λ o. cases_at at t.1 t.0 o >>= λ cs. mark_at marks.Semicolon cs.2
+    (λ b. switch_at at s b >>= λ t. mark_at marks.CloseParenthesis t.2 >>= λ q. mark_at marks.OpenBrace q >>= λ o. cases_at at t.1 t.0 o
+    >>= λ cs. mark_at marks.Semicolon cs.2
     >>= λ r. added at cs.0 (union_node t.1 cs) >>= λ u. Ok (with_named n u, r)) x w.2 in
     let t = bind_ok (switch_at at s b.0)
-    (λ t. mark_at marks.CloseParenthesis t.2 >>= λ q. mark_at marks.OpenBrace q >>= λ o. cases_at at t.1 t.0 o >>= λ cs. mark_at marks.Semicolon cs.2 >>= λ r. added at cs.0 (union_node t.1 cs) >>= λ u. Ok (with_named n u, r)) x b.2 in
+    (λ t. mark_at marks.CloseParenthesis t.2 >>= λ q. mark_at marks.OpenBrace q >>= λ o. cases_at at t.1 t.0 o >>= λ cs. mark_at marks.Semicolon cs.2
+    >>= λ r. added at cs.0 (union_node t.1 cs) >>= λ u. Ok (with_named n u, r)) x b.2 in
     let q = bind_ok (mark_at marks.CloseParenthesis (t.0).2)
-    (λ q. mark_at marks.OpenBrace q >>= λ o. cases_at at (t.0).1 (t.0).0 o >>= λ cs. mark_at marks.Semicolon cs.2 >>= λ r. added at cs.0 (union_node (t.0).1 cs) >>= λ u. Ok (with_named n u, r)) x t.2 in
-    let o = bind_ok (mark_at marks.OpenBrace q.0) (λ o. cases_at at (t.0).1 (t.0).0 o >>= λ cs. mark_at marks.Semicolon cs.2 >>= λ r. added at cs.0 (union_node (t.0).1 cs) >>= λ u. Ok (with_named n u, r)) x q.2 in
-    let cs = bind_ok (cases_at at (t.0).1 (t.0).0 o.0) (λ cs. mark_at marks.Semicolon cs.2 >>= λ r. added at cs.0 (union_node (t.0).1 cs) >>= λ u. Ok (with_named n u, r)) x o.2 in
+    (λ q. mark_at marks.OpenBrace q >>= λ o. cases_at at (t.0).1 (t.0).0 o >>= λ cs. mark_at marks.Semicolon cs.2 >>= λ r. added at cs.0 (union_node (t.0).1 cs)
+    >>= λ u. Ok (with_named n u, r)) x t.2 in
+    let o = bind_ok (mark_at marks.OpenBrace q.0) (λ o. cases_at at (t.0).1 (t.0).0 o >>= λ cs. mark_at marks.Semicolon cs.2
+    >>= λ r. added at cs.0 (union_node (t.0).1 cs) >>= λ u. Ok (with_named n u, r)) x q.2 in
+    let cs = bind_ok (cases_at at (t.0).1 (t.0).0 o.0)
+    (λ cs. mark_at marks.Semicolon cs.2 >>= λ r. added at cs.0 (union_node (t.0).1 cs) >>= λ u. Ok (with_named n u, r)) x o.2 in
     let r = bind_ok (mark_at marks.Semicolon (cs.0).2) (λ r. added at (cs.0).0 (union_node (t.0).1 cs.0) >>= λ u. Ok (with_named n u, r)) x cs.2 in
     let u = bind_ok (added at (cs.0).0 (union_node (t.0).1 cs.0)) (λ u. Ok (with_named n u, r.0)) x r.2 in
     let a = declared_takes s s.table.declared text d.0 d.1 in

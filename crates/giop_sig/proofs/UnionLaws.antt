@@ -19,42 +19,56 @@ use Rattle.giop_sig.specs.Validity.{OfItem, OfLabels, OfCases}
 use Rattle.giop_sig.specs.ItemReading.{item_at}
 use Rattle.giop_sig.specs.Repeats.{in_steps}
 use Rattle.giop_sig.specs.UnionReading.{labels_at, Cases, chosen, with_case, CasesRead, case_at, cases_step, too_many_cases}
-use Rattle.giop_sig.proofs.PlaceLaws.{deepest, size, item_deeper, item_longer, item_names}
+use Rattle.giop_sig.proofs.PlaceLaws.{size, within_same, within_on, Grown, item_more, item_names}
 use Rattle.giop_sig.proofs.ReadingLaws.{Out, good, out_bind, out_more, if_apart}
 use Rattle.giop_sig.proofs.TypeTaken.{Grows, grows_none, grows_on, node_grows}
 use Rattle.giop_sig.proofs.ItemLaws.{item_reads}
 use Rattle.giop_sig.proofs.LabelLaws.{IsKept}
-use Rattle.giop_sig.proofs.LabelReads.{marks_of, labelled, type_no_label, labels_reads, labels_kept, labels_few}
+use Rattle.giop_sig.proofs.LabelReads.{marks_of, labelled, type_no_label, labels_reads}
+use Rattle.giop_sig.proofs.LabelsKept.{labels_kept, labels_few}
 
 -- ---- a case
 
 -- what is kept of cases with these labels
 abbrev pub kept_cases : Node → List Label → List (List ℕ) → List Case → Selected → Cases
-kept_cases node labels names cases otherwise = record { labels = marks_of node labels; names = names; cases = cases; otherwise = otherwise }
+kept_cases node labels names cases otherwise =
+    record { labels = marks_of node labels; names = names; cases = cases; otherwise = otherwise }
 
 -- and of a case more
-abbrev pub more_cases : Node → Scope → List Label → List (List ℕ) → List Case → Selected → UnionCase → Cases
+abbrev pub more_cases : Node → Scope → List Label → List (List ℕ) → List Case
+    → Selected → UnionCase → Cases
 more_cases node s labels names cases otherwise c =
-    kept_cases node (labels ++ labels_of c) (names ++ c.item.name ∷ []) (cases ++ union_case node c (place_item s c.item) ∷ []) (chosen otherwise (has_default (labels_of c)) (length names))
+    kept_cases node (labels ++ labels_of c) (names ++ c.item.name ∷ [])
+    (cases ++ union_case node c (place_item s c.item) ∷ [])
+    (chosen otherwise (has_default (labels_of c)) (length names))
 
-case_reads : (at switch : ℕ) (node : Node) (s : Scope) (labels : List Label) (names : List (List ℕ)) (cases : List Case) (otherwise : Selected) (c : UnionCase) (text : List ℕ) (more : List Token)
-    → node_at s.table switch ≡ node → 0 < size s → AllByRecursion (IsKept node) labels → length labels ≤ 1024 → OfLabels kinds.Syntax node labels (labels_of c) → OfItem kinds.Syntax s.names 256 names c.item
+case_reads : (at switch : ℕ) (node : Node) (s : Scope) (labels : List Label) (names : List (List ℕ))
+    (cases : List Case) (otherwise : Selected) (c : UnionCase) (text : List ℕ) (more : List Token)
+    → node_at s.table switch ≡ node → 0 < size s → AllByRecursion (IsKept node) labels
+    → length labels ≤ 1024 → OfLabels kinds.Syntax node labels (labels_of c)
+    → OfItem kinds.Syntax s.names 256 names c.item
     → AreTokens text (spell_labels (labels_of c) (spell_item c.item (mark marks.Semicolon ∷ more)))
-    → Out {X = CasesRead} (λ rest. ((place_item s c.item).0, more_cases node s labels names cases otherwise c, rest)) (λ k. OfLabels k node labels (labels_of c) × OfItem k s.names 256 names c.item) (place_item s c.item).0.table.types more
+    → Out {X = CasesRead} (λ rest.
+    ((place_item s c.item).0, more_cases node s labels names cases otherwise c, rest))
+    (λ k. OfLabels k node labels (labels_of c) × OfItem k s.names 256 names c.item)
+    (place_item s c.item).0.table.types more
     (case_at at switch (s, kept_cases node labels names cases otherwise, text))
 unfolding case_at
 case_reads at switch node s labels names cases otherwise c text more same some all few free item h =
     let before = kept_cases node labels names cases otherwise in
     let tail = mark marks.Semicolon ∷ more in
     rw same
-    (out_bind (labels_at node (marks_of node labels) text) (λ ls. item_at at 256 names s ls.3 >>= λ i. mark_at marks.Semicolon i.2 >>= λ rest. Ok (i.0, with_case before ls i.1, rest))
-    (labels_reads node labels c.label c.others text s.table.types (spell_item c.item tail) (λ rest m. type_no_label c.item.type s.names rest (word c.item.name ∷ spell_length c.item.length tail) item.0 m) all few free h)
+    (out_bind (labels_at node (marks_of node labels) text)
+    (λ ls. item_at at 256 names s ls.3 >>= λ i. mark_at marks.Semicolon i.2 >>= λ rest. Ok (i.0, with_case before ls i.1, rest))
+    (labels_reads node labels c.label c.others text s.table.types (spell_item c.item tail)
+    (λ rest m. type_no_label c.item.type s.names rest (word c.item.name ∷ spell_length c.item.length tail) item.0 m) all few free h)
     (λ a ta ka.
-    out_bind (item_at at 256 names s a) (λ i. mark_at marks.Semicolon i.2 >>= λ rest. Ok (i.0, with_case before (labelled node labels [] false (labels_of c) a) i.1, rest))
+    out_bind (item_at at 256 names s a) (λ i. mark_at marks.Semicolon i.2
+    >>= λ rest. Ok (i.0, with_case before (labelled node labels [] false (labels_of c) a) i.1, rest))
     (item_reads at 256 names s c.item a tail some item refl ta)
     (λ b tb kb. rw (mark_again marks.Semicolon b more tb) (good tb.0 tb.2 (λ k. (ka k, kb k))))
-    (λ k w. w.1) (omega arith))
-    (λ k w. w.0) (item_deeper s c.item))
+    (λ k w. w.1) within_same)
+    (λ k w. w.0) (item_more s c.item))
 
 -- ---- the table only grows
 
@@ -75,54 +89,88 @@ length_grows s (Some n) p g = grows_on s p.0 (place_length (Some n) p).0 g (node
 pub item_grows : (s : Scope) (i : Item) → Grows s (place_item s i).0
 item_grows s i = length_grows s i.length (place s i.type) (place_grows s i.type)
 
-pub node_stays : (s t : Scope) (i : ℕ) → Grows s t → i < size s → node_at t.table i ≡ node_at s.table i
+pub node_stays : (s t : Scope) (i : ℕ) → Grows s t → i < size s
+    → node_at t.table i ≡ node_at s.table i
 node_stays s t i g lt = ap (λ types. node_in types i) (g.types).1 ∙ get_or_append_left s.table.types (g.types).0 (nodes.prim prims.Octet) i lt
 
 -- ---- cases, one after the other
 
 -- what is kept behind some cases more
-unfoldable pub made_cases : Node → Scope → List Label → List (List ℕ) → List Case → Selected → List UnionCase → Scope × Cases
-made_cases node s labels names cases otherwise [] = (s, kept_cases node labels names cases otherwise)
+unfoldable pub made_cases : Node → Scope → List Label → List (List ℕ) → List Case → Selected
+    → List UnionCase → Scope × Cases
+made_cases node s labels names cases otherwise [] =
+    (s, kept_cases node labels names cases otherwise)
 made_cases node s labels names cases otherwise (c ∷ cs) =
-    made_cases node (place_item s c.item).0 (labels ++ labels_of c) (names ++ c.item.name ∷ []) (cases ++ union_case node c (place_item s c.item) ∷ []) (chosen otherwise (has_default (labels_of c)) (length names)) cs
+    made_cases node (place_item s c.item).0 (labels ++ labels_of c) (names ++ c.item.name ∷ [])
+    (cases ++ union_case node c (place_item s c.item) ∷ [])
+    (chosen otherwise (has_default (labels_of c)) (length names)) cs
 
-pub made_deeper : (node : Node) (s : Scope) (labels : List Label) (names : List (List ℕ)) (cases : List Case) (otherwise : Selected) (cs : List UnionCase) → deepest s ≤ deepest (made_cases node s labels names cases otherwise cs).0
+pub made_more : (node : Node) (s : Scope) (labels : List Label)
+    (names : List (List ℕ)) (cases : List Case)
+    (otherwise : Selected) (cs : List UnionCase)
+    → Grown s (made_cases node s labels names cases otherwise cs).0
 unfolding made_cases
-made_deeper node s labels names cases otherwise [] = omega arith
-made_deeper node s labels names cases otherwise (c ∷ cs) =
-    omega (arith, item_deeper s c.item, made_deeper node (place_item s c.item).0 (labels ++ labels_of c) (names ++ c.item.name ∷ []) (cases ++ union_case node c (place_item s c.item) ∷ []) (chosen otherwise (has_default (labels_of c)) (length names)) cs)
+made_more node s labels names cases otherwise [] = within_same
+made_more node s labels names cases otherwise (c ∷ cs) =
+    within_on (item_more s c.item)
+    (made_more node (place_item s c.item).0 (labels ++ labels_of c) (names ++ c.item.name ∷ [])
+    (cases ++ union_case node c (place_item s c.item) ∷ [])
+    (chosen otherwise (has_default (labels_of c)) (length names)) cs)
 
-step_end : (at switch : ℕ) (x : CasesRead) (rest : List ℕ) → mark_if marks.CloseBrace x.2 ≡ Ok (Some rest) → cases_step at switch x ≡ Ok (true, (x.0, x.1, rest))
+step_end : (at switch : ℕ) (x : CasesRead) (rest : List ℕ)
+    → mark_if marks.CloseBrace x.2 ≡ Ok (Some rest)
+    → cases_step at switch x ≡ Ok (true, (x.0, x.1, rest))
 unfolding cases_step
 step_end at switch x rest h = rw h refl
 
-step_on : (at switch : ℕ) (x : CasesRead) → mark_if marks.CloseBrace x.2 ≡ Ok None → cases_step at switch x ≡ (case_at at switch x >>= λ c. Ok (false, c))
+step_on : (at switch : ℕ) (x : CasesRead) → mark_if marks.CloseBrace x.2 ≡ Ok None
+    → cases_step at switch x ≡ (case_at at switch x >>= λ c. Ok (false, c))
 unfolding cases_step
 step_on at switch x h = rw h refl
 
-pub labels_apart : (l : Label) (ls : List Label) (text : List ℕ) (more : List Token) → AreTokens text (spell_labels (l ∷ ls) more) → mark_if marks.CloseBrace text ≡ Ok None
+pub labels_apart : (l : Label) (ls : List Label) (text : List ℕ) (more : List Token)
+    → AreTokens text (spell_labels (l ∷ ls) more) → mark_if marks.CloseBrace text ≡ Ok None
 labels_apart Default ls text more h = if_apart marks.CloseBrace text (spell_labels (Default ∷ ls) more) refl h
 labels_apart (Of v) ls text more h = if_apart marks.CloseBrace text (spell_labels (Of v ∷ ls) more) refl h
 
 abbrev pub then_cases : ℕ → ℕ → ℕ → Bool × CasesRead → Result CasesRead Refusal
-then_cases at switch left x = cond x.0 (Ok x.1) (in_steps (cases_step at switch) too_many_cases left x.1)
+then_cases at switch left x =
+    cond x.0 (Ok x.1) (in_steps (cases_step at switch) too_many_cases left x.1)
 
-case_step_reads : (at switch : ℕ) (node : Node) (s : Scope) (labels : List Label) (names : List (List ℕ)) (cases : List Case) (otherwise : Selected) (c : UnionCase) (text : List ℕ) (more : List Token)
-    → node_at s.table switch ≡ node → 0 < size s → AllByRecursion (IsKept node) labels → length labels ≤ 1024 → OfLabels kinds.Syntax node labels (labels_of c) → OfItem kinds.Syntax s.names 256 names c.item
+case_step_reads : (at switch : ℕ) (node : Node) (s : Scope) (labels : List Label)
+    (names : List (List ℕ)) (cases : List Case) (otherwise : Selected) (c : UnionCase)
+    (text : List ℕ) (more : List Token)
+    → node_at s.table switch ≡ node → 0 < size s → AllByRecursion (IsKept node) labels
+    → length labels ≤ 1024 → OfLabels kinds.Syntax node labels (labels_of c)
+    → OfItem kinds.Syntax s.names 256 names c.item
     → AreTokens text (spell_labels (labels_of c) (spell_item c.item (mark marks.Semicolon ∷ more)))
-    → Out {X = Bool × CasesRead} (λ rest. (false, ((place_item s c.item).0, more_cases node s labels names cases otherwise c, rest))) (λ k. OfLabels k node labels (labels_of c) × OfItem k s.names 256 names c.item) (place_item s c.item).0.table.types more
+    → Out {X = Bool × CasesRead} (λ rest.
+    (false, ((place_item s c.item).0, more_cases node s labels names cases otherwise c, rest)))
+    (λ k. OfLabels k node labels (labels_of c) × OfItem k s.names 256 names c.item)
+    (place_item s c.item).0.table.types more
     (cases_step at switch (s, kept_cases node labels names cases otherwise, text))
 case_step_reads at switch node s labels names cases otherwise c text more same some all few free item h =
     let x : CasesRead = (s, kept_cases node labels names cases otherwise, text) in
     rw (step_on at switch x (labels_apart c.label c.others text (spell_item c.item (mark marks.Semicolon ∷ more)) h))
     (out_bind (case_at at switch x) (λ c. Ok (false, c)) (case_reads at switch node s labels names cases otherwise c text more same some all few free item h)
-    (λ rest m keeps. good rest m keeps) (λ k w. w) (omega arith))
+    (λ rest m keeps. good rest m keeps) (λ k w. w) within_same)
 
-pub cases_run : (cs : List UnionCase) (left at switch : ℕ) (node : Node) (known : Names) (s : Scope) (labels : List Label) (names : List (List ℕ)) (cases : List Case) (otherwise : Selected) (text : List ℕ) (more : List Token)
-    → s.names ≡ known → 0 < size s → switch < size s → node_at s.table switch ≡ node → AllByRecursion (IsKept node) labels → length labels ≤ 1024 → left + length names ≡ 257 → length names ≤ 256
+pub cases_run : (cs : List UnionCase) (left at switch : ℕ) (node : Node) (known : Names) (s : Scope)
+    (labels : List Label) (names : List (List ℕ)) (cases : List Case) (otherwise : Selected)
+    (text : List ℕ) (more : List Token)
+    → s.names ≡ known → 0 < size s → switch < size s → node_at s.table switch ≡ node
+    → AllByRecursion (IsKept node) labels → length labels ≤ 1024
+    → left + length names ≡ 257 → length names ≤ 256
     → OfCases kinds.Syntax known node labels names cs → AreTokens text (spell_cases cs more)
-    → Out {X = CasesRead} (λ rest. ((made_cases node s labels names cases otherwise cs).0, (made_cases node s labels names cases otherwise cs).1, rest)) (λ k. OfCases k known node labels names cs)
-    (made_cases node s labels names cases otherwise cs).0.table.types more (in_steps (cases_step at switch) too_many_cases left (s, kept_cases node labels names cases otherwise, text))
+    → Out {X = CasesRead} (λ rest. (
+      (made_cases node s labels names cases otherwise cs).0,
+      (made_cases node s labels names cases otherwise cs).1,
+      rest,
+    ))
+    (λ k. OfCases k known node labels names cs)
+    (made_cases node s labels names cases otherwise cs).0.table.types more
+    (in_steps (cases_step at switch) too_many_cases left
+    (s, kept_cases node labels names cases otherwise, text))
 unfolding in_steps OfCases made_cases
 cases_run [] zero at switch node known s labels names cases otherwise text more at-names some below same all few room short free h = absurd (omega arith)
 cases_run (c ∷ cs) zero at switch node known s labels names cases otherwise text more at-names some below same all few room short free h = absurd (omega arith)
@@ -131,17 +179,23 @@ cases_run [] (suc left) at switch node known s labels names cases otherwise text
 cases_run (c ∷ cs) (suc left) at switch node known s labels names cases otherwise text more at-names some below same all few room short free h =
     let t = (place_item s c.item).0 in
     let tail = spell_cases cs more in
-    let behind = made_cases node t (labels ++ labels_of c) (names ++ c.item.name ∷ []) (cases ++ union_case node c (place_item s c.item) ∷ []) (chosen otherwise (has_default (labels_of c)) (length names)) cs in
+    let behind = made_cases node t (labels ++ labels_of c) (names ++ c.item.name ∷ []) (cases ++ union_case node c (place_item s c.item) ∷ [])
+    (chosen otherwise (has_default (labels_of c)) (length names)) cs in
     out_bind (cases_step at switch (s, kept_cases node labels names cases otherwise, text)) (then_cases at switch left)
-    (case_step_reads at switch node s labels names cases otherwise c text tail same some all few free.0 (subst (λ ns. OfItem kinds.Syntax ns 256 names c.item) (sym at-names) free.1) h)
+    (case_step_reads at switch node s labels names cases otherwise c text tail same some all few free.0
+    (subst (λ ns. OfItem kinds.Syntax ns 256 names c.item) (sym at-names) free.1) h)
     (λ rest m keeps.
     let limit = keeps kinds.Limit in
     let fewer = ((limit.1).1).1 in
     out_more
-    (cases_run cs left at switch node known t (labels ++ labels_of c) (names ++ c.item.name ∷ []) (cases ++ union_case node c (place_item s c.item) ∷ []) (chosen otherwise (has_default (labels_of c)) (length names)) rest more
-    (item_names s c.item ∙ at-names) (omega (arith, item_longer s c.item)) (omega (arith, item_longer s c.item)) (node_stays s t switch (item_grows s c.item) below ∙ same)
-    (labels_kept node (labels_of c) labels text (spell_item c.item (mark marks.Semicolon ∷ tail)) h (keeps kinds.Label).0 all) (labels_few node (labels_of c) labels few limit.0)
+    (cases_run cs left at switch node known t (labels ++ labels_of c) (names ++ c.item.name ∷ []) (cases ++ union_case node c (place_item s c.item) ∷ [])
+    (chosen otherwise (has_default (labels_of c)) (length names)) rest more
+    (item_names s c.item ∙ at-names) (omega (arith, (item_more s c.item).longer)) (omega (arith, (item_more s c.item).longer))
+    (node_stays s t switch (item_grows s c.item) below ∙ same)
+    (labels_kept node (labels_of c) labels text (spell_item c.item (mark marks.Semicolon ∷ tail)) h (keeps kinds.Label).0 all)
+    (labels_few node (labels_of c) labels few limit.0)
     (omega (arith, length-append names (c.item.name ∷ []))) (omega (arith, length-append names (c.item.name ∷ []))) free.2 m)
     (λ k w. ((keeps k).0, subst (λ ns. OfItem k ns 256 names c.item) at-names (keeps k).1, w)) (λ k w. w.2))
     (λ k w. (w.0, subst (λ ns. OfItem k ns 256 names c.item) (sym at-names) w.1))
-    (made_deeper node t (labels ++ labels_of c) (names ++ c.item.name ∷ []) (cases ++ union_case node c (place_item s c.item) ∷ []) (chosen otherwise (has_default (labels_of c)) (length names)) cs)
+    (made_more node t (labels ++ labels_of c) (names ++ c.item.name ∷ []) (cases ++ union_case node c (place_item s c.item) ∷ [])
+    (chosen otherwise (has_default (labels_of c)) (length names)) cs)

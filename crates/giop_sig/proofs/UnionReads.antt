@@ -20,12 +20,12 @@ use Rattle.giop_sig.specs.Outcomes.{refused}
 use Rattle.giop_sig.specs.TypeReading.{added, type_at}
 use Rattle.giop_sig.specs.ItemReading.{declared_at, filled_at, Declared}
 use Rattle.giop_sig.specs.UnionReading.{Cases, chosen, CasesRead, cases_at, can_switch, switch_at, union_at}
-use Rattle.giop_sig.proofs.PlaceLaws.{deepest, size, node_deeper, place_deeper, place_longer, place_names}
+use Rattle.giop_sig.proofs.PlaceLaws.{size, within_same, within_on, Grown, node_more, place_more, place_names}
 use Rattle.giop_sig.proofs.ReadingLaws.{Out, good, broken, out_bind, out_more, Apart}
 use Rattle.giop_sig.proofs.TypeLaws.{added_bind, placed, type_reads}
 use Rattle.giop_sig.proofs.ItemLaws.{declared_reads}
 use Rattle.giop_sig.proofs.EnumLaws.{out_as, some_cons}
-use Rattle.giop_sig.proofs.UnionLaws.{made_cases, made_deeper, labels_apart, cases_run}
+use Rattle.giop_sig.proofs.UnionLaws.{made_cases, made_more, labels_apart, cases_run}
 
 -- ---- what the cases make
 
@@ -35,11 +35,15 @@ default_or selecteds.Nothing i cs = default_from i cs
 default_or (selecteds.Case j) i cs = selecteds.Case j
 default_or selecteds.Refused i cs = selecteds.Refused
 
-default_by : (v : Bool) (i : ℕ) (cs : List UnionCase) → default_or (chosen selecteds.Nothing v i) (i + 1) cs ≡ cond v (selecteds.Case i) (default_from (i + 1) cs)
+default_by : (v : Bool) (i : ℕ) (cs : List UnionCase)
+    → default_or (chosen selecteds.Nothing v i) (i + 1) cs
+    ≡ cond v (selecteds.Case i) (default_from (i + 1) cs)
 default_by true i cs = refl
 default_by false i cs = refl
 
-default_on : (otherwise : Selected) (i : ℕ) (c : UnionCase) (cs : List UnionCase) → default_or (chosen otherwise (has_default (labels_of c)) i) (i + 1) cs ≡ default_or otherwise i (c ∷ cs)
+default_on : (otherwise : Selected) (i : ℕ) (c : UnionCase) (cs : List UnionCase)
+    → default_or (chosen otherwise (has_default (labels_of c)) i) (i + 1) cs
+    ≡ default_or otherwise i (c ∷ cs)
 default_on selecteds.Nothing i c cs = default_by (has_default (labels_of c)) i cs
 default_on (selecteds.Case j) i c cs = refl
 default_on selecteds.Refused i c cs = refl
@@ -50,14 +54,19 @@ default_end (selecteds.Case j) i = refl
 default_end selecteds.Refused i = refl
 
 -- what was kept of the cases is what they make
-record MakesCases (node : Node) (s : Scope) (cases : List Case) (otherwise : Selected) (place : ℕ) (cs : List UnionCase) (x : Scope × Cases) : Type 0 where
+record MakesCases (node : Node) (s : Scope) (cases : List Case) (otherwise : Selected) (place : ℕ)
+    (cs : List UnionCase) (x : Scope × Cases) : Type 0 where
   scope : x.0 ≡ (place_cases s node cs).0
   cases-are : (x.1).cases ≡ cases ++ (place_cases s node cs).1
   otherwise-is : (x.1).otherwise ≡ default_or otherwise place cs
 
-made_is : (cs : List UnionCase) (node : Node) (s : Scope) (labels : List Label) (names : List (List ℕ)) (cases : List Case) (otherwise : Selected) → MakesCases node s cases otherwise (length names) cs (made_cases node s labels names cases otherwise cs)
+made_is : (cs : List UnionCase) (node : Node) (s : Scope) (labels : List Label)
+    (names : List (List ℕ)) (cases : List Case) (otherwise : Selected)
+    → MakesCases node s cases otherwise (length names) cs
+    (made_cases node s labels names cases otherwise cs)
 unfolding made_cases place_cases
-made_is [] node s labels names cases otherwise = record { scope = refl; cases-are = sym (append-nil cases); otherwise-is = default_end otherwise (length names) }
+made_is [] node s labels names cases otherwise =
+    record { scope = refl; cases-are = sym (append-nil cases); otherwise-is = default_end otherwise (length names) }
 made_is (c ∷ cs) node s labels names cases otherwise =
     let t = (place_item s c.item).0 in
     let one = union_case node c (place_item s c.item) in
@@ -71,7 +80,8 @@ made_is (c ∷ cs) node s labels names cases otherwise =
 
 -- ---- all cases
 
-filled_end : (text rest : List ℕ) → mark_if marks.CloseBrace text ≡ Ok (Some rest) → filled_at text ≡ Err (refused kinds.Empty text)
+filled_end : (text rest : List ℕ) → mark_if marks.CloseBrace text ≡ Ok (Some rest)
+    → filled_at text ≡ Err (refused kinds.Empty text)
 unfolding filled_at
 filled_end text rest h = rw h refl
 
@@ -79,14 +89,24 @@ filled_on : (text : List ℕ) → mark_if marks.CloseBrace text ≡ Ok None → 
 unfolding filled_at
 filled_on text h = rw h refl
 
-cases_reads : (at switch : ℕ) (node : Node) (known : Names) (s : Scope) (cs : List UnionCase) (text : List ℕ) (more : List Token) → s.names ≡ known → 0 < size s → switch < size s → node_at s.table switch ≡ node → OfCases kinds.Syntax known node [] [] cs → AreTokens text (spell_cases cs more)
-    → Out {X = CasesRead} (λ rest. ((made_cases node s [] [] [] selecteds.Nothing cs).0, (made_cases node s [] [] [] selecteds.Nothing cs).1, rest)) (λ k. OfSome k cs × OfCases k known node [] [] cs)
+cases_reads : (at switch : ℕ) (node : Node) (known : Names) (s : Scope) (cs : List UnionCase)
+    (text : List ℕ) (more : List Token) → s.names ≡ known → 0 < size s → switch < size s
+    → node_at s.table switch ≡ node → OfCases kinds.Syntax known node [] [] cs
+    → AreTokens text (spell_cases cs more)
+    → Out {X = CasesRead} (λ rest. (
+      (made_cases node s [] [] [] selecteds.Nothing cs).0,
+      (made_cases node s [] [] [] selecteds.Nothing cs).1,
+      rest,
+    ))
+    (λ k. OfSome k cs × OfCases k known node [] [] cs)
     (made_cases node s [] [] [] selecteds.Nothing cs).0.table.types more (cases_at at switch s text)
 unfolding cases_at
-cases_reads at switch node known s [] text more names some below same free h = rw (filled_end text h.0 (mark_if_again marks.CloseBrace text more h)) (broken (refused kinds.Empty text) (λ k. k.0))
+cases_reads at switch node known s [] text more names some below same free h =
+    rw (filled_end text h.0 (mark_if_again marks.CloseBrace text more h)) (broken (refused kinds.Empty text) (λ k. k.0))
 cases_reads at switch node known s (c ∷ cs) text more names some below same free h =
     rw (filled_on text (labels_apart c.label c.others text (spell_item c.item (mark marks.Semicolon ∷ spell_cases cs more)) h))
-    (out_more (cases_run (c ∷ cs) 257 at switch node known s [] [] [] selecteds.Nothing text more names some below same tt (omega arith) refl (omega arith) free h)
+    (out_more (cases_run (c ∷ cs) 257 at switch node known s [] [] [] selecteds.Nothing text more names some below same tt (omega arith)
+    refl (omega arith) free h)
     (λ k w. (some_cons k c cs, w)) (λ k w. w.1))
 
 -- ---- the discriminator
@@ -147,24 +167,33 @@ switch_keeps node is kinds.Empty = tt
 switch_keeps node is kinds.OutOfMemory = tt
 
 -- what isn't in the table is no discriminator
-below_by : (s : Scope) (i : ℕ) (v : Bool) → ltb i (size s) ≡ v → IsDiscriminator (node_at s.table i) → i < size s
+below_by : (s : Scope) (i : ℕ) (v : Bool) → ltb i (size s) ≡ v
+    → IsDiscriminator (node_at s.table i) → i < size s
 below_by s i true e is = ltb-true i (size s) e
 below_by s i false e is = absurd (subst IsDiscriminator (get_or_past s.table.types i (nodes.prim prims.Octet) (ltb-false i (size s) e)) is)
 
 pub below_size : (s : Scope) (i : ℕ) → IsDiscriminator (node_at s.table i) → i < size s
 below_size s i is = below_by s i (ltb i (size s)) refl is
 
-switch_by : (s : Scope) (e : TypeExpr) (text rest : List ℕ) (more : List Token) (v : Bool) → can_switch (placed_node (place s e)) ≡ v → AreTokens rest more → ((k : Kind) → OfType k s.names e)
-    → Out (placed s e) (λ k. OfType k s.names e × OfSwitch k (placed_node (place s e))) (place s e).0.table.types more (cond v (Ok ((place s e).0, (place s e).1, rest)) (Err (refused kinds.Label text)))
+switch_by : (s : Scope) (e : TypeExpr) (text rest : List ℕ) (more : List Token) (v : Bool)
+    → can_switch (placed_node (place s e)) ≡ v → AreTokens rest more
+    → ((k : Kind) → OfType k s.names e)
+    → Out (placed s e) (λ k. OfType k s.names e × OfSwitch k (placed_node (place s e)))
+    (place s e).0.table.types more
+    (cond v (Ok ((place s e).0, (place s e).1, rest)) (Err (refused kinds.Label text)))
 switch_by s e text rest more true p m keeps = good rest m (λ k. (keeps k, switch_keeps (placed_node (place s e)) (discriminates (placed_node (place s e)) p) k))
 switch_by s e text rest more false p m keeps = broken (refused kinds.Label text) (λ k. no_discriminator (placed_node (place s e)) p k.1)
 
-switch_reads : (at : ℕ) (s : Scope) (e : TypeExpr) (text : List ℕ) (more : List Token) → 0 < size s → OfType kinds.Syntax s.names e → Apart marks.OpenAngle more → AreTokens text (spell_type e more)
-    → Out (placed s e) (λ k. OfType k s.names e × OfSwitch k (placed_node (place s e))) (place s e).0.table.types more (switch_at at s text)
+switch_reads : (at : ℕ) (s : Scope) (e : TypeExpr) (text : List ℕ) (more : List Token) → 0 < size s
+    → OfType kinds.Syntax s.names e → Apart marks.OpenAngle more
+    → AreTokens text (spell_type e more)
+    → Out (placed s e) (λ k. OfType k s.names e × OfSwitch k (placed_node (place s e)))
+    (place s e).0.table.types more (switch_at at s text)
 unfolding switch_at
 switch_reads at s e text more some free apart h =
-    out_bind (type_at at 25 s text) (λ t. cond (can_switch (node_at (t.0).table t.1)) (Ok t) (Err (refused kinds.Label text))) (type_reads at s e text more some free apart h)
-    (λ rest m keeps. switch_by s e text rest more (can_switch (placed_node (place s e))) refl m keeps) (λ k w. w.0) (omega arith)
+    out_bind (type_at at 25 s text) (λ t. cond (can_switch (node_at (t.0).table t.1)) (Ok t) (Err (refused kinds.Label text)))
+    (type_reads at s e text more some free apart h)
+    (λ rest m keeps. switch_by s e text rest more (can_switch (placed_node (place s e))) refl m keeps) (λ k w. w.0) within_same
 
 -- ---- a union
 
@@ -172,17 +201,29 @@ switch_reads at s e text more some free apart h =
 abbrev kept_union : ℕ → Scope × Cases → Placed
 kept_union switch x = with_node x.0 (nodes.union switch (x.1).cases (x.1).otherwise)
 
-kept_is : (cs : List UnionCase) (p : Placed) (node : Node) → node_at (p.0).table p.1 ≡ node → kept_union p.1 (made_cases node p.0 [] [] [] selecteds.Nothing cs) ≡ place_choice cs p
+kept_is : (cs : List UnionCase) (p : Placed) (node : Node) → node_at (p.0).table p.1 ≡ node
+    → kept_union p.1 (made_cases node p.0 [] [] [] selecteds.Nothing cs) ≡ place_choice cs p
 kept_is cs p node same =
     let k = made_is cs node p.0 [] [] [] selecteds.Nothing in
     let x = place_cases p.0 node cs in
-    let one : kept_union p.1 (made_cases node p.0 [] [] [] selecteds.Nothing cs) ≡ with_node x.0 (nodes.union p.1 x.1 (default_from 0 cs)) = rw (k.scope, k.cases-are, k.otherwise-is) refl in
+    let one : kept_union p.1 (made_cases node p.0 [] [] [] selecteds.Nothing cs) ≡ with_node x.0 (nodes.union p.1 x.1 (default_from 0 cs)) =
+    rw (k.scope, k.cases-are, k.otherwise-is) refl in
     one ∙ ap (λ n. with_node (place_cases p.0 n cs).0 (nodes.union p.1 (place_cases p.0 n cs).1 (default_from 0 cs))) (sym same)
 
-choice_reads : (n : List ℕ) (switch : TypeExpr) (cases : List UnionCase) (s : Scope) (text : List ℕ) (more : List Token) → 0 < size s → OfDeclaration kinds.Syntax s (Choice n switch cases)
-    → AreTokens text (word n ∷ word (codes "switch") ∷ mark marks.OpenParenthesis ∷ spell_type switch (mark marks.CloseParenthesis ∷ mark marks.OpenBrace ∷ spell_cases cases (mark marks.Semicolon ∷ more)))
-    → Out {X = Declared} (λ rest. (with_named n (kept_union (place s switch).1 (made_cases (placed_node (place s switch)) (place s switch).0 [] [] [] selecteds.Nothing cases)), rest)) (λ k. OfDeclaration k s (Choice n switch cases))
-    (kept_union (place s switch).1 (made_cases (placed_node (place s switch)) (place s switch).0 [] [] [] selecteds.Nothing cases)).0.table.types more (union_at s text)
+choice_reads : (n : List ℕ) (switch : TypeExpr) (cases : List UnionCase) (s : Scope) (text : List ℕ)
+    (more : List Token) → 0 < size s → OfDeclaration kinds.Syntax s (Choice n switch cases)
+    → AreTokens text (word n ∷ word (codes "switch") ∷ mark marks.OpenParenthesis
+    ∷ spell_type switch (mark marks.CloseParenthesis ∷ mark marks.OpenBrace
+    ∷ spell_cases cases (mark marks.Semicolon ∷ more)))
+    → Out {X = Declared} (λ rest. (
+      with_named n (kept_union (place s switch).1
+          (made_cases (placed_node (place s switch)) (place s switch).0 [] [] [] selecteds.Nothing
+          cases)),
+      rest,
+    )) (λ k. OfDeclaration k s (Choice n switch cases))
+    (kept_union (place s switch).1
+    (made_cases (placed_node (place s switch)) (place s switch).0 [] [] [] selecteds.Nothing
+    cases)).0.table.types more (union_at s text)
 unfolding union_at OfDeclaration
 choice_reads n switch cases s text more some free h =
     let at = left_of text in
@@ -192,32 +233,48 @@ choice_reads n switch cases s text more some free h =
     let whole = nodes.union p.1 (m.1).cases (m.1).otherwise in
     let inner = spell_cases cases (mark marks.Semicolon ∷ more) in
     let body = mark marks.CloseParenthesis ∷ mark marks.OpenBrace ∷ inner in
-    let deep = made_deeper node p.0 [] [] [] selecteds.Nothing cases in
+    let made = within_on (made_more node p.0 [] [] [] selecteds.Nothing cases) (node_more m.0 whole) in
     out_bind (declared_at s s.table.declared text)
-    (λ d. keyword_at (codes "switch") d.1 >>= λ w. mark_at marks.OpenParenthesis w >>= λ b. switch_at at s b >>= λ t. mark_at marks.CloseParenthesis t.2 >>= λ q. mark_at marks.OpenBrace q >>= λ o. cases_at at t.1 t.0 o >>= λ cs. mark_at marks.Semicolon cs.2
+    (λ d. keyword_at (codes "switch") d.1 >>= λ w. mark_at marks.OpenParenthesis w >>= λ b. switch_at at s b >>= λ t. mark_at marks.CloseParenthesis t.2
+    >>= λ q. mark_at marks.OpenBrace q >>= λ o. cases_at at t.1 t.0 o >>= λ cs. mark_at marks.Semicolon cs.2
     >>= λ r. added at cs.0 (nodes.union t.1 (cs.1).cases (cs.1).otherwise) >>= λ u. Ok (with_named d.0 u, r))
     (declared_reads s.table.types s s.table.declared text n (word (codes "switch") ∷ mark marks.OpenParenthesis ∷ spell_type switch body) free.0 h)
     (λ a ta ka.
-    rw (keyword_again (codes "switch") a (mark marks.OpenParenthesis ∷ spell_type switch body) ta, mark_again marks.OpenParenthesis ta.0 (spell_type switch body) ta.2)
+    rw (
+      keyword_again (codes "switch") a (mark marks.OpenParenthesis ∷ spell_type switch body) ta,
+      mark_again marks.OpenParenthesis ta.0 (spell_type switch body) ta.2,
+    )
     (out_bind (switch_at at s (ta.2).0)
-    (λ t. mark_at marks.CloseParenthesis t.2 >>= λ q. mark_at marks.OpenBrace q >>= λ o. cases_at at t.1 t.0 o >>= λ cs. mark_at marks.Semicolon cs.2 >>= λ r. added at cs.0 (nodes.union t.1 (cs.1).cases (cs.1).otherwise) >>= λ u. Ok (with_named n u, r))
+    (λ t. mark_at marks.CloseParenthesis t.2 >>= λ q. mark_at marks.OpenBrace q >>= λ o. cases_at at t.1 t.0 o >>= λ cs. mark_at marks.Semicolon cs.2
+    >>= λ r. added at cs.0 (nodes.union t.1 (cs.1).cases (cs.1).otherwise) >>= λ u. Ok (with_named n u, r))
     (switch_reads at s switch (ta.2).0 body some free.1 refl (ta.2).2)
     (λ b tb kb.
     let below = below_size p.0 p.1 (kb kinds.Label).1 in
     rw (mark_again marks.CloseParenthesis b (mark marks.OpenBrace ∷ inner) tb, mark_again marks.OpenBrace tb.0 inner tb.2)
-    (out_bind (cases_at at p.1 p.0 (tb.2).0) (λ cs. mark_at marks.Semicolon cs.2 >>= λ r. added at cs.0 (nodes.union p.1 (cs.1).cases (cs.1).otherwise) >>= λ u. Ok (with_named n u, r))
-    (cases_reads at p.1 node s.names p.0 cases (tb.2).0 (mark marks.Semicolon ∷ more) (place_names s switch) (omega (arith, place_longer s switch)) below refl free.4 (tb.2).2)
-    (λ c tc kc. rw (mark_again marks.Semicolon c more tc) (added_bind at m.0 whole (λ u. Ok (with_named n u, tc.0)) (omega arith) (good tc.0 tc.2 (λ k. (ka k, (kb k).0, (kb k).1, (kc k).0, (kc k).1)))))
-    (λ k w. (w.3, w.4)) (node_deeper m.0 whole)))
-    (λ k w. (w.1, w.2)) (omega (arith, deep, node_deeper m.0 whole))))
-    (λ k w. w.0) (omega (arith, place_deeper s switch, deep, node_deeper m.0 whole))
+    (out_bind (cases_at at p.1 p.0 (tb.2).0) (λ cs. mark_at marks.Semicolon cs.2 >>= λ r. added at cs.0 (nodes.union p.1 (cs.1).cases (cs.1).otherwise)
+    >>= λ u. Ok (with_named n u, r))
+    (cases_reads at p.1 node s.names p.0 cases (tb.2).0 (mark marks.Semicolon ∷ more) (place_names s switch) (omega (arith, (place_more s switch).longer))
+    below refl free.4 (tb.2).2)
+    (λ c tc kc. rw (mark_again marks.Semicolon c more tc)
+    (added_bind at m.0 whole (λ u. Ok (with_named n u, tc.0)) within_same (good tc.0 tc.2 (λ k. (ka k, (kb k).0, (kb k).1, (kc k).0, (kc k).1)))))
+    (λ k w. (w.3, w.4)) (node_more m.0 whole)))
+    (λ k w. (w.1, w.2)) made))
+    (λ k w. w.0) (within_on (place_more s switch) made)
 
 -- what reading gives of a text that begins with a union, behind its word
-pub union_reads : (s : Scope) (n : List ℕ) (switch : TypeExpr) (cases : List UnionCase) (text : List ℕ) (more : List Token) → 0 < size s → OfDeclaration kinds.Syntax s (Choice n switch cases)
-    → AreTokens text (word n ∷ word (codes "switch") ∷ mark marks.OpenParenthesis ∷ spell_type switch (mark marks.CloseParenthesis ∷ mark marks.OpenBrace ∷ spell_cases cases (mark marks.Semicolon ∷ more)))
-    → Out (λ rest. (declare s (Choice n switch cases), rest)) (λ k. OfDeclaration k s (Choice n switch cases)) (declare s (Choice n switch cases)).table.types more (union_at s text)
+pub union_reads : (s : Scope) (n : List ℕ) (switch : TypeExpr) (cases : List UnionCase)
+    (text : List ℕ) (more : List Token) → 0 < size s
+    → OfDeclaration kinds.Syntax s (Choice n switch cases)
+    → AreTokens text (word n ∷ word (codes "switch") ∷ mark marks.OpenParenthesis
+    ∷ spell_type switch (mark marks.CloseParenthesis ∷ mark marks.OpenBrace
+    ∷ spell_cases cases (mark marks.Semicolon ∷ more)))
+    → Out (λ rest. (declare s (Choice n switch cases), rest))
+    (λ k. OfDeclaration k s (Choice n switch cases))
+    (declare s (Choice n switch cases)).table.types more (union_at s text)
 unfolding declare
 union_reads s n switch cases text more some free h =
     let p = place s switch in
     let same = kept_is cases p (placed_node p) refl in
-    out_as (union_at s text) (choice_reads n switch cases s text more some free h) (λ rest. ap (λ (q : Placed). (with_named n q, rest)) same) (λ k w. w) (λ k w. w) (omega (arith, ap (λ (q : Placed). deepest q.0) same))
+    out_as (union_at s text) (choice_reads n switch cases s text more some free h)
+    (λ rest. ap (λ (q : Placed). (with_named n q, rest)) same) (λ k w. w) (λ k w. w)
+    (subst (λ (q : Placed). Grown (kept_union p.1 (made_cases (placed_node p) p.0 [] [] [] selecteds.Nothing cases)).0 q.0) same within_same)

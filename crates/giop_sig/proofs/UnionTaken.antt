@@ -17,21 +17,18 @@ use Rattle.giop_tokens.proofs.ReaderLaws.{bind_ok, ok_is, mark_takes, mark_if_ta
 use Rattle.giop_sig.specs.declared.types.Selected.{Selected}
 use Rattle.giop_sig.specs.declared.types.Selected.TheVariants as selecteds
 use Rattle.giop_sig.specs.Table.{Case, Node, node_at, IsPart, IsCaseBelow}
-use Rattle.giop_sig.specs.Grammar.{TypeExpr, Value, Plain, Below, Truth, Enumerator, Label, Default, Of, UnionCase, spell_type, spell_item, spell_value, spell_label, spell_labels, spell_cases}
+use Rattle.giop_sig.specs.Grammar.{Value, Plain, Below, Truth, Enumerator, Label, Default, Of, UnionCase, spell_item, spell_value, spell_label, spell_labels, spell_cases}
 use Rattle.giop_sig.specs.Scopes.{Scope, label_number, labels_of}
-use Rattle.giop_sig.specs.Validity.{OfType, OfItem, OfValueName, OfLabel, OfLabels, OfCases, IsDiscriminator}
+use Rattle.giop_sig.specs.Validity.{OfItem, OfValueName, OfLabel, OfLabels, OfCases}
 use Rattle.giop_sig.specs.ScopeViews.{IsScope}
 use Rattle.giop_sig.specs.Outcomes.{refused}
-use Rattle.giop_sig.specs.TypeReading.{TypeRead, type_at}
 use Rattle.giop_sig.specs.ItemReading.{ItemRead, item_at, unless_closed, filled_at}
 use Rattle.giop_sig.specs.Repeats.{in_steps}
-use Rattle.giop_sig.specs.UnionReading.{token_value, value_at, Mark, LabelRead, fitting, number_of_value, fresh, label_by, label_at, LabelsRead, with_label, begins_label, label_or_end, labels_step, too_many_labels, labels_by, labels_at, Cases, no_cases, chosen, with_case, CasesRead, case_at, case_or_end, cases_step, too_many_cases, cases_at, can_switch, switch_at}
-use Rattle.giop_sig.proofs.ReadingLaws.{Took}
-use Rattle.giop_sig.proofs.TypeTaken.{Grows, grows_none, grows_on, grows_known, TakenType, type_takes}
+use Rattle.giop_sig.specs.UnionReading.{token_value, value_at, Mark, LabelRead, fitting, number_of_value, fresh, label_by, label_at, LabelsRead, with_label, begins_label, label_or_end, labels_step, too_many_labels, labels_by, labels_at, Cases, no_cases, chosen, with_case, CasesRead, case_at, case_or_end, cases_step, too_many_cases, cases_at}
+use Rattle.giop_sig.proofs.TypeTaken.{Grows, grows_none, grows_on, grows_known}
 use Rattle.giop_sig.proofs.ItemTaken.{TakenItem, item_takes}
 use Rattle.giop_sig.proofs.LabelReads.{then_labels}
 use Rattle.giop_sig.proofs.UnionLaws.{then_cases}
-use Rattle.giop_sig.proofs.UnionReads.{discriminates}
 
 -- ---- labels
 
@@ -39,8 +36,13 @@ record TakenValue (text : List ℕ) (x : Value × List ℕ) : Type 0 where
   free : OfValueName kinds.Syntax x.0
   front : (more : List Token) → AreTokens x.1 more → AreTokens text (spell_value x.0 more)
 
-word_taken : (text w rest : List ℕ) (x : Value × List ℕ) (a b c d : Bool) → bytes_eq w (codes "true") ≡ a → bytes_eq w (codes "false") ≡ b → is_reserved w ≡ c → next text ≡ Ok (Some (word w), rest)
-    → cond a (Ok (Truth true, rest)) (cond b (Ok (Truth false, rest)) (cond c (Err (misplaced text)) (cond d (Err (refused kinds.Limit text)) (Ok (Enumerator w, rest))))) ≡ Ok x → TakenValue text x
+word_taken : (text w rest : List ℕ) (x : Value × List ℕ) (a b c d : Bool)
+    → bytes_eq w (codes "true") ≡ a → bytes_eq w (codes "false") ≡ b → is_reserved w ≡ c
+    → next text ≡ Ok (Some (word w), rest)
+    → cond a (Ok (Truth true, rest))
+    (cond b (Ok (Truth false, rest))
+    (cond c (Err (misplaced text))
+    (cond d (Err (refused kinds.Limit text)) (Ok (Enumerator w, rest))))) ≡ Ok x → TakenValue text x
 word_taken text w rest x true b c d p q r h e =
     let is : w ≡ codes "true" = (bytes_eq-Decides w (codes "true")).0 p in
     subst (TakenValue text) (ok_is (Truth true, rest) x e) (record { free = tt; front = λ more m. (rest, h ∙ ap (λ v. Ok (Some (word v), rest)) is, m) })
@@ -49,11 +51,14 @@ word_taken text w rest x false true c d p q r h e =
     subst (TakenValue text) (ok_is (Truth false, rest) x e) (record { free = tt; front = λ more m. (rest, h ∙ ap (λ v. Ok (Some (word v), rest)) is, m) })
 word_taken text w rest x false false true d p q r h e = absurd cc
 word_taken text w rest x false false false true p q r h e = absurd cc
-word_taken text w rest x false false false false p q r h e = subst (TakenValue text) (ok_is (Enumerator w, rest) x e) (record { free = r; front = λ more m. (rest, h, m) })
+word_taken text w rest x false false false false p q r h e =
+    subst (TakenValue text) (ok_is (Enumerator w, rest) x e) (record { free = r; front = λ more m. (rest, h, m) })
 
-token_taken : (text : List ℕ) (t : Option Token) (rest : List ℕ) (x : Value × List ℕ) → next text ≡ Ok (t, rest) → token_value text t rest ≡ Ok x → TakenValue text x
+token_taken : (text : List ℕ) (t : Option Token) (rest : List ℕ) (x : Value × List ℕ)
+    → next text ≡ Ok (t, rest) → token_value text t rest ≡ Ok x → TakenValue text x
 token_taken text None rest x h e = absurd cc
-token_taken text (Some (word w)) rest x h e = word_taken text w rest x (bytes_eq w (codes "true")) (bytes_eq w (codes "false")) (is_reserved w) (ltb 64 (length w)) refl refl refl h e
+token_taken text (Some (word w)) rest x h e =
+    word_taken text w rest x (bytes_eq w (codes "true")) (bytes_eq w (codes "false")) (is_reserved w) (ltb 64 (length w)) refl refl refl h e
 token_taken text (Some (number n)) rest x h e = subst (TakenValue text) (ok_is (Plain n, rest) x e) (record { free = tt; front = λ more m. (rest, h, m) })
 token_taken text (Some (negative n)) rest x h e = subst (TakenValue text) (ok_is (Below n, rest) x e) (record { free = tt; front = λ more m. (rest, h, m) })
 token_taken text (Some (repository r)) rest x h e = absurd cc
@@ -68,11 +73,13 @@ record TakenNumber (text rest : List ℕ) : Type 0 where
   value : Value
   taken : TakenValue text (value, rest)
 
-fitting_by : (text : List ℕ) (v : Value × List ℕ) (o : Option Number) (x : LabelRead) → TakenValue text v → fitting text v.1 o ≡ Ok x → TakenNumber text x.1
+fitting_by : (text : List ℕ) (v : Value × List ℕ) (o : Option Number) (x : LabelRead)
+    → TakenValue text v → fitting text v.1 o ≡ Ok x → TakenNumber text x.1
 fitting_by text v None x t e = absurd cc
 fitting_by text v (Some n) x t e = subst (λ (y : LabelRead). TakenNumber text y.1) (ok_is (Some n, v.1) x e) (record { value = v.0; taken = t })
 
-number_taken : (node : Node) (text : List ℕ) (x : LabelRead) → number_of_value node text ≡ Ok x → TakenNumber text x.1
+number_taken : (node : Node) (text : List ℕ) (x : LabelRead)
+    → number_of_value node text ≡ Ok x → TakenNumber text x.1
 unfolding number_of_value
 number_taken node text x e =
     let v = bind_ok (value_at text) (λ v. fitting text v.1 (label_number node v.0)) x e in
@@ -83,10 +90,13 @@ record TakenLabel (text rest : List ℕ) : Type 0 where
   free : (node : Node) (seen : List Label) → OfLabel kinds.Syntax node seen label
   front : (more : List Token) → AreTokens rest more → AreTokens text (spell_label label more)
 
-label_rest_is : (text : List ℕ) (m : Mark) (rest : List ℕ) (x : LabelRead) → (m, rest) ≡ x → TakenLabel text rest → TakenLabel text x.1
+label_rest_is : (text : List ℕ) (m : Mark) (rest : List ℕ) (x : LabelRead) → (m, rest) ≡ x
+    → TakenLabel text rest → TakenLabel text x.1
 label_rest_is text m rest x e t = subst (λ (y : LabelRead). TakenLabel text y.1) e t
 
-label_taken_by : (node : Node) (seen : List Mark) (text : List ℕ) (o : Option (List ℕ)) (x : LabelRead) → keyword_if (codes "case") text ≡ Ok o → label_by node seen text o ≡ Ok x → TakenLabel text x.1
+label_taken_by : (node : Node) (seen : List Mark) (text : List ℕ) (o : Option (List ℕ))
+    (x : LabelRead) → keyword_if (codes "case") text ≡ Ok o
+    → label_by node seen text o ≡ Ok x → TakenLabel text x.1
 label_taken_by node seen text (Some inner) x h e =
     let v = bind_ok (number_of_value node inner) (λ v. fresh seen v.0 inner >>= λ m. mark_at marks.Colon v.1 >>= λ rest. Ok (m, rest)) x e in
     let m = bind_ok (fresh seen (v.0).0 inner) (λ m. mark_at marks.Colon (v.0).1 >>= λ rest. Ok (m, rest)) x v.2 in
@@ -95,7 +105,8 @@ label_taken_by node seen text (Some inner) x h e =
     label_rest_is text m.0 r.0 x (ok_is (m.0, r.0) x r.2) (record {
       label = Of t.value;
       free = λ node seen. ((t.taken.free, tt), tt);
-      front = λ more k. keyword_if_takes (codes "case") text inner h (spell_value t.value (mark marks.Colon ∷ more)) (t.taken.front (mark marks.Colon ∷ more) (mark_takes marks.Colon (v.0).1 r.0 r.1 more k));
+      front = λ more k. keyword_if_takes (codes "case") text inner h (spell_value t.value (mark marks.Colon ∷ more))
+          (t.taken.front (mark marks.Colon ∷ more) (mark_takes marks.Colon (v.0).1 r.0 r.1 more k));
     })
 label_taken_by node seen text None x h e =
     let w = bind_ok (keyword_at (codes "default") text) (λ inner. fresh seen None text >>= λ m. mark_at marks.Colon inner >>= λ rest. Ok (m, rest)) x e in
@@ -107,7 +118,8 @@ label_taken_by node seen text None x h e =
       front = λ more k. keyword_takes (codes "default") text w.0 w.1 (mark marks.Colon ∷ more) (mark_takes marks.Colon w.0 r.0 r.1 more k);
     })
 
-label_taken : (node : Node) (seen : List Mark) (text : List ℕ) (x : LabelRead) → label_at node seen text ≡ Ok x → TakenLabel text x.1
+label_taken : (node : Node) (seen : List Mark) (text : List ℕ) (x : LabelRead)
+    → label_at node seen text ≡ Ok x → TakenLabel text x.1
 unfolding label_at
 label_taken node seen text x e = let o = bind_ok (keyword_if (codes "case") text) (label_by node seen text) x e in label_taken_by node seen text o.0 x o.1 o.2
 
@@ -130,7 +142,8 @@ no_labels : (text : List ℕ) → begins_label text ≡ Ok false → TakenLabels
 unfolding OfLabels
 no_labels text h = record { labels = []; free = λ node seen. tt; front = λ more m. m; some = λ b. absurd (not_both text h b) }
 
-one_label : (text middle rest : List ℕ) → TakenLabel text middle → TakenLabels middle rest → TakenLabels text rest
+one_label : (text middle rest : List ℕ) → TakenLabel text middle
+    → TakenLabels middle rest → TakenLabels text rest
 unfolding OfLabels
 one_label text middle rest l ls = record {
   labels = l.label ∷ ls.labels;
@@ -139,8 +152,11 @@ one_label text middle rest l ls = record {
   some = λ b. (l.label, ls.labels, refl);
 }
 
-labels_taken_by : (node : Node) (left : ℕ) (ls : LabelsRead) (b : Bool) (s : Bool × LabelsRead) (x : LabelsRead) → ((ls x : LabelsRead) → in_steps (labels_step node) too_many_labels left ls ≡ Ok x → TakenLabels ls.3 x.3)
-    → begins_label ls.3 ≡ Ok b → label_or_end node ls b ≡ Ok s → then_labels node left s ≡ Ok x → TakenLabels ls.3 x.3
+labels_taken_by : (node : Node) (left : ℕ) (ls : LabelsRead) (b : Bool) (s : Bool × LabelsRead)
+    (x : LabelsRead) → ((ls x : LabelsRead)
+    → in_steps (labels_step node) too_many_labels left ls ≡ Ok x → TakenLabels ls.3 x.3)
+    → begins_label ls.3 ≡ Ok b → label_or_end node ls b ≡ Ok s
+    → then_labels node left s ≡ Ok x → TakenLabels ls.3 x.3
 labels_taken_by node left ls false s x on h e f =
     let last : Ok ls ≡ Ok x = ap (then_labels node left) (ok_is (true, ls) s e) ∙ f in
     subst (λ (y : LabelsRead). TakenLabels ls.3 y.3) (ok_is ls x last) (no_labels ls.3 h)
@@ -150,7 +166,8 @@ labels_taken_by node left ls true s x on h e f =
     let run : in_steps (labels_step node) too_many_labels left next ≡ Ok x = ap (then_labels node left) (ok_is (false, next) s l.2) ∙ f in
     one_label ls.3 (l.0).1 x.3 (label_taken node ls.0 ls.3 l.0 l.1) (subst (λ t. TakenLabels t x.3) (with_label_rest ls (l.0).0 (l.0).1) (on next x run))
 
-labels_run_taken : (node : Node) (left : ℕ) (ls x : LabelsRead) → in_steps (labels_step node) too_many_labels left ls ≡ Ok x → TakenLabels ls.3 x.3
+labels_run_taken : (node : Node) (left : ℕ) (ls x : LabelsRead)
+    → in_steps (labels_step node) too_many_labels left ls ≡ Ok x → TakenLabels ls.3 x.3
 unfolding in_steps labels_step
 labels_run_taken node zero ls x e = absurd cc
 labels_run_taken node (suc left) ls x e =
@@ -163,9 +180,11 @@ record TakenSome (text rest : List ℕ) : Type 0 where
   first : Label
   others : List Label
   free : (node : Node) (seen : List Label) → OfLabels kinds.Syntax node seen (first ∷ others)
-  front : (more : List Token) → AreTokens rest more → AreTokens text (spell_labels (first ∷ others) more)
+  front : (more : List Token) → AreTokens rest more
+      → AreTokens text (spell_labels (first ∷ others) more)
 
-some_labels : (text rest : List ℕ) → begins_label text ≡ Ok true → TakenLabels text rest → TakenSome text rest
+some_labels : (text rest : List ℕ) → begins_label text ≡ Ok true
+    → TakenLabels text rest → TakenSome text rest
 some_labels text rest h t =
     let k = t.some h in
     record {
@@ -175,11 +194,13 @@ some_labels text rest h t =
       front = λ more m. subst (λ ls. AreTokens text (spell_labels ls more)) k.2 (t.front more m);
     }
 
-labels_taken_or : (node : Node) (seen : List Mark) (text : List ℕ) (b : Bool) (x : LabelsRead) → begins_label text ≡ Ok b → labels_by node seen text b ≡ Ok x → TakenSome text x.3
+labels_taken_or : (node : Node) (seen : List Mark) (text : List ℕ) (b : Bool) (x : LabelsRead)
+    → begins_label text ≡ Ok b → labels_by node seen text b ≡ Ok x → TakenSome text x.3
 labels_taken_or node seen text false x h e = absurd cc
 labels_taken_or node seen text true x h e = some_labels text x.3 h (labels_run_taken node 1025 (seen, [], false, text) x e)
 
-labels_taken : (node : Node) (seen : List Mark) (text : List ℕ) (x : LabelsRead) → labels_at node seen text ≡ Ok x → TakenSome text x.3
+labels_taken : (node : Node) (seen : List Mark) (text : List ℕ) (x : LabelsRead)
+    → labels_at node seen text ≡ Ok x → TakenSome text x.3
 unfolding labels_at
 labels_taken node seen text x e = let b = bind_ok (begins_label text) (labels_by node seen text) x e in labels_taken_or node seen text b.0 x b.1 b.2
 
@@ -192,16 +213,21 @@ record SoundCases (s : Scope) (cs : Cases) : Type 0 where
   same : length cs.names ≡ length cs.cases
   below : IsCaseBelow (length cs.cases) cs.otherwise
 
-chosen_below : (o : Selected) (default : Bool) (n : ℕ) → IsCaseBelow n o → IsCaseBelow (n + 1) (chosen o default n)
+chosen_below : (o : Selected) (default : Bool) (n : ℕ) → IsCaseBelow n o
+    → IsCaseBelow (n + 1) (chosen o default n)
 chosen_below selecteds.Nothing true n is = omega arith
 chosen_below selecteds.Nothing false n is = tt
 chosen_below (selecteds.Case j) default n is = omega arith
 chosen_below selecteds.Refused default n is = tt
 
-cases_stay : (s t : Scope) (cs : List Case) → Grows s t → All (λ c. IsPart s.table.types (length s.table.types) c.part) cs → All (λ c. IsPart t.table.types (length t.table.types) c.part) cs
+cases_stay : (s t : Scope) (cs : List Case) → Grows s t
+    → All (λ c. IsPart s.table.types (length s.table.types) c.part) cs
+    → All (λ c. IsPart t.table.types (length t.table.types) c.part) cs
 cases_stay s t cs g all = λ k d lt. let is = all k d lt in record { inner = grows_known s t ((get_or cs k d).part).type g is.inner; short = is.short }
 
-case_sound : (s : Scope) (cs : Cases) (ls : LabelsRead) (i : ItemRead) → TakenItem s 256 cs.names ls.3 i → IsScope s → SoundCases s cs → SoundCases i.0 (with_case cs ls i.1)
+case_sound : (s : Scope) (cs : Cases) (ls : LabelsRead) (i : ItemRead)
+    → TakenItem s 256 cs.names ls.3 i → IsScope s → SoundCases s cs
+    → SoundCases i.0 (with_case cs ls i.1)
 case_sound s cs ls i t is sound =
     let h = t.sound is in
     let few = t.few in
@@ -209,12 +235,14 @@ case_sound s cs ls i t is sound =
     let one : Case = record { labels = ls.1; part = i.1 } in
     let more : length (cs.cases ++ one ∷ []) ≡ length cs.cases + 1 = length-append cs.cases (one ∷ []) in
     record {
-      parts = All-push (λ c. IsPart (i.0).table.types (length (i.0).table.types) c.part) cs.cases one (cases_stay s i.0 cs.cases t.grows sound.parts) (record { inner = h.known; short = t.short });
+      parts = All-push (λ c. IsPart (i.0).table.types (length (i.0).table.types) c.part) cs.cases one (cases_stay s i.0 cs.cases t.grows sound.parts)
+          (record { inner = h.known; short = t.short });
       few = omega arith;
       same = omega (arith, length-append cs.names ((i.1).name ∷ []));
       below =
           subst (λ n. IsCaseBelow n (chosen cs.otherwise ls.2 (length cs.names))) (sym more)
-          (subst (λ n. IsCaseBelow (length cs.cases + 1) (chosen cs.otherwise ls.2 n)) (sym same) (chosen_below cs.otherwise ls.2 (length cs.cases) sound.below));
+          (subst (λ n. IsCaseBelow (length cs.cases + 1) (chosen cs.otherwise ls.2 n)) (sym same)
+          (chosen_below cs.otherwise ls.2 (length cs.cases) sound.below));
     }
 
 -- a case that was read
@@ -223,17 +251,22 @@ record TakenCase (x y : CasesRead) : Type 0 where
   named : (y.1).names ≡ (x.1).names ++ case.item.name ∷ []
   free : (node : Node) (seen : List Label) → OfLabels kinds.Syntax node seen (labels_of case)
   item : OfItem kinds.Syntax (x.0).names 256 (x.1).names case.item
-  front : (more : List Token) → AreTokens y.2 more → AreTokens x.2 (spell_labels (labels_of case) (spell_item case.item (mark marks.Semicolon ∷ more)))
+  front : (more : List Token) → AreTokens y.2 more
+      → AreTokens x.2 (spell_labels (labels_of case)
+      (spell_item case.item (mark marks.Semicolon ∷ more)))
   grows : Grows x.0 y.0
   sound : IsScope x.0 → SoundCases x.0 x.1 → IsScope y.0 × SoundCases y.0 y.1
 
-case_made : (x : CasesRead) (ls : LabelsRead) (i : ItemRead) (rest : List ℕ) → TakenSome x.2 ls.3 → TakenItem x.0 256 (x.1).names ls.3 i → mark_at marks.Semicolon i.2 ≡ Ok rest → TakenCase x (i.0, with_case x.1 ls i.1, rest)
+case_made : (x : CasesRead) (ls : LabelsRead) (i : ItemRead) (rest : List ℕ) → TakenSome x.2 ls.3
+    → TakenItem x.0 256 (x.1).names ls.3 i → mark_at marks.Semicolon i.2 ≡ Ok rest
+    → TakenCase x (i.0, with_case x.1 ls i.1, rest)
 case_made x ls i rest t u e = record {
   case = record { label = t.first; others = t.others; item = u.item };
   named = ap (λ w. (x.1).names ++ w ∷ []) (sym u.named);
   free = t.free;
   item = u.took.free;
-  front = λ more m. t.front (spell_item u.item (mark marks.Semicolon ∷ more)) (u.took.front (mark marks.Semicolon ∷ more) (mark_takes marks.Semicolon i.2 rest e more m));
+  front = λ more m. t.front (spell_item u.item (mark marks.Semicolon ∷ more))
+      (u.took.front (mark marks.Semicolon ∷ more) (mark_takes marks.Semicolon i.2 rest e more m));
   grows = u.grows;
   sound = λ is sound. ((u.sound is).scope, case_sound x.0 x.1 ls i u is sound);
 }
@@ -241,7 +274,8 @@ case_made x ls i rest t u e = record {
 case_taken : (at switch : ℕ) (x y : CasesRead) → case_at at switch x ≡ Ok y → TakenCase x y
 unfolding case_at
 case_taken at switch x y e =
-    let ls = bind_ok (labels_at (node_at (x.0).table switch) (x.1).labels x.2) (λ ls. item_at at 256 (x.1).names x.0 ls.3 >>= λ i. mark_at marks.Semicolon i.2 >>= λ rest. Ok (i.0, with_case x.1 ls i.1, rest)) y e in
+    let ls = bind_ok (labels_at (node_at (x.0).table switch) (x.1).labels x.2)
+    (λ ls. item_at at 256 (x.1).names x.0 ls.3 >>= λ i. mark_at marks.Semicolon i.2 >>= λ rest. Ok (i.0, with_case x.1 ls i.1, rest)) y e in
     let i = bind_ok (item_at at 256 (x.1).names x.0 (ls.0).3) (λ i. mark_at marks.Semicolon i.2 >>= λ rest. Ok (i.0, with_case x.1 ls.0 i.1, rest)) y ls.2 in
     let r = bind_ok (mark_at marks.Semicolon (i.0).2) (λ rest. Ok ((i.0).0, with_case x.1 ls.0 (i.0).1, rest)) y i.2 in
     subst (TakenCase x) (ok_is ((i.0).0, with_case x.1 ls.0 (i.0).1, r.0) y r.2)
@@ -251,12 +285,14 @@ case_taken at switch x y e =
 
 record TakenCases (x y : CasesRead) : Type 0 where
   cases : List UnionCase
-  free : (node : Node) (seen : List Label) → OfCases kinds.Syntax (x.0).names node seen (x.1).names cases
+  free : (node : Node) (seen : List Label)
+      → OfCases kinds.Syntax (x.0).names node seen (x.1).names cases
   front : (more : List Token) → AreTokens y.2 more → AreTokens x.2 (spell_cases cases more)
   grows : Grows x.0 y.0
   sound : IsScope x.0 → SoundCases x.0 x.1 → IsScope y.0 × SoundCases y.0 y.1
 
-no_more : (x : CasesRead) (rest : List ℕ) → mark_if marks.CloseBrace x.2 ≡ Ok (Some rest) → TakenCases x (x.0, x.1, rest)
+no_more : (x : CasesRead) (rest : List ℕ) → mark_if marks.CloseBrace x.2 ≡ Ok (Some rest)
+    → TakenCases x (x.0, x.1, rest)
 unfolding OfCases
 no_more x rest h = record {
   cases = [];
@@ -279,15 +315,19 @@ one_more x y z t u = record {
   sound = λ is sound. let k = t.sound is sound in u.sound k.0 k.1;
 }
 
-cases_taken_by : (at switch left : ℕ) (x : CasesRead) (o : Option (List ℕ)) (s : Bool × CasesRead) (z : CasesRead) → ((x z : CasesRead) → in_steps (cases_step at switch) too_many_cases left x ≡ Ok z → TakenCases x z)
-    → mark_if marks.CloseBrace x.2 ≡ Ok o → case_or_end at switch x o ≡ Ok s → then_cases at switch left s ≡ Ok z → TakenCases x z
+cases_taken_by : (at switch left : ℕ) (x : CasesRead) (o : Option (List ℕ)) (s : Bool × CasesRead)
+    (z : CasesRead) → ((x z : CasesRead)
+    → in_steps (cases_step at switch) too_many_cases left x ≡ Ok z → TakenCases x z)
+    → mark_if marks.CloseBrace x.2 ≡ Ok o → case_or_end at switch x o ≡ Ok s
+    → then_cases at switch left s ≡ Ok z → TakenCases x z
 cases_taken_by at switch left x (Some rest) s z on h e f =
     subst (TakenCases x) (ok_is (x.0, x.1, rest) z (ap (then_cases at switch left) (ok_is (true, (x.0, x.1, rest)) s e) ∙ f)) (no_more x rest h)
 cases_taken_by at switch left x None s z on h e f =
     let c = bind_ok (case_at at switch x) (λ c. Ok (false, c)) s e in
     one_more x c.0 z (case_taken at switch x c.0 c.1) (on c.0 z (ap (then_cases at switch left) (ok_is (false, c.0) s c.2) ∙ f))
 
-cases_run_taken : (at switch left : ℕ) (x z : CasesRead) → in_steps (cases_step at switch) too_many_cases left x ≡ Ok z → TakenCases x z
+cases_run_taken : (at switch left : ℕ) (x z : CasesRead)
+    → in_steps (cases_step at switch) too_many_cases left x ≡ Ok z → TakenCases x z
 unfolding in_steps cases_step
 cases_run_taken at switch zero x z e = absurd cc
 cases_run_taken at switch (suc left) x z e =
@@ -302,14 +342,16 @@ pub record TakenUnionCases (s : Scope) (text : List ℕ) (x : CasesRead) : Type 
   pub front : (more : List Token) → AreTokens x.2 more → AreTokens text (spell_cases cases more)
   pub grows : Grows s x.0
   pub scope : IsScope s → IsScope x.0
-  pub parts : IsScope s → All (λ c. IsPart (x.0).table.types (length (x.0).table.types) c.part) (x.1).cases
+  pub parts : IsScope s → All (λ c. IsPart (x.0).table.types
+      (length (x.0).table.types) c.part) (x.1).cases
   pub few : IsScope s → length (x.1).cases ≤ 256
   pub below : IsScope s → IsCaseBelow (length (x.1).cases) (x.1).otherwise
 
 sound_none : (s : Scope) → SoundCases s no_cases
 sound_none s = record { parts = λ k d lt. absurd (omega arith); few = omega arith; same = refl; below = tt }
 
-filled_by : (text some : List ℕ) (o : Option (List ℕ)) → unless_closed text o ≡ Ok some → text ≡ some
+filled_by : (text some : List ℕ) (o : Option (List ℕ))
+    → unless_closed text o ≡ Ok some → text ≡ some
 filled_by text some None e = ok_is text some e
 filled_by text some (Some r) e = absurd cc
 
@@ -317,7 +359,8 @@ filled_is : (text some : List ℕ) → filled_at text ≡ Ok some → text ≡ s
 unfolding filled_at
 filled_is text some e = let o = bind_ok (mark_if marks.CloseBrace text) (unless_closed text) some e in filled_by text some o.0 o.2
 
-pub cases_taken : (at switch : ℕ) (s : Scope) (text : List ℕ) (x : CasesRead) → cases_at at switch s text ≡ Ok x → TakenUnionCases s text x
+pub cases_taken : (at switch : ℕ) (s : Scope) (text : List ℕ) (x : CasesRead)
+    → cases_at at switch s text ≡ Ok x → TakenUnionCases s text x
 unfolding cases_at
 cases_taken at switch s text x e =
     let some = bind_ok (filled_at text) (λ some. in_steps (cases_step at switch) too_many_cases 257 (s, no_cases, some)) x e in
@@ -332,23 +375,3 @@ cases_taken at switch s text x e =
       few = λ is. (t.sound is (sound_none s)).1.few;
       below = λ is. (t.sound is (sound_none s)).1.below;
     }
-
--- ---- the discriminator
-
-pub record TakenSwitch (s : Scope) (text : List ℕ) (x : TypeRead) : Type 0 where
-  pub expr : TypeExpr
-  pub took : Took (spell_type expr) (OfType kinds.Syntax s.names expr) text x.2
-  pub grows : Grows s x.0
-  pub scope : IsScope s → IsScope x.0
-  pub is : IsDiscriminator (node_at (x.0).table x.1)
-
-switch_by : (s : Scope) (text : List ℕ) (t x : TypeRead) (v : Bool) → can_switch (node_at (t.0).table t.1) ≡ v → TakenType s text t → cond v (Ok t) (Err (refused kinds.Label text)) ≡ Ok x → TakenSwitch s text x
-switch_by s text t x true p k e =
-    subst (TakenSwitch s text) (ok_is t x e) (record { expr = k.expr; took = k.took; grows = k.grows; scope = λ is. (k.sound is).scope; is = discriminates (node_at (t.0).table t.1) p })
-switch_by s text t x false p k e = absurd cc
-
-pub switch_taken : (at : ℕ) (s : Scope) (text : List ℕ) (x : TypeRead) → switch_at at s text ≡ Ok x → TakenSwitch s text x
-unfolding switch_at
-switch_taken at s text x e =
-    let t = bind_ok (type_at at 25 s text) (λ t. cond (can_switch (node_at (t.0).table t.1)) (Ok t) (Err (refused kinds.Label text))) x e in
-    switch_by s text t.0 x (can_switch (node_at ((t.0).0).table (t.0).1)) refl (type_takes at 25 s text t.0 t.1) t.2

@@ -15,9 +15,139 @@ member name type = record { name = name; type = type }
 abbrev pub labelled : ℕ → List ℕ → ℕ → Case
 labelled label name type = record { labels = Signed (pos label) ∷ []; part = member name type }
 
+-- ---- contexts, profiles and references
+
+-- a service context, whose id 1 says that code sets stand in it
+abbrev pub service_context : Node
+service_context =
+    nodes.tagged 1 (member (codes "context_id") ULONG)
+    (member (codes "context_data") CODE_SETS_DATA) (member (codes "context_data") OCTETS)
+
+-- the body of an internet profile, but for the components behind the object key
+abbrev pub profile_body : Node
+profile_body =
+    nodes.members (member (codes "major") OCTET ∷ member (codes "minor") OCTET
+    ∷ member (codes "host") STRING ∷ member (codes "port") USHORT
+    ∷ member (codes "object_key") OCTETS ∷ [])
+
+-- a tagged profile, whose tag 0 says that an internet profile stands in it
+abbrev pub tagged_profile : Node
+tagged_profile =
+    nodes.tagged 0 (member (codes "tag") ULONG) (member (codes "profile_data") IIOP_DATA)
+    (member (codes "profile_data") OCTETS)
+
+-- an object reference
+abbrev pub reference : Node
+reference =
+    nodes.members (member (codes "type_id") STRING ∷ member (codes "profiles") TAGGED_PROFILES ∷ [])
+
+-- an object reference with the profile that was chosen
+abbrev pub reference_address : Node
+reference_address =
+    nodes.members (member (codes "selected_profile_index") ULONG ∷ member (codes "ior") IOR ∷ [])
+
+-- the target of a request; no other discriminator can stand there
+abbrev pub target : Node
+target =
+    nodes.union SHORT (labelled 0 (codes "object_key") OCTETS
+    ∷ labelled 1 (codes "profile") TAGGED_PROFILE
+    ∷ labelled 2 (codes "ior") IOR_ADDRESS ∷ []) Refused
+
+-- ---- how a request ended
+
+-- how far the request came
+abbrev pub completion : Node
+completion =
+    nodes.enumeration (codes "COMPLETED_YES" ∷ codes "COMPLETED_NO" ∷ codes "COMPLETED_MAYBE" ∷ [])
+
+-- a system exception
+abbrev pub system_exception : Node
+system_exception =
+    nodes.members (member (codes "exception_id") STRING ∷ member (codes "minor") ULONG
+    ∷ member (codes "completed") COMPLETED ∷ [])
+
+-- the statuses of a reply in 1.0 and 1.1, and in 1.2
+abbrev pub reply_status : Node
+reply_status =
+    nodes.enumeration (codes "NO_EXCEPTION" ∷ codes "USER_EXCEPTION" ∷ codes "SYSTEM_EXCEPTION"
+    ∷ codes "LOCATION_FORWARD" ∷ [])
+
+abbrev pub reply_status_1_2 : Node
+reply_status_1_2 =
+    nodes.enumeration (codes "NO_EXCEPTION" ∷ codes "USER_EXCEPTION" ∷ codes "SYSTEM_EXCEPTION"
+    ∷ codes "LOCATION_FORWARD" ∷ codes "LOCATION_FORWARD_PERM" ∷ codes "NEEDS_ADDRESSING_MODE" ∷ [])
+
+-- the statuses of a locate reply in 1.0 and 1.1, and in 1.2
+abbrev pub locate_status : Node
+locate_status =
+    nodes.enumeration (codes "UNKNOWN_OBJECT" ∷ codes "OBJECT_HERE" ∷ codes "OBJECT_FORWARD" ∷ [])
+
+abbrev pub locate_status_1_2 : Node
+locate_status_1_2 =
+    nodes.enumeration (codes "UNKNOWN_OBJECT" ∷ codes "OBJECT_HERE" ∷ codes "OBJECT_FORWARD"
+    ∷ codes "OBJECT_FORWARD_PERM" ∷ codes "LOC_SYSTEM_EXCEPTION"
+    ∷ codes "LOC_NEEDS_ADDRESSING_MODE" ∷ [])
+
+-- ---- headers
+
+-- the request headers of 1.0, 1.1 and 1.2
+abbrev pub request_1_0 : Node
+request_1_0 =
+    nodes.members (member (codes "service_contexts") SERVICE_CONTEXTS
+    ∷ member (codes "request_id") ULONG ∷ member (codes "response_expected") BOOLEAN
+    ∷ member (codes "object_key") OCTETS ∷ member (codes "operation") STRING
+    ∷ member (codes "requesting_principal") OCTETS ∷ [])
+
+abbrev pub request_1_1 : Node
+request_1_1 =
+    nodes.members (member (codes "service_contexts") SERVICE_CONTEXTS
+    ∷ member (codes "request_id") ULONG ∷ member (codes "response_expected") BOOLEAN
+    ∷ member (codes "reserved") RESERVED ∷ member (codes "object_key") OCTETS
+    ∷ member (codes "operation") STRING ∷ member (codes "requesting_principal") OCTETS ∷ [])
+
+abbrev pub request_1_2 : Node
+request_1_2 =
+    nodes.members (member (codes "request_id") ULONG ∷ member (codes "response_flags") OCTET
+    ∷ member (codes "reserved") RESERVED ∷ member (codes "target") TARGET
+    ∷ member (codes "operation") STRING ∷ member (codes "service_contexts") SERVICE_CONTEXTS ∷ [])
+
+-- the reply headers of 1.0 and 1.1, and of 1.2
+abbrev pub reply : Node
+reply =
+    nodes.members (member (codes "service_contexts") SERVICE_CONTEXTS
+    ∷ member (codes "request_id") ULONG ∷ member (codes "reply_status") REPLY_STATUS ∷ [])
+
+abbrev pub reply_1_2 : Node
+reply_1_2 =
+    nodes.members (member (codes "request_id") ULONG
+    ∷ member (codes "reply_status") REPLY_STATUS_1_2
+    ∷ member (codes "service_contexts") SERVICE_CONTEXTS ∷ [])
+
+-- the locate request headers of 1.0 and 1.1, and of 1.2
+abbrev pub locate_request : Node
+locate_request =
+    nodes.members (member (codes "request_id") ULONG ∷ member (codes "object_key") OCTETS ∷ [])
+
+abbrev pub locate_request_1_2 : Node
+locate_request_1_2 =
+    nodes.members (member (codes "request_id") ULONG ∷ member (codes "target") TARGET ∷ [])
+
+-- the locate reply headers of 1.0 and 1.1, and of 1.2
+abbrev pub locate_reply : Node
+locate_reply =
+    nodes.members (member (codes "request_id") ULONG
+    ∷ member (codes "locate_status") LOCATE_STATUS ∷ [])
+
+abbrev pub locate_reply_1_2 : Node
+locate_reply_1_2 =
+    nodes.members (member (codes "request_id") ULONG
+    ∷ member (codes "locate_status") LOCATE_STATUS_1_2 ∷ [])
+
+-- ---- the table
+
 unfoldable pub builtin_types : List Node
 builtin_types =
-    -- octet, char, boolean, short, ushort, long, ulong, longlong, ulonglong, float, double, string, sequence of octets
+    -- octet, char, boolean, short, ushort, long, ulong, longlong, ulonglong, float, double
     (nodes.prim prims.Octet)
     ∷ (nodes.prim prims.Char)
     ∷ (nodes.prim prims.Boolean)
@@ -29,51 +159,43 @@ builtin_types =
     ∷ (nodes.prim prims.ULongLong)
     ∷ (nodes.prim prims.Float)
     ∷ (nodes.prim prims.Double)
+    -- string, sequence of octets
     ∷ (nodes.text None)
     ∷ (nodes.octets None)
     -- the code sets of a connection, and their encapsulation
     ∷ (nodes.members (member (codes "char_data") ULONG ∷ member (codes "wchar_data") ULONG ∷ []))
     ∷ (nodes.encapsulation CODE_SETS)
-    -- a service context, whose id 1 says that code sets stand in it, and the sequence of them
-    ∷ (nodes.tagged 1 (member (codes "context_id") ULONG) (member (codes "context_data") CODE_SETS_DATA) (member (codes "context_data") OCTETS))
+    -- contexts, profiles and references
+    ∷ service_context
     ∷ (nodes.sequence None SERVICE_CONTEXT)
-    -- the body of an internet profile, but for the components behind the object key, and its encapsulation
-    ∷ (nodes.members (member (codes "major") OCTET ∷ member (codes "minor") OCTET ∷ member (codes "host") STRING ∷ member (codes "port") USHORT ∷ member (codes "object_key") OCTETS ∷ []))
+    ∷ profile_body
     ∷ (nodes.encapsulation IIOP)
-    -- a tagged profile, whose tag 0 says that an internet profile stands in it, and the sequence of them
-    ∷ (nodes.tagged 0 (member (codes "tag") ULONG) (member (codes "profile_data") IIOP_DATA) (member (codes "profile_data") OCTETS))
+    ∷ tagged_profile
     ∷ (nodes.sequence None TAGGED_PROFILE)
-    -- an object reference, and the one with the profile that was chosen
-    ∷ (nodes.members (member (codes "type_id") STRING ∷ member (codes "profiles") TAGGED_PROFILES ∷ []))
-    ∷ (nodes.members (member (codes "selected_profile_index") ULONG ∷ member (codes "ior") IOR ∷ []))
-    -- the target of a request; no other discriminator can stand there
-    ∷ (nodes.union SHORT (labelled 0 (codes "object_key") OCTETS ∷ labelled 1 (codes "profile") TAGGED_PROFILE ∷ labelled 2 (codes "ior") IOR_ADDRESS ∷ []) Refused)
-    -- how far a request came, and a system exception
-    ∷ (nodes.enumeration (codes "COMPLETED_YES" ∷ codes "COMPLETED_NO" ∷ codes "COMPLETED_MAYBE" ∷ []))
-    ∷ (nodes.members (member (codes "exception_id") STRING ∷ member (codes "minor") ULONG ∷ member (codes "completed") COMPLETED ∷ []))
-    -- the reserved octets of a request
+    ∷ reference
+    ∷ reference_address
+    ∷ target
+    -- how a request ended, and its reserved octets
+    ∷ completion
+    ∷ system_exception
     ∷ (nodes.array 3 OCTET)
-    -- the statuses of a reply in 1.0 and 1.1, and in 1.2
-    ∷ (nodes.enumeration (codes "NO_EXCEPTION" ∷ codes "USER_EXCEPTION" ∷ codes "SYSTEM_EXCEPTION" ∷ codes "LOCATION_FORWARD" ∷ []))
-    ∷ (nodes.enumeration (codes "NO_EXCEPTION" ∷ codes "USER_EXCEPTION" ∷ codes "SYSTEM_EXCEPTION" ∷ codes "LOCATION_FORWARD" ∷ codes "LOCATION_FORWARD_PERM" ∷ codes "NEEDS_ADDRESSING_MODE" ∷ []))
-    -- the statuses of a locate reply in 1.0 and 1.1, and in 1.2
-    ∷ (nodes.enumeration (codes "UNKNOWN_OBJECT" ∷ codes "OBJECT_HERE" ∷ codes "OBJECT_FORWARD" ∷ []))
-    ∷ (nodes.enumeration (codes "UNKNOWN_OBJECT" ∷ codes "OBJECT_HERE" ∷ codes "OBJECT_FORWARD" ∷ codes "OBJECT_FORWARD_PERM" ∷ codes "LOC_SYSTEM_EXCEPTION" ∷ codes "LOC_NEEDS_ADDRESSING_MODE" ∷ []))
-    -- the request headers of 1.0, 1.1 and 1.2
-    ∷ (nodes.members (member (codes "service_contexts") SERVICE_CONTEXTS ∷ member (codes "request_id") ULONG ∷ member (codes "response_expected") BOOLEAN ∷ member (codes "object_key") OCTETS ∷ member (codes "operation") STRING ∷ member (codes "requesting_principal") OCTETS ∷ []))
-    ∷ (nodes.members (member (codes "service_contexts") SERVICE_CONTEXTS ∷ member (codes "request_id") ULONG ∷ member (codes "response_expected") BOOLEAN ∷ member (codes "reserved") RESERVED ∷ member (codes "object_key") OCTETS ∷ member (codes "operation") STRING ∷ member (codes "requesting_principal") OCTETS ∷ []))
-    ∷ (nodes.members (member (codes "request_id") ULONG ∷ member (codes "response_flags") OCTET ∷ member (codes "reserved") RESERVED ∷ member (codes "target") TARGET ∷ member (codes "operation") STRING ∷ member (codes "service_contexts") SERVICE_CONTEXTS ∷ []))
-    -- the reply headers of 1.0 and 1.1, and of 1.2
-    ∷ (nodes.members (member (codes "service_contexts") SERVICE_CONTEXTS ∷ member (codes "request_id") ULONG ∷ member (codes "reply_status") REPLY_STATUS ∷ []))
-    ∷ (nodes.members (member (codes "request_id") ULONG ∷ member (codes "reply_status") REPLY_STATUS_1_2 ∷ member (codes "service_contexts") SERVICE_CONTEXTS ∷ []))
-    -- the header of a cancel request, and of a fragment
+    ∷ reply_status
+    ∷ reply_status_1_2
+    ∷ locate_status
+    ∷ locate_status_1_2
+    -- headers: of requests and replies
+    ∷ request_1_0
+    ∷ request_1_1
+    ∷ request_1_2
+    ∷ reply
+    ∷ reply_1_2
+    -- of a cancel request, and of a fragment
     ∷ (nodes.members (member (codes "request_id") ULONG ∷ []))
-    -- the locate request headers of 1.0 and 1.1, and of 1.2
-    ∷ (nodes.members (member (codes "request_id") ULONG ∷ member (codes "object_key") OCTETS ∷ []))
-    ∷ (nodes.members (member (codes "request_id") ULONG ∷ member (codes "target") TARGET ∷ []))
-    -- the locate reply headers of 1.0 and 1.1, and of 1.2
-    ∷ (nodes.members (member (codes "request_id") ULONG ∷ member (codes "locate_status") LOCATE_STATUS ∷ []))
-    ∷ (nodes.members (member (codes "request_id") ULONG ∷ member (codes "locate_status") LOCATE_STATUS_1_2 ∷ []))
+    -- of locate requests and locate replies
+    ∷ locate_request
+    ∷ locate_request_1_2
+    ∷ locate_reply
+    ∷ locate_reply_1_2
     ∷ []
 
 -- the catalogue of no declarations

@@ -38,7 +38,9 @@ return_at at s text = do
 unfoldable pub new_operation_at : Scope → List ℕ → Result (List ℕ × List ℕ) Refusal
 new_operation_at s text = do
   n ← operation_name_at text
-  if is_some (operation_in s.table n.0) then Err (refused kinds.Duplicate text) else (if nat_le 4096 (length s.table.operations) then Err (refused kinds.Limit text) else Ok (n.0, n.1))
+  if is_some (operation_in s.table n.0) then Err (refused kinds.Duplicate text)
+      else (if nat_le 4096 (length s.table.operations)
+      then Err (refused kinds.Limit text) else Ok (n.0, n.1))
 
 -- ---- parameters
 
@@ -84,10 +86,23 @@ pub record Way : Type 0 where
 
 -- with a parameter more
 abbrev pub with_param : Way → Direction → Part → Way
-with_param w d p = record { seen = w.seen ++ p.name ∷ []; request = in_request d p w.request; reply = in_reply d p w.reply }
+with_param w d p =
+    record {
+      seen = w.seen ++ p.name ∷ [];
+      request = in_request d p w.request;
+      reply = in_reply d p w.reply;
+    }
 
 abbrev pub params_of : Way → Direction → ItemRead → List ℕ → Bool → Params
-params_of w d i rest closed = record { scope = i.0; seen = w.seen ++ (i.1).name ∷ []; request = in_request d i.1 w.request; reply = in_reply d i.1 w.reply; rest = rest; closed = closed }
+params_of w d i rest closed =
+    record {
+      scope = i.0;
+      seen = w.seen ++ (i.1).name ∷ [];
+      request = in_request d i.1 w.request;
+      reply = in_reply d i.1 w.reply;
+      rest = rest;
+      closed = closed;
+    }
 
 abbrev pub behind_param : Way → Direction → ItemRead → Option (List ℕ) → Result Params Refusal
 behind_param w d i (Some r) = Ok (params_of w d i r false)
@@ -113,12 +128,14 @@ unfoldable pub params_run : ℕ → ℕ → Way → Scope → List ℕ → Resul
 params_run at zero w s text = Err (refused kinds.Limit text)
 params_run at (suc n) w s text = do
   m ← param_step at w s text
-  if m.closed then Ok (m.scope, m.request, m.reply, m.rest) else params_run at n (way_of m) m.scope m.rest
+  if m.closed then Ok (m.scope, m.request, m.reply, m.rest)
+      else params_run at n (way_of m) m.scope m.rest
 
 abbrev pub no_way : List Part → Way
 no_way returned = record { seen = []; request = []; reply = returned }
 
-abbrev pub params_after : ℕ → List Part → Scope → List ℕ → Option (List ℕ) → Result ParamsRead Refusal
+abbrev pub params_after : ℕ → List Part → Scope → List ℕ → Option (List ℕ)
+    → Result ParamsRead Refusal
 params_after at returned s text (Some r) = Ok (s, [], returned, r)
 params_after at returned s text None = params_run at 256 (no_way returned) s text
 

@@ -23,7 +23,9 @@ NamesRead = List (List ℕ) × List ℕ
 unfoldable pub enumerator_at : List (List ℕ) → List ℕ → Result NamesRead Refusal
 enumerator_at seen text = do
   w ← identifier_at text
-  if is_among seen w.0 then Err (refused kinds.Duplicate text) else (if nat_le 1024 (length seen) then Err (refused kinds.Limit text) else Ok (seen ++ w.0 ∷ [], w.1))
+  if is_among seen w.0 then Err (refused kinds.Duplicate text)
+      else (if nat_le 1024 (length seen) then Err (refused kinds.Limit text)
+      else Ok (seen ++ w.0 ∷ [], w.1))
 
 -- a comma, behind which another enumerator stands, or the closing mark
 abbrev pub names_end : NamesRead → Option (List ℕ) → Result (Bool × NamesRead) Refusal

@@ -61,4 +61,5 @@ text_too_long = record { line = 1; kind = kinds.Limit }
 
 -- where reading from the front is refused first, and why; memory may be refused at any time
 abbrev pub IsFirstRefusal : List ℕ → SigFault → Type 0
-IsFirstRefusal text f = (f ≡ no_memory) ⊎ ((r : Refusal) × (file_at text ≡ Err r) × (f ≡ fault_of text r))
+IsFirstRefusal text f =
+    (f ≡ no_memory) ⊎ ((r : Refusal) × (file_at text ≡ Err r) × (f ≡ fault_of text r))

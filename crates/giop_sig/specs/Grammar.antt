@@ -55,9 +55,12 @@ spell_type (Base p) more = word (base_word p) ∷ more
 spell_type (Text bound) more = word (codes "string") ∷ spell_bound bound more
 spell_type Reference more = word (codes "Object") ∷ more
 spell_type (Named w) more = word w ∷ more
-spell_type (SequenceOf e bound) more = word (codes "sequence") ∷ mark marks.OpenAngle ∷ spell_type e (spell_most bound (mark marks.CloseAngle ∷ more))
+spell_type (SequenceOf e bound) more =
+    word (codes "sequence") ∷ mark marks.OpenAngle
+    ∷ spell_type e (spell_most bound (mark marks.CloseAngle ∷ more))
 spell_type (EncapsulationOf e) more =
-    word (codes "encapsulation") ∷ mark marks.OpenAngle ∷ spell_type e (mark marks.CloseAngle ∷ more)
+    word (codes "encapsulation") ∷ mark marks.OpenAngle
+    ∷ spell_type e (mark marks.CloseAngle ∷ more)
 
 -- ---- items: members, cases and parameters
 
@@ -129,7 +132,9 @@ pub record UnionCase : Type 0 where
 
 abbrev pub spell_cases : List UnionCase → List Token → List Token
 spell_cases [] more = mark marks.CloseBrace ∷ more
-spell_cases (c ∷ cs) more = spell_label c.label (spell_labels c.others (spell_item c.item (mark marks.Semicolon ∷ spell_cases cs more)))
+spell_cases (c ∷ cs) more =
+    spell_label c.label (spell_labels c.others
+    (spell_item c.item (mark marks.Semicolon ∷ spell_cases cs more)))
 
 -- ---- the parameters of an operation
 
@@ -172,14 +177,22 @@ pub data Declaration : Type 0 where
   Call : Option TypeExpr → List ℕ → List Param → Declaration
 
 abbrev pub spell : Declaration → List Token → List Token
-spell (Enumeration n names) more = word (codes "enum") ∷ word n ∷ mark marks.OpenBrace ∷ spell_names names (mark marks.Semicolon ∷ more)
-spell (Structure n items) more = word (codes "struct") ∷ word n ∷ mark marks.OpenBrace ∷ spell_items items (mark marks.Semicolon ∷ more)
+spell (Enumeration n names) more =
+    word (codes "enum") ∷ word n ∷ mark marks.OpenBrace
+    ∷ spell_names names (mark marks.Semicolon ∷ more)
+spell (Structure n items) more =
+    word (codes "struct") ∷ word n ∷ mark marks.OpenBrace
+    ∷ spell_items items (mark marks.Semicolon ∷ more)
 spell (Choice n switch cases) more =
     word (codes "union") ∷ word n ∷ word (codes "switch") ∷ mark marks.OpenParenthesis
-    ∷ spell_type switch (mark marks.CloseParenthesis ∷ mark marks.OpenBrace ∷ spell_cases cases (mark marks.Semicolon ∷ more))
-spell (Raise n r items) more = word (codes "exception") ∷ word n ∷ repository r ∷ mark marks.OpenBrace ∷ spell_items items (mark marks.Semicolon ∷ more)
+    ∷ spell_type switch (mark marks.CloseParenthesis ∷ mark marks.OpenBrace
+    ∷ spell_cases cases (mark marks.Semicolon ∷ more))
+spell (Raise n r items) more =
+    word (codes "exception") ∷ word n ∷ repository r ∷ mark marks.OpenBrace
+    ∷ spell_items items (mark marks.Semicolon ∷ more)
 spell (Call returned n params) more =
-    word (codes "operation") ∷ spell_return returned (word n ∷ mark marks.OpenParenthesis ∷ spell_params params (mark marks.Semicolon ∷ more))
+    word (codes "operation") ∷ spell_return returned
+    (word n ∷ mark marks.OpenParenthesis ∷ spell_params params (mark marks.Semicolon ∷ more))
 
 abbrev pub spell_all : List Declaration → List Token
 spell_all [] = []
@@ -198,4 +211,5 @@ is_version n = (n == 1) || (n == 2)
 -- the whole file, its version first
 abbrev pub spell_file : SignatureFile → List Token
 spell_file file =
-    word (codes "signatures") ∷ number file.version ∷ mark marks.Semicolon ∷ spell_all file.declarations
+    word (codes "signatures") ∷ number file.version ∷ mark marks.Semicolon
+    ∷ spell_all file.declarations

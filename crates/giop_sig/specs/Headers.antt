@@ -54,7 +54,9 @@ fixed_type fixed = type_in builtin_types (fixed_number fixed)
 
 -- a header that begins with the request id
 abbrev pub BeginsWithId : Ty → Type 0
-BeginsWithId T = (count : ℕ) × (names : ℕ → List ℕ) × (parts : ℕ → Ty) × (T ≡ Struct (suc count) names parts) × (names 0 ≡ codes "request_id") × (parts 0 ≡ Single (Plain ULong))
+BeginsWithId T =
+    (count : ℕ) × (names : ℕ → List ℕ) × (parts : ℕ → Ty) × (T ≡ Struct (suc count) names parts)
+    × (names 0 ≡ codes "request_id") × (parts 0 ≡ Single (Plain ULong))
 
 -- where the request id is read before the type is: in all messages of 1.2 that have a header, and in every cancel request
 abbrev pub IdStandsFirst : ℕ → ℕ → Type 0
@@ -76,7 +78,8 @@ pub record IsRaised (types : List Node) (e : Exception) : Type 0 where
 -- no two have one name
 abbrev pub AreDistinct : {X : Type 0} → (X → List ℕ) → X → List X → Type 0
 AreDistinct name_in d xs =
-    (i j : ℕ) → i < length xs → j < length xs → name_in (slice_index_or xs i d) ≡ name_in (slice_index_or xs j d) → i ≡ j
+    (i j : ℕ) → i < length xs → j < length xs
+    → name_in (slice_index_or xs i d) ≡ name_in (slice_index_or xs j d) → i ≡ j
 
 -- a table that begins with the built-in types, within the limits
 pub record IsTable (t : Table) : Type 0 where

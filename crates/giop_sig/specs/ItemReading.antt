@@ -23,13 +23,15 @@ use Rattle.giop_sig.specs.TypeReading.{added, enclosed_at, type_at}
 unfoldable pub new_name_at : ℕ → List (List ℕ) → List ℕ → Result (List ℕ × List ℕ) Refusal
 new_name_at most seen text = do
   n ← identifier_at text
-  if is_among seen n.0 then Err (refused kinds.Duplicate text) else (if nat_le most (length seen) then Err (refused kinds.Limit text) else Ok (n.0, n.1))
+  if is_among seen n.0 then Err (refused kinds.Duplicate text)
+      else (if nat_le most (length seen) then Err (refused kinds.Limit text) else Ok (n.0, n.1))
 
 -- the name of an enum, struct, union or exception, of which the scope has so many
 unfoldable pub declared_at : Scope → ℕ → List ℕ → Result (List ℕ × List ℕ) Refusal
 declared_at s count text = do
   n ← identifier_at text
-  if is_some (lookup (bytes_eq n.0) s.names.known) then Err (refused kinds.Duplicate text) else (if nat_le 4096 count then Err (refused kinds.Limit text) else Ok (n.0, n.1))
+  if is_some (lookup (bytes_eq n.0) s.names.known) then Err (refused kinds.Duplicate text)
+      else (if nat_le 4096 count then Err (refused kinds.Limit text) else Ok (n.0, n.1))
 
 -- ---- items
 
@@ -62,10 +64,18 @@ unfoldable pub member_at : ℕ → List (List ℕ) → List Part → Scope → L
 member_at at seen parts s text = do
   i ← item_at at 256 seen s text
   r ← mark_at marks.Semicolon i.2
-  Ok (record { scope = i.0; seen = seen ++ (i.1).name ∷ []; parts = parts ++ i.1 ∷ []; rest = r; closed = false })
+  Ok (record {
+    scope = i.0;
+    seen = seen ++ (i.1).name ∷ [];
+    parts = parts ++ i.1 ∷ [];
+    rest = r;
+    closed = false;
+  })
 
-abbrev pub member_after : ℕ → List (List ℕ) → List Part → Scope → List ℕ → Option (List ℕ) → Result Members Refusal
-member_after at seen parts s text (Some r) = Ok (record { scope = s; seen = seen; parts = parts; rest = r; closed = true })
+abbrev pub member_after : ℕ → List (List ℕ) → List Part → Scope → List ℕ
+    → Option (List ℕ) → Result Members Refusal
+member_after at seen parts s text (Some r) =
+    Ok (record { scope = s; seen = seen; parts = parts; rest = r; closed = true })
 member_after at seen parts s text None = member_at at seen parts s text
 
 -- the closing mark, or a member more
@@ -78,7 +88,8 @@ abbrev pub MembersRead : Type 0
 MembersRead = Scope × List Part × List ℕ
 
 -- members up to the closing mark, in so many steps
-unfoldable pub members_run : ℕ → ℕ → List (List ℕ) → List Part → Scope → List ℕ → Result MembersRead Refusal
+unfoldable pub members_run : ℕ → ℕ → List (List ℕ) → List Part → Scope → List ℕ
+    → Result MembersRead Refusal
 members_run at zero seen parts s text = Err (refused kinds.Limit text)
 members_run at (suc n) seen parts s text = do
   m ← member_step at seen parts s text
@@ -116,7 +127,9 @@ structure_at s text = do
 unfoldable pub new_repository_at : Scope → List ℕ → Result (List ℕ × List ℕ) Refusal
 new_repository_at s text = do
   i ← repository_at text
-  if nat_lt 128 (length i.0) then Err (refused kinds.Limit text) else (if is_some (exception_in s.table i.0) then Err (refused kinds.Duplicate text) else Ok (i.0, i.1))
+  if nat_lt 128 (length i.0) then Err (refused kinds.Limit text)
+      else (if is_some (exception_in s.table i.0)
+      then Err (refused kinds.Duplicate text) else Ok (i.0, i.1))
 
 unfoldable pub raise_at : Scope → List ℕ → Result Declared Refusal
 raise_at s text = do

@@ -14,4 +14,10 @@ value_view (seen.Truth b) = Truth b
 value_view (seen.Enumerator w) = Enumerator w.now
 
 abbrev pub cases_view : kept.Cases → Cases
-cases_view cs = record { labels = cs.labels.items; names = map (λ n. n.now) cs.names.items; cases = map case_view cs.cases.items; otherwise = cs.otherwise }
+cases_view cs =
+    record {
+      labels = cs.labels.items;
+      names = map (λ n. n.now) cs.names.items;
+      cases = map case_view cs.cases.items;
+      otherwise = cs.otherwise;
+    }

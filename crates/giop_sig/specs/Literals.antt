@@ -21,8 +21,10 @@ literal_node literals.Text = nodes.text None
 literal_node literals.Octets = nodes.octets None
 literal_node (literals.Names names) = nodes.enumeration (map (λ n. n.now) names.now)
 literal_node (literals.Members parts) = nodes.members (map literal_part parts.now)
-literal_node (literals.Target switch cases) = nodes.union switch (map literal_case cases.now) Refused
+literal_node (literals.Target switch cases) =
+    nodes.union switch (map literal_case cases.now) Refused
 literal_node (literals.Sequence element) = nodes.sequence None element
 literal_node (literals.Array count element) = nodes.array count element
 literal_node (literals.Encapsulation held) = nodes.encapsulation held
-literal_node (literals.Tagged special tag inner other) = nodes.tagged special (literal_part tag) (literal_part inner) (literal_part other)
+literal_node (literals.Tagged special tag inner other) =
+    nodes.tagged special (literal_part tag) (literal_part inner) (literal_part other)

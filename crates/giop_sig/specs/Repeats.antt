@@ -4,7 +4,8 @@ use Rattle.giop_tokens.specs.declared.fault.Refusal.{Refusal}
 use Rattle.giop_tokens.specs.Reading.{◌>>=◌}
 
 -- at most so many steps; where none is the last, the refusal of what they came to
-unfoldable pub in_steps : {S : Type 0} → (S → Result (Bool × S) Refusal) → (S → Refusal) → ℕ → S → Result S Refusal
+unfoldable pub in_steps : {S : Type 0} → (S → Result (Bool × S) Refusal) → (S → Refusal)
+    → ℕ → S → Result S Refusal
 in_steps step limit zero s = Err (limit s)
 in_steps step limit (suc left) s = do
   x ← step s

@@ -64,8 +64,13 @@ pub record ReachesLine (text : List ℕ) (es : List Entry) (line : List ℕ) (k 
 -- the first line refused is the k-th, and this is why: it is no entry, or the text is too long, or the line is
 -- an entry too many
 abbrev pub IsRefusedAs : List ℕ → ℕ → ListFaultKind → Type 0
-IsRefusedAs text k Syntax = (es : List Entry) × (line : List ℕ) × ReachesLine text es line k × (length es ≤ 65536) × ¬ (IsEntryLine line)
-IsRefusedAs text k Limit = ((16777216 < length text) × (k ≡ 1)) ⊎ ((es : List Entry) × (line : List ℕ) × ReachesLine text es line k × (length es ≡ 65536) × IsEntryLine line)
+IsRefusedAs text k Syntax =
+    (es : List Entry) × (line : List ℕ) × ReachesLine text es line k
+    × (length es ≤ 65536) × ¬ (IsEntryLine line)
+IsRefusedAs text k Limit =
+    ((16777216 < length text) × (k ≡ 1))
+    ⊎ ((es : List Entry) × (line : List ℕ) × ReachesLine text es line k
+    × (length es ≡ 65536) × IsEntryLine line)
 IsRefusedAs text k OutOfMemory = k ≡ 0
 
 -- ---- what the list says
@@ -95,8 +100,10 @@ abbrev pub kept_operation : List (ℕ × Option OpId) → ℕ → Option OpId
 kept_operation kept id = flat (lookup (nat_eq id) kept)
 
 -- what is kept answers as the list does, by find
-pub record IsOf (find : List ℕ → Option ℕ) (es : List Entry) (kept : List (ℕ × Option OpId)) : Type 0 where
-  pub operation : (id : ℕ) → option_map (λ o. o.0) (kept_operation kept id) ≡ operation_of find es id
+pub record IsOf (find : List ℕ → Option ℕ) (es : List Entry)
+    (kept : List (ℕ × Option OpId)) : Type 0 where
+  pub operation : (id : ℕ) → option_map (λ o. o.0) (kept_operation kept id)
+      ≡ operation_of find es id
   pub count : length kept ≡ distinct_count nat_eq (map (λ e. e.id) es)
 
 -- what an id is kept with after one more entry, for whose name this operation was found

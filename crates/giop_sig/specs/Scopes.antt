@@ -35,7 +35,8 @@ pub record Scope : Type 0 where
 
 -- the scope in which a file of a version begins
 abbrev pub first_scope : ℕ → Scope
-first_scope version = record { table = builtin_table; names = record { version = version; known = [] } }
+first_scope version =
+    record { table = builtin_table; names = record { version = version; known = [] } }
 
 -- the type of a name
 abbrev pub named : Names → List ℕ → Option ℕ
@@ -71,7 +72,8 @@ base_number prims.Double = 10
 
 -- a sequence of octets, whose type has the number 0, is of a kind of its own
 abbrev pub sequence_node : Option ℕ → ℕ → Node
-sequence_node bound element = if element == 0 then nodes.octets bound else nodes.sequence bound element
+sequence_node bound element =
+    if element == 0 then nodes.octets bound else nodes.sequence bound element
 
 abbrev pub place_text : Scope → Option ℕ → Placed
 place_text s None = (s, STRING)
@@ -113,7 +115,8 @@ with_part p x = (x.0, p ∷ x.1)
 -- the members of a struct, with the numbers of their types
 unfoldable pub place_items : Scope → List Item → Scope × List Part
 place_items s [] = (s, [])
-place_items s (i ∷ is) = with_part (item_part i (place_item s i)) (place_items (place_item s i).0 is)
+place_items s (i ∷ is) =
+    with_part (item_part i (place_item s i)) (place_items (place_item s i).0 is)
 
 -- ---- the cases of a union
 
@@ -139,9 +142,12 @@ label_number (nodes.prim prims.UShort) (Plain n) = if_at_most 65535 n (numbers.U
 label_number (nodes.prim prims.Long) (Plain n) = if_at_most 2147483647 n (numbers.Signed (pos n))
 label_number (nodes.prim prims.Long) (Below n) = if_at_most 2147483648 n (numbers.Signed (below n))
 label_number (nodes.prim prims.ULong) (Plain n) = if_at_most 4294967295 n (numbers.Unsigned n)
-label_number (nodes.prim prims.LongLong) (Plain n) = if_at_most 9223372036854775807 n (numbers.Signed (pos n))
-label_number (nodes.prim prims.LongLong) (Below n) = if_at_most 9223372036854775808 n (numbers.Signed (below n))
-label_number (nodes.prim prims.ULongLong) (Plain n) = if_at_most 18446744073709551615 n (numbers.Unsigned n)
+label_number (nodes.prim prims.LongLong) (Plain n) =
+    if_at_most 9223372036854775807 n (numbers.Signed (pos n))
+label_number (nodes.prim prims.LongLong) (Below n) =
+    if_at_most 9223372036854775808 n (numbers.Signed (below n))
+label_number (nodes.prim prims.ULongLong) (Plain n) =
+    if_at_most 18446744073709551615 n (numbers.Unsigned n)
 label_number (nodes.enumeration names) (Enumerator w) = numbered (position (bytes_eq w) names)
 label_number node v = None
 
@@ -164,7 +170,8 @@ abbrev pub labels_of : UnionCase → List Label
 labels_of c = c.label ∷ c.others
 
 abbrev pub union_case : Node → UnionCase → Placed → Case
-union_case node c p = record { labels = label_numbers node (labels_of c); part = item_part c.item p }
+union_case node c p =
+    record { labels = label_numbers node (labels_of c); part = item_part c.item p }
 
 abbrev pub with_case : Case → Scope × List Case → Scope × List Case
 with_case c x = (x.0, c ∷ x.1)
@@ -172,12 +179,15 @@ with_case c x = (x.0, c ∷ x.1)
 -- the cases of a union whose discriminator has a type of this node
 unfoldable pub place_cases : Scope → Node → List UnionCase → Scope × List Case
 place_cases s node [] = (s, [])
-place_cases s node (c ∷ cs) = with_case (union_case node c (place_item s c.item)) (place_cases (place_item s c.item).0 node cs)
+place_cases s node (c ∷ cs) =
+    with_case (union_case node c (place_item s c.item))
+    (place_cases (place_item s c.item).0 node cs)
 
 -- what is selected where no label is the number: the case with the default, counted from the first
 abbrev pub default_from : ℕ → List UnionCase → Selected
 default_from i [] = selecteds.Nothing
-default_from i (c ∷ cs) = if has_default (labels_of c) then selecteds.Case i else default_from (i + 1) cs
+default_from i (c ∷ cs) =
+    if has_default (labels_of c) then selecteds.Case i else default_from (i + 1) cs
 
 -- ---- the parameters of an operation
 
@@ -200,7 +210,9 @@ with_param d p x = (x.0, onto_request d p x.1, onto_reply d p x.2)
 
 unfoldable pub place_params : Scope → List Param → Ways
 place_params s [] = (s, [], [])
-place_params s (p ∷ ps) = with_param p.direction (item_part p.item (place_item s p.item)) (place_params (place_item s p.item).0 ps)
+place_params s (p ∷ ps) =
+    with_param p.direction (item_part p.item (place_item s p.item))
+    (place_params (place_item s p.item).0 ps)
 
 -- what an operation returns is a member of its replies
 abbrev pub place_return : Scope → Option TypeExpr → Scope × List Part
@@ -218,10 +230,18 @@ abbrev pub with_named : List ℕ → Placed → Scope
 with_named w p = with_name (record (p.0) { table = with_declared (p.0).table }) w (Some p.1)
 
 abbrev pub with_raised : List ℕ → List ℕ → Placed → Scope
-with_raised w repository p = with_name (record (p.0) { table = with_exception (p.0).table (record { repository = repository; members = p.1 }) }) w None
+with_raised w repository p =
+    with_name (record (p.0) {
+      table = with_exception (p.0).table
+          (record { repository = repository; members = p.1 });
+    }) w None
 
 abbrev pub with_call : List ℕ → ℕ → Placed → Scope
-with_call w request p = record (p.0) { table = with_operation (p.0).table (record { name = w; request = request; reply = p.1 }) }
+with_call w request p =
+    record (p.0) {
+      table = with_operation (p.0).table
+          (record { name = w; request = request; reply = p.1 });
+    }
 
 -- a struct of these members
 abbrev pub place_struct : Scope × List Part → Placed
@@ -236,7 +256,9 @@ place_choice cases p = place_union p.1 cases (place_cases p.0 (node_at (p.0).tab
 
 -- the two structs of an operation, the request first
 abbrev pub place_call : List ℕ → List Part → Ways → Scope
-place_call w returned x = with_call w (length (x.0).table.types) (place_struct ((place_struct (x.0, x.1)).0, returned ++ x.2))
+place_call w returned x =
+    with_call w (length (x.0).table.types)
+    (place_struct ((place_struct (x.0, x.1)).0, returned ++ x.2))
 
 abbrev pub place_operation : List ℕ → List Param → Scope × List Part → Scope
 place_operation w params x = place_call w x.1 (place_params x.0 params)

@@ -180,7 +180,8 @@ members_at t i = type_id (slice_index_or t.exceptions i no_exception).members
 
 -- the struct of the exception with a repository id
 abbrev pub exception_in : Table → List ℕ → Option TypeId
-exception_in t repository = option_map (members_at t) (position (λ e. bytes_eq repository e.repository) t.exceptions)
+exception_in t repository =
+    option_map (members_at t) (position (λ e. bytes_eq repository e.repository) t.exceptions)
 
 -- ---- what is added to a table
 
@@ -234,7 +235,9 @@ IsFormed types n (enumeration names) = (length names ≤ 1024) × All (λ name. 
 IsFormed types n (text bound) = Unit {0}
 IsFormed types n (octets bound) = Unit {0}
 IsFormed types n (members parts) = (length parts ≤ 256) × All (IsPart types n) parts
-IsFormed types n (union switch cases otherwise) = IsSwitch types n switch × (length cases ≤ 256) × All (λ c. IsPart types n c.part) cases × IsCaseBelow (length cases) otherwise
+IsFormed types n (union switch cases otherwise) =
+    IsSwitch types n switch × (length cases ≤ 256) × All (λ c. IsPart types n c.part) cases
+    × IsCaseBelow (length cases) otherwise
 IsFormed types n (sequence bound element) = IsInner types n element
 IsFormed types n (array count element) = (0 < count) × IsInner types n element
 IsFormed types n (encapsulation held) = IsInner types n held

@@ -33,23 +33,30 @@ selected_by select (Some number) = select number
 -- the union of a node's names and selection, by the types of its discriminator and of its cases
 abbrev pub union_of : Choice → Node → Ty → (ℕ → Ty) → Ty
 union_of choice node switch cases =
-    Union choice (scalar_of switch) (λ n. selected_by (selected node) (taken_by (scalar_of switch) n))
+    Union choice (scalar_of switch)
+    (λ n. selected_by (selected node) (taken_by (scalar_of switch) n))
     (λ i. name_of (part_at node i)) cases
 
 abbrev pub grown_union : (ℕ → Ty) → Choice → Node → Ty
-grown_union tree choice node = union_of choice node (tree (switch_at node)) (λ i. grown_part tree (part_at node i))
+grown_union tree choice node =
+    union_of choice node (tree (switch_at node)) (λ i. grown_part tree (part_at node i))
 
 abbrev pub grow : (ℕ → Ty) → Node → Ty
 grow tree (nodes.prim p) = Single (Plain p)
-grow tree (nodes.enumeration names) = Single (Enum (length names) (λ i. name_or (slice_get names i)))
+grow tree (nodes.enumeration names) =
+    Single (Enum (length names) (λ i. name_or (slice_get names i)))
 grow tree (nodes.text bound) = Text bound
 grow tree (nodes.octets bound) = Octets bound
-grow tree (nodes.members parts) = Struct (length parts) (λ i. name_of (slice_get parts i)) (λ i. grown_part tree (slice_get parts i))
-grow tree (nodes.union switch cases otherwise) = grown_union tree (Cases (length cases)) (nodes.union switch cases otherwise)
+grow tree (nodes.members parts) =
+    Struct (length parts) (λ i. name_of (slice_get parts i))
+    (λ i. grown_part tree (slice_get parts i))
+grow tree (nodes.union switch cases otherwise) =
+    grown_union tree (Cases (length cases)) (nodes.union switch cases otherwise)
 grow tree (nodes.sequence bound element) = Sequence bound (tree element)
 grow tree (nodes.array count element) = Array count (tree element)
 grow tree (nodes.encapsulation held) = Encapsulation (tree held)
-grow tree (nodes.tagged special tag inner other) = grown_union tree Tag (nodes.tagged special tag inner other)
+grow tree (nodes.tagged special tag inner other) =
+    grown_union tree Tag (nodes.tagged special tag inner other)
 
 -- ---- the trees, from the front of the table
 
@@ -91,5 +98,6 @@ part_depth types node i = depth (type_in types (type_of (part_at node i)))
 -- types that can stand in a table: each part is numbered below its whole, and none is deeper than 24
 pub record AreTypes (types : List Node) : Type 0 where
   pub few : length types < 2 ^ 32
-  pub formed : (i : ℕ) → i < length types → IsFormed types i (slice_index_or types i (nodes.prim prims.Octet))
+  pub formed : (i : ℕ) → i < length types
+      → IsFormed types i (slice_index_or types i (nodes.prim prims.Octet))
   pub shallow : depth_of types ≤ 24

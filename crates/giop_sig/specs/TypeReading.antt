@@ -20,9 +20,19 @@ use Rattle.giop_sig.specs.Outcomes.{refused}
 abbrev pub too_deep : ℕ → Refusal
 too_deep at = record { kind = kinds.Depth; left = at }
 
+-- too many types to be numbered, in the declaration whose name is at this place; no text that spells a file has so many
+abbrev pub too_many : ℕ → Refusal
+too_many at = record { kind = kinds.Limit; left = at }
+
+-- one node more, where a number is left for it
+abbrev pub next_node : ℕ → Scope → Node → Result Placed Refusal
+next_node at s node =
+    if nat_le 4294967295 (length s.table.types) then Err (too_many at) else Ok (with_node s node)
+
 -- one node more, where it isn't too deep
 unfoldable pub added : ℕ → Scope → Node → Result Placed Refusal
-added at s node = if nat_le (depth (grow (tree s.table) node)) 24 then Ok (with_node s node) else Err (too_deep at)
+added at s node =
+    if nat_le (depth (grow (tree s.table) node)) 24 then next_node at s node else Err (too_deep at)
 
 -- ---- sizes
 
@@ -30,7 +40,8 @@ added at s node = if nat_le (depth (grow (tree s.table) node)) 24 then Ok (with_
 unfoldable pub size_at : List ℕ → Result (ℕ × List ℕ) Refusal
 size_at text = do
   n ← number_at text
-  if n.0 == 0 then Err (refused kinds.Empty text) else (if nat_lt 4294967295 n.0 then Err (refused kinds.Limit text) else Ok (n.0, n.1))
+  if n.0 == 0 then Err (refused kinds.Empty text)
+      else (if nat_lt 4294967295 n.0 then Err (refused kinds.Limit text) else Ok (n.0, n.1))
 
 -- what was found by looking one token ahead
 abbrev pub size_within : Mark → List ℕ → Option (List ℕ) → Result (Option ℕ × List ℕ) Refusal
@@ -132,7 +143,8 @@ found_type s text rest (Some n) = Ok (s, n, rest)
 unfoldable pub named_type : Scope → List ℕ → List ℕ → List ℕ → Result TypeRead Refusal
 named_type s text w rest =
     if is_reserved w then Err (misplaced text) else
-    (if nat_lt 64 (length w) then Err (refused kinds.Limit text) else found_type s text rest (named s.names w))
+    (if nat_lt 64 (length w) then Err (refused kinds.Limit text)
+    else found_type s text rest (named s.names w))
 
 abbrev pub leaf_after : ℕ → Scope → List ℕ → List ℕ → List ℕ → Option ℕ → Result TypeRead Refusal
 leaf_after at s text w rest (Some base) = Ok (s, base, rest)

@@ -118,12 +118,17 @@ HasShape T (shapes.Prim p) = T ≡ Single (Plain p)
 HasShape T (shapes.Enumeration count) = (names : ℕ → List ℕ) × (T ≡ Single (Enum count names))
 HasShape T (shapes.Text bound) = T ≡ Text bound
 HasShape T (shapes.Octets bound) = T ≡ Octets bound
-HasShape T (shapes.Members count) = (names : ℕ → List ℕ) × (parts : ℕ → Ty) × (T ≡ Struct count names parts)
-HasShape T (shapes.Union count) = (scalar : Scalar) × (select : ℕ → Selected) × (names : ℕ → List ℕ) × (cases : ℕ → Ty) × (T ≡ Union (Cases count) scalar select names cases)
+HasShape T (shapes.Members count) =
+    (names : ℕ → List ℕ) × (parts : ℕ → Ty) × (T ≡ Struct count names parts)
+HasShape T (shapes.Union count) =
+    (scalar : Scalar) × (select : ℕ → Selected) × (names : ℕ → List ℕ) × (cases : ℕ → Ty)
+    × (T ≡ Union (Cases count) scalar select names cases)
 HasShape T (shapes.Sequence bound) = (E : Ty) × (T ≡ Sequence bound E)
 HasShape T (shapes.Array count) = (E : Ty) × (T ≡ Array count E)
 HasShape T shapes.Encapsulation = (E : Ty) × (T ≡ Encapsulation E)
-HasShape T shapes.Tagged = (scalar : Scalar) × (select : ℕ → Selected) × (names : ℕ → List ℕ) × (cases : ℕ → Ty) × (T ≡ Union Tag scalar select names cases)
+HasShape T shapes.Tagged =
+    (scalar : Scalar) × (select : ℕ → Selected) × (names : ℕ → List ℕ) × (cases : ℕ → Ty)
+    × (T ≡ Union Tag scalar select names cases)
 
 -- a shape whose parts have names has a part in that place
 abbrev pub HasMember : Shape → ℕ → Type 0
@@ -160,7 +165,8 @@ depth (Single scalar) = 1
 depth (Text bound) = 1
 depth (Octets bound) = 1
 depth (Struct count names parts) = 1 + most count (λ i. depth (parts i))
-depth (Union choice scalar select names cases) = 1 + max 1 (most (places_of choice) (λ i. depth (cases i)))
+depth (Union choice scalar select names cases) =
+    1 + max 1 (most (places_of choice) (λ i. depth (cases i)))
 depth (Sequence bound T) = 1 + depth T
 depth (Array count T) = 1 + depth T
 depth (Encapsulation T) = 1 + depth T

@@ -71,7 +71,8 @@ number_of_value node text = do
 -- a label behind others of its union
 unfoldable pub fresh : List Mark → Mark → List ℕ → Result Mark Refusal
 fresh seen m text =
-    if list_any (λ s. same_mark s m) seen then Err (refused kinds.Duplicate text) else (if nat_le 1024 (length seen) then Err (refused kinds.Limit text) else Ok m)
+    if list_any (λ s. same_mark s m) seen then Err (refused kinds.Duplicate text)
+    else (if nat_le 1024 (length seen) then Err (refused kinds.Limit text) else Ok m)
 
 abbrev pub label_by : Node → List Mark → List ℕ → Option (List ℕ) → Result LabelRead Refusal
 label_by node seen text (Some inner) = do
@@ -125,7 +126,8 @@ too_many_labels ls = refused kinds.Limit ls.3
 
 abbrev pub labels_by : Node → List Mark → List ℕ → Bool → Result LabelsRead Refusal
 labels_by node seen text false = Err (misplaced text)
-labels_by node seen text true = in_steps (labels_step node) too_many_labels 1025 (seen, [], false, text)
+labels_by node seen text true =
+    in_steps (labels_step node) too_many_labels 1025 (seen, [], false, text)
 
 -- the labels of a case, one at least
 unfoldable pub labels_at : Node → List Mark → List ℕ → Result LabelsRead Refusal

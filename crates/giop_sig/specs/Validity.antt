@@ -74,12 +74,14 @@ OfType k names (SequenceOf e bound) = OfType k names e × OfBound k bound
 OfType k names (EncapsulationOf e) = OfVersion k names × OfType k names e
 
 abbrev pub OfItem : Kind → Names → ℕ → List (List ℕ) → Item → Type 0
-OfItem k names most seen i = OfType k names i.type × OfNewName k most seen i.name × OfBound k i.length
+OfItem k names most seen i =
+    OfType k names i.type × OfNewName k most seen i.name × OfBound k i.length
 
 -- items behind others of these names
 unfoldable pub OfItems : Kind → Names → ℕ → List (List ℕ) → List Item → Type 0
 OfItems k names most seen [] = Unit {0}
-OfItems k names most seen (i ∷ is) = OfItem k names most seen i × OfItems k names most (seen ++ i.name ∷ []) is
+OfItems k names most seen (i ∷ is) =
+    OfItem k names most seen i × OfItems k names most (seen ++ i.name ∷ []) is
 
 -- enumerators behind others
 unfoldable pub OfNames : Kind → List (List ℕ) → List (List ℕ) → Type 0
@@ -151,7 +153,8 @@ OfLabels k node seen (l ∷ ls) = OfLabel k node seen l × OfLabels k node (seen
 unfoldable pub OfCases : Kind → Names → Node → List Label → List (List ℕ) → List UnionCase → Type 0
 OfCases k names node labels seen [] = Unit {0}
 OfCases k names node labels seen (c ∷ cs) =
-    OfLabels k node labels (labels_of c) × OfItem k names 256 seen c.item × OfCases k names node (labels ++ labels_of c) (seen ++ c.item.name ∷ []) cs
+    OfLabels k node labels (labels_of c) × OfItem k names 256 seen c.item
+    × OfCases k names node (labels ++ labels_of c) (seen ++ c.item.name ∷ []) cs
 
 -- the node of a discriminator's type
 abbrev pub placed_node : Placed → Node
@@ -186,12 +189,19 @@ abbrev pub items_of : List Param → List Item
 items_of ps = map (λ p. p.item) ps
 
 unfoldable pub OfDeclaration : Kind → Scope → Declaration → Type 0
-OfDeclaration k s (Enumeration n names) = OfDeclared k s s.table.declared n × OfSome k names × OfNames k [] names
-OfDeclaration k s (Structure n items) = OfDeclared k s s.table.declared n × OfSome k items × OfItems k s.names 256 [] items
+OfDeclaration k s (Enumeration n names) =
+    OfDeclared k s s.table.declared n × OfSome k names × OfNames k [] names
+OfDeclaration k s (Structure n items) =
+    OfDeclared k s s.table.declared n × OfSome k items × OfItems k s.names 256 [] items
 OfDeclaration k s (Choice n switch cases) =
-    OfDeclared k s s.table.declared n × OfType k s.names switch × OfSwitch k (placed_node (place s switch)) × OfSome k cases × OfCases k s.names (placed_node (place s switch)) [] [] cases
-OfDeclaration k s (Raise n r items) = OfDeclared k s (length s.table.exceptions) n × OfRepository k s r × OfItems k s.names 256 [] items
-OfDeclaration k s (Call returned n params) = OfReturn k s.names returned × OfOperation k s n × OfItems k s.names 255 [] (items_of params)
+    OfDeclared k s s.table.declared n × OfType k s.names switch
+    × OfSwitch k (placed_node (place s switch)) × OfSome k cases
+    × OfCases k s.names (placed_node (place s switch)) [] [] cases
+OfDeclaration k s (Raise n r items) =
+    OfDeclared k s (length s.table.exceptions) n × OfRepository k s r
+    × OfItems k s.names 256 [] items
+OfDeclaration k s (Call returned n params) =
+    OfReturn k s.names returned × OfOperation k s n × OfItems k s.names 255 [] (items_of params)
 
 -- ---- the rules, of a declaration behind those that made the scope
 

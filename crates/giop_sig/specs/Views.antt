@@ -24,7 +24,8 @@ node_view (entries.Enumeration names) = enumeration (map (λ n. n.items) names.i
 node_view (entries.Text bound) = text bound
 node_view (entries.Octets bound) = octets bound
 node_view (entries.Members parts) = members (map part_view parts.items)
-node_view (entries.Union switch cases otherwise) = union switch.0 (map case_view cases.items) otherwise
+node_view (entries.Union switch cases otherwise) =
+    union switch.0 (map case_view cases.items) otherwise
 node_view (entries.Sequence bound element) = sequence bound element.0
 node_view (entries.Array count element) = array count element.0
 node_view (entries.Encapsulation held) = encapsulation held.0

@@ -5,4 +5,9 @@ use Rattle.giop_sig.specs.Views.{part_view}
 use Rattle.giop_sig.specs.CallReading.{Way}
 
 abbrev pub way_view : Ways → Way
-way_view w = record { seen = map (λ n. n.now) w.seen.items; request = map part_view w.request.items; reply = map part_view w.reply.items }
+way_view w =
+    record {
+      seen = map (λ n. n.now) w.seen.items;
+      request = map part_view w.request.items;
+      reply = map part_view w.reply.items;
+    }

@@ -1,5 +1,5 @@
 //! The catalogue: the types of a signature file with the built-in ones, and its operations and exceptions by name.
-ghost use Rattle.std.specs.Prelude.{◌≡◌, ℕ, ◌<◌, ◌≤◌, ◌↔◌, length, IsTrue, IfSome, IfOk, IfErr, OnOk, OnErr, None, MatchOption};
+ghost use Rattle.std.specs.Prelude.{◌≡◌, ℕ, ◌+◌, ◌^◌, ◌<◌, ◌≤◌, ◌↔◌, nat_le, length, IsTrue, IfSome, IfOk, IfErr, OnOk, OnErr, None, MatchOption};
 ghost use Rattle.std.specs.Option.{option_map};
 ghost use Rattle.giop_sig.specs.Types.{depth, part_of, name_in, enum_name_in, switch_of, select_in, taken_in, shape_in, HasShape, HasMember, HasPlace, IsUnion};
 ghost use Rattle.giop_sig.specs.Fits.{IsFit, IsRoot};
@@ -46,7 +46,8 @@ impl Model for Catalogue {
 
     ghost view = { λ a. table_view a.types a.operations.entries a.exceptions.entries a.declared };
 
-    ghost invariant = { λ a. IsTable (table_view a.types a.operations.entries a.exceptions.entries a.declared) };
+    ghost invariant = { λ a.
+        IsTable (table_view a.types a.operations.entries a.exceptions.entries a.declared) };
 }
 
 impl Catalogue {
@@ -165,8 +166,10 @@ impl Catalogue {
         requires { t.0 < length self.now.types }
         ensures is { result ≡ selected (node_at self.now t.0) number }
         // By the whole number that the discriminator's octets spell.
-        ensures tree { (n : ℕ) → taken_in (switch_of (tree self.now t.0)) n ≡ Some number → result ≡ select_in (tree self.now t.0) n }
-        ensures place { (i : ℕ) → result ≡ Selected.Case i → HasMember (shape_in (tree self.now t.0)) i }
+        ensures tree { (n : ℕ) → taken_in (switch_of (tree self.now t.0)) n ≡ Some number
+            → result ≡ select_in (tree self.now t.0) n }
+        ensures place { (i : ℕ) → result ≡ Selected.Case i
+            → HasMember (shape_in (tree self.now t.0)) i }
     {
         self.types.entry(t).select(number)
     }
@@ -179,7 +182,8 @@ impl Catalogue {
         ensures tree { option_map (λ t. tree self.now t.0) result ≡ header_type minor kind }
         ensures fit { IfSome result (λ t. IsFit 24 (tree self.now t.0)) }
         // A reader that knows no type finds the request id at the front.
-        ensures id { IdStandsFirst minor kind → IfSome result (λ t. BeginsWithId (tree self.now t.0)) }
+        ensures id { IdStandsFirst minor kind
+            → IfSome result (λ t. BeginsWithId (tree self.now t.0)) }
     {
         self.laws();
         header_id(minor, kind)
@@ -269,10 +273,18 @@ impl Catalogue {
         self.types.depth_above(entry)
     }
 
-    /// Adds a type, of an entry that is no deeper than 24. An `Err` changes nothing.
+    /// Whether all numbers of types are used up.
+    pub(crate) fn is_full(&self) -> bool
+        ensures { result ≡ nat_le 4294967295 (length self.now.types) }
+    {
+        self.types.len() == u32::MAX
+    }
+
+    /// Adds a type, of an entry that is no deeper than 24, where a number is left for it. An `Err` changes nothing.
     pub(crate) fn add_type(&mut self, entry: Entry) -> Result<TypeId, SigFault>
         requires formed { IsFormed self.old.types (length self.old.types) (node_view entry) }
         requires shallow { depth (grow (tree self.old) (node_view entry)) ≤ 24 }
+        requires few { length self.old.types + 1 < 2 ^ 32 }
         ensures number { IfOk result (λ t. t.0 ≡ length self.old.types) }
         ensures added { OnOk result (self.new ≡ with_type self.old (node_view entry)) }
         ensures memory { IfErr result (λ fault. fault ≡ no_memory) }
@@ -303,7 +315,8 @@ impl Catalogue {
         requires few { length self.old.operations < 4096 }
         requires request { request.0 < length self.old.types }
         requires reply { reply.0 < length self.old.types }
-        ensures added { OnOk result (self.new ≡ with_operation self.old (record { name = name.now; request = request.0; reply = reply.0 })) }
+        ensures added { OnOk result (self.new ≡ with_operation self.old
+            (record { name = name.now; request = request.0; reply = reply.0 })) }
         ensures memory { IfErr result (λ fault. fault ≡ no_memory) }
         ensures err { OnErr result (self.new ≡ self.old) }
     {
@@ -322,7 +335,8 @@ impl Catalogue {
         requires new { exception_in self.old repository.now ≡ None }
         requires few { length self.old.exceptions < 4096 }
         requires members { members.0 < length self.old.types }
-        ensures added { OnOk result (self.new ≡ with_exception self.old (record { repository = repository.now; members = members.0 })) }
+        ensures added { OnOk result (self.new ≡ with_exception self.old
+            (record { repository = repository.now; members = members.0 })) }
         ensures memory { IfErr result (λ fault. fault ≡ no_memory) }
         ensures err { OnErr result (self.new ≡ self.old) }
     {
@@ -336,7 +350,8 @@ impl Catalogue {
         requires { operation.0 < length self.now.operations }
         ensures request { result.request.0 ≡ (operation_at self.now operation.0).request }
         ensures reply { result.reply.0 ≡ (operation_at self.now operation.0).reply }
-        ensures known { (result.request.0 < length self.now.types) × (result.reply.0 < length self.now.types) }
+        ensures known { (result.request.0 < length self.now.types)
+            × (result.reply.0 < length self.now.types) }
     {
         match self.operations.get_index(operation.0 as usize) {
             Some((_, signature)) => *signature,

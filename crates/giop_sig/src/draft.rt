@@ -100,7 +100,8 @@ impl Draft {
         names.get(&key).is_some()
     }
 
-    /// Adds a type. One that is too deep is refused, in the declaration whose name is at this place.
+    /// Adds a type. One that is too deep, or for which no number is left, is refused in the declaration whose name is at
+    /// this place.
     #[tactic(auto, unfolding(crate::specs::TypeReading::added))]
     pub(crate) fn add(&mut self, at: usize, entry: Entry) -> Result<TypeId, Stop>
         requires { IsFormed self.old.table.types (length self.old.table.types) (node_view entry) }
@@ -110,6 +111,12 @@ impl Draft {
         if self.catalogue.depth_above(&entry) > 24 {
             return Err(Stop::Refused(Refusal {
                 kind: SigFaultKind::Depth,
+                left: at,
+            }));
+        }
+        if self.catalogue.is_full() {
+            return Err(Stop::Refused(Refusal {
+                kind: SigFaultKind::Limit,
                 left: at,
             }));
         }
@@ -178,7 +185,8 @@ impl Draft {
         requires short { length name.now ≤ 64 }
         requires new { lookup (bytes_eq name.now) self.old.names.known ≡ None }
         requires known { IsKnownType self.old.table.types (option_map (λ t. t.0) t) }
-        ensures added { OnOk result (self.new ≡ with_name self.old name.now (option_map (λ t. t.0) t)) }
+        ensures added { OnOk result (self.new
+            ≡ with_name self.old name.now (option_map (λ t. t.0) t)) }
         ensures err { IfErr result (λ stop. stop ≡ Stop.Memory) }
     {
         let key: Key = ArrayVec::try_from(name).unwrap();
@@ -208,7 +216,8 @@ impl Draft {
         requires identity { length repository.now ≤ 128 }
         requires different { exception_in self.old.table repository.now ≡ None }
         requires known { t.0 < length self.old.table.types }
-        ensures added { OnOk result (self.new ≡ with_raised name.now repository.now (self.old, t.0)) }
+        ensures added { OnOk result (self.new
+            ≡ with_raised name.now repository.now (self.old, t.0)) }
         ensures err { IfErr result (λ stop. stop ≡ Stop.Memory) }
     {
         self.add_name(name, None)?;

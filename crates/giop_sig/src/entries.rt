@@ -1,5 +1,5 @@
 //! The types of a catalogue as they are kept: an entry for each, with its depth.
-ghost use Rattle.std.specs.Prelude.{◌≡◌, ℕ, ◌<◌, ◌≤◌, ◌++◌, ◌∷◌, [], length, map, Some, IfOk, OnOk, OnErr, IfSome, max};
+ghost use Rattle.std.specs.Prelude.{◌≡◌, ℕ, ◌+◌, ◌^◌, ◌<◌, ◌≤◌, ◌++◌, ◌∷◌, [], length, map, Some, IfOk, OnOk, OnErr, IfSome, max};
 ghost use Rattle.std.specs.Option.{option_map};
 ghost use Rattle.std.specs.List.{list_any};
 ghost use Rattle.giop_sig.specs.Types.{depth, most, HasPlace, HasMember, IsUnion};
@@ -308,7 +308,8 @@ impl Types {
     /// The depth of the deepest of an entry's first so many parts, 0 where there is none.
     fn deepest_part(&self, entry: &Entry, count: u32) -> u8
         requires place { (i : ℕ) → i < count → HasPlace (shape_of (node_view entry.now)) i }
-        requires below { (i : ℕ) → i < count → type_of (part_at (node_view entry.now) i) < length self.now }
+        requires below { (i : ℕ) → i < count
+            → type_of (part_at (node_view entry.now) i) < length self.now }
         ensures depth { result ≡ most count (part_depth self.now (node_view entry.now)) }
         ensures shallow { result ≤ 24 }
     {
@@ -319,19 +320,17 @@ impl Types {
         deepest
     }
 
-    /// Adds a type at the end, of an entry that is no deeper than 24. An `Err` changes nothing: memory was refused, or
-    /// all numbers of types are used up.
+    /// Adds a type at the end, of an entry that is no deeper than 24, where a number is left for it. An `Err` changes
+    /// nothing: memory was refused.
     pub(crate) fn add(&mut self, entry: Entry) -> Result<TypeId, AllocError>
         requires formed { IsFormed self.old (length self.old) (node_view entry) }
         requires shallow { depth (grow (type_in self.old) (node_view entry)) ≤ 24 }
+        requires few { length self.old + 1 < 2 ^ 32 }
         ensures number { IfOk result (λ t. t.0 ≡ length self.old) }
         ensures added { OnOk result (self.new ≡ self.old ++ node_view entry ∷ []) }
         ensures err { OnErr result (self.new ≡ self.old) }
     {
         let number = self.len();
-        if number == u32::MAX {
-            return Err(AllocError);
-        }
         let depth = self.depth_above(&entry);
         self.placed.push(Placed { entry, depth })?;
         self.deepest = self.deepest.max(depth);

@@ -37,7 +37,8 @@ fn word_value<'a>(
     name: &'a [u8],
     rest: &'a [u8],
 ) -> Result<(LabelValue<'a>, &'a [u8]), Stop>
-    ensures { Gives (λ x. (value_view x.0, x.1.now)) result (word_value text.now name.now rest.now) }
+    ensures { Gives (λ x. (value_view x.0, x.1.now)) result
+        (word_value text.now name.now rest.now) }
 {
     if name == b"true".as_slice() {
         return Ok((LabelValue::Truth(true), rest));

@@ -107,7 +107,8 @@ impl Catalogue {
         ensures few { IfOk result (λ c. length c.types ≤ length builtin_types + length text.now) }
         // Of a text that spells a file, the refusal is that of a rule which one of its declarations breaks, unless memory
         // was refused.
-        ensures err { (file : SignatureFile) → Spells text.now file → IfErr result (λ f. Refuses f.kind file) }
+        ensures err { (file : SignatureFile) → Spells text.now file
+            → IfErr result (λ f. Refuses f.kind file) }
         // A text that is too long isn't read. Another is refused where reading it from the front comes to what can't
         // stand, at the line of that token; want of memory alone has no line.
         ensures long { 1048576 < length text.now → result ≡ Err text_too_long }

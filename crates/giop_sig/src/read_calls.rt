@@ -37,7 +37,8 @@ fn return_at<'a>(
     at: usize,
     text: &'a [u8],
 ) -> Result<(Vec<PartEntry>, &'a [u8]), Stop>
-    ensures { Gives (λ x. (draft.new, map part_view x.0.items, x.1.now)) result (return_at at draft.old text.now) }
+    ensures { Gives (λ x. (draft.new, map part_view x.0.items, x.1.now)) result
+        (return_at at draft.old text.now) }
 {
     let mut returned = Vec::new(alloc);
     if let Some(rest) = starts_with_keyword(text, b"void")? {
@@ -98,7 +99,8 @@ fn to_request(
     name: &[u8],
     t: TypeId,
 ) -> Result<(), Stop>
-    ensures { Gives (λ x. map part_view parts.new.items) result (Ok (in_request direction (part name.now t.0) (map part_view parts.old.items))) }
+    ensures { Gives (λ x. map part_view parts.new.items) result
+        (Ok (in_request direction (part name.now t.0) (map part_view parts.old.items))) }
 {
     match direction {
         Direction::Out => {}
@@ -116,7 +118,8 @@ fn to_reply(
     name: &[u8],
     t: TypeId,
 ) -> Result<(), Stop>
-    ensures { Gives (λ x. map part_view parts.new.items) result (Ok (in_reply direction (part name.now t.0) (map part_view parts.old.items))) }
+    ensures { Gives (λ x. map part_view parts.new.items) result
+        (Ok (in_reply direction (part name.now t.0) (map part_view parts.old.items))) }
 {
     match direction {
         Direction::In => {}
@@ -160,7 +163,14 @@ fn param_step<'a>(
     text: &'a [u8],
 ) -> Result<(bool, &'a [u8]), Stop>
     ensures { Gives
-        (λ x. record { scope = draft.new; seen = map (λ n. n.now) ways.new.seen.items; request = map part_view ways.new.request.items; reply = map part_view ways.new.reply.items; rest = x.1.now; closed = x.0 })
+        (λ x. record {
+          scope = draft.new;
+          seen = map (λ n. n.now) ways.new.seen.items;
+          request = map part_view ways.new.request.items;
+          reply = map part_view ways.new.reply.items;
+          rest = x.1.now;
+          closed = x.0;
+        })
         result
         (param_step at (way_view ways.old) draft.old text.now) }
 {
@@ -183,7 +193,8 @@ fn params_at<'a>(
     returned: Vec<PartEntry>,
     text: &'a [u8],
 ) -> Result<(Vec<PartEntry>, Vec<PartEntry>, &'a [u8]), Stop>
-    ensures { Gives (λ x. (draft.new, map part_view x.0.items, map part_view x.1.items, x.2.now)) result (params_at at (map part_view returned.items) draft.old text.now) }
+    ensures { Gives (λ x. (draft.new, map part_view x.0.items, map part_view x.1.items, x.2.now))
+        result (params_at at (map part_view returned.items) draft.old text.now) }
 {
     if let Some(rest) = starts_with_mark(text, Mark::CloseParenthesis)? {
         return Ok((Vec::new(alloc), returned, rest));
@@ -199,7 +210,8 @@ fn params_run<'a>(
     returned: Vec<PartEntry>,
     text: &'a [u8],
 ) -> Result<(Vec<PartEntry>, Vec<PartEntry>, &'a [u8]), Stop>
-    ensures { Gives (λ x. (draft.new, map part_view x.0.items, map part_view x.1.items, x.2.now)) result (params_run at 256 (no_way (map part_view returned.items)) draft.old text.now) }
+    ensures { Gives (λ x. (draft.new, map part_view x.0.items, map part_view x.1.items, x.2.now))
+        result (params_run at 256 (no_way (map part_view returned.items)) draft.old text.now) }
 {
     let mut ways = Ways {
         seen: Vec::new(alloc),

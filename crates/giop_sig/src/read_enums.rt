@@ -35,7 +35,8 @@ fn add_name(alloc: Global, names: &mut Vec<Vec<u8>>, name: &[u8]) -> Result<(), 
 /// An enumerator behind others; what follows it.
 #[tactic(auto, unfolding(crate::specs::EnumReading::enumerator_at))]
 fn enumerator<'a>(alloc: Global, names: &mut Vec<Vec<u8>>, text: &'a [u8]) -> Result<&'a [u8], Stop>
-    ensures { Gives (λ x. (map (λ n. n.items) names.new.items, x.now)) result (enumerator_at (map (λ n. n.items) names.old.items) text.now) }
+    ensures { Gives (λ x. (map (λ n. n.items) names.new.items, x.now)) result
+        (enumerator_at (map (λ n. n.items) names.old.items) text.now) }
 {
     let (name, rest) = identifier(text)?;
     if is_among(names, name) {
@@ -55,7 +56,8 @@ fn names_step<'a>(
     names: &mut Vec<Vec<u8>>,
     text: &'a [u8],
 ) -> Result<(&'a [u8], bool), Stop>
-    ensures { Gives (λ x. (x.1, (map (λ n. n.items) names.new.items, x.0.now))) result (names_step (map (λ n. n.items) names.old.items, text.now)) }
+    ensures { Gives (λ x. (x.1, (map (λ n. n.items) names.new.items, x.0.now))) result
+        (names_step (map (λ n. n.items) names.old.items, text.now)) }
 {
     let rest = enumerator(alloc, names, text)?;
     match starts_with_mark(rest, Mark::Comma)? {
@@ -66,7 +68,8 @@ fn names_step<'a>(
 
 /// The enumerators of an enum that isn't empty.
 fn some_names(alloc: Global, text: &[u8]) -> Result<(Vec<Vec<u8>>, &[u8]), Stop>
-    ensures { Gives (λ x. (map (λ n. n.items) x.0.items, x.1.now)) result (in_steps names_step too_many_names 1025 ([], text.now)) }
+    ensures { Gives (λ x. (map (λ n. n.items) x.0.items, x.1.now)) result
+        (in_steps names_step too_many_names 1025 ([], text.now)) }
 {
     let mut names = Vec::new(alloc);
     let mut rest = text;

@@ -40,7 +40,8 @@ pub(crate) fn new_name_at<'a>(
     seen: &[&[u8]],
     text: &'a [u8],
 ) -> Result<(&'a [u8], &'a [u8]), Stop>
-    ensures { Gives (λ x. (x.0.now, x.1.now)) result (new_name_at most (map (λ n. n.now) seen.now) text.now) }
+    ensures { Gives (λ x. (x.0.now, x.1.now)) result
+        (new_name_at most (map (λ n. n.now) seen.now) text.now) }
 {
     let (name, rest) = identifier(text)?;
     if is_among(seen, name) {
@@ -97,7 +98,8 @@ pub(crate) fn item_at<'a>(
     seen: &[&[u8]],
     text: &'a [u8],
 ) -> Result<(&'a [u8], TypeId, &'a [u8]), Stop>
-    ensures { Gives (λ x. (draft.new, part x.0.now x.1.0, x.2.now)) result (item_at at most (map (λ n. n.now) seen.now) draft.old text.now) }
+    ensures { Gives (λ x. (draft.new, part x.0.now x.1.0, x.2.now)) result
+        (item_at at most (map (λ n. n.now) seen.now) draft.old text.now) }
 {
     draft.laws();
     let (element, rest) = type_at(draft, at, WORDS_MAX, text)?;
@@ -128,9 +130,16 @@ fn member_step<'a>(
     text: &'a [u8],
 ) -> Result<(bool, &'a [u8]), Stop>
     ensures { Gives
-        (λ x. record { scope = draft.new; seen = map (λ n. n.now) seen.new.items; parts = map part_view parts.new.items; rest = x.1.now; closed = x.0 })
+        (λ x. record {
+          scope = draft.new;
+          seen = map (λ n. n.now) seen.new.items;
+          parts = map part_view parts.new.items;
+          rest = x.1.now;
+          closed = x.0;
+        })
         result
-        (member_step at (map (λ n. n.now) seen.old.items) (map part_view parts.old.items) draft.old text.now) }
+        (member_step at (map (λ n. n.now) seen.old.items)
+        (map part_view parts.old.items) draft.old text.now) }
 {
     if let Some(rest) = starts_with_mark(text, Mark::CloseBrace)? {
         return Ok((true, rest));
@@ -149,7 +158,8 @@ fn members_at<'a>(
     at: usize,
     text: &'a [u8],
 ) -> Result<(Vec<PartEntry>, &'a [u8]), Stop>
-    ensures { Gives (λ x. (draft.new, map part_view x.0.items, x.1.now)) result (members_at at draft.old text.now) }
+    ensures { Gives (λ x. (draft.new, map part_view x.0.items, x.1.now)) result
+        (members_at at draft.old text.now) }
 {
     let mut seen = Vec::new(alloc);
     let mut parts = Vec::new(alloc);

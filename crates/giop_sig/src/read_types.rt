@@ -137,7 +137,8 @@ fn named_type<'a>(
     name: &[u8],
     rest: &'a [u8],
 ) -> Result<(TypeId, &'a [u8]), Stop>
-    ensures { Gives (λ x. (draft.now, x.0.0, x.1.now)) result (named_type draft.now text.now name.now rest.now) }
+    ensures { Gives (λ x. (draft.now, x.0.0, x.1.now)) result
+        (named_type draft.now text.now name.now rest.now) }
 {
     if is_reserved(name) {
         return Err(Stop::Refused(misplaced(text)));
@@ -159,7 +160,8 @@ fn sequence_of(
     element: TypeId,
 ) -> Result<TypeId, Stop>
     requires { IsKnown draft.old.table.types element.0 }
-    ensures { Gives (λ t. (draft.new, t.0)) result (added at draft.old (sequence_node bound element.0)) }
+    ensures { Gives (λ t. (draft.new, t.0)) result
+        (added at draft.old (sequence_node bound element.0)) }
 {
     if element.0 == 0 {
         draft.add(at, Entry::Octets(bound))

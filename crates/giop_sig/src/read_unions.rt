@@ -56,7 +56,8 @@ fn number_of_value<'a>(
     switch: TypeId,
     text: &'a [u8],
 ) -> Result<(Option<Number>, &'a [u8]), Stop>
-    ensures { Gives (λ x. (x.0, x.1.now)) result (number_of_value (node_at draft.now.table switch.0) text.now) }
+    ensures { Gives (λ x. (x.0, x.1.now)) result
+        (number_of_value (node_at draft.now.table switch.0) text.now) }
 {
     let (value, rest) = value_at(text)?;
     match number_in(draft, switch, value) {
@@ -98,7 +99,8 @@ fn label_at<'a>(
     seen: &[Option<Number>],
     text: &'a [u8],
 ) -> Result<(Option<Number>, &'a [u8]), Stop>
-    ensures { Gives (λ x. (x.0, x.1.now)) result (label_at (node_at draft.now.table switch.0) seen.now text.now) }
+    ensures { Gives (λ x. (x.0, x.1.now)) result
+        (label_at (node_at draft.now.table switch.0) seen.now text.now) }
 {
     match starts_with_keyword(text, b"case")? {
         Some(inner) => {
@@ -135,7 +137,8 @@ fn labels_step<'a>(
     text: &'a [u8],
 ) -> Result<(bool, bool, &'a [u8]), Stop>
     ensures { Gives (λ x. (x.0, (seen.new.items, own.new.items, x.1, x.2.now))) result
-        (labels_step (node_at draft.now.table switch.0) (seen.old.items, own.old.items, default, text.now)) }
+        (labels_step (node_at draft.now.table switch.0)
+        (seen.old.items, own.old.items, default, text.now)) }
 {
     if !begins_label(text)? {
         return Ok((true, default, text));
@@ -160,7 +163,8 @@ fn some_labels<'a>(
     text: &'a [u8],
 ) -> Result<(Vec<Number>, bool, &'a [u8]), Stop>
     ensures { Gives (λ x. (seen.new.items, x.0.items, x.1, x.2.now)) result
-        (in_steps (labels_step (node_at draft.now.table switch.0)) too_many_labels 1025 (seen.old.items, [], false, text.now)) }
+        (in_steps (labels_step (node_at draft.now.table switch.0)) too_many_labels 1025
+        (seen.old.items, [], false, text.now)) }
 {
     let mut own = Vec::new(alloc);
     let mut default = false;
@@ -185,7 +189,8 @@ fn labels_at<'a>(
     seen: &mut Vec<Option<Number>>,
     text: &'a [u8],
 ) -> Result<(Vec<Number>, bool, &'a [u8]), Stop>
-    ensures { Gives (λ x. (seen.new.items, x.0.items, x.1, x.2.now)) result (labels_at (node_at draft.now.table switch.0) seen.old.items text.now) }
+    ensures { Gives (λ x. (seen.new.items, x.0.items, x.1, x.2.now)) result
+        (labels_at (node_at draft.now.table switch.0) seen.old.items text.now) }
 {
     if !begins_label(text)? {
         return Err(Stop::Refused(misplaced(text)));
@@ -263,7 +268,8 @@ fn case_at<'a>(
     text: &'a [u8],
 ) -> Result<&'a [u8], Stop>
     requires { length cases.old.names.items ≤ 256 }
-    ensures gives { Gives (λ x. (draft.new, cases_view cases.new, x.now)) result (case_at at switch.0 (draft.old, cases_view cases.old, text.now)) }
+    ensures gives { Gives (λ x. (draft.new, cases_view cases.new, x.now)) result
+        (case_at at switch.0 (draft.old, cases_view cases.old, text.now)) }
     ensures room { OnOk result (length cases.new.names.items ≤ length cases.old.names.items + 1) }
 {
     let (labels, default, rest) = labels_at(alloc, draft, switch, &mut cases.labels, text)?;
@@ -284,7 +290,8 @@ fn cases_step<'a>(
     text: &'a [u8],
 ) -> Result<(bool, &'a [u8]), Stop>
     requires { length cases.old.names.items ≤ 256 }
-    ensures gives { Gives (λ x. (x.0, (draft.new, cases_view cases.new, x.1.now))) result (cases_step at switch.0 (draft.old, cases_view cases.old, text.now)) }
+    ensures gives { Gives (λ x. (x.0, (draft.new, cases_view cases.new, x.1.now))) result
+        (cases_step at switch.0 (draft.old, cases_view cases.old, text.now)) }
     ensures room { OnOk result (length cases.new.names.items ≤ length cases.old.names.items + 1) }
 {
     match starts_with_mark(text, Mark::CloseBrace)? {
@@ -330,7 +337,8 @@ fn cases_at<'a>(
     switch: TypeId,
     text: &'a [u8],
 ) -> Result<(Cases<'a>, &'a [u8]), Stop>
-    ensures { Gives (λ x. (draft.new, cases_view x.0, x.1.now)) result (cases_at at switch.0 draft.old text.now) }
+    ensures { Gives (λ x. (draft.new, cases_view x.0, x.1.now)) result
+        (cases_at at switch.0 draft.old text.now) }
 {
     match starts_with_mark(text, Mark::CloseBrace)? {
         Some(_) => Err(Stop::Refused(refused(SigFaultKind::Empty, text))),

@@ -21,7 +21,8 @@ const ENTRIES_MAX: u32 = 65_536;
 
 /// The first line, and what follows it.
 fn first_line(text: &[u8]) -> Option<(&[u8], &[u8])>
-    ensures lines { MatchOption result (text.now ≡ []) (λ x. lines text.now ≡ x.0.now ∷ lines x.1.now) }
+    ensures lines { MatchOption result (text.now ≡ [])
+        (λ x. lines text.now ≡ x.0.now ∷ lines x.1.now) }
     ensures shorter { IfSome result (λ x. length x.1.now < length text.now) }
 {
     if text.is_empty() {

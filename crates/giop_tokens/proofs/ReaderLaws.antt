@@ -118,10 +118,6 @@ pub identifier_again : (text w : List ℕ) (ts : List Token) (h : AreTokens text
 unfolding identifier_at
 identifier_again text w ts h r few = let k : ltb 64 (length w) ≡ false = le-ltb 64 (length w) few in rw (word_again text w ts h, r, k) refl
 
-pub identifier_reserved : (text w : List ℕ) (ts : List Token) → AreTokens text (word w ∷ ts) → is_reserved w ≡ true → identifier_at text ≡ Err (misplaced text)
-unfolding identifier_at
-identifier_reserved text w ts h r = rw (word_again text w ts h, r) refl
-
 pub identifier_long : (text w : List ℕ) (ts : List Token) → AreTokens text (word w ∷ ts) → is_reserved w ≡ false → 64 < length w → identifier_at text ≡ Err (too_long text)
 unfolding identifier_at
 identifier_long text w ts h r long = let k : ltb 64 (length w) ≡ true = lt-ltb 64 (length w) long in rw (word_again text w ts h, r, k) refl

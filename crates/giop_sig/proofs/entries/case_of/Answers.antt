@@ -9,10 +9,12 @@ use Rattle.giop_sig.proofs.entries.case_of.Goals as goal
 
 pub returns-in-None : goal.returns-in-None
 returns-in-None c =
-    let k = position_from_yields_List (λ e. list_any (λ label. same_number label c.args.number) e.labels.items) _ _ c.position.result c.position.ensures.ran (YieldsList-from_slice c.args.cases.now cc) (λ x b q k. search (rules, tests)) in
+    let k = position_from_yields_List (λ e. list_any (λ label. same_number label c.args.number) e.labels.items) _ _ c.position.result c.position.ensures.ran
+    (YieldsList-from_slice c.args.cases.now cc) (λ x b q k. search (rules, tests)) in
     sym c.in-None.is ∙ k ∙ sym (position-map (λ e. list_any (λ label. same_number label c.args.number) e.labels) case_view c.args.cases.now)
 
 pub returns-in-Some : goal.returns-in-Some
 returns-in-Some c =
-    let k = position_from_yields_List (λ e. list_any (λ label. same_number label c.args.number) e.labels.items) _ _ c.position.result c.position.ensures.ran (YieldsList-from_slice c.args.cases.now cc) (λ x b q k. search (rules, tests)) in
+    let k = position_from_yields_List (λ e. list_any (λ label. same_number label c.args.number) e.labels.items) _ _ c.position.result c.position.ensures.ran
+    (YieldsList-from_slice c.args.cases.now cc) (λ x b q k. search (rules, tests)) in
     sym c.in-Some.is ∙ k ∙ sym (position-map (λ e. list_any (λ label. same_number label c.args.number) e.labels) case_view c.args.cases.now)

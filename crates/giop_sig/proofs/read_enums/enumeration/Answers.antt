@@ -14,7 +14,8 @@ name_type-requires-clause-short c = (declared_takes c.args.draft.now _ _ _ c.in_
 
 pub name_type-requires-clause-new : goal.name_type-requires-clause-new
 name_type-requires-clause-new c =
-    still_new c.args.draft.now c.add.new.self _ (added_grows _ c.args.draft.now _ (c.add.new.self, c.in_ok-t.t.0) c.in_ok-t.ensures) (declared_takes c.args.draft.now _ _ _ c.in_ok-name.ensures).new
+    still_new c.args.draft.now c.add.new.self _ (added_grows _ c.args.draft.now _ (c.add.new.self, c.in_ok-t.t.0) c.in_ok-t.ensures)
+    (declared_takes c.args.draft.now _ _ _ c.in_ok-name.ensures).new
 
 pub name_type-requires-clause-few : goal.name_type-requires-clause-few
 name_type-requires-clause-few c =
@@ -24,4 +25,5 @@ name_type-requires-clause-few c =
 
 pub name_type-requires-clause-known : goal.name_type-requires-clause-known
 name_type-requires-clause-known c =
-    subst (λ (q : Placed). IsKnown (q.0).table.types q.1) (sym (added_is _ c.args.draft.now _ (c.add.new.self, c.in_ok-t.t.0) c.in_ok-t.ensures)) (node_known c.args.draft.now _ tt)
+    subst (λ (q : Placed). IsKnown (q.0).table.types q.1) (sym (added_is _ c.args.draft.now _ (c.add.new.self, c.in_ok-t.t.0) c.in_ok-t.ensures))
+    (node_known c.args.draft.now _ tt)

@@ -6,5 +6,7 @@ use Rattle.giop_sig.proofs.read_unions.some_labels.Given as goal
 
 abbrev pub invariant-loop : goal.invariant-loop
 invariant-loop l =
-    in_steps (labels_step (node_at l.fn.draft.table l.fn.switch.0)) too_many_labels (1025 - l.counter) (l.seen.items, l.own.items, l.default, l.rest)
-    ≡ in_steps (labels_step (node_at l.fn.draft.table l.fn.switch.0)) too_many_labels 1025 (l.fn.seen.items, [], false, l.fn.text)
+    in_steps (labels_step (node_at l.fn.draft.table l.fn.switch.0)) too_many_labels
+    (1025 - l.counter) (l.seen.items, l.own.items, l.default, l.rest)
+    ≡ in_steps (labels_step (node_at l.fn.draft.table l.fn.switch.0)) too_many_labels 1025
+    (l.fn.seen.items, [], false, l.fn.text)

@@ -55,4 +55,10 @@ returns c =
       | else-digits-gt1-via-then-digits-gt1+else-digits-eq48 v ↦ absurd (v.if-digits-eq48.false e)
       | else-digits-gt1-via-else-digits-gt1 v ↦ omega (arith, some)
     ] in
-    rw c.ok.ensures.value (is_number ds c.loop-d.n c.try_from.result (omega arith) (record { some = some; digits = rw whole at c.loop-d.invariant.digits; value = sym (rw whole at c.loop-d.invariant.value); leading = leading }) c.try_from.ensures)
+    rw c.ok.ensures.value (is_number ds c.loop-d.n c.try_from.result (omega arith)
+    (record {
+      some = some;
+      digits = rw whole at c.loop-d.invariant.digits;
+      value = sym (rw whole at c.loop-d.invariant.value);
+      leading = leading;
+    }) c.try_from.ensures)

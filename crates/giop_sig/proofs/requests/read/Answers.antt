@@ -9,8 +9,12 @@ use Rattle.giop_sig.proofs.OneToOne.{operation_number_one}
 use Rattle.giop_sig.proofs.ListKept.{kept_step, is_of}
 use Rattle.giop_sig.proofs.requests.read.Goals as goal
 
-spelled_more : (es : List Entry) (e : Entry) (all after : List (List ℕ)) (line : List ℕ) → line ≡ line_of e → all ≡ map line_of es ++ (line ∷ after) → all ≡ map line_of (es ++ e ∷ []) ++ after
-spelled_more es e all after line is h = h ∙ ap (λ l. map line_of es ++ (l ∷ after)) is ∙ sym (append_assoc (map line_of es) (line_of e ∷ []) after) ∙ ap (λ ls. ls ++ after) (sym (map-append line_of es (e ∷ [])))
+spelled_more : (es : List Entry) (e : Entry) (all after : List (List ℕ)) (line : List ℕ)
+    → line ≡ line_of e → all ≡ map line_of es ++ (line ∷ after)
+    → all ≡ map line_of (es ++ e ∷ []) ++ after
+spelled_more es e all after line is h =
+    h ∙ ap (λ l. map line_of es ++ (l ∷ after)) is ∙ sym (append_assoc (map line_of es) (line_of e ∷ []) after)
+    ∙ ap (λ ls. ls ++ after) (sym (map-append line_of es (e ∷ [])))
 
 pub loop-line-preserved : goal.loop-line-preserved
 loop-line-preserved c =
@@ -20,7 +24,8 @@ loop-line-preserved c =
     let h = c.in-Some-entry.ensures in
     let longer : length (i.es ++ e ∷ []) ≡ length i.es + 1 = length-append i.es (e ∷ []) in
     let found = c.operation.ensures.is in
-    let joins = c.joined-kept.ensures ∙ ap (λ k. joined k c.operation.result) c.get.ensures.value ∙ ap (joined (lookup (nat_eq e.id) c.loop-line.table.entries)) found in
+    let joins = c.joined-kept.ensures ∙ ap (λ k. joined k c.operation.result) c.get.ensures.value
+    ∙ ap (joined (lookup (nat_eq e.id) c.loop-line.table.entries)) found in
     record {
       es = i.es ++ e ∷ [];
       entries = All-push IsEntry i.es e i.entries h.0;
@@ -28,16 +33,32 @@ loop-line-preserved c =
       counted = omega (arith, i.counted, longer);
       few = omega (arith, i.few);
       unique = c.in_ok-insert.ensures.unique;
-      kept = kept_step find (operation_number_one c.args.catalogue.now) i.es e c.loop-line.table.entries c.insert.new.self.entries c.joined-kept.result joins i.kept c.in_ok-insert.ensures.updates.0;
+      kept = kept_step find (operation_number_one c.args.catalogue.now) i.es e c.loop-line.table.entries c.insert.new.self.entries c.joined-kept.result joins
+          i.kept c.in_ok-insert.ensures.updates.0;
     }
 
 pub returns-clause-ok : goal.returns-clause-ok
 returns-clause-ok c =
     let i = c.loop-line.invariant in
-    let done : c.loop-line.rest.now ≡ [] = c.in_default.ensures.lines in
-    (i.es, record { octets = omega arith; count = omega (arith, i.counted, i.few); entries = i.entries; spelled = i.spelled ∙ ap (λ r. map line_of i.es ++ lines r) done ∙ append-nil (map line_of i.es) }, is_of (operation_number c.args.catalogue.now) i.es _ i.unique i.kept)
+    let done : c.loop-line.rest.now ≡ [] = c.in_default.ensures.lines in (
+      i.es,
+      record {
+        octets = omega arith;
+        count = omega (arith, i.counted, i.few);
+        entries = i.entries;
+        spelled = i.spelled ∙ ap (λ r. map line_of i.es ++ lines r) done ∙ append-nil (map line_of i.es);
+      },
+      is_of (operation_number c.args.catalogue.now) i.es _ i.unique i.kept,
+    )
 
 pub invariant_of-result : goal.invariant_of-result
 invariant_of-result c =
     let i = c.loop-line.invariant in
-    omega (arith, i.counted, i.few, (is_of (operation_number c.args.catalogue.now) i.es c.loop-line.table.entries i.unique i.kept).count, distinct_count-le nat_eq (map (λ e. e.id) i.es), length-map i.es (λ e. e.id))
+    omega (
+      arith,
+      i.counted,
+      i.few,
+      (is_of (operation_number c.args.catalogue.now) i.es c.loop-line.table.entries i.unique i.kept).count,
+      distinct_count-le nat_eq (map (λ e. e.id) i.es),
+      length-map i.es (λ e. e.id),
+    )

@@ -15,7 +15,8 @@ invariant-loop-line l = record {
   counted : l.count ≡ length es;
   few : l.count ≤ 65536;
   unique : IsUnique nat_eq l.table;
-  kept : (q : ℕ) → get nat_eq l.table q ≡ kept_by (finding (operation_number l.catalogue)) (names_of es q);
+  kept : (q : ℕ) → get nat_eq l.table q
+      ≡ kept_by (finding (operation_number l.catalogue)) (names_of es q);
 }
 
 abbrev pub decreases-loop-line : goal.decreases-loop-line

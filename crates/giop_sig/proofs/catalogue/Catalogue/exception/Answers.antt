@@ -12,12 +12,14 @@ returns-in_err-key-clause-is c =
 pub returns-in_err-found-clause-is : goal.returns-in_err-found-clause-is
 returns-in_err-found-clause-is c =
     let key = rw c.in_ok-key.was at c.key_of.ensures in
-    c.from_residual-in_err-found.ensures ∙ exception_none c.self.inside.exceptions.entries c.args.self.now c.in_ok-key.key.items c.args.repository.now (ap (λ (t : Table). t.exceptions) c.self.view_is) key c.in_err-found.ensures.index
+    c.from_residual-in_err-found.ensures ∙ exception_none c.self.inside.exceptions.entries c.args.self.now c.in_ok-key.key.items c.args.repository.now
+    (ap (λ (t : Table). t.exceptions) c.self.view_is) key c.in_err-found.ensures.index
 
 pub returns-clause-is : goal.returns-clause-is
 returns-clause-is c =
     let key = rw c.in_ok-key.was at c.key_of.ensures in
-    exception_found c.self.inside.exceptions.entries c.args.self.now c.in_ok-key.key.items c.args.repository.now c.in_ok-found.found.0 (c.in_ok-found.found.1.now, c.in_ok-found.found.2.now)
+    exception_found c.self.inside.exceptions.entries c.args.self.now c.in_ok-key.key.items c.args.repository.now c.in_ok-found.found.0
+    (c.in_ok-found.found.1.now, c.in_ok-found.found.2.now)
     (ap (λ (t : Table). t.exceptions) c.self.view_is) key c.in_ok-found.ensures.index c.in_ok-found.ensures.entry
 
 pub returns-clause-known : goal.returns-clause-known

@@ -4,7 +4,8 @@ use Rattle.giop_sig.specs.Trees.{depth_of}
 use Rattle.giop_sig.specs.Outcomes.{Stops}
 use Rattle.giop_sig.specs.FileReading.{file_at}
 use Rattle.giop_sig.specs.Validity.{Refuses}
-use Rattle.giop_sig.proofs.FileLaws.{file_takes, file_valid, file_few, file_refuses}
+use Rattle.giop_sig.proofs.FileLaws.{file_takes}
+use Rattle.giop_sig.proofs.FileRules.{file_valid, file_few, file_refuses}
 use Rattle.giop_sig.proofs.Told.{has_line}
 use Rattle.giop_sig.proofs.UnionWhole.{union_read, union_taken}
 use Rattle.giop_sig.proofs.catalogue.Catalogue.parse.Goals as goal

@@ -5,4 +5,8 @@ use Rattle.giop_sig.specs.Views.{node_view}
 use Rattle.giop_sig.proofs.entries.Types.deepest_part.Given as goal
 
 abbrev pub invariant-loop-place : goal.invariant-loop-place
-invariant-loop-place l = record { depth : l.deepest ≡ most l.place (part_depth l.self (node_view l.entry)); shallow : l.deepest ≤ 24 }
+invariant-loop-place l =
+    record {
+      depth : l.deepest ≡ most l.place (part_depth l.self (node_view l.entry));
+      shallow : l.deepest ≤ 24;
+    }

@@ -18,7 +18,8 @@ pub returns-in-Octets-clause-depth : goal.returns-in-Octets-clause-depth
 returns-in-Octets-clause-depth c = sym (depth_at_shape c.args.self.now (node_view c.args.entry.now) _ c.in-Octets.ensures)
 
 pub returns-in-Members-clause-depth : goal.returns-in-Members-clause-depth
-returns-in-Members-clause-depth c = ap (λ n. 1 + n) c.deepest_part.ensures.depth ∙ sym (depth_at_shape c.args.self.now (node_view c.args.entry.now) _ c.in-Members.ensures)
+returns-in-Members-clause-depth c =
+    ap (λ n. 1 + n) c.deepest_part.ensures.depth ∙ sym (depth_at_shape c.args.self.now (node_view c.args.entry.now) _ c.in-Members.ensures)
 
 pub returns-in-Union-clause-depth : goal.returns-in-Union-clause-depth
 returns-in-Union-clause-depth c =
@@ -27,11 +28,13 @@ returns-in-Union-clause-depth c =
 
 pub returns-in-Sequence-clause-depth : goal.returns-in-Sequence-clause-depth
 returns-in-Sequence-clause-depth c =
-    ap (λ n. 1 + n) (c.depth_at.ensures.depth ∙ ap (λ i. depth (type_in c.args.self.now i)) c.part.ensures) ∙ sym (depth_at_shape c.args.self.now (node_view c.args.entry.now) _ c.in-Sequence.ensures)
+    ap (λ n. 1 + n) (c.depth_at.ensures.depth ∙ ap (λ i. depth (type_in c.args.self.now i)) c.part.ensures)
+    ∙ sym (depth_at_shape c.args.self.now (node_view c.args.entry.now) _ c.in-Sequence.ensures)
 
 pub returns-in-Array-clause-depth : goal.returns-in-Array-clause-depth
 returns-in-Array-clause-depth c =
-    ap (λ n. 1 + n) (c.depth_at-in-Array.ensures.depth ∙ ap (λ i. depth (type_in c.args.self.now i)) c.part-in-Array.ensures) ∙ sym (depth_at_shape c.args.self.now (node_view c.args.entry.now) _ c.in-Array.ensures)
+    ap (λ n. 1 + n) (c.depth_at-in-Array.ensures.depth ∙ ap (λ i. depth (type_in c.args.self.now i)) c.part-in-Array.ensures)
+    ∙ sym (depth_at_shape c.args.self.now (node_view c.args.entry.now) _ c.in-Array.ensures)
 
 pub returns-in-Encapsulation-clause-depth : goal.returns-in-Encapsulation-clause-depth
 returns-in-Encapsulation-clause-depth c =

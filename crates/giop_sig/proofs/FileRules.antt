@@ -1,0 +1,101 @@
+-- What reading gives of a signature file, in the words of the contract.
+use Rattle.std.proofs.Common.{◌≡◌, ℕ, ◌+◌, ◌^◌, ◌<◌, ◌≤◌, ◌⊎◌, inl, inr, List, [], ◌∷◌, length, Ok, Err, ap, subst, arith}
+use Rattle.giop_tokens.specs.declared.fault.Refusal.{Refusal}
+use Rattle.giop_tokens.specs.declared.fault.SigFaultKind.TheVariants as kinds
+use Rattle.giop_sig.specs.Grammar.{Declaration, spell_all, SignatureFile, spell_file}
+use Rattle.giop_sig.specs.Scopes.{Scope, first_scope, declare, scope_after, table}
+use Rattle.giop_sig.specs.Validity.{Kind, IsShallow, Each, Rule, IsValid, Spells, IsBroken, Refuses}
+use Rattle.giop_sig.specs.FileReading.{file_at}
+use Rattle.giop_sig.proofs.PlaceLaws.{deepest, size, scope_more}
+use Rattle.giop_sig.proofs.TokensFew.{tokens_few}
+use Rattle.giop_sig.proofs.SizeLaws.{types_few, types_fewer}
+use Rattle.giop_sig.specs.Builtin.{builtin_types}
+use Rattle.giop_sig.proofs.FileLaws.{UnionReads, UnionTakes, BrokenIn, FileOut, file_reads, file_takes}
+
+each_shallow : (ds : List Declaration) (s : Scope)
+    → deepest (scope_after s ds) ≤ 24 → Each IsShallow s ds
+unfolding Each
+each_shallow [] s le = tt
+each_shallow (d ∷ ds) s le = (omega (arith, (scope_more (declare s d) ds).deeper), each_shallow ds (declare s d) le)
+
+-- what was read is the table of a valid file
+pub file_valid : UnionReads → (text : List ℕ) (t : Scope) (file : SignatureFile) → Spells text file
+    → file_at text ≡ Ok t → deepest t ≤ 24 → IsValid file × (t.table ≡ table file)
+file_valid union text t file spells e shallow =
+    let s = first_scope file.version in
+    let ds = file.declarations in
+    let o : FileOut s ds (Ok t) = subst (FileOut s ds) e (file_reads union text file spells) in (
+      record {
+        known = o.1 kinds.UnknownType;
+        distinct = o.1 kinds.Duplicate;
+        some = o.1 kinds.Empty;
+        labels = o.1 kinds.Label;
+        shallow = each_shallow ds s (subst (λ (x : Scope). deepest x ≤ 24) o.0 shallow);
+        within = o.1 kinds.Limit;
+      },
+      ap (λ (x : Scope). x.table) o.0,
+    )
+
+-- it adds no more types than the text has octets
+pub file_few : UnionReads → UnionTakes → (text : List ℕ) (t : Scope) → length text ≤ 1048576
+    → file_at text ≡ Ok t → size t ≤ length builtin_types + length text
+file_few reads takes text t short e =
+    let f = file_takes reads takes text t short e in
+    let s = first_scope (f.0).version in
+    let ds = (f.0).declarations in
+    let o : FileOut s ds (Ok t) = subst (FileOut s ds) e (file_reads reads text f.0 f.1) in
+    omega (arith, ap size o.0, tokens_few (spell_file f.0) text (f.1).tokens, types_few s ds)
+
+is_broken : (k : Kind) (file : SignatureFile)
+    → (b : BrokenIn k (first_scope file.version) file.declarations)
+    → (Rule k (scope_after (first_scope file.version) b.before) b.broken → ⊥) → IsBroken k file
+is_broken k file b breaks =
+    record { before = b.before; broken = b.broken; after = b.after; all = b.all; breaks = breaks }
+
+-- the declarations of a text never make the types too many
+not_too_many : (text : List ℕ) (file : SignatureFile) → Spells text file
+    → (b : BrokenIn kinds.Limit (first_scope file.version) file.declarations)
+    → size (declare (scope_after (first_scope file.version) b.before) b.broken) < 2 ^ 32
+unfolding builtin_types
+not_too_many text file spells b =
+    let s = first_scope file.version in
+    let built : size s ≤ 100 = omega arith in
+    let short = spells.short in
+    let spelled = ap (λ ds. length (spell_all ds)) b.all in
+    omega (
+      arith,
+      tokens_few (spell_file file) text spells.tokens,
+      types_fewer s b.before b.broken b.after,
+    )
+
+limit_broken : (file : SignatureFile)
+    → (b : BrokenIn kinds.Limit (first_scope file.version) file.declarations)
+    → size (declare (scope_after (first_scope file.version) b.before) b.broken) < 2 ^ 32
+    → (Rule kinds.Limit (scope_after (first_scope file.version) b.before) b.broken → ⊥)
+    ⊎ (2 ^ 32 ≤ size (declare (scope_after (first_scope file.version) b.before) b.broken))
+    → IsBroken kinds.Limit file
+limit_broken file b few (inl breaks) = is_broken kinds.Limit file b breaks
+limit_broken file b few (inr many) = absurd (omega arith)
+
+refuses : (k : Kind) (text : List ℕ) (file : SignatureFile) → Spells text file
+    → BrokenIn k (first_scope file.version) file.declarations → Refuses k file
+refuses kinds.Token text file spells b = b.breaks
+refuses kinds.Syntax text file spells b = b.breaks
+refuses kinds.OutOfMemory text file spells b = tt
+refuses kinds.Depth text file spells b =
+    is_broken kinds.Depth file b (λ le. let deep = b.breaks in omega arith)
+refuses kinds.UnknownType text file spells b = is_broken kinds.UnknownType file b b.breaks
+refuses kinds.Duplicate text file spells b = is_broken kinds.Duplicate file b b.breaks
+refuses kinds.Limit text file spells b =
+    limit_broken file b (not_too_many text file spells b) b.breaks
+refuses kinds.Label text file spells b = is_broken kinds.Label file b b.breaks
+refuses kinds.Empty text file spells b = is_broken kinds.Empty file b b.breaks
+
+-- a text that spells a file is refused for a rule that one of its declarations breaks
+pub file_refuses : UnionReads → (text : List ℕ) (e : Refusal) (file : SignatureFile)
+    → Spells text file → file_at text ≡ Err e → Refuses e.kind file
+file_refuses union text e file spells h =
+    let s = first_scope file.version in
+    let ds = file.declarations in
+    let o : FileOut s ds (Err e) = subst (FileOut s ds) h (file_reads union text file spells) in
+    refuses e.kind text file spells o

@@ -1,0 +1,48 @@
+-- What is known of the labels of a case behind them.
+use Rattle.std.proofs.Common.{ℕ, ◌≤◌, List, [], ◌∷◌, ◌++◌, length, append_assoc, sym, subst, arith}
+use Rattle.std.specs.List.{AllByRecursion}
+use Rattle.std.proofs.lemmas.List.{length-append, append-nil}
+use Rattle.giop_tokens.specs.declared.fault.SigFaultKind.TheVariants as kinds
+use Rattle.giop_tokens.specs.Tokens.{Token, AreTokens}
+use Rattle.giop_sig.specs.Table.{Node}
+use Rattle.giop_sig.specs.Grammar.{Plain, Below, Truth, Enumerator, Label, Default, Of, spell_label, spell_labels}
+use Rattle.giop_sig.specs.Validity.{OfLabels}
+use Rattle.giop_sig.proofs.LabelLaws.{IsKept}
+use Rattle.giop_sig.proofs.LabelReads.{IsAboveLabel, label_above, label_kept, all_push}
+
+label_rest : (l : Label) (text : List ℕ) (more : List Token) → AreTokens text (spell_label l more)
+    → (rest : List ℕ) × AreTokens rest more
+label_rest Default text more h = let c = h.2 in (c.0, c.2)
+label_rest (Of (Plain n)) text more h = let c = (h.2).2 in (c.0, c.2)
+label_rest (Of (Below n)) text more h = let c = (h.2).2 in (c.0, c.2)
+label_rest (Of (Truth b)) text more h = let c = (h.2).2 in (c.0, c.2)
+label_rest (Of (Enumerator w)) text more h = let c = (h.2).2 in (c.0, c.2)
+
+labels_above : (ls : List Label) (text : List ℕ) (more : List Token)
+    → AreTokens text (spell_labels ls more) → AllByRecursion IsAboveLabel ls
+labels_above [] text more h = tt
+labels_above (l ∷ ls) text more h =
+    let r = label_rest l text (spell_labels ls more) h in
+    (label_above l text (spell_labels ls more) h, labels_above ls r.0 more r.1)
+
+all_kept : (node : Node) (ls seen : List Label) → AllByRecursion IsAboveLabel ls
+    → OfLabels kinds.Label node seen ls → AllByRecursion (IsKept node) seen
+    → AllByRecursion (IsKept node) (seen ++ ls)
+unfolding OfLabels
+all_kept node [] seen above fit all = subst (AllByRecursion (IsKept node)) (sym (append-nil seen)) all
+all_kept node (l ∷ ls) seen above fit all =
+    subst (AllByRecursion (IsKept node)) (append_assoc seen (l ∷ []) ls)
+    (all_kept node ls (seen ++ l ∷ []) above.1 fit.1 (all_push (IsKept node) seen l all (label_kept node l above.0 (fit.0).0)))
+
+pub labels_kept : (node : Node) (ls seen : List Label) (text : List ℕ) (more : List Token)
+    → AreTokens text (spell_labels ls more) → OfLabels kinds.Label node seen ls
+    → AllByRecursion (IsKept node) seen → AllByRecursion (IsKept node) (seen ++ ls)
+labels_kept node ls seen text more h fit all = all_kept node ls seen (labels_above ls text more h) fit all
+
+pub labels_few : (node : Node) (ls seen : List Label) → length seen ≤ 1024
+    → OfLabels kinds.Limit node seen ls → length (seen ++ ls) ≤ 1024
+unfolding OfLabels
+labels_few node [] seen few fit = omega (arith, length-append seen [])
+labels_few node (l ∷ ls) seen few fit =
+    let below = (fit.0).1 in
+    subst (λ all. length all ≤ 1024) (append_assoc seen (l ∷ []) ls) (labels_few node ls (seen ++ l ∷ []) (omega (arith, length-append seen (l ∷ []))) fit.1)

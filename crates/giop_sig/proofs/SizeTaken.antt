@@ -1,0 +1,73 @@
+-- A length or a bound that was read is spelled so.
+use Rattle.std.proofs.Common.{◌≡◌, ℕ, Bool, true, false, cond, eqb, ltb, List, ◌∷◌, Option, Some, None, Ok, Err, subst}
+use Rattle.giop_tokens.specs.declared.fault.SigFaultKind.TheVariants as kinds
+use Rattle.giop_tokens.specs.declared.marks.Mark.{Mark}
+use Rattle.giop_tokens.specs.declared.marks.Mark.TheVariants as marks
+use Rattle.giop_tokens.specs.Tokens.{number, mark}
+use Rattle.giop_tokens.specs.Reading.{◌>>=◌}
+use Rattle.giop_tokens.specs.Readers.{number_at, mark_at, mark_if}
+use Rattle.giop_tokens.proofs.ReaderLaws.{bind_ok, ok_is, Takes, number_takes, mark_takes, mark_if_takes}
+use Rattle.giop_sig.specs.Grammar.{spell_between, spell_most}
+use Rattle.giop_sig.specs.Validity.{OfBound}
+use Rattle.giop_sig.specs.Outcomes.{refused}
+use Rattle.giop_sig.specs.TypeReading.{size_at, size_within, enclosed_at, size_behind, most_at}
+use Rattle.giop_sig.proofs.ReadingLaws.{Took}
+
+size_by : (text : List ℕ) (n x : ℕ × List ℕ) (a b : Bool)
+    → cond a (Err (refused kinds.Empty text))
+    (cond b (Err (refused kinds.Limit text)) (Ok (n.0, n.1))) ≡ Ok x → n ≡ x
+size_by text n x true b e = absurd cc
+size_by text n x false true e = absurd cc
+size_by text n x false false e = ok_is n x e
+
+size_takes : (text : List ℕ) (x : ℕ × List ℕ) → size_at text ≡ Ok x
+    → Takes text (number x.0) x.1
+unfolding size_at
+size_takes text x e =
+    let a = bind_ok (number_at text) (λ n. cond (eqb n.0 0) (Err (refused kinds.Empty text))
+    (cond (ltb 4294967295 n.0) (Err (refused kinds.Limit text)) (Ok (n.0, n.1)))) x e in
+    subst (λ y. Takes text (number y.0) y.1) (size_by text a.0 x (eqb (a.0).0 0) (ltb 4294967295 (a.0).0) a.2) (number_takes text a.0 a.1)
+
+within_by : (before close : Mark) (text : List ℕ) (o : Option (List ℕ)) (x : Option ℕ × List ℕ)
+    → mark_if before text ≡ Ok o → size_within close text o ≡ Ok x
+    → Took (spell_between before close x.0) (Unit {0}) text x.1
+within_by before close text None x h e =
+    subst (λ (y : Option ℕ × List ℕ). Took (spell_between before close y.0) (Unit {0}) text y.1) (ok_is (None, text) x e)
+    (record { free = tt; front = λ more m. m })
+within_by before close text (Some inner) x h e =
+    let n = bind_ok (size_at inner) (λ n. mark_at close n.1 >>= λ r. Ok (Some n.0, r)) x e in
+    let r = bind_ok (mark_at close (n.0).1) (λ r. Ok (Some (n.0).0, r)) x n.2 in
+    subst (λ (y : Option ℕ × List ℕ). Took (spell_between before close y.0) (Unit {0}) text y.1) (ok_is (Some (n.0).0, r.0) x r.2)
+    (record {
+      free = tt;
+      front = λ more m. mark_if_takes before text inner h (number (n.0).0 ∷ mark close ∷ more)
+          (size_takes inner n.0 n.1 (mark close ∷ more) (mark_takes close (n.0).1 r.0 r.1 more m));
+    })
+
+pub enclosed_takes : (before close : Mark) (text : List ℕ) (x : Option ℕ × List ℕ)
+    → enclosed_at before close text ≡ Ok x
+    → Took (spell_between before close x.0) (Unit {0}) text x.1
+unfolding enclosed_at
+enclosed_takes before close text x e =
+    let a = bind_ok (mark_if before text) (λ inner. size_within close text inner) x e in
+    within_by before close text a.0 x a.1 a.2
+
+behind_by : (text : List ℕ) (o : Option (List ℕ)) (x : Option ℕ × List ℕ)
+    → mark_if marks.Comma text ≡ Ok o → size_behind text o ≡ Ok x
+    → Took (spell_most x.0) (Unit {0}) text x.1
+behind_by text None x h e =
+    subst (λ (y : Option ℕ × List ℕ). Took (spell_most y.0) (Unit {0}) text y.1) (ok_is (None, text) x e) (record { free = tt; front = λ more m. m })
+behind_by text (Some inner) x h e =
+    let n = bind_ok (size_at inner) (λ n. Ok (Some n.0, n.1)) x e in
+    subst (λ (y : Option ℕ × List ℕ). Took (spell_most y.0) (Unit {0}) text y.1) (ok_is (Some (n.0).0, (n.0).1) x n.2)
+    (record { free = tt; front = λ more m. mark_if_takes marks.Comma text inner h (number (n.0).0 ∷ more) (size_takes inner n.0 n.1 more m) })
+
+pub most_takes : (text : List ℕ) (x : Option ℕ × List ℕ) → most_at text ≡ Ok x
+    → Took (spell_most x.0) (Unit {0}) text x.1
+unfolding most_at
+most_takes text x e = let a = bind_ok (mark_if marks.Comma text) (λ inner. size_behind text inner) x e in behind_by text a.0 x a.1 a.2
+
+-- of the rule that names are free, sizes ask nothing
+pub bound_free : (o : Option ℕ) → OfBound kinds.Syntax o
+bound_free None = tt
+bound_free (Some n) = tt
