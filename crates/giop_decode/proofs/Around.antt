@@ -8,7 +8,7 @@ use Rattle.giop_decode.specs.Spine.{Coding, Done, Fault, Index, Leaf, Line, Memb
 use Rattle.giop_decode.specs.Steps.{inner_path, around, part_at, path_in, resumed, seg_in, seg_of, coding_at, coding_in}
 use Rattle.giop_decode.specs.declared.progress.Kind.{Kind}
 use Rattle.giop_sig.specs.Fits.{IsFit}
-use Rattle.giop_sig.specs.Types.{Array, Octets, Sequence, Single, Struct, Text, Ty, Union, part_of, width, Encapsulation}
+use Rattle.giop_sig.specs.Types.{Array, Sequence, Single, Struct, Ty, Union, part_of, width}
 use Rattle.giop_decode.proofs.Now.{number_none}
 use Rattle.giop_decode.proofs.Law.{with_front-followed, with_front-within, block_waits, width_pos}
 use Rattle.giop_decode.proofs.Enclosing.{with_front-enclosed}
@@ -63,17 +63,14 @@ pub read_none : (coding : Coding) (path : List Seg) (d : ℕ) (T : Ty) (at : ℕ
 unfolding IsFit
 read_none coding path zero T at h = absurd h
 read_none coding path (suc d) (Single scalar) at h = rw (number_none coding.origin (width scalar) at (width_pos scalar)) refl
-read_none coding path (suc d) (Text bound) at h = rw (number_none coding.origin 4 at (lit< tt)) refl
-read_none coding path (suc d) (Octets bound) at h = rw (number_none coding.origin 4 at (lit< tt)) refl
-read_none coding path (suc d) (Sequence bound T) at h = rw (number_none coding.origin 4 at (lit< tt)) refl
 read_none coding path (suc d) (Union choice scalar select names cases) at h = rw (number_none coding.origin (width scalar) at (width_pos scalar)) refl
-read_none coding path (suc d) (Encapsulation T) at h = rw (number_none coding.origin 4 at (lit< tt)) refl
 read_none coding path (suc d) (Struct zero names parts) at h = absurd (omega (arith, h.0))
 read_none coding path (suc d) (Struct (suc more) names parts) at h =
     first_part coding path (Struct (suc more) names parts) (suc more) more 0 at (read_none coding (path ++ Name (names 0) ∷ []) d (parts 0) at (h.1 0 h.0))
 read_none coding path (suc d) (Array zero T) at h = absurd (omega (arith, h.0))
 read_none coding path (suc d) (Array (suc more) T) at h =
     first_part coding path (Array (suc more) T) (suc more) more 0 at (read_none coding (path ++ Index 0 ∷ []) d T at h.1)
+read_none coding path (suc d) T at h = rw (number_none coding.origin 4 at (lit< tt)) refl
 
 -- A part that has ended: its whole goes on with the next, or ends too.
 pub fit_part : (d : ℕ) (T : Ty) (i count : ℕ) → IsFit (suc d) T → HasParts T count → i < count → IsFit d (part_of T i)
@@ -81,11 +78,7 @@ unfolding IsFit
 fit_part d (Struct n names parts) i count fit kind below = fit.1 i (rw kind at below)
 fit_part d (Array n T) i count fit kind below = fit.1
 fit_part d (Sequence bound T) i count fit kind below = fit
-fit_part d (Single scalar) i count fit kind below = absurd kind
-fit_part d (Text bound) i count fit kind below = absurd kind
-fit_part d (Octets bound) i count fit kind below = absurd kind
-fit_part d (Union choice scalar select names cases) i count fit kind below = absurd kind
-fit_part d (Encapsulation T) i count fit kind below = absurd kind
+fit_part d T i count fit kind below = absurd kind
 
 pub next_part : (coding : Coding) (path : List Seg) (d : ℕ) (T : Ty) (i count at : ℕ) → IsFit (suc d) T → HasParts T count → suc i < count →
     resumed coding path (Part T i count) (Done [] at []) ≡ Short [] at (Part T (suc i) count ∷ start_outer (part_of T (suc i))) (start_leaf (part_of T (suc i)))

@@ -45,12 +45,9 @@ pub next_in : (d : ℕ) (T : Ty) (i count : ℕ) → IsOpen d (part_in T i count
 next_in d (Struct n names parts) i count h none below = record { is = refl; then = refl; parts = h.0; fit = h.2; placed = rw h.0 at below }
 next_in d (Array n E) i count h none below = record { is = refl; then = refl; parts = h.0; fit = h.2; placed = tt }
 next_in d (Sequence bound E) i count h none below = record { is = refl; then = refl; parts = h.0; fit = h.2; placed = tt }
-next_in d (Single scalar) i count h none below = absurd h.0
-next_in d (Text bound) i count h none below = absurd h.0
-next_in d (Octets bound) i count h none below = absurd h.0
-next_in d (Encapsulation E) i count h none below = absurd h.0
 next_in d (Union (Cases n) scalar select names cases) i count h none below = absurd (let e : count ≡ 0 = none tt in omega arith)
 next_in d (Union Tag scalar select names cases) i count h none below = absurd (let e : count ≡ 0 = none tt in omega arith)
+next_in d T i count h none below = absurd h.0
 
 pub goes_next : (coding : Coding) (path : List Seg) (ps : List Place) (T : Ty) (i count at e : ℕ) → Next (suc e) T i count → suc i < count →
     around coding path (ps ++ part_in T i count ∷ []) (Done [] at [])
@@ -168,21 +165,10 @@ length_places C at [] = refl
 length_places C at (f ∷ frames) = ap suc (length_places C at frames)
 
 pub place_part : (T : Ty) (i count : ℕ) → HasParts T count → part_in T i count ≡ Part T i count
-place_part (Struct n names parts) i count h = refl
-place_part (Array n E) i count h = refl
-place_part (Sequence bound E) i count h = refl
-place_part (Single scalar) i count h = refl
-place_part (Text bound) i count h = refl
 place_part (Encapsulation E) i count h = absurd h
-place_part (Octets bound) i count h = refl
 place_part (Union choice scalar select names cases) i count h = absurd h
+place_part T i count h = refl
 
 pub place_case : (T : Ty) (i count : ℕ) → HasCase T i → part_in T i count ≡ Member T i
 place_case (Union choice scalar select names cases) i count h = refl
-place_case (Struct n names parts) i count h = absurd h
-place_case (Array n E) i count h = absurd h
-place_case (Sequence bound E) i count h = absurd h
-place_case (Single scalar) i count h = absurd h
-place_case (Text bound) i count h = absurd h
-place_case (Encapsulation E) i count h = absurd h
-place_case (Octets bound) i count h = absurd h
+place_case T i count h = absurd h

@@ -11,7 +11,7 @@ use Rattle.giop_cdr.specs.Primitives.{size_of}
 use Rattle.giop_cdr.specs.declared.prim.Primitive.{Primitive}
 use Rattle.giop_decode.specs.Pieces.{Got, Grab, Waiting, block, content, ends, full_piece, full_pieces, last_piece, number, octets, over, tail, text, unless}
 use Rattle.giop_decode.specs.Reading.{headed, member, parts_from, read, refused, single, wrong}
-use Rattle.giop_decode.specs.Spine.{Coding, Count, Done, Fault, Index, Line, Member, Name, Part, Piece, Place, Read, Seg, Short, Switch, followed, line, with_front, within}
+use Rattle.giop_decode.specs.Spine.{Coding, Count, Done, Fault, Line, Member, Name, Part, Piece, Place, Read, Seg, Short, Switch, followed, line, with_front, within}
 use Rattle.giop_decode.specs.Steps.{advance, after, block_step, head_width, inner_path, number_step, part_at, step}
 use Rattle.giop_decode.specs.declared.progress.Kind.{Kind}
 use Rattle.giop_sig.specs.Types.{Choice, Enum, Octets, Plain, Scalar, Sequence, Single, Text, Ty, Union, part_of, width, tag_of}
@@ -33,23 +33,19 @@ with_front_twice front mid (Fault lines at kind S) = ap (λ ls. Fault ls at kind
 
 pub with_front_none : (r : Read) → with_front [] r ≡ r
 with_front_none (Done lines at rest) = refl
-with_front_none (Short lines at outer leaf) = refl
-with_front_none (Fault lines at kind S) = refl
+with_front_none r = refl
 
 pub with_front-advance : (coding : Coding) (path : List Seg) (front : List Line) (r : Read) (b : ℕ) → with_front front (advance coding path r b) ≡ advance coding path (with_front front r) b
-with_front-advance coding path front (Done lines at rest) b = refl
 with_front-advance coding path front (Short lines at outer leaf) b = with_front_twice front lines (step coding path outer leaf at b)
-with_front-advance coding path front (Fault lines at kind S) b = refl
+with_front-advance coding path front r b = refl
 
 pub with_front-followed : (front : List Line) (r : Read) (next : ℕ → List ℕ → Read) → followed (with_front front r) next ≡ with_front front (followed r next)
 with_front-followed front (Done lines at rest) next = sym (with_front_twice front lines (next at rest))
-with_front-followed front (Short lines at outer leaf) next = refl
-with_front-followed front (Fault lines at kind S) next = refl
+with_front-followed front r next = refl
 
 pub with_front-within : (front : List Line) (place : Place) (r : Read) → within place (with_front front r) ≡ with_front front (within place r)
 with_front-within front place (Done lines at rest) = refl
-with_front-within front place (Short lines at outer leaf) = refl
-with_front-within front place (Fault lines at kind S) = refl
+with_front-within front place r = refl
 
 -- a part, and what follows it
 
@@ -81,9 +77,8 @@ parts_go coding path T count each (suc more) i is at s b =
 -- a union's member, behind which nothing follows
 pub member_goes : (coding : Coding) (path : List Seg) (T : Ty) (i : ℕ) (r : Read) (b : ℕ) →
     within (Member T i) (advance coding (inner_path path T i) r b) ≡ advance coding path (within (Member T i) r) b
-member_goes coding path T i (Done lines at rest) b = refl
 member_goes coding path T i (Short lines at outer leaf) b = with_front-within lines (Member T i) (step coding (inner_path path T i) outer leaf at b)
-member_goes coding path T i (Fault lines at kind S) b = refl
+member_goes coding path T i r b = refl
 
 -- octets
 
@@ -290,16 +285,7 @@ single_goes coding path inner scalar n at s b = unless_goes coding path (Single 
 
 pub size_pos : (p : Primitive) → 0 < size_of p
 size_pos prims.Octet = lit< tt
-size_pos prims.Char = lit< tt
-size_pos prims.Boolean = lit< tt
-size_pos prims.Short = lit< tt
-size_pos prims.UShort = lit< tt
-size_pos prims.Long = lit< tt
-size_pos prims.ULong = lit< tt
-size_pos prims.LongLong = lit< tt
-size_pos prims.ULongLong = lit< tt
-size_pos prims.Float = lit< tt
-size_pos prims.Double = lit< tt
+size_pos p = lit< tt
 
 pub width_pos : (scalar : Scalar) → 0 < width scalar
 width_pos (Plain p) = size_pos p

@@ -9,7 +9,7 @@ use Rattle.giop_decode.specs.Reading.{headed, parts_from, enclosed, order_of, or
 use Rattle.giop_decode.specs.Spine.{Coding, Content, Head, Leaf, Member, Part, Place, Seg, within, Held, Inside, Opening}
 use Rattle.giop_decode.specs.Steps.{after, block_step, content_step, head_width, leaf_step, number_step, part_at, seg_of, step, held}
 use Rattle.giop_sig.specs.Fits.{IsFit}
-use Rattle.giop_sig.specs.Types.{Array, Encapsulation, Octets, Sequence, Single, Struct, Text, Ty, Union, part_of}
+use Rattle.giop_sig.specs.Types.{Encapsulation, Ty, Union, part_of}
 use Rattle.giop_decode.proofs.Law.{block_step_waits, block_step_got, number_step_pads, number_step_blocks, length_one_more}
 use Rattle.giop_decode.proofs.Around.{fit_none, fit_part}
 use Rattle.giop_decode.proofs.Sound.{Takes, ordered_sound, sound_enclosed, sound_followed, sound_part, sound_member, parts_keep, after_keeps, read_keeps, full_piece_sound, last_piece_sound, content_keeps}
@@ -25,24 +25,12 @@ pub record LeafAt (d : ℕ) (outer : List Place) (leaf : Leaf) : Type 0 where
 pub fit_case : (d : ℕ) (T : Ty) (i : ℕ) → IsFit (suc d) T → HasCase T i → IsFit d (part_of T i)
 unfolding IsFit
 fit_case d (Union choice scalar select names cases) i fit kind = fit.1 i kind
-fit_case d (Struct n names parts) i fit kind = absurd kind
-fit_case d (Array n T) i fit kind = absurd kind
-fit_case d (Encapsulation T) i fit kind = absurd kind
-fit_case d (Sequence bound T) i fit kind = absurd kind
-fit_case d (Single scalar) i fit kind = absurd kind
-fit_case d (Text bound) i fit kind = absurd kind
-fit_case d (Octets bound) i fit kind = absurd kind
+fit_case d T i fit kind = absurd kind
 
 pub fit_held : (d : ℕ) (T : Ty) → IsFit (suc d) T → IsEncapsulation T → IsFit d (part_of T 0)
 unfolding IsFit
 fit_held d (Encapsulation T) fit kind = fit
-fit_held d (Struct n names parts) fit kind = absurd kind
-fit_held d (Array n T) fit kind = absurd kind
-fit_held d (Sequence bound T) fit kind = absurd kind
-fit_held d (Single scalar) fit kind = absurd kind
-fit_held d (Text bound) fit kind = absurd kind
-fit_held d (Octets bound) fit kind = absurd kind
-fit_held d (Union n scalar select names cases) fit kind = absurd kind
+fit_held d T fit kind = absurd kind
 
 deeper : (d : ℕ) (place : Place) (outer : List Place) (leaf : Leaf) → IsOpen (suc d) place → LeafAt d outer leaf → LeafAt (suc d) (place ∷ outer) leaf
 deeper d place outer leaf is l = record { are_open = (is, l.are_open); left = l.left; depth = omega (arith, l.depth); fit = l.fit; fits = l.fits }

@@ -25,13 +25,8 @@ each_append P (x ∷ xs) ys h k = (h.0, each_append P xs ys h.1 k)
 
 -- where nothing is said a fault of any kind may come
 faulted_none : (n : ℕ) (why : Kind) → Faulted n why []
-faulted_none n kinds.Boolean = refl
-faulted_none n kinds.StringEnd = refl
-faulted_none n kinds.Enum = refl
-faulted_none n kinds.Bound = refl
-faulted_none n kinds.Disposition = refl
 faulted_none n kinds.EncapShort = tt
-faulted_none n kinds.EncapOrder = refl
+faulted_none n kind = refl
 
 now_front : (n : ℕ) (front : List Line) (r : Read) → OneAt n front → Quiet n r → Now n (with_front front r)
 now_front n front (Done lines at rest) h k = rw (k.0, append-nil front) (h, k.1, k.2)
@@ -40,28 +35,23 @@ now_front n front (Fault lines at why S) h k = absurd k
 
 quiet_front : (n : ℕ) (r : Read) → Quiet n r → Quiet n (with_front [] r)
 quiet_front n (Done lines at rest) h = h
-quiet_front n (Short lines at outer leaf) h = h
-quiet_front n (Fault lines at why S) h = h
+quiet_front n r h = h
 
 now_followed : (n : ℕ) (r : Read) (next : ℕ → List ℕ → Read) → Now n r → Quiet n (next n []) → Now n (followed r next)
 now_followed n (Done lines at rest) next h k = now_front n lines (next at rest) h.0 (rw (h.1, h.2) k)
-now_followed n (Short lines at outer leaf) next h k = h
-now_followed n (Fault lines at why S) next h k = h
+now_followed n r next h k = h
 
 pub quiet_followed : (n : ℕ) (r : Read) (next : ℕ → List ℕ → Read) → Quiet n r → Quiet n (next n []) → Quiet n (followed r next)
 quiet_followed n (Done lines at rest) next h k = rw (h.0, h.1, h.2) (quiet_front n (next n []) k)
-quiet_followed n (Short lines at outer leaf) next h k = h
-quiet_followed n (Fault lines at why S) next h k = h
+quiet_followed n r next h k = h
 
 pub now_within : (n : ℕ) (place : Place) (r : Read) → Now n r → Now n (within place r)
 now_within n place (Done lines at rest) h = h
-now_within n place (Short lines at outer leaf) h = h
-now_within n place (Fault lines at why S) h = h
+now_within n place r h = h
 
 pub quiet_within : (n : ℕ) (place : Place) (r : Read) → Quiet n r → Quiet n (within place r)
 quiet_within n place (Done lines at rest) h = h
-quiet_within n place (Short lines at outer leaf) h = h
-quiet_within n place (Fault lines at why S) h = h
+quiet_within n place r h = h
 
 now_unless : (n : ℕ) (T : Ty) (why : Option Kind) (r : Read) → Now n r → Now n (unless T why n r)
 now_unless n T None r h = h
@@ -82,17 +72,14 @@ quiet_parts n part h (suc more) i = quiet_followed n (part i n []) (parts_from p
 
 pub read_quiet : (coding : Coding) (path : List Seg) (T : Ty) (n : ℕ) → Quiet n (read coding path T n [])
 read_quiet coding path (Single scalar) n = rw (number_none coding.origin (width scalar) n (width_pos scalar)) (refl, refl)
-read_quiet coding path (Text bound) n = rw (number_none coding.origin 4 n (lit< tt)) (refl, refl)
-read_quiet coding path (Octets bound) n = rw (number_none coding.origin 4 n (lit< tt)) (refl, refl)
 read_quiet coding path (Struct count names parts) n =
     quiet_parts n (part_at coding path (Struct count names parts) count)
     (λ i. quiet_within n (Part (Struct count names parts) i count) (read coding (path ++ Name (names i) ∷ []) (parts i) n []) (read_quiet coding (path ++ Name (names i) ∷ []) (parts i) n)) count 0
 read_quiet coding path (Array count T) n =
     quiet_parts n (part_at coding path (Array count T) count)
     (λ i. quiet_within n (Part (Array count T) i count) (read coding (path ++ Index i ∷ []) T n []) (read_quiet coding (path ++ Index i ∷ []) T n)) count 0
-read_quiet coding path (Sequence bound T) n = rw (number_none coding.origin 4 n (lit< tt)) (refl, refl)
 read_quiet coding path (Union choice scalar select names cases) n = rw (number_none coding.origin (width scalar) n (width_pos scalar)) (refl, refl)
-read_quiet coding path (Encapsulation T) n = rw (number_none coding.origin 4 n (lit< tt)) (refl, refl)
+read_quiet coding path T n = rw (number_none coding.origin 4 n (lit< tt)) (refl, refl)
 
 pub part_quiet : (coding : Coding) (path : List Seg) (T : Ty) (count n i : ℕ) → Quiet n (part_at coding path T count i n [])
 part_quiet coding path T count n i = quiet_within n (Part T i count) (read coding (inner_path path T i) (part_of T i) n []) (read_quiet coding (inner_path path T i) (part_of T i) n)
@@ -188,9 +175,8 @@ mute_front n front (Short lines at outer leaf) h k = rw (k.0, append-nil front) 
 mute_front n front (Fault lines at why S) h k = rw (k.0, append-nil front, k.2) (h, k.1)
 
 pub quiet_mute : (n : ℕ) (r : Read) → Quiet n r → Mute n r
-quiet_mute n (Done lines at rest) h = h
-quiet_mute n (Short lines at outer leaf) h = h
 quiet_mute n (Fault lines at why S) h = absurd h
+quiet_mute n r h = h
 
 mute_by : (n : ℕ) (test : Bool) (lines : List Line) (at : ℕ) (outer : List Place) (leaf : Leaf) (S : Ty) → lines ≡ [] → at ≡ n →
     Mute n (cond test (Short lines at outer leaf) (Fault lines at kinds.EncapShort S))
@@ -206,13 +192,11 @@ enclosed_mute n path T inner end (Fault lines at why S) h = absurd h
 
 mute_followed : (n : ℕ) (r : Read) (next : ℕ → List ℕ → Read) → Mute n r → Quiet n (next n []) → Mute n (followed r next)
 mute_followed n (Done lines at rest) next h k = rw (h.0, h.1, h.2) (quiet_mute n (with_front [] (next n [])) (quiet_front n (next n []) k))
-mute_followed n (Short lines at outer leaf) next h k = h
-mute_followed n (Fault lines at why S) next h k = h
+mute_followed n r next h k = h
 
 mute_within : (n : ℕ) (place : Place) (r : Read) → Mute n r → Mute n (within place r)
 mute_within n place (Done lines at rest) h = h
-mute_within n place (Short lines at outer leaf) h = h
-mute_within n place (Fault lines at why S) h = h
+mute_within n place r h = h
 
 mute_enclosed : (n : ℕ) (path : List Seg) (T : Ty) (inner : Coding) (end : ℕ) (r : Read) → Mute n r → Mute n (enclosed path T inner end r [])
 mute_enclosed n path T inner end (Done lines at rest) h = enclosed_mute n path T inner end (Done lines at rest) h
@@ -233,8 +217,7 @@ around_mute n coding path (Inside T inner end ∷ outer) r h =
 
 pub mute_lines : (n : ℕ) (r : Read) → Mute n r → lines_of r ≡ []
 mute_lines n (Done lines at rest) h = h.0
-mute_lines n (Short lines at outer leaf) h = h.0
-mute_lines n (Fault lines at kind S) h = h.0
+mute_lines n r h = h.0
 
 ordered_now : (n : ℕ) (path : List Seg) (T : Ty) (origin k : ℕ) (order : Option Order) → Now n (ordered path T (held path T) origin k order n [])
 ordered_now n path T origin k None = (refl, refl)
@@ -256,8 +239,6 @@ after_now n coding path (Single scalar) k = single_now n path scalar k
 after_now n coding path (Text bound) zero = (refl, refl, refl)
 after_now n coding path (Text bound) (suc k) = now_unless n (Text bound) (over bound k) (content (Text bound) path k (full_pieces k) 0 n []) (content_now n (Text bound) path k (full_pieces k) 0)
 after_now n coding path (Octets bound) k = now_unless n (Octets bound) (over bound k) (content (Octets bound) path k (full_pieces k) 0 n []) (content_now n (Octets bound) path k (full_pieces k) 0)
-after_now n coding path (Struct count names parts) k = (tt, refl, refl)
-after_now n coding path (Array count T) k = (tt, refl, refl)
 after_now n coding path (Encapsulation T) k = sized_now n path (Encapsulation T) k k
 after_now n coding path (Sequence bound T) k =
     let elements = parts_from (part_at coding path (Sequence bound T) k) k 0 n [] in
@@ -269,6 +250,7 @@ after_now n coding path (Union choice scalar select names cases) k =
     let front : List Line = line n (path ++ Switch (tag_of choice names) ∷ []) (Spine.Number scalar k) ∷ [] in
     now_unless n T (wrong scalar k) (unless T (refused (select k)) n (with_front front (next n [])))
     (now_unless n T (refused (select k)) (with_front front (next n [])) (now_front n front (next n []) refl (member_quiet n coding path T (select k))))
+after_now n coding path T k = (tt, refl, refl)
 
 headed_now : (n : ℕ) (coding : Coding) (path : List Seg) (T : Ty) (g : Grab) → GrabNow n g → Now n (headed T (λ xs at rest. after coding path T (num coding.order xs) at rest) g)
 headed_now n coding path T (Waiting carry at) h = (tt, h)

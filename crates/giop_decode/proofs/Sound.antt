@@ -23,8 +23,7 @@ Keeps T reader = (at : ℕ) (s : List ℕ) → Sound T (at + length s) (reader a
 
 sound_front : (T : Ty) (end : ℕ) (front : List Line) (r : Read) → Sound T end r → Sound T end (with_front front r)
 sound_front T end front (Done lines at rest) h = h
-sound_front T end front (Short lines at outer leaf) h = h
-sound_front T end front (Fault lines at kind S) h = h
+sound_front T end front r h = h
 
 sound_unless : (T : Ty) (end : ℕ) (U : Ty) (why : Option Kind) (at : ℕ) (r : Read) → Sound T end r → Sound T end (unless U why at r)
 sound_unless T end U None at r h = h
@@ -151,13 +150,7 @@ rest_keeps T path (suc n) kind at s = content_keeps T path (suc n) kind (full_pi
 
 encapsulation_content : (T : Ty) → IsEncapsulation T → HasContent T
 encapsulation_content (Encapsulation T) h = tt
-encapsulation_content (Single scalar) h = absurd h
-encapsulation_content (Text bound) h = absurd h
-encapsulation_content (Octets bound) h = absurd h
-encapsulation_content (Struct n names parts) h = absurd h
-encapsulation_content (Union n scalar select names cases) h = absurd h
-encapsulation_content (Sequence bound T) h = absurd h
-encapsulation_content (Array n T) h = absurd h
+encapsulation_content T h = absurd h
 
 -- a value in an encapsulation, read up to here, and what follows it, which is nothing while the encapsulation goes on
 pub sound_enclosed : (T : Ty) (path : List Seg) (inner : Coding) (end here : ℕ) → IsEncapsulation T → inner.origin < here → (r : Read) (more : List ℕ) →
@@ -239,9 +232,8 @@ after_keeps zero coding path T n fit = absurd fit
 after_keeps (suc d) coding path (Single scalar) n fit = single_keeps (Single scalar) path scalar n
 after_keeps (suc d) coding path (Text bound) n fit = text_keeps path bound n
 after_keeps (suc d) coding path (Octets bound) n fit = octets_keeps path bound n
-after_keeps (suc d) coding path (Struct count names parts) n fit = λ at s. refl
-after_keeps (suc d) coding path (Array count T) n fit = λ at s. refl
 after_keeps (suc d) coding path (Sequence bound T) n fit = elements_keep coding path bound T n (λ i. read_keeps d coding (path ++ Index i ∷ []) T fit)
 after_keeps (suc d) coding path (Union choice scalar select names cases) n fit =
     cases_keep coding path choice scalar select names cases n fit.0 (λ i below. read_keeps d coding (path ++ Name (names i) ∷ []) (cases i) (fit.1 i below))
 after_keeps (suc d) coding path (Encapsulation T) n fit = size_keeps coding path T n (λ inner. read_keeps d inner (path ++ Held ∷ []) T fit)
+after_keeps (suc d) coding path T n fit = λ at s. refl

@@ -37,9 +37,8 @@ restored_fits C d e r h = record {
 -- ---- readings
 
 kept_held : (b : Buffer) (octets so_far : List ℕ) (name : Option (List ℕ)) → IsHeld b octets name so_far → IsHeld b (kept_name b octets) name so_far
-kept_held buffers.Begun octets so_far name held = held
-kept_held buffers.Whole octets so_far name held = held
 kept_held buffers.TooLong octets so_far name held = (held.0, refl, held.2)
+kept_held buffer octets so_far name held = held
 
 recalls_again : (m n : Memory) (h : Heard) → IsKept m n → Recalls m h → Recalls n h
 recalls_again m n h kept recalls = record {
@@ -49,9 +48,8 @@ recalls_again m n h kept recalls = record {
 }
 
 minds_again : (root : Root) (d e : Decoder) (r : Read) → IsRestored d e → Minds root d r → Minds root e r
-minds_again roots.Header d e r restored minds = recalls_again d.memory e.memory _ restored.memory minds
-minds_again roots.Exception d e r restored minds = recalls_again d.memory e.memory _ restored.memory minds
 minds_again roots.Body d e r restored minds = tt
+minds_again root d e r restored minds = recalls_again d.memory e.memory _ restored.memory minds
 
 standing_again : (C : Table) (d e : Decoder) (lines : List Line) (at : ℕ) → IsRestored d e → standing C d lines at ≡ standing C e lines at
 standing_again C d e lines at r = same_in d.leaf ∙ ap (λ l. standing_in C e l lines at) (sym r.leaf)
@@ -76,8 +74,7 @@ restored_reads C d e T order at message root s r reads = record {
 
 kept_again : (b : Buffer) (name : List ℕ) → kept_name b (kept_name b name) ≡ kept_name b name
 kept_again buffers.Begun name = refl
-kept_again buffers.Whole name = refl
-kept_again buffers.TooLong name = refl
+kept_again buffer name = refl
 
 fixed_again : (d e : Decoder) (leaf : Innermost) → IsRestored d e → fixed_octets e leaf ≡ fixed_octets d leaf
 unfolding fixed_octets

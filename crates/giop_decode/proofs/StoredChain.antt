@@ -26,64 +26,41 @@ use Rattle.giop_sig.proofs.PartLaws.{part_is, root_is, depth_is}
 pub part_place : (T : Ty) (i count : ℕ) → HasPart T i count → HasPlace (shape_in T) i
 part_place (Union (Cases n) scalar select names cases) i count has = has.0
 part_place (Union Tag scalar select names cases) i count has = has.0
-part_place (Encapsulation T) i count has = tt
 part_place (Struct n names parts) i count has = let below : i < n = omega (arith, has.0, has.1) in below
-part_place (Array n T) i count has = tt
-part_place (Sequence bound T) i count has = tt
 part_place (Single scalar) i count has = absurd has.0
 part_place (Text bound) i count has = absurd has.0
 part_place (Octets bound) i count has = absurd has.0
+part_place T i count has = tt
 
 part_uncounted : (T : Ty) (i count : ℕ) → HasPart T i count → IsUnion (shape_in T) → count ≡ 0
 part_uncounted (Union choice scalar select names cases) i count has is = has.1
-part_uncounted (Encapsulation T) i count has is = absurd is
-part_uncounted (Struct n names parts) i count has is = absurd is
-part_uncounted (Array n T) i count has is = absurd is
-part_uncounted (Sequence bound T) i count has is = absurd is
 part_uncounted (Single scalar) i count has is = absurd has.0
 part_uncounted (Text bound) i count has is = absurd has.0
 part_uncounted (Octets bound) i count has is = absurd has.0
+part_uncounted T i count has is = absurd is
 
 fits_one_more : (T : Ty) (i count : ℕ) (outer : List Place) (leaf : Leaf) → HasPart T i count → FitsIn (part_of T i) outer leaf → FitsIn T (part_in T i count ∷ outer) leaf
-fits_one_more (Encapsulation T) i count outer leaf has fits = absurd has.0
 fits_one_more (Union choice scalar select names cases) i count outer leaf has fits = (record { same = refl; kind = has.0 }, fits)
 fits_one_more (Struct n names parts) i count outer leaf has fits = (record { same = refl; kind = has.0; below = has.1 }, fits)
 fits_one_more (Array n T) i count outer leaf has fits = (record { same = refl; kind = has.0; below = has.1 }, fits)
 fits_one_more (Sequence bound T) i count outer leaf has fits = (record { same = refl; kind = has.0; below = has.1 }, fits)
-fits_one_more (Single scalar) i count outer leaf has fits = absurd has.0
-fits_one_more (Text bound) i count outer leaf has fits = absurd has.0
-fits_one_more (Octets bound) i count outer leaf has fits = absurd has.0
+fits_one_more T i count outer leaf has fits = absurd has.0
 
 fits_part : (T : Ty) (i count : ℕ) (outer : List Place) (leaf : Leaf) → FitsIn T (part_in T i count ∷ outer) leaf → (IsUnion (shape_in T) → count ≡ 0) → HasPart T i count × FitsIn (part_of T i) outer leaf
-fits_part (Encapsulation T) i count outer leaf fits uncounted = absurd fits.0.kind
 fits_part (Union (Cases n) scalar select names cases) i count outer leaf fits uncounted = ((fits.0.kind, uncounted tt), fits.1)
 fits_part (Union Tag scalar select names cases) i count outer leaf fits uncounted = ((fits.0.kind, uncounted tt), fits.1)
 fits_part (Struct n names parts) i count outer leaf fits uncounted = ((fits.0.kind, fits.0.below), fits.1)
 fits_part (Array n T) i count outer leaf fits uncounted = ((fits.0.kind, fits.0.below), fits.1)
 fits_part (Sequence bound T) i count outer leaf fits uncounted = ((fits.0.kind, fits.0.below), fits.1)
-fits_part (Single scalar) i count outer leaf fits uncounted = absurd fits.0.kind
-fits_part (Text bound) i count outer leaf fits uncounted = absurd fits.0.kind
-fits_part (Octets bound) i count outer leaf fits uncounted = absurd fits.0.kind
+fits_part T i count outer leaf fits uncounted = absurd fits.0.kind
 
 part_bare : (T : Ty) (i count : ℕ) → HasPart T i count → IsEncapsulation T → ⊥
 part_bare (Encapsulation T) i count has is = absurd has.0
-part_bare (Union choice scalar select names cases) i count has is = absurd is
-part_bare (Struct n names parts) i count has is = absurd is
-part_bare (Array n T) i count has is = absurd is
-part_bare (Sequence bound T) i count has is = absurd is
-part_bare (Single scalar) i count has is = absurd is
-part_bare (Text bound) i count has is = absurd is
-part_bare (Octets bound) i count has is = absurd is
+part_bare T i count has is = absurd is
 
 inside_place : (T : Ty) (i : ℕ) → IsEncapsulation T → HasPlace (shape_in T) i
 inside_place (Encapsulation T) i is = tt
-inside_place (Union choice scalar select names cases) i is = absurd is
-inside_place (Struct n names parts) i is = absurd is
-inside_place (Array n T) i is = absurd is
-inside_place (Sequence bound T) i is = absurd is
-inside_place (Single scalar) i is = absurd is
-inside_place (Text bound) i is = absurd is
-inside_place (Octets bound) i is = absurd is
+inside_place T i is = absurd is
 
 -- ---- one frame
 
@@ -194,13 +171,7 @@ some_fit : (T : Ty) → IsFit 24 T → IsEmptyStruct T → ⊥
 unfolding IsFit
 some_fit (Struct zero names parts) fit empty = absurd (omega (arith, fit.0))
 some_fit (Struct (suc n) names parts) fit empty = empty
-some_fit (Array n T) fit empty = empty
-some_fit (Sequence bound T) fit empty = empty
-some_fit (Single scalar) fit empty = empty
-some_fit (Text bound) fit empty = empty
-some_fit (Octets bound) fit empty = empty
-some_fit (Union choice scalar select names cases) fit empty = empty
-some_fit (Encapsulation T) fit empty = empty
+some_fit T fit empty = empty
 
 root_linked : (C : Table) (root : ℕ) (frames : List Frame) (leaf : Innermost) → Link C root frames (leaf_type leaf) → root ≡ root_of frames leaf
 root_linked C root [] leaf link = sym link
@@ -258,46 +229,24 @@ most_at (suc n) i f lt = by_place (cases_lt i n) (λ h. most_at n i f h)
 depth_some : (T : Ty) → 0 < depth T
 unfolding depth
 depth_some (Struct n names parts) = omega arith
-depth_some (Array n T) = omega arith
-depth_some (Sequence bound T) = omega arith
-depth_some (Single scalar) = omega arith
-depth_some (Text bound) = omega arith
-depth_some (Octets bound) = omega arith
-depth_some (Union choice scalar select names cases) = omega arith
-depth_some (Encapsulation T) = omega arith
+depth_some T = omega arith
 
 part_shallower : (T : Ty) (i count : ℕ) → HasParts T count → i < count → depth (part_of T i) < depth T
 unfolding depth
 part_shallower (Struct n names parts) i count kind lt = let below : i < n = omega (arith, kind) in omega (arith, most_at n i (λ j. depth (parts j)) below)
 part_shallower (Array n T) i count kind lt = omega arith
 part_shallower (Sequence bound T) i count kind lt = omega arith
-part_shallower (Union choice scalar select names cases) i count kind lt = absurd kind
-part_shallower (Encapsulation T) i count kind lt = absurd kind
-part_shallower (Single scalar) i count kind lt = absurd kind
-part_shallower (Text bound) i count kind lt = absurd kind
-part_shallower (Octets bound) i count kind lt = absurd kind
+part_shallower T i count kind lt = absurd kind
 
 case_shallower : (T : Ty) (i : ℕ) → HasCase T i → depth (part_of T i) < depth T
 unfolding depth
 case_shallower (Union choice scalar select names cases) i kind = omega (arith, most_at (places_of choice) i (λ j. depth (cases j)) kind)
-case_shallower (Encapsulation T) i kind = absurd kind
-case_shallower (Struct n names parts) i kind = absurd kind
-case_shallower (Array n T) i kind = absurd kind
-case_shallower (Sequence bound T) i kind = absurd kind
-case_shallower (Single scalar) i kind = absurd kind
-case_shallower (Text bound) i kind = absurd kind
-case_shallower (Octets bound) i kind = absurd kind
+case_shallower T i kind = absurd kind
 
 inside_shallower : (T : Ty) → IsEncapsulation T → depth (part_of T 0) < depth T
 unfolding depth
 inside_shallower (Encapsulation T) kind = omega arith
-inside_shallower (Union choice scalar select names cases) kind = absurd kind
-inside_shallower (Struct n names parts) kind = absurd kind
-inside_shallower (Array n T) kind = absurd kind
-inside_shallower (Sequence bound T) kind = absurd kind
-inside_shallower (Single scalar) kind = absurd kind
-inside_shallower (Text bound) kind = absurd kind
-inside_shallower (Octets bound) kind = absurd kind
+inside_shallower T kind = absurd kind
 
 fits_shallow : (ps : List Place) (T : Ty) (leaf : Leaf) → FitsIn T ps leaf → length ps < depth T
 fits_shallow [] T leaf fits = depth_some T

@@ -18,17 +18,15 @@ Stands at octets field = (rest : List ℕ) × (drop at octets ≡ field ++ rest)
 pub leaf_long : (leaf : Innermost) → length (leaf_octets leaf) ≡ 13
 unfolding four
 leaf_long (innermost.Number of) = refl
-leaf_long (innermost.Content of total offset) = refl
-leaf_long (innermost.Opening of count) = refl
+leaf_long leaf = refl
 
 pub frame_long : (f : Frame) → length (frame_octets f) ≡ frame_size
 unfolding four
 frame_long f = refl
 
 pub kept_short : (b : Buffer) (name : List ℕ) → length name ≤ 128 → length (kept_name b name) ≤ 128
-kept_short buffers.Begun name few = few
-kept_short buffers.Whole name few = few
 kept_short buffers.TooLong name few = omega arith
+kept_short buffer name few = few
 
 pub record MemoryStands (m : Memory) (at : ℕ) (octets : List ℕ) : Type 0 where
   pub request_id : Stands at octets (optional m.request_id)

@@ -1,5 +1,5 @@
 -- The encapsulations among a decoder's frames.
-use Rattle.std.proofs.Common.{◌≡◌, ℕ, zero, suc, ◌+◌, ◌-◌, ◌%◌, ◌<◌, ◌≤◌, Bool, true, false, cond, List, [], ◌∷◌, ◌++◌, length, take, drop, get_or, set, Option, Some, None, refl, sym, ◌∙◌, ap, arith, add-one, append-nil, take_all, length-set, ◌⊎◌, inl, inr, lt-ltb, le-ltb, ne_eqb}
+use Rattle.std.proofs.Common.{◌≡◌, ℕ, zero, suc, ◌+◌, ◌-◌, ◌%◌, ◌<◌, ◌≤◌, Bool, true, false, cond, List, [], ◌∷◌, ◌++◌, length, take, drop, get_or, set, Option, Some, None, refl, sym, ◌∙◌, ap, arith, add-one, append-nil, length-set, ◌⊎◌, inl, inr, lt-ltb, le-ltb, ne_eqb}
 use Rattle.std.specs.Prelude.{◌||◌, eqb, IfSome}
 use Rattle.std.proofs.lemmas.Bool.{cases_lt, eq-eqb}
 use Rattle.std.proofs.lemmas.List.{take_more, take_more_set}
@@ -16,7 +16,7 @@ use Rattle.giop_decode.specs.Steps.{around, coding_at, coding_in, resumed, seg_i
 use Rattle.giop_decode.specs.Turns.{IsAhead, tick_of, AreAhead, AreKnown, IsWithin, StandAt, StandsAt, coding_by, coding_of, ended_at, gone_on, gone_to, leaf_of, has_ended, is_inside, is_some_order, part_in, place, place_in, places, ticked, ticked_at}
 use Rattle.giop_sig.specs.Table.{Table}
 use Rattle.giop_sig.specs.Trees.{tree}
-use Rattle.giop_sig.specs.Types.{Array, Encapsulation, Octets, Sequence, Single, Struct, Text, Ty, Union}
+use Rattle.giop_sig.specs.Types.{Ty, Union}
 
 -- ---- an octet more
 
@@ -80,13 +80,7 @@ ahead_by C (f ∷ frames) k h =
 
 part_surrounds : (here : ℕ) (T : Ty) (i count : ℕ) → Surround here (part_in T i count)
 part_surrounds here (Union n scalar select names cases) i count = tt
-part_surrounds here (Single scalar) i count = tt
-part_surrounds here (Text bound) i count = tt
-part_surrounds here (Octets bound) i count = tt
-part_surrounds here (Struct n names parts) i count = tt
-part_surrounds here (Sequence bound E) i count = tt
-part_surrounds here (Array n E) i count = tt
-part_surrounds here (Encapsulation E) i count = tt
+part_surrounds here T i count = tt
 
 surround_at : (here : ℕ) (inside : Option Order) (T : Ty) (i count : ℕ) → IsWithin inside i count T → IfSome inside (λ order. i < count) → IfSome inside (λ order. i ≤ here) →
     Surround here (place_in here inside T i count)
@@ -103,24 +97,12 @@ surrounds C here (f ∷ frames) k a s =
 resumed_short : (coding : Coding) (path : List Seg) (T : Ty) (i count : ℕ) (lines : List Line) (at : ℕ) (outer : List Place) (leaf : Leaf) →
     resumed coding path (part_in T i count) (Short lines at outer leaf) ≡ Short lines at (part_in T i count ∷ outer) leaf
 resumed_short coding path (Union n scalar select names cases) i count lines at outer leaf = refl
-resumed_short coding path (Single scalar) i count lines at outer leaf = refl
-resumed_short coding path (Text bound) i count lines at outer leaf = refl
-resumed_short coding path (Octets bound) i count lines at outer leaf = refl
-resumed_short coding path (Struct n names parts) i count lines at outer leaf = refl
-resumed_short coding path (Sequence bound E) i count lines at outer leaf = refl
-resumed_short coding path (Array n E) i count lines at outer leaf = refl
-resumed_short coding path (Encapsulation E) i count lines at outer leaf = refl
+resumed_short coding path T i count lines at outer leaf = refl
 
 resumed_fault : (coding : Coding) (path : List Seg) (T : Ty) (i count : ℕ) (lines : List Line) (at : ℕ) (S : Ty) →
     resumed coding path (part_in T i count) (Fault lines at kinds.EncapShort S) ≡ Fault lines at kinds.EncapShort S
 resumed_fault coding path (Union n scalar select names cases) i count lines at S = refl
-resumed_fault coding path (Single scalar) i count lines at S = refl
-resumed_fault coding path (Text bound) i count lines at S = refl
-resumed_fault coding path (Octets bound) i count lines at S = refl
-resumed_fault coding path (Struct n names parts) i count lines at S = refl
-resumed_fault coding path (Sequence bound E) i count lines at S = refl
-resumed_fault coding path (Array n E) i count lines at S = refl
-resumed_fault coding path (Encapsulation E) i count lines at S = refl
+resumed_fault coding path T i count lines at S = refl
 
 -- so far inside these places, or cut off
 abbrev pub shut : Bool → List Line → ℕ → List Place → Leaf → Read
@@ -193,13 +175,7 @@ ended_push (g ∷ frames) f h = ap (λ b. ended_at g.inside g.index g.count || b
 
 part_coding : (c : Coding) (T : Ty) (i count : ℕ) → coding_at c (part_in T i count) ≡ c
 part_coding c (Union n scalar select names cases) i count = refl
-part_coding c (Single scalar) i count = refl
-part_coding c (Text bound) i count = refl
-part_coding c (Octets bound) i count = refl
-part_coding c (Struct n names parts) i count = refl
-part_coding c (Sequence bound E) i count = refl
-part_coding c (Array n E) i count = refl
-part_coding c (Encapsulation E) i count = refl
+part_coding c T i count = refl
 
 -- a coding as a decoder has it, at an offset
 pub record IsCoded (here : ℕ) (c : Coding) (by : Order × ℕ) : Type 0 where

@@ -53,9 +53,8 @@ followed_strings (Short lines at outer leaf) next h k = h
 followed_strings (Fault lines at kind T) next h k = h
 
 within_strings : (place : Place) (r : Read) → Strings r → Strings (within place r)
-within_strings place (Done lines at rest) h = h
 within_strings place (Short lines at outer leaf) h = record { contents = h.contents; begun = h.begun; lines = h.lines; unended = h.unended; none = h.none }
-within_strings place (Fault lines at kind T) h = h
+within_strings place r h = h
 
 unless_strings : (T : Ty) (why : Option Kind) (at : ℕ) (r : Read) → Strings r → Strings (unless T why at r)
 unless_strings T None at r h = h
