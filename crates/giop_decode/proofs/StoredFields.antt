@@ -38,7 +38,7 @@ pub record MemoryStands (m : Memory) (at : ℕ) (octets : List ℕ) : Type 0 whe
 pub further : (at a b c : ℕ) (octets xs : List ℕ) → a + b ≡ c → drop (at + a + b) octets ≡ xs → drop (at + c) octets ≡ xs
 further at a b c octets xs e is = let same : at + a + b ≡ at + c = omega arith in subst (λ (n : ℕ). drop n octets ≡ xs) same is
 
-three : (a b c d : List ℕ) → (a ++ b ++ c) ++ d ≡ a ++ (b ++ (c ++ d))
+pub three : (a b c d : List ℕ) → (a ++ b ++ c) ++ d ≡ a ++ (b ++ (c ++ d))
 three a b c d = simp append_assoc
 
 pub memory_stands : (m : Memory) (at : ℕ) (octets rest : List ℕ) → drop at octets ≡ memory_octets m ++ rest → MemoryStands m at octets

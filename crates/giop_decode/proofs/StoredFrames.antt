@@ -7,7 +7,7 @@ use Rattle.giop_decode.specs.declared.frame.Frame.{Frame}
 use Rattle.giop_decode.specs.declared.leaf.Leaf.{Leaf as Innermost}
 use Rattle.giop_decode.specs.declared.leaf.Leaf.TheVariants as innermost
 use Rattle.giop_decode.specs.Stored.{leaf_octets, inside_octet, frame_size, frame_octets, frames_octets, FrameHasRange, LeafHasRange}
-use Rattle.giop_decode.proofs.StoredFields.{frame_long, further}
+use Rattle.giop_decode.proofs.StoredFields.{frame_long, further, three}
 use Rattle.giop_octets.specs.Fields.{four}
 use Rattle.giop_octets.proofs.FieldLaws.{four_long, behind}
 use Rattle.giop_sig.specs.Table.{type_id}
@@ -15,9 +15,6 @@ use Rattle.giop_sig.specs.Table.{type_id}
 -- what reads a number of four octets at that place
 abbrev ReadsFour : ℕ → List ℕ → ℕ → Type 0
 ReadsFour at octets n = (m : ℕ) (rest : List ℕ) → m < 2 ^ 32 → drop at octets ≡ four m ++ rest → n ≡ m
-
-three : (a b c d : List ℕ) → (a ++ b ++ c) ++ d ≡ a ++ (b ++ (c ++ d))
-three a b c d = simp append_assoc
 
 four_fields : (a b c d e : List ℕ) → (a ++ b ++ c ++ d) ++ e ≡ a ++ (b ++ (c ++ (d ++ e)))
 four_fields a b c d e = simp append_assoc
