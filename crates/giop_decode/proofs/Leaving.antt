@@ -6,7 +6,7 @@ use Rattle.giop_cdr.specs.Numbers.{num}
 use Rattle.giop_decode.specs.Fits.{leaf_ty, Sound, FitsIn, HasCase, HasContent, HasHead, IsOpen, OpenFrom, IsEncapsulation, Surrounds}
 use Rattle.giop_decode.specs.Pieces.{Got, Grab, Waiting, content, full_pieces, tail}
 use Rattle.giop_decode.specs.Reading.{headed, parts_from, enclosed, order_of, ordered}
-use Rattle.giop_decode.specs.Spine.{Coding, Content, Head, Leaf, Member, Part, Place, Seg, within, Held, Inside, Opening}
+use Rattle.giop_decode.specs.Spine.{Coding, Content, Head, Leaf, Member, Part, Place, Seg, Held, Inside, Opening}
 use Rattle.giop_decode.specs.Steps.{after, block_step, content_step, head_width, leaf_step, number_step, part_at, seg_of, step, held}
 use Rattle.giop_sig.specs.Fits.{IsFit}
 use Rattle.giop_sig.specs.Types.{Encapsulation, Ty, Union, part_of}
@@ -110,7 +110,7 @@ step_keeps zero coding path T (Part U i count ∷ outer) leaf at b fit fits arou
 step_keeps (suc d) coding path T (Part U i count ∷ outer) leaf at b fit fits around =
     let inner = step coding (path ++ seg_of T i ∷ []) outer leaf at b in
     let part_fits : (j : ℕ) → j < count → IsFit d (part_of T j) = λ j below. fit_part d T j count fit fits.0.kind below in
-    rw fits.0.same (sound_followed T (at + 1) (within (Part T i count) inner) (parts_from (part_at coding path T count) (count - suc i) (suc i))
+    rw fits.0.same (sound_followed T (at + 1) _ (parts_from (part_at coding path T count) (count - suc i) (suc i))
     (sound_part T (at + 1) i count inner fits.0.kind fits.0.below
     (step_keeps d coding (path ++ seg_of T i ∷ []) (part_of T i) outer leaf at b (part_fits i fits.0.below) fits.1 around.1))
     (parts_keep coding path T count fits.0.kind (λ j below. read_keeps d coding (path ++ seg_of T j ∷ []) (part_of T j) (part_fits j below)) (count - suc i) (suc i) refl))

@@ -38,11 +38,11 @@ quiet_front n (Done lines at rest) h = h
 quiet_front n r h = h
 
 now_followed : (n : ℕ) (r : Read) (next : ℕ → List ℕ → Read) → Now n r → Quiet n (next n []) → Now n (followed r next)
-now_followed n (Done lines at rest) next h k = now_front n lines (next at rest) h.0 (rw (h.1, h.2) k)
+now_followed n (Done lines at rest) next h k = now_front n lines _ h.0 (rw (h.1, h.2) k)
 now_followed n r next h k = h
 
 pub quiet_followed : (n : ℕ) (r : Read) (next : ℕ → List ℕ → Read) → Quiet n r → Quiet n (next n []) → Quiet n (followed r next)
-quiet_followed n (Done lines at rest) next h k = rw (h.0, h.1, h.2) (quiet_front n (next n []) k)
+quiet_followed n (Done lines at rest) next h k = rw (h.0, h.1, h.2) (quiet_front n _ k)
 quiet_followed n r next h k = h
 
 pub now_within : (n : ℕ) (place : Place) (r : Read) → Now n r → Now n (within place r)
@@ -74,15 +74,15 @@ pub read_quiet : (coding : Coding) (path : List Seg) (T : Ty) (n : ℕ) → Quie
 read_quiet coding path (Single scalar) n = rw (number_none coding.origin (width scalar) n (width_pos scalar)) (refl, refl)
 read_quiet coding path (Struct count names parts) n =
     quiet_parts n (part_at coding path (Struct count names parts) count)
-    (λ i. quiet_within n (Part (Struct count names parts) i count) (read coding (path ++ Name (names i) ∷ []) (parts i) n []) (read_quiet coding (path ++ Name (names i) ∷ []) (parts i) n)) count 0
+    (λ i. quiet_within n (Part (Struct count names parts) i count) _ (read_quiet coding (path ++ Name (names i) ∷ []) (parts i) n)) count 0
 read_quiet coding path (Array count T) n =
     quiet_parts n (part_at coding path (Array count T) count)
-    (λ i. quiet_within n (Part (Array count T) i count) (read coding (path ++ Index i ∷ []) T n []) (read_quiet coding (path ++ Index i ∷ []) T n)) count 0
+    (λ i. quiet_within n (Part (Array count T) i count) _ (read_quiet coding (path ++ Index i ∷ []) T n)) count 0
 read_quiet coding path (Union choice scalar select names cases) n = rw (number_none coding.origin (width scalar) n (width_pos scalar)) (refl, refl)
 read_quiet coding path T n = rw (number_none coding.origin 4 n (lit< tt)) (refl, refl)
 
 pub part_quiet : (coding : Coding) (path : List Seg) (T : Ty) (count n i : ℕ) → Quiet n (part_at coding path T count i n [])
-part_quiet coding path T count n i = quiet_within n (Part T i count) (read coding (inner_path path T i) (part_of T i) n []) (read_quiet coding (inner_path path T i) (part_of T i) n)
+part_quiet coding path T count n i = quiet_within n (Part T i count) _ (read_quiet coding (inner_path path T i) (part_of T i) n)
 
 pub parts_quiet : (coding : Coding) (path : List Seg) (T : Ty) (count n more i : ℕ) → Quiet n (parts_from (part_at coding path T count) more i n [])
 parts_quiet coding path T count n more i = quiet_parts n (part_at coding path T count) (part_quiet coding path T count n) more i
@@ -121,11 +121,11 @@ number_now o w at (x ∷ carry) b = block_now w at (x ∷ carry) b
 last_now : (n : ℕ) (T : Ty) (path : List Seg) (total offset : ℕ) (g : Grab) → GrabNow n g → Now n (last_piece T path total offset g)
 last_now n T path total offset (Waiting piece at) h = (tt, h)
 last_now n T path total offset (Got xs at rest) h =
-    rw (h.0, h.1) (now_unless n T (ends T (total - offset) xs) (Done (line n path (Piece T offset (take (total - offset) xs) false) ∷ []) n []) (refl, refl, refl))
+    rw (h.0, h.1) (now_unless n T (ends T (total - offset) xs) _ (refl, refl, refl))
 
 full_now : (n : ℕ) (T : Ty) (path : List Seg) (total offset : ℕ) (next : ℕ → List ℕ → Read) (g : Grab) → GrabNow n g → Quiet n (next n []) → Now n (full_piece T path total offset next g)
 full_now n T path total offset next (Waiting piece at) h k = (tt, h)
-full_now n T path total offset next (Got xs at rest) h k = rw (h.0, h.1) (now_front n (line n path (Piece T offset xs true) ∷ []) (next n []) refl k)
+full_now n T path total offset next (Got xs at rest) h k = rw (h.0, h.1) (now_front n (line n path (Piece T offset xs true) ∷ []) _ refl k)
 
 -- a content of which some octet is to come
 content_quiet : (n : ℕ) (T : Ty) (path : List Seg) (total full offset : ℕ) → offset < total → Quiet n (content T path total full offset n [])
@@ -137,11 +137,11 @@ content_now n T path total zero offset = last_now n T path total offset (block (
 content_now n T path total (suc full) offset = rw (block_waits 32 n [] (lit< tt)) (tt, add-zero n)
 
 single_now : (n : ℕ) (path : List Seg) (scalar : Scalar) (k : ℕ) → Now n (single path scalar k n [])
-single_now n path scalar k = now_unless n (Single scalar) (wrong scalar k) (Done (line n path (Spine.Number scalar k) ∷ []) n []) (refl, refl, refl)
+single_now n path scalar k = now_unless n (Single scalar) (wrong scalar k) _ (refl, refl, refl)
 
 member_quiet : (n : ℕ) (coding : Coding) (path : List Seg) (T : Ty) (selected : Selected) →
     Quiet n (member selected (λ i at s. within (Member T i) (read coding (inner_path path T i) (part_of T i) at s)) n [])
-member_quiet n coding path T (Case i) = quiet_within n (Member T i) (read coding (inner_path path T i) (part_of T i) n []) (read_quiet coding (inner_path path T i) (part_of T i) n)
+member_quiet n coding path T (Case i) = quiet_within n (Member T i) _ (read_quiet coding (inner_path path T i) (part_of T i) n)
 member_quiet n coding path T Nothing = (refl, refl, refl)
 member_quiet n coding path T Refused = (refl, refl, refl)
 
@@ -158,7 +158,7 @@ enclosed_by n false lines at outer leaf S one is = (one, is)
 
 pub enclosed_now : (n : ℕ) (path : List Seg) (T : Ty) (inner : Coding) (end : ℕ) (r : Read) → Now n r → Now n (enclosed path T inner end r [])
 enclosed_now n path T inner end (Done lines at rest) h =
-    rw (h.1, h.2) (now_front n lines (rest_of path T (end - n) n []) h.0 (rest_quiet n path T (end - n)))
+    rw (h.1, h.2) (now_front n lines _ h.0 (rest_quiet n path T (end - n)))
 enclosed_now n path T inner end (Short lines at outer leaf) h =
     enclosed_by n (ltb at end) lines at (Inside T inner end ∷ outer) leaf (cut_off leaf) h.0 h.1
 enclosed_now n path T inner end (Fault lines at why S) h = h
@@ -185,13 +185,13 @@ mute_by n false lines at outer leaf S none is = (none, is, refl)
 
 enclosed_mute : (n : ℕ) (path : List Seg) (T : Ty) (inner : Coding) (end : ℕ) (r : Read) → Quiet n r → Mute n (enclosed path T inner end r [])
 enclosed_mute n path T inner end (Done lines at rest) h =
-    rw (h.0, h.1, h.2) (quiet_mute n (with_front [] (rest_of path T (end - n) n [])) (quiet_front n (rest_of path T (end - n) n []) (rest_quiet n path T (end - n))))
+    rw (h.0, h.1, h.2) (quiet_mute n (with_front [] (rest_of path T (end - n) n [])) (quiet_front n _ (rest_quiet n path T (end - n))))
 enclosed_mute n path T inner end (Short lines at outer leaf) h =
     mute_by n (ltb at end) lines at (Inside T inner end ∷ outer) leaf (cut_off leaf) h.0 h.1
 enclosed_mute n path T inner end (Fault lines at why S) h = absurd h
 
 mute_followed : (n : ℕ) (r : Read) (next : ℕ → List ℕ → Read) → Mute n r → Quiet n (next n []) → Mute n (followed r next)
-mute_followed n (Done lines at rest) next h k = rw (h.0, h.1, h.2) (quiet_mute n (with_front [] (next n [])) (quiet_front n (next n []) k))
+mute_followed n (Done lines at rest) next h k = rw (h.0, h.1, h.2) (quiet_mute n (with_front [] (next n [])) (quiet_front n _ k))
 mute_followed n r next h k = h
 
 mute_within : (n : ℕ) (place : Place) (r : Read) → Mute n r → Mute n (within place r)
@@ -237,19 +237,19 @@ sized_now n path T (suc k) m = rw (block_waits 1 n [] (lit< tt), add-zero) (refl
 after_now : (n : ℕ) (coding : Coding) (path : List Seg) (T : Ty) (k : ℕ) → Now n (after coding path T k n [])
 after_now n coding path (Single scalar) k = single_now n path scalar k
 after_now n coding path (Text bound) zero = (refl, refl, refl)
-after_now n coding path (Text bound) (suc k) = now_unless n (Text bound) (over bound k) (content (Text bound) path k (full_pieces k) 0 n []) (content_now n (Text bound) path k (full_pieces k) 0)
-after_now n coding path (Octets bound) k = now_unless n (Octets bound) (over bound k) (content (Octets bound) path k (full_pieces k) 0 n []) (content_now n (Octets bound) path k (full_pieces k) 0)
+after_now n coding path (Text bound) (suc k) = now_unless n (Text bound) (over bound k) _ (content_now n (Text bound) path k (full_pieces k) 0)
+after_now n coding path (Octets bound) k = now_unless n (Octets bound) (over bound k) _ (content_now n (Octets bound) path k (full_pieces k) 0)
 after_now n coding path (Encapsulation T) k = sized_now n path (Encapsulation T) k k
 after_now n coding path (Sequence bound T) k =
     let elements = parts_from (part_at coding path (Sequence bound T) k) k 0 n [] in
-    now_unless n (Sequence bound T) (over bound k) (with_front (line n path (Count k) ∷ []) elements)
-    (now_front n (line n path (Count k) ∷ []) elements refl (parts_quiet coding path (Sequence bound T) k n k 0))
+    now_unless n (Sequence bound T) (over bound k) _
+    (now_front n (line n path (Count k) ∷ []) _ refl (parts_quiet coding path (Sequence bound T) k n k 0))
 after_now n coding path (Union choice scalar select names cases) k =
     let T = Union choice scalar select names cases in
     let next : ℕ → List ℕ → Read = member (select k) (λ i at s. within (Member T i) (read coding (inner_path path T i) (part_of T i) at s)) in
     let front : List Line = line n (path ++ Switch (tag_of choice names) ∷ []) (Spine.Number scalar k) ∷ [] in
-    now_unless n T (wrong scalar k) (unless T (refused (select k)) n (with_front front (next n [])))
-    (now_unless n T (refused (select k)) (with_front front (next n [])) (now_front n front (next n []) refl (member_quiet n coding path T (select k))))
+    now_unless n T (wrong scalar k) _
+    (now_unless n T (refused (select k)) _ (now_front n front _ refl (member_quiet n coding path T (select k))))
 after_now n coding path T k = (tt, refl, refl)
 
 headed_now : (n : ℕ) (coding : Coding) (path : List Seg) (T : Ty) (g : Grab) → GrabNow n g → Now n (headed T (λ xs at rest. after coding path T (num coding.order xs) at rest) g)
@@ -277,11 +277,11 @@ around_now n coding path [] r h = h
 around_now n coding path (Part T i count ∷ outer) r h =
     let inner = around coding (path ++ seg_of T i ∷ []) outer r in
     now_followed n (within (Part T i count) inner) (parts_from (part_at coding path T count) (count - suc i) (suc i))
-    (now_within n (Part T i count) inner (around_now n coding (path ++ seg_of T i ∷ []) outer r h))
+    (now_within n (Part T i count) _ (around_now n coding (path ++ seg_of T i ∷ []) outer r h))
     (parts_quiet coding path T count n (count - suc i) (suc i))
 around_now n coding path (Member T i ∷ outer) r h =
     let inner = around coding (path ++ seg_of T i ∷ []) outer r in
-    now_within n (Member T i) inner (around_now n coding (path ++ seg_of T i ∷ []) outer r h)
+    now_within n (Member T i) _ (around_now n coding (path ++ seg_of T i ∷ []) outer r h)
 around_now n coding path (Inside T inner end ∷ outer) r h =
     enclosed_now n path T inner end (around inner (path ++ Held ∷ []) outer r) (around_now n inner (path ++ Held ∷ []) outer r h)
 

@@ -31,7 +31,7 @@ sound_unless T end U (Some kind) at r h = tt
 
 pub sound_followed : (T : Ty) (end : ℕ) (r : Read) (next : ℕ → List ℕ → Read) → Sound T end r → Keeps T next → Sound T end (followed r next)
 sound_followed T end (Done lines at rest) next h keeps =
-    sound_front T end lines (next at rest) (subst (λ e. Sound T e (next at rest)) h (keeps at rest))
+    sound_front T _ lines _ (subst (λ e. Sound T e (next at rest)) h (keeps at rest))
 sound_followed T end (Short lines at outer leaf) next h keeps = h
 sound_followed T end (Fault lines at kind S) next h keeps = h
 
@@ -72,8 +72,8 @@ pub parts_keep : (coding : Coding) (path : List Seg) (T : Ty) (count : ℕ) → 
 parts_keep coding path T count kind each zero i is at s = refl
 parts_keep coding path T count kind each (suc more) i is at s =
     let below : i < count = omega arith in
-    sound_followed T (at + length s) _ (parts_from (part_at coding path T count) more (suc i))
-    (sound_part T (at + length s) i count (read coding (inner_path path T i) (part_of T i) at s) kind below (each i below at s))
+    sound_followed T _ _ (parts_from (part_at coding path T count) more (suc i))
+    (sound_part T _ i count _ kind below (each i below at s))
     (parts_keep coding path T count kind each more (suc i) (omega arith))
 
 headed_keeps : (coding : Coding) (path : List Seg) (T : Ty) → HasHead T → 0 < head_width T → ((n : ℕ) → Keeps T (after coding path T n)) →
@@ -89,14 +89,14 @@ pub last_piece_sound : (T : Ty) (path : List Seg) (total offset end : ℕ) → H
 last_piece_sound T path total offset end kind small ahead (Waiting piece at) h =
     (h.0, record { same = refl; kind = kind; ahead = ahead; room_full = λ more. absurd (omega arith); room_last = λ _. h.1 }, tt)
 last_piece_sound T path total offset end kind small ahead (Got xs at rest) h =
-    sound_unless T end T (ends T (total - offset) xs) at _ h.0
+    sound_unless T _ T (ends T (total - offset) xs) at _ h.0
 
 pub full_piece_sound : (T : Ty) (path : List Seg) (total offset end : ℕ) → HasContent T → 32 < total - offset → (next : ℕ → List ℕ → Read) → Keeps T next → (g : Grab) →
     Takes 32 end g → Sound T end (full_piece T path total offset next g)
 full_piece_sound T path total offset end kind large next keeps (Waiting piece at) h =
     (h.0, record { same = refl; kind = kind; ahead = omega arith; room_full = λ _. h.1; room_last = λ small. absurd (omega arith) }, tt)
 full_piece_sound T path total offset end kind large next keeps (Got xs at rest) h =
-    sound_front T end (line at path (Piece T offset xs true) ∷ []) (next at rest) (subst (λ e. Sound T e (next at rest)) h.0 (keeps at rest))
+    sound_front T _ (line at path (Piece T offset xs true) ∷ []) _ (subst (λ e. Sound T e (next at rest)) h.0 (keeps at rest))
 
 pub content_keeps : (T : Ty) (path : List Seg) (total : ℕ) → HasContent T → (full offset : ℕ) → full ≡ full_pieces (total - offset) → offset ≤ total → Keeps T (content T path total full offset)
 content_keeps T path total kind zero offset is ahead at s =
@@ -108,28 +108,28 @@ content_keeps T path total kind (suc full) offset is ahead at s =
 text_keeps : (path : List Seg) (bound : Option ℕ) (n : ℕ) → Keeps (Text bound) (text bound path n)
 text_keeps path bound zero at s = refl
 text_keeps path bound (suc n) at s =
-    sound_unless (Text bound) (at + length s) _ (over bound n) at _ (content_keeps (Text bound) path n tt (full_pieces n) 0 (omega arith) (omega arith) at s)
+    sound_unless (Text bound) _ _ (over bound n) at _ (content_keeps (Text bound) path n tt (full_pieces n) 0 (omega arith) (omega arith) at s)
 
 octets_keeps : (path : List Seg) (bound : Option ℕ) (n : ℕ) → Keeps (Octets bound) (octets bound path n)
 octets_keeps path bound n at s =
-    sound_unless (Octets bound) (at + length s) _ (over bound n) at _ (content_keeps (Octets bound) path n tt (full_pieces n) 0 (omega arith) (omega arith) at s)
+    sound_unless (Octets bound) _ _ (over bound n) at _ (content_keeps (Octets bound) path n tt (full_pieces n) 0 (omega arith) (omega arith) at s)
 
 single_keeps : (T : Ty) (path : List Seg) (scalar : Scalar) (n : ℕ) → Keeps T (single path scalar n)
-single_keeps T path scalar n at s = sound_unless T (at + length s) _ (wrong scalar n) at _ refl
+single_keeps T path scalar n at s = sound_unless T _ _ (wrong scalar n) at _ refl
 
 selected_keeps : (coding : Coding) (path : List Seg) (T : Ty) (selected : Selected) → ((i : ℕ) → selected ≡ Case i → HasCase T i) →
     ((i : ℕ) → HasCase T i → Keeps (part_of T i) (read coding (inner_path path T i) (part_of T i))) →
     Keeps T (member selected (λ i at s. within (Member T i) (read coding (inner_path path T i) (part_of T i) at s)))
 selected_keeps coding path T (Case i) kind each at s =
-    sound_member T (at + length s) i (read coding (inner_path path T i) (part_of T i) at s) (kind i refl) (each i (kind i refl) at s)
+    sound_member T _ i _ (kind i refl) (each i (kind i refl) at s)
 selected_keeps coding path T Nothing kind each at s = refl
 selected_keeps coding path T Refused kind each at s = refl
 
 -- what follows a number, where the parts' readings keep
 pub elements_keep : (coding : Coding) (path : List Seg) (bound : Option ℕ) (T : Ty) (n : ℕ) → ((i : ℕ) → Keeps T (read coding (path ++ Index i ∷ []) T)) →
     Keeps (Sequence bound T) (after coding path (Sequence bound T) n)
-elements_keep coding path bound T n each at s = sound_unless (Sequence bound T) (at + length s) _ (over bound n) at _
-    (sound_front (Sequence bound T) (at + length s) (line at path (Count n) ∷ []) _
+elements_keep coding path bound T n each at s = sound_unless (Sequence bound T) _ _ (over bound n) at _
+    (sound_front (Sequence bound T) _ (line at path (Count n) ∷ []) _
     (parts_keep coding path (Sequence bound T) n tt (λ i below. each i) n 0 (omega arith) at s))
 
 pub cases_keep : (coding : Coding) (path : List Seg) (choice : Choice) (scalar : Scalar) (select : ℕ → Selected) (names : ℕ → List ℕ) (cases : ℕ → Ty) (n : ℕ) →
@@ -137,9 +137,9 @@ pub cases_keep : (coding : Coding) (path : List Seg) (choice : Choice) (scalar :
     Keeps (Union choice scalar select names cases) (after coding path (Union choice scalar select names cases) n)
 cases_keep coding path choice scalar select names cases n below each at s =
     let T = Union choice scalar select names cases in
-    sound_unless T (at + length s) T (wrong scalar n) at _
-    (sound_unless T (at + length s) T (refused (select n)) at _
-    (sound_front T (at + length s) (line at (path ++ Switch (tag_of choice names) ∷ []) (Spine.Number scalar n) ∷ []) _
+    sound_unless T _ T (wrong scalar n) at _
+    (sound_unless T _ T (refused (select n)) at _
+    (sound_front T _ (line at (path ++ Switch (tag_of choice names) ∷ []) (Spine.Number scalar n) ∷ []) _
     (selected_keeps coding path T (select n) (λ i e. below n i e) each at s)))
 
 -- ---- encapsulations
@@ -157,7 +157,7 @@ pub sound_enclosed : (T : Ty) (path : List Seg) (inner : Coding) (end here : ℕ
     Sound (part_of T 0) here r → (here < end → more ≡ []) → Sound T (here + length more) (enclosed path T inner end r more)
 sound_enclosed T path inner end here kind began (Done lines at rest) more h none =
     let e : at + length (rest ++ more) ≡ here + length more = omega (arith, h, length-append rest more) in
-    sound_front T (here + length more) lines _
+    sound_front T _ lines _
     (subst (λ n. Sound T n (rest_of path T (end - at) at (rest ++ more))) e (rest_keeps T path (end - at) (encapsulation_content T kind) at (rest ++ more)))
 sound_enclosed T path inner end here kind began (Short lines at outer leaf) more h none = go (cases_lt at end)
   where
@@ -194,7 +194,7 @@ pub ordered_sound : (T : Ty) (path : List Seg) (origin n : ℕ) (order : Option 
     Sound T (at + length s) (ordered path T (held path T) origin n order at s)
 ordered_sound T path origin n None at s kind began keeps = tt
 ordered_sound T path origin n (Some order) at s kind began keeps =
-    sound_front T (at + length s) (line at path (Ordered order) ∷ []) _
+    sound_front T _ (line at path (Ordered order) ∷ []) _
     (inside_sound T path (held path T) (coded order origin) n at s kind began (keeps (coded order origin)))
 
 sized_keeps : (T : Ty) (path : List Seg) (n : ℕ) → IsEncapsulation T → HeldKeeps T path → Keeps T (sized path T (held path T) n)
@@ -206,7 +206,7 @@ sized_keeps T path (suc n) kind keeps at (x ∷ s) =
     (ordered_sound T path at n (order_of x) (at + 1) s kind (omega arith) keeps))
 
 size_keeps : (coding : Coding) (path : List Seg) (T : Ty) (n : ℕ) → HeldKeeps (Encapsulation T) path → Keeps (Encapsulation T) (after coding path (Encapsulation T) n)
-size_keeps coding path T n keeps at s = sound_front (Encapsulation T) (at + length s) (line at path (Size n) ∷ []) _ (sized_keeps (Encapsulation T) path n tt keeps at s)
+size_keeps coding path T n keeps at s = sound_front (Encapsulation T) _ (line at path (Size n) ∷ []) _ (sized_keeps (Encapsulation T) path n tt keeps at s)
 
 pub read_keeps : (d : ℕ) (coding : Coding) (path : List Seg) (T : Ty) → IsFit d T → Keeps T (read coding path T)
 unfolding IsFit
