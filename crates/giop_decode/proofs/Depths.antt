@@ -25,7 +25,8 @@ unfolding depth
 depth_some (Struct n names parts) = omega arith
 depth_some T = omega arith
 
-part_shallower : (T : Ty) (i count : ℕ) → HasParts T count → i < count → depth (part_of T i) < depth T
+part_shallower : (T : Ty) (i count : ℕ) → HasParts T count → i < count →
+    depth (part_of T i) < depth T
 unfolding depth
 part_shallower (Struct n names parts) i count kind lt = let below : i < n = omega (arith, kind) in omega (arith, most_at n i (λ j. depth (parts j)) below)
 part_shallower (Array n T) i count kind lt = omega arith

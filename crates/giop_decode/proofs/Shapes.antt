@@ -65,13 +65,15 @@ some_enum T n h empty = rw h.1 at empty
 pub some_text : (T : Ty) (bound : Option ℕ) → HasShape T (shapes.Text bound) → IsEmptyStruct T → ⊥
 some_text T bound h empty = rw h at empty
 
-pub some_octets : (T : Ty) (bound : Option ℕ) → HasShape T (shapes.Octets bound) → IsEmptyStruct T → ⊥
+pub some_octets : (T : Ty) (bound : Option ℕ) → HasShape T (shapes.Octets bound) → IsEmptyStruct T →
+    ⊥
 some_octets T bound h empty = rw h at empty
 
 pub some_union : (T : Ty) (n : ℕ) → HasShape T (shapes.Union n) → IsEmptyStruct T → ⊥
 some_union T n h empty = rw h.4 at empty
 
-pub some_sequence : (T : Ty) (bound : Option ℕ) → HasShape T (shapes.Sequence bound) → IsEmptyStruct T → ⊥
+pub some_sequence : (T : Ty) (bound : Option ℕ) → HasShape T (shapes.Sequence bound) →
+    IsEmptyStruct T → ⊥
 some_sequence T bound h empty = rw h.1 at empty
 
 pub some_tag : (T : Ty) → HasShape T shapes.Tagged → IsEmptyStruct T → ⊥

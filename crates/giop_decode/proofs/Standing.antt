@@ -82,20 +82,19 @@ spells_end a b end text e r = record {
 }
 
 pub spells_more : (w : Bool) (a b c : Line) (end more text : List ℕ) →
-    line_text b ≡ end ++ line_text a → line_room b + length end ≡ line_room a →
-    Spells w b c more → Spells false a c text
+    line_text b ≡ end ++ line_text a → line_room b + length end ≡ line_room a → Spells w b c more →
+    Spells false a c text
 spells_more w a b c end more text e r s =
     spells_end a c (s.front ++ end) text (s.spelled ∙ (ap (λ t. s.front ++ t) e
     ∙ sym (append_assoc s.front end (line_text a))))
     (omega (arith, length-append s.front end, s.room, r))
 
 -- room for all of it
-pub spells_here : (C : Table) (root : Root) (outer : List Frame) (switch : Option TypeId)
-    (w : Bool) (a b c d : Line) (word : List ℕ) →
-    line_text b ≡ end_text C switch ++ line_text a →
-    line_room b + length (end_text C switch) ≡ line_room a →
-    Spells w b c (frames_text C outer) → w ≡ true → word ≡ root_word root →
-    line_text d ≡ word ++ line_text c → line_room d + length word ≡ line_room c →
+pub spells_here : (C : Table) (root : Root) (outer : List Frame) (switch : Option TypeId) (w : Bool)
+    (a b c d : Line) (word : List ℕ) → line_text b ≡ end_text C switch ++ line_text a →
+    line_room b + length (end_text C switch) ≡ line_room a → Spells w b c (frames_text C outer) →
+    w ≡ true → word ≡ root_word root → line_text d ≡ word ++ line_text c →
+    line_room d + length word ≡ line_room c →
     Spells true a d (path_text root (path_in [] (places C 0 outer) ++ end_segs C switch))
 spells_here C root outer switch w a b c d word be br s whole is de dr =
     let frames = frames_text C outer in
@@ -132,8 +131,8 @@ pub frames_more : (C : Table) (outer : List Frame) (i : ℕ) (d : Frame) → 0 <
     ≡ seg_text (seg_in (place C 0 (get_or outer (i - 1) d))) ++ frames_text C (drop i outer)
 frames_more C outer i d p h = rw (from_end outer i d p h) refl
 
-pub text_more : (C : Table) (outer : List Frame) (i : ℕ) (d : Frame) (a b : List ℕ) (text : List ℕ) → 0 < i → i ≤ length outer →
-    a ≡ frames_text C (drop i outer) ++ text →
+pub text_more : (C : Table) (outer : List Frame) (i : ℕ) (d : Frame) (a b : List ℕ)
+    (text : List ℕ) → 0 < i → i ≤ length outer → a ≡ frames_text C (drop i outer) ++ text →
     b ≡ seg_text (seg_in (place C 0 (get_or outer (i - 1) d))) ++ a →
     b ≡ frames_text C (drop (i - 1) outer) ++ text
 text_more C outer i d a b text p h e n =

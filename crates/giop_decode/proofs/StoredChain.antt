@@ -38,14 +38,17 @@ part_uncounted (Text bound) i count has is = absurd has.0
 part_uncounted (Octets bound) i count has is = absurd has.0
 part_uncounted T i count has is = absurd is
 
-fits_one_more : (T : Ty) (i count : ℕ) (outer : List Place) (leaf : Leaf) → HasPart T i count → FitsIn (part_of T i) outer leaf → FitsIn T (part_in T i count ∷ outer) leaf
+fits_one_more : (T : Ty) (i count : ℕ) (outer : List Place) (leaf : Leaf) → HasPart T i count →
+    FitsIn (part_of T i) outer leaf → FitsIn T (part_in T i count ∷ outer) leaf
 fits_one_more (Union choice scalar select names cases) i count outer leaf has fits = (record { same = refl; kind = has.0 }, fits)
 fits_one_more (Struct n names parts) i count outer leaf has fits = (record { same = refl; kind = has.0; below = has.1 }, fits)
 fits_one_more (Array n T) i count outer leaf has fits = (record { same = refl; kind = has.0; below = has.1 }, fits)
 fits_one_more (Sequence bound T) i count outer leaf has fits = (record { same = refl; kind = has.0; below = has.1 }, fits)
 fits_one_more T i count outer leaf has fits = absurd has.0
 
-fits_part : (T : Ty) (i count : ℕ) (outer : List Place) (leaf : Leaf) → FitsIn T (part_in T i count ∷ outer) leaf → (IsUnion (shape_in T) → count ≡ 0) → HasPart T i count × FitsIn (part_of T i) outer leaf
+fits_part : (T : Ty) (i count : ℕ) (outer : List Place) (leaf : Leaf) →
+    FitsIn T (part_in T i count ∷ outer) leaf → (IsUnion (shape_in T) → count ≡ 0) →
+    HasPart T i count × FitsIn (part_of T i) outer leaf
 fits_part (Union (Cases n) scalar select names cases) i count outer leaf fits uncounted = ((fits.0.kind, uncounted tt), fits.1)
 fits_part (Union Tag scalar select names cases) i count outer leaf fits uncounted = ((fits.0.kind, uncounted tt), fits.1)
 fits_part (Struct n names parts) i count outer leaf fits uncounted = ((fits.0.kind, fits.0.below), fits.1)
@@ -63,28 +66,35 @@ inside_place T i is = absurd is
 
 -- ---- one frame
 
-pub frame_place : (inside : Option Order) (T : Ty) (i count : ℕ) → HasFrame inside T i count → HasPlace (shape_in T) (part_index inside i)
+pub frame_place : (inside : Option Order) (T : Ty) (i count : ℕ) → HasFrame inside T i count →
+    HasPlace (shape_in T) (part_index inside i)
 frame_place None T i count has = part_place T i count has
 frame_place (Some order) T i count has = inside_place T 0 has.0
 
-frame_within : (inside : Option Order) (T : Ty) (i count : ℕ) → HasFrame inside T i count → IsWithin inside i count T
+frame_within : (inside : Option Order) (T : Ty) (i count : ℕ) → HasFrame inside T i count →
+    IsWithin inside i count T
 frame_within None T i count has = (part_place T i count has, part_bare T i count has, part_uncounted T i count has)
 frame_within (Some order) T i count has = (has.0, has.1, omega (arith, has.2))
 
-frame_ahead : (inside : Option Order) (T : Ty) (i count : ℕ) → HasFrame inside T i count → IfSome inside (λ order. i < count)
+frame_ahead : (inside : Option Order) (T : Ty) (i count : ℕ) → HasFrame inside T i count →
+    IfSome inside (λ order. i < count)
 frame_ahead None T i count has = tt
 frame_ahead (Some order) T i count has = has.2
 
-frame_fits : (here : ℕ) (inside : Option Order) (T : Ty) (i count : ℕ) (outer : List Place) (leaf : Leaf) → HasFrame inside T i count → FitsIn (part_of T (part_index inside i)) outer leaf →
+frame_fits : (here : ℕ) (inside : Option Order) (T : Ty) (i count : ℕ) (outer : List Place)
+    (leaf : Leaf) → HasFrame inside T i count →
+    FitsIn (part_of T (part_index inside i)) outer leaf →
     FitsIn T (place_in here inside T i count ∷ outer) leaf
 frame_fits here None T i count outer leaf has fits = fits_one_more T i count outer leaf has fits
 frame_fits here (Some order) T i count outer leaf has fits = (record { same = refl; kind = has.0 }, fits)
 
-record FrameIs (inside : Option Order) (T : Ty) (i count : ℕ) (outer : List Place) (leaf : Leaf) : Type 0 where
+record FrameIs (inside : Option Order) (T : Ty) (i count : ℕ) (outer : List Place)
+    (leaf : Leaf) : Type 0 where
   has : HasFrame inside T i count
   fits : FitsIn (part_of T (part_index inside i)) outer leaf
 
-frame_is : (here : ℕ) (inside : Option Order) (T : Ty) (i count : ℕ) (outer : List Place) (leaf : Leaf) → IsWithin inside i count T → IfSome inside (λ order. i < count) →
+frame_is : (here : ℕ) (inside : Option Order) (T : Ty) (i count : ℕ) (outer : List Place)
+    (leaf : Leaf) → IsWithin inside i count T → IfSome inside (λ order. i < count) →
     FitsIn T (place_in here inside T i count ∷ outer) leaf → FrameIs inside T i count outer leaf
 frame_is here None T i count outer leaf within ahead fits =
     let p = fits_part T i count outer leaf fits within.2 in
@@ -93,16 +103,19 @@ frame_is here (Some order) T i count outer leaf within ahead fits = record { has
 
 -- ---- a chain
 
-record ChainFits (C : Table) (here id : ℕ) (frames : List Frame) (leaf : Innermost) (carry piece : List ℕ) : Type 0 where
+record ChainFits (C : Table) (here id : ℕ) (frames : List Frame) (leaf : Innermost)
+    (carry piece : List ℕ) : Type 0 where
   fits : FitsIn (tree C id) (places C here frames) (leaf_of C leaf carry piece)
   ahead : AreAhead frames
   known_outer : AreKnown C frames
   link : Link C id frames (leaf_type leaf)
 
-chain_fits : (C : Table) (here id : ℕ) (frames : List Frame) (leaf : Innermost) (carry piece : List ℕ) → IsTable C → id < length C.types
-    → Chained C id frames leaf → LeafFits C leaf carry piece → ChainFits C here id frames leaf carry piece
+chain_fits : (C : Table) (here id : ℕ) (frames : List Frame) (leaf : Innermost)
+    (carry piece : List ℕ) → IsTable C → id < length C.types → Chained C id frames leaf →
+    LeafFits C leaf carry piece → ChainFits C here id frames leaf carry piece
 chain_fits C here id [] leaf carry piece laws known h inner =
-    record { fits = subst (λ (n : ℕ). FitsIn (tree C n) [] (leaf_of C leaf carry piece)) h inner.0; ahead = tt; known_outer = tt; link = h }
+    record { fits = subst (λ (n : ℕ). FitsIn (tree C n) [] (leaf_of C leaf carry piece)) h inner.0;
+        ahead = tt; known_outer = tt; link = h }
 chain_fits C here id (f ∷ frames) leaf carry piece laws known h inner =
     let has = h.1 in
     let i = part_index f.inside f.index in
@@ -126,14 +139,18 @@ chain_fits C here id (f ∷ frames) leaf carry piece laws known h inner =
       link = (h.0, rest.link);
     }
 
-record FitsChain (C : Table) (id : ℕ) (frames : List Frame) (leaf : Innermost) (carry piece : List ℕ) : Type 0 where
+record FitsChain (C : Table) (id : ℕ) (frames : List Frame) (leaf : Innermost)
+    (carry piece : List ℕ) : Type 0 where
   chain : Chained C id frames leaf
   inner : FitsIn (tree C (leaf_type leaf)) [] (leaf_of C leaf carry piece)
 
-fits_chain : (C : Table) (here id : ℕ) (frames : List Frame) (leaf : Innermost) (carry piece : List ℕ) → IsTable C → id < length C.types
-    → FitsIn (tree C id) (places C here frames) (leaf_of C leaf carry piece) → AreAhead frames → AreKnown C frames → Link C id frames (leaf_type leaf) → FitsChain C id frames leaf carry piece
+fits_chain : (C : Table) (here id : ℕ) (frames : List Frame) (leaf : Innermost)
+    (carry piece : List ℕ) → IsTable C → id < length C.types →
+    FitsIn (tree C id) (places C here frames) (leaf_of C leaf carry piece) → AreAhead frames →
+    AreKnown C frames → Link C id frames (leaf_type leaf) → FitsChain C id frames leaf carry piece
 fits_chain C here id [] leaf carry piece laws known fits ahead are link =
-    record { chain = link; inner = subst (λ (n : ℕ). FitsIn (tree C n) [] (leaf_of C leaf carry piece)) (sym link) fits }
+    record { chain = link; inner = subst (λ (n : ℕ). FitsIn (tree C n) []
+        (leaf_of C leaf carry piece)) (sym link) fits }
 fits_chain C here id (f ∷ frames) leaf carry piece laws known fits ahead are link =
     let ps = places C here frames in
     let inmost = leaf_of C leaf carry piece in
@@ -172,7 +189,8 @@ some_fit (Struct zero names parts) fit empty = absurd (omega (arith, fit.0))
 some_fit (Struct (suc n) names parts) fit empty = empty
 some_fit T fit empty = empty
 
-root_linked : (C : Table) (root : ℕ) (frames : List Frame) (leaf : Innermost) → Link C root frames (leaf_type leaf) → root ≡ root_of frames leaf
+root_linked : (C : Table) (root : ℕ) (frames : List Frame) (leaf : Innermost) →
+    Link C root frames (leaf_type leaf) → root ≡ root_of frames leaf
 root_linked C root [] leaf link = sym link
 root_linked C root (f ∷ frames) leaf link = sym link.0
 

@@ -21,34 +21,43 @@ four_fields a b c d e = simp append_assoc
 
 -- ---- the innermost part
 
-pub number_again : (leaf : Innermost) (at of tag : ℕ) (octets rest : List ℕ) → LeafHasRange leaf → drop at octets ≡ leaf_octets leaf ++ rest → tag ≡ 0
-    → ((n : ℕ) (rest : List ℕ) → drop at octets ≡ n ∷ rest → tag ≡ n) → ReadsFour (at + 1) octets of → innermost.Number (type_id of) ≡ leaf
+pub number_again : (leaf : Innermost) (at of tag : ℕ) (octets rest : List ℕ) → LeafHasRange leaf →
+    drop at octets ≡ leaf_octets leaf ++ rest → tag ≡ 0 →
+    ((n : ℕ) (rest : List ℕ) → drop at octets ≡ n ∷ rest → tag ≡ n) → ReadsFour (at + 1) octets of →
+    innermost.Number (type_id of) ≡ leaf
 number_again (innermost.Number t) at of tag octets rest range is zero_tag tag_is of_is =
-    let inner : drop (at + 1) octets ≡ four t.0 ++ (four 0 ++ (four 0 ++ rest)) = behind at 1 octets (0 ∷ []) _ is refl ∙ three (four t.0) (four 0) (four 0) rest in
+    let inner : drop (at + 1) octets ≡ four t.0 ++ (four 0 ++ (four 0 ++ rest)) = behind at 1 octets (0 ∷ []) _ is refl
+        ∙ three (four t.0) (four 0) (four 0) rest in
     let e : of ≡ t.0 = of_is t.0 _ range inner in
     rw e refl
 number_again (innermost.Content t total offset) at of tag octets rest range is zero_tag tag_is of_is = absurd (omega (arith, tag_is 1 _ is, zero_tag))
 number_again (innermost.Opening t count) at of tag octets rest range is zero_tag tag_is of_is = absurd (omega (arith, tag_is 2 _ is, zero_tag))
 
-pub opening_again : (leaf : Innermost) (at of count tag : ℕ) (octets rest : List ℕ) → LeafHasRange leaf → drop at octets ≡ leaf_octets leaf ++ rest → tag ≡ 2
-    → ((n : ℕ) (rest : List ℕ) → drop at octets ≡ n ∷ rest → tag ≡ n) → ReadsFour (at + 1) octets of → ReadsFour (at + 5) octets count
-    → innermost.Opening (type_id of) count ≡ leaf
+pub opening_again : (leaf : Innermost) (at of count tag : ℕ) (octets rest : List ℕ) →
+    LeafHasRange leaf → drop at octets ≡ leaf_octets leaf ++ rest → tag ≡ 2 →
+    ((n : ℕ) (rest : List ℕ) → drop at octets ≡ n ∷ rest → tag ≡ n) → ReadsFour (at + 1) octets of →
+    ReadsFour (at + 5) octets count → innermost.Opening (type_id of) count ≡ leaf
 opening_again (innermost.Number t) at of count tag octets rest range is two tag_is of_is count_is = absurd (omega (arith, tag_is 0 _ is, two))
 opening_again (innermost.Content t total offset) at of count tag octets rest range is two tag_is of_is count_is = absurd (omega (arith, tag_is 1 _ is, two))
 opening_again (innermost.Opening t k) at of count tag octets rest range is two tag_is of_is count_is =
-    let inner : drop (at + 1) octets ≡ four t.0 ++ (four k ++ (four 0 ++ rest)) = behind at 1 octets (2 ∷ []) _ is refl ∙ three (four t.0) (four k) (four 0) rest in
+    let inner : drop (at + 1) octets ≡ four t.0 ++ (four k ++ (four 0 ++ rest)) = behind at 1 octets (2 ∷ []) _ is refl
+        ∙ three (four t.0) (four k) (four 0) rest in
     let count_at : drop (at + 5) octets ≡ four k ++ (four 0 ++ rest) = further at 1 4 5 octets _ refl (behind (at + 1) 4 octets _ _ inner (four_long t.0)) in
     let a : of ≡ t.0 = of_is t.0 _ range.0 inner in
     let b : count ≡ k = count_is k _ range.1 count_at in
     rw (a, b) refl
 
-pub content_again : (leaf : Innermost) (at of total offset tag : ℕ) (octets rest : List ℕ) → LeafHasRange leaf → drop at octets ≡ leaf_octets leaf ++ rest → (tag ≡ 0 → ⊥) → (tag ≡ 2 → ⊥)
-    → ((n : ℕ) (rest : List ℕ) → drop at octets ≡ n ∷ rest → tag ≡ n) → ReadsFour (at + 1) octets of → ReadsFour (at + 5) octets total → ReadsFour (at + 9) octets offset
-    → innermost.Content (type_id of) total offset ≡ leaf
-content_again (innermost.Opening t count) at of total offset tag octets rest range is other third tag_is of_is total_is offset_is = absurd (third (tag_is 2 _ is))
+pub content_again : (leaf : Innermost) (at of total offset tag : ℕ) (octets rest : List ℕ) →
+    LeafHasRange leaf → drop at octets ≡ leaf_octets leaf ++ rest → (tag ≡ 0 → ⊥) → (tag ≡ 2 → ⊥) →
+    ((n : ℕ) (rest : List ℕ) → drop at octets ≡ n ∷ rest → tag ≡ n) → ReadsFour (at + 1) octets of →
+    ReadsFour (at + 5) octets total → ReadsFour (at + 9) octets offset →
+    innermost.Content (type_id of) total offset ≡ leaf
+content_again (innermost.Opening t count) at of total offset tag octets rest range is other third tag_is of_is total_is offset_is =
+    absurd (third (tag_is 2 _ is))
 content_again (innermost.Number t) at of total offset tag octets rest range is other third tag_is of_is total_is offset_is = absurd (other (tag_is 0 _ is))
 content_again (innermost.Content t k o) at of total offset tag octets rest range is other third tag_is of_is total_is offset_is =
-    let inner : drop (at + 1) octets ≡ four t.0 ++ (four k ++ (four o ++ rest)) = behind at 1 octets (1 ∷ []) _ is refl ∙ three (four t.0) (four k) (four o) rest in
+    let inner : drop (at + 1) octets ≡ four t.0 ++ (four k ++ (four o ++ rest)) = behind at 1 octets (1 ∷ []) _ is refl
+        ∙ three (four t.0) (four k) (four o) rest in
     let total_at : drop (at + 5) octets ≡ four k ++ (four o ++ rest) = further at 1 4 5 octets _ refl (behind (at + 1) 4 octets _ _ inner (four_long t.0)) in
     let offset_at : drop (at + 9) octets ≡ four o ++ rest = further at 5 4 9 octets _ refl (behind (at + 5) 4 octets _ _ total_at (four_long k)) in
     let a : of ≡ t.0 = of_is t.0 _ range.0 inner in
@@ -58,13 +67,15 @@ content_again (innermost.Content t k o) at of total offset tag octets rest range
 
 -- ---- frames
 
-pub frame_again : (f : Frame) (of index count : ℕ) (inside : Option Order) (octets rest : List ℕ) → FrameHasRange f → octets ≡ frame_octets f ++ rest
-    → ReadsFour 0 octets of → ReadsFour 4 octets index → ReadsFour 8 octets count
-    → ((i : Option Order) (rest : List ℕ) → drop 12 octets ≡ inside_octet i ∷ rest → inside ≡ i)
-    → record { of = type_id of; index = index; count = count; inside = inside } ≡ f
+pub frame_again : (f : Frame) (of index count : ℕ) (inside : Option Order) (octets rest : List ℕ) →
+    FrameHasRange f → octets ≡ frame_octets f ++ rest → ReadsFour 0 octets of →
+    ReadsFour 4 octets index → ReadsFour 8 octets count →
+    ((i : Option Order) (rest : List ℕ) → drop 12 octets ≡ inside_octet i ∷ rest → inside ≡ i) →
+    record { of = type_id of; index = index; count = count; inside = inside } ≡ f
 frame_again f of index count inside octets rest range is of_is index_is count_is inside_is =
     let last : List ℕ = inside_octet f.inside ∷ replicate 11 0 in
-    let first : drop 0 octets ≡ four f.of.0 ++ (four f.index ++ (four f.count ++ (last ++ rest))) = is ∙ four_fields (four f.of.0) (four f.index) (four f.count) last rest in
+    let first : drop 0 octets ≡ four f.of.0 ++ (four f.index ++ (four f.count ++ (last ++ rest))) = is
+        ∙ four_fields (four f.of.0) (four f.index) (four f.count) last rest in
     let second : drop 4 octets ≡ four f.index ++ (four f.count ++ (last ++ rest)) = behind 0 4 octets _ _ first (four_long f.of.0) in
     let third : drop 8 octets ≡ four f.count ++ (last ++ rest) = behind 4 4 octets _ _ second (four_long f.index) in
     let fourth : drop 12 octets ≡ last ++ rest = behind 8 4 octets _ _ third (four_long f.count) in
@@ -81,28 +92,36 @@ pub record Left (all items : List Frame) (own : Frame) (octets : List ℕ) : Typ
   pub octets_are : octets ≡ frames_octets (left ++ own ∷ [])
   pub all_are : all ≡ items ++ left
 
-two_long : (g h : Frame) (gs : List Frame) → 2 * frame_size ≤ length (frames_octets (g ∷ gs ++ h ∷ []))
+two_long : (g h : Frame) (gs : List Frame) →
+    2 * frame_size ≤ length (frames_octets (g ∷ gs ++ h ∷ []))
 two_long g h [] = omega (arith, length-append (frame_octets g) (frame_octets h ++ []), length-append (frame_octets h) [], frame_long g, frame_long h)
 two_long g h (k ∷ gs) = omega (arith, length-append (frame_octets g) (frames_octets (k ∷ gs ++ h ∷ [])), two_long k h gs, frame_long g)
 
-pub frame_more : (all items new : List Frame) (own f : Frame) (octets after : List ℕ) → Left all items own octets → 2 * frame_size ≤ length octets → after ≡ drop frame_size octets → new ≡ items ++ f ∷ []
-    → ((g : Frame) (rest : List ℕ) → FrameHasRange g → octets ≡ frame_octets g ++ rest → f ≡ g) → Left all new own after
+pub frame_more : (all items new : List Frame) (own f : Frame) (octets after : List ℕ) →
+    Left all items own octets → 2 * frame_size ≤ length octets → after ≡ drop frame_size octets →
+    new ≡ items ++ f ∷ [] → ((g : Frame) (rest : List ℕ) → FrameHasRange g →
+    octets ≡ frame_octets g ++ rest → f ≡ g) → Left all new own after
 frame_more all items new own f octets after l long is pushed read = by_left l.left l.range l.octets_are l.all_are
   where
-    by_left : (left : List Frame) → AllByRecursion FrameHasRange left → octets ≡ frames_octets (left ++ own ∷ []) → all ≡ items ++ left → Left all new own after
+    by_left : (left : List Frame) → AllByRecursion FrameHasRange left →
+        octets ≡ frames_octets (left ++ own ∷ []) → all ≡ items ++ left → Left all new own after
     by_left [] range e a = absurd (omega (arith, ap length e, length-append (frame_octets own) [], frame_long own))
     by_left (g ∷ gs) range e a = record {
       left = gs;
       range = range.1;
       octets_are = is ∙ behind 0 frame_size octets (frame_octets g) _ e (frame_long g);
-      all_are = a ∙ ap (λ (x : Frame). items ++ x ∷ gs) (sym (read g _ range.0 e)) ∙ sym (append_assoc items (f ∷ []) gs) ∙ ap (λ (xs : List Frame). xs ++ gs) (sym pushed);
+      all_are = a ∙ ap (λ (x : Frame). items ++ x ∷ gs) (sym (read g _ range.0 e)) ∙ sym (append_assoc items (f ∷ []) gs)
+          ∙ ap (λ (xs : List Frame). xs ++ gs) (sym pushed);
     }
 
 -- none are left where there is less than two frames, or no room
-pub frames_ended : (all items : List Frame) (own : Frame) (octets : List ℕ) → Left all items own octets → length all < 24 → (2 * frame_size ≤ length octets → length items ≡ 24) → items ≡ all
+pub frames_ended : (all items : List Frame) (own : Frame) (octets : List ℕ) →
+    Left all items own octets → length all < 24 →
+    (2 * frame_size ≤ length octets → length items ≡ 24) → items ≡ all
 frames_ended all items own octets l few ended = by_left l.left l.octets_are l.all_are
   where
-    by_left : (left : List Frame) → octets ≡ frames_octets (left ++ own ∷ []) → all ≡ items ++ left → items ≡ all
+    by_left : (left : List Frame) → octets ≡ frames_octets (left ++ own ∷ []) →
+        all ≡ items ++ left → items ≡ all
     by_left [] e a = sym (a ∙ append-nil items)
     by_left (g ∷ gs) e a =
         let long : 2 * frame_size ≤ length octets = omega (arith, ap length e, two_long g own gs) in

@@ -48,7 +48,8 @@ then_strings front r e h = whole_then front [] r e h
 followed_strings : (r : Read) (next : ℕ → List ℕ → Read) → Strings r →
     ((at : ℕ) (s : List ℕ) → Strings (next at s)) → Strings (followed r next)
 followed_strings (Done lines at rest) next h k =
-    whole_then lines h.contents _ (h.lines ∙ (ap (λ begun. flat_map pieces_of h.contents ++ begun) (h.none refl) ∙ append-nil (flat_map pieces_of h.contents))) (k at rest)
+    whole_then lines h.contents _ (h.lines ∙ (ap (λ begun. flat_map pieces_of h.contents ++ begun) (h.none refl) ∙ append-nil (flat_map pieces_of h.contents)))
+    (k at rest)
 followed_strings (Short lines at outer leaf) next h k = h
 followed_strings (Fault lines at kind T) next h k = h
 
@@ -56,7 +57,8 @@ within_strings : (place : Place) (r : Read) → Strings r → Strings (within pl
 within_strings place (Short lines at outer leaf) h = record { contents = h.contents; begun = h.begun; lines = h.lines; unended = h.unended; none = h.none }
 within_strings place r h = h
 
-unless_strings : (T : Ty) (why : Option Kind) (at : ℕ) (r : Read) → Strings r → Strings (unless T why at r)
+unless_strings : (T : Ty) (why : Option Kind) (at : ℕ) (r : Read) → Strings r →
+    Strings (unless T why at r)
 unless_strings T None at r h = h
 unless_strings T (Some kind) at r h = no_strings (Fault [] at kind T) refl
 
@@ -79,21 +81,25 @@ Comes total full offset r =
     ((octets : List ℕ) × (offset + length octets ≡ total) × (text_pieces (lines_of r) ≡ cut_from full offset octets))
     ⊎ ((in_string r ≡ true) × Each (λ p. p.more ≡ true) (text_pieces (lines_of r)))
 
-last_comes : (bound : Option ℕ) (path : List Seg) (total offset at : ℕ) (s : List ℕ) → offset ≤ total →
-    Comes total 0 offset (last_piece (Text bound) path total offset (block (total - offset + 1) at s))
+last_comes : (bound : Option ℕ) (path : List Seg) (total offset at : ℕ) (s : List ℕ) →
+    offset ≤ total → Comes total 0 offset (last_piece (Text bound) path total offset
+    (block (total - offset + 1) at s))
 last_comes bound path total offset at s ahead = go (cases_lt (length s) (total - offset + 1))
   where
     ended : (why : Option Kind) (xs rest : List ℕ) (at : ℕ) → total - offset ≤ length xs →
-        Comes total 0 offset (unless (Text bound) why at (Done (line at path (Piece (Text bound) offset (take (total - offset) xs) false) ∷ []) at rest))
+        Comes total 0 offset (unless (Text bound) why at (Done
+        (line at path (Piece (Text bound) offset (take (total - offset) xs) false) ∷ []) at rest))
     ended None xs rest at h = inl (take (total - offset) xs, let e = length-take-le (total - offset) xs h in omega arith, refl)
     ended (Some kind) xs rest at h = inr (refl, tt)
 
     go : (length s < total - offset + 1) ⊎ (total - offset + 1 ≤ length s) →
-        Comes total 0 offset (last_piece (Text bound) path total offset (block (total - offset + 1) at s))
+        Comes total 0 offset (last_piece (Text bound) path total offset
+        (block (total - offset + 1) at s))
     go (inl h) = rw (block_waits (total - offset + 1) at s h) (inr (refl, tt))
     go (inr h) =
         let e = length-take-le (total - offset + 1) s h in
-        rw (block_got (total - offset + 1) at s h) (ended (ends (Text bound) (total - offset) (take (total - offset + 1) s)) (take (total - offset + 1) s) (drop (total - offset + 1) s) (at + (total - offset + 1)) (omega arith))
+        rw (block_got (total - offset + 1) at s h) (ended (ends (Text bound) (total - offset) (take (total - offset + 1) s)) (take (total - offset + 1) s)
+        (drop (total - offset + 1) s) (at + (total - offset + 1)) (omega arith))
 
 cut_more : (full offset : ℕ) (xs ys : List ℕ) → length xs ≡ 32 →
     piece offset xs true ∷ cut_from full (offset + 32) ys ≡ cut_from (suc full) offset (xs ++ ys)
@@ -102,8 +108,10 @@ cut_more full offset xs ys h =
     let behind : drop 32 (xs ++ ys) ≡ ys = ap (λ n. drop n (xs ++ ys)) (sym h) ∙ drop-append_seam xs ys in
     rw (front, behind) refl
 
-full_comes : (bound : Option ℕ) (path : List Seg) (total full offset : ℕ) (next : ℕ → List ℕ → Read) (xs rest : List ℕ) (at : ℕ) → length xs ≡ 32 →
-    Comes total full (offset + 32) (next at rest) → Comes total (suc full) offset (with_front (line at path (Piece (Text bound) offset xs true) ∷ []) (next at rest))
+full_comes : (bound : Option ℕ) (path : List Seg) (total full offset : ℕ) (next : ℕ → List ℕ → Read)
+    (xs rest : List ℕ) (at : ℕ) → length xs ≡ 32 → Comes total full (offset + 32) (next at rest) →
+    Comes total (suc full) offset (with_front (line at path
+    (Piece (Text bound) offset xs true) ∷ []) (next at rest))
 full_comes bound path total full offset next xs rest at h (inl (ys, len, is)) =
     inl (xs ++ ys, omega (arith, length-append {A = ℕ}),
     rw (lines_front (line at path (Piece (Text bound) offset xs true) ∷ []) (next at rest), is) (cut_more full offset xs ys h))
@@ -112,8 +120,8 @@ full_comes bound path total full offset next xs rest at h (inr (inside, each)) =
     inr (front_inside front (next at rest) ∙ inside, rw (lines_front front (next at rest)) (refl, each))
 
 content_comes : (bound : Option ℕ) (path : List Seg) (total full offset at : ℕ) (s : List ℕ) →
-    offset + 32 * full ≤ total →
-    Comes total full offset (content (Text bound) path total full offset at s)
+    offset + 32 * full ≤ total → Comes total full offset (content (Text bound) path total full
+    offset at s)
 content_comes bound path total zero offset at s ahead = last_comes bound path total offset at s (omega arith)
 content_comes bound path total (suc full) offset at s ahead =
     go (cases_lt (length s) 32) (content_comes bound path total full (offset + 32) (at + 32) (drop 32 s) (omega arith))
@@ -121,8 +129,10 @@ content_comes bound path total (suc full) offset at s ahead =
     next : ℕ → List ℕ → Read
     next = content (Text bound) path total full (offset + 32)
 
-    go : (length s < 32) ⊎ (32 ≤ length s) → Comes total full (offset + 32) (next (at + 32) (drop 32 s)) →
-        Comes total (suc full) offset (full_piece (Text bound) path total offset next (block 32 at s))
+    go : (length s < 32) ⊎ (32 ≤ length s) →
+        Comes total full (offset + 32) (next (at + 32) (drop 32 s)) →
+        Comes total (suc full) offset (full_piece (Text bound) path total offset next
+        (block 32 at s))
     go (inl h) k = rw (block_waits 32 at s h) (inr (refl, tt))
     go (inr h) k = rw (block_got 32 at s h) (full_comes bound path total full offset next (take 32 s) (drop 32 s) (at + 32) (length-take-le 32 s h) k)
 
@@ -142,7 +152,8 @@ comes_strings total r (inr (inside, each)) = record {
   none = λ outside. absurd (true≢false (sym inside ∙ outside));
 }
 
-text_strings : (bound : Option ℕ) (path : List Seg) (n at : ℕ) (s : List ℕ) → Strings (text bound path n at s)
+text_strings : (bound : Option ℕ) (path : List Seg) (n at : ℕ) (s : List ℕ) →
+    Strings (text bound path n at s)
 text_strings bound path zero at s = record { contents = [] ∷ []; begun = []; lines = refl; unended = tt; none = λ _. refl }
 text_strings bound path (suc n) at s =
     unless_strings (Text bound) (over bound n) at _
@@ -151,18 +162,23 @@ text_strings bound path (suc n) at s =
 -- ---- octets are no string
 
 -- pieces of a type that say no string, and that no octet ends
-module _ (T : Ty) (none : (offset : ℕ) (octets : List ℕ) (more : Bool) → text_of (Piece T offset octets more) ≡ None) (endless : (n : ℕ) (xs : List ℕ) → ends T n xs ≡ None) where
-  bare_last : (path : List Seg) (total offset : ℕ) (g : Grab) → text_pieces (lines_of (last_piece T path total offset g)) ≡ []
+module _ (T : Ty) (none : (offset : ℕ) (octets : List ℕ) (more : Bool) →
+    text_of (Piece T offset octets more) ≡ None)
+    (endless : (n : ℕ) (xs : List ℕ) → ends T n xs ≡ None) where
+  bare_last : (path : List Seg) (total offset : ℕ) (g : Grab) →
+      text_pieces (lines_of (last_piece T path total offset g)) ≡ []
   bare_last path total offset (Waiting held at) = refl
   bare_last path total offset (Got xs at rest) = rw (endless (total - offset) xs, none offset (take (total - offset) xs) false) refl
 
   bare_full : (path : List Seg) (total offset : ℕ) (next : ℕ → List ℕ → Read) (g : Grab) →
-      ((at : ℕ) (s : List ℕ) → text_pieces (lines_of (next at s)) ≡ []) → text_pieces (lines_of (full_piece T path total offset next g)) ≡ []
+      ((at : ℕ) (s : List ℕ) → text_pieces (lines_of (next at s)) ≡ []) →
+      text_pieces (lines_of (full_piece T path total offset next g)) ≡ []
   bare_full path total offset next (Waiting held at) h = refl
   bare_full path total offset next (Got xs at rest) h =
       rw (lines_front (line at path (Piece T offset xs true) ∷ []) (next at rest), none offset xs true) (h at rest)
 
-  bare_none : (path : List Seg) (total full offset at : ℕ) (s : List ℕ) → text_pieces (lines_of (content T path total full offset at s)) ≡ []
+  bare_none : (path : List Seg) (total full offset at : ℕ) (s : List ℕ) →
+      text_pieces (lines_of (content T path total full offset at s)) ≡ []
   bare_none path total zero offset at s = bare_last path total offset (block (total - offset + tail T) at s)
   bare_none path total (suc full) offset at s =
       bare_full path total offset (content T path total full (offset + 32)) (block 32 at s) (bare_none path total full (offset + 32))
@@ -170,7 +186,8 @@ module _ (T : Ty) (none : (offset : ℕ) (octets : List ℕ) (more : Bool) → t
 octets_strings : (bound : Option ℕ) (path : List Seg) (n at : ℕ) (s : List ℕ) →
     Strings (octets bound path n at s)
 octets_strings bound path n at s =
-    unless_strings (Octets bound) (over bound n) at _ (no_strings _ (bare_none (Octets bound) (λ offset octets more. refl) (λ n xs. refl) path n (full_pieces n) 0 at s))
+    unless_strings (Octets bound) (over bound n) at _ (no_strings _ (bare_none (Octets bound) (λ offset octets more. refl) (λ n xs. refl) path n (full_pieces n)
+    0 at s))
 
 -- ---- any type
 
@@ -187,31 +204,37 @@ member_strings Refused case h at s = no_strings (Done [] at s) refl
 
 -- ---- encapsulations
 
-rest_strings : (path : List Seg) (T : Ty) (n at : ℕ) (s : List ℕ) → Strings (rest_of path (Encapsulation T) n at s)
-rest_strings path T zero at s = no_strings (Done [] at s) refl
-rest_strings path T (suc n) at s = no_strings _ (bare_none (Encapsulation T) (λ offset octets more. refl) (λ n xs. refl) path (suc n) (full_pieces (suc n)) 0 at s)
+module _ (path : List Seg) (T : Ty) where
+  rest_strings : (n at : ℕ) (s : List ℕ) → Strings (rest_of path (Encapsulation T) n at s)
+  rest_strings zero at s = no_strings (Done [] at s) refl
+  rest_strings (suc n) at s = no_strings _ (bare_none (Encapsulation T) (λ offset octets more. refl) (λ n xs. refl) path (suc n) (full_pieces (suc n)) 0 at s)
 
-enclosed_strings : (path : List Seg) (T : Ty) (coding : Coding) (end : ℕ) (r : Read) (more : List ℕ) → Strings r →
-    Strings (enclosed path (Encapsulation T) coding end r more)
-enclosed_strings path T coding end (Done lines at rest) more h =
-    whole_then lines h.contents _
-    (h.lines ∙ (ap (λ begun. flat_map pieces_of h.contents ++ begun) (h.none refl) ∙ append-nil (flat_map pieces_of h.contents)))
-    (rest_strings path T (end - at) at (rest ++ more))
-enclosed_strings path T coding end (Short lines at outer leaf) more h = go (ltb at end)
-  where
-    go : (test : Bool) → Strings (cond test (Short lines at (Inside (Encapsulation T) coding end ∷ outer) leaf) (Fault lines at kinds.EncapShort (cut_off leaf)))
-    go true = record { contents = h.contents; begun = h.begun; lines = h.lines; unended = h.unended; none = h.none }
-    go false = record { contents = h.contents; begun = h.begun; lines = h.lines; unended = h.unended; none = λ k. h.none (sym (cut_inside leaf) ∙ k) }
-enclosed_strings path T coding end (Fault lines at kind S) more h = h
+  enclosed_strings : (coding : Coding) (end : ℕ) (r : Read) (more : List ℕ) → Strings r →
+      Strings (enclosed path (Encapsulation T) coding end r more)
+  enclosed_strings coding end (Done lines at rest) more h =
+      whole_then lines h.contents _
+      (h.lines ∙ (ap (λ begun. flat_map pieces_of h.contents ++ begun) (h.none refl) ∙ append-nil (flat_map pieces_of h.contents)))
+      (rest_strings (end - at) at (rest ++ more))
+  enclosed_strings coding end (Short lines at outer leaf) more h = go (ltb at end)
+    where
+      go : (test : Bool) → Strings (cond test (Short lines
+          at (Inside (Encapsulation T) coding end ∷ outer) leaf)
+          (Fault lines at kinds.EncapShort (cut_off leaf)))
+      go true = record { contents = h.contents; begun = h.begun; lines = h.lines; unended = h.unended; none = h.none }
+      go false = record { contents = h.contents; begun = h.begun; lines = h.lines; unended = h.unended; none = λ k. h.none (sym (cut_inside leaf) ∙ k) }
+  enclosed_strings coding end (Fault lines at kind S) more h = h
 
-module _ (path : List Seg) (T : Ty) (value : Coding → ℕ → List ℕ → Read) (strings : (coding : Coding) (at : ℕ) (s : List ℕ) → Strings (value coding at s)) where
-  ordered_strings : (origin n : ℕ) (order : Option Order) (at : ℕ) (rest : List ℕ) → Strings (ordered path (Encapsulation T) value origin n order at rest)
+module _ (path : List Seg) (T : Ty) (value : Coding → ℕ → List ℕ → Read)
+    (strings : (coding : Coding) (at : ℕ) (s : List ℕ) → Strings (value coding at s)) where
+  ordered_strings : (origin n : ℕ) (order : Option Order) (at : ℕ) (rest : List ℕ) →
+      Strings (ordered path (Encapsulation T) value origin n order at rest)
   ordered_strings origin n None at rest = no_strings (Fault [] at kinds.EncapOrder (Encapsulation T)) refl
   ordered_strings origin n (Some order) at rest =
       then_strings (line at path (Ordered order) ∷ []) _ refl
       (enclosed_strings path T (coded order origin) (at + n) _ (drop n rest) (strings (coded order origin) at (take n rest)))
 
-  opening_strings : (origin n : ℕ) (g : Grab) → Strings (opening path (Encapsulation T) value origin n g)
+  opening_strings : (origin n : ℕ) (g : Grab) →
+      Strings (opening path (Encapsulation T) value origin n g)
   opening_strings origin n (Waiting none at) = no_strings (Short [] at [] (Opening (Encapsulation T) n)) refl
   opening_strings origin n (Got octets at rest) = ordered_strings origin n (order_of (get_or octets 0 0)) at rest
 

@@ -24,7 +24,8 @@ returns-then-left-gt0-clause-gone c coding path at =
     let rest = c.pop.new.self.items in
     let T = tree t f.of.0 in
     let v = c.loop-frame.invariant in
-    let p = held_popped t v.are_open.0 c.loop-frame.outer.items rest f c.in-Some-inside.field-0 v.known v.are_open.1 c.in-Some.ensures.items c.in-Some-inside.is in
+    let p = held_popped t v.are_open.0 c.loop-frame.outer.items rest f c.in-Some-inside.field-0 v.known v.are_open.1 c.in-Some.ensures.items
+        c.in-Some-inside.is in
     let order = c.in-Some-inside.field-0 in
     let end = at + (f.count - f.index) in
     let left : end - at ≡ f.count - f.index = omega arith in
@@ -51,7 +52,8 @@ loop-frame-preserved-else-left-gt0 c =
     let rest = c.pop.new.self.items in
     let T = tree t f.of.0 in
     let v = c.loop-frame.invariant in
-    let p = held_popped t v.are_open.0 c.loop-frame.outer.items rest f c.in-Some-inside.field-0 v.known v.are_open.1 c.in-Some.ensures.items c.in-Some-inside.is in
+    let p = held_popped t v.are_open.0 c.loop-frame.outer.items rest f c.in-Some-inside.field-0 v.known v.are_open.1 c.in-Some.ensures.items
+        c.in-Some-inside.is in
     let order = c.in-Some-inside.field-0 in
     record {
       known = p.known_rest;
@@ -107,7 +109,8 @@ begin-requires-clause-known_outer c =
     let p = part_popped t v.are_open.0 c.loop-frame.outer.items rest f v.known v.are_open.1 c.in-Some.ensures.items c.in-None.is in
     let below : suc f.index < f.count = omega arith in
     let n = next_in (suc p.left) T f.index f.count p.«open» p.uncounted below in
-    rw c.push.ensures.items (all_push (IsKnown t) rest _ p.known_rest (record { known = p.known; within = rw c.in-None.is (rw add-one n.placed, p.bare, p.uncounted) }))
+    rw c.push.ensures.items (all_push (IsKnown t) rest _ p.known_rest (record { known = p.known;
+    within = rw c.in-None.is (rw add-one n.placed, p.bare, p.uncounted) }))
 
 pub begin-requires-clause-fit : goal.begin-requires-clause-fit
 begin-requires-clause-fit c =
@@ -140,7 +143,8 @@ returns-then-frame-last-clause-stand c at h =
     let rest = c.pop.new.self.items in
     let T = tree t f.of.0 in
     let v = c.loop-frame.invariant in
-    c.begin.ensures.stand at (rw c.push.ensures.items (stand_push at rest _ (stand_pop at rest f (subst (StandAt at) c.in-Some.ensures.items (v.stand at h))) (rw c.in-None.is tt)))
+    c.begin.ensures.stand at (rw c.push.ensures.items (stand_push at rest _ (stand_pop at rest f (subst (StandAt at) c.in-Some.ensures.items (v.stand at h)))
+    (rw c.in-None.is tt)))
 
 pub returns-then-frame-last-clause-gone : goal.returns-then-frame-last-clause-gone
 returns-then-frame-last-clause-gone c coding path at =
@@ -156,8 +160,10 @@ returns-then-frame-last-clause-gone c coding path at =
     let part = part_of T (suc f.index) in
     let ended : has_ended c.push.new.self.items ≡ has_ended rest = rw c.push.ensures.items (ended_push rest _ (rw c.in-None.is refl)) in
     let new = c.begin.new.outer.items in
-    let same : shut (has_ended rest) [] at (places t at rest ++ (next ∷ start_outer part)) (start_leaf part) ≡ shut (has_ended new) [] at (places t at new) (start_leaf part) =
-    rw (c.begin.ensures.ended, c.begin.ensures.places at, ended, c.push.ensures.items, map_push, c.part-part.ensures.tree, add-one f.index, c.in-None.is, append_assoc) refl in
+    let same : shut (has_ended rest) [] at (places t at rest ++ (next ∷ start_outer part)) (start_leaf part)
+        ≡ shut (has_ended new) [] at (places t at new) (start_leaf part) =
+    rw (c.begin.ensures.ended, c.begin.ensures.places at, ended, c.push.ensures.items, map_push, c.part-part.ensures.tree, add-one f.index, c.in-None.is,
+    append_assoc) refl in
     v.same coding path at
     ∙ (ap (λ ps. around coding path ps (Done [] at [])) (ap (places t at) c.in-Some.ensures.items ∙ map_push (place t at) rest f)
     ∙ (ap (λ q. around coding path (places t at rest ++ q ∷ []) (Done [] at [])) (part_is t at f c.in-None.is)
@@ -173,7 +179,8 @@ returns-then-frame-last-clause-linked c root inner h =
     let T = tree t f.of.0 in
     let v = c.loop-frame.invariant in
     let l = v.linked root inner h in
-    c.begin.ensures.linked root (link_push t root rest c.push.new.self.items f.of.0 c.part-part.result.0 _ refl c.push.ensures.items (rw c.in-None.is c.part-part.ensures.number)
+    c.begin.ensures.linked root (link_push t root rest c.push.new.self.items f.of.0 c.part-part.result.0 _ refl c.push.ensures.items
+    (rw c.in-None.is c.part-part.ensures.number)
     (link_pop t root c.loop-frame.outer.items rest f l.0 c.in-Some.ensures.items l.1))
 
 pub loop-frame-preserved : goal.loop-frame-preserved
@@ -202,5 +209,6 @@ returns-then-left-gt0-clause-silent c =
     let f = c.in-Some.frame in
     let rest = c.pop.new.self.items in
     let v = c.loop-frame.invariant in
-    let p = held_popped t v.are_open.0 c.loop-frame.outer.items rest f c.in-Some-inside.field-0 v.known v.are_open.1 c.in-Some.ensures.items c.in-Some-inside.is in
+    let p = held_popped t v.are_open.0 c.loop-frame.outer.items rest f c.in-Some-inside.field-0 v.known v.are_open.1 c.in-Some.ensures.items
+        c.in-Some-inside.is in
     rest_silent (tree t f.of.0) p.kind

@@ -12,4 +12,5 @@ returns-then-tag-eq2 c leaf rest range is =
 
 pub returns : goal.returns
 returns c leaf rest range is =
-    content_again leaf c.args.at _ _ _ _ c.args.octets.now rest range is (λ zero. absurd (omega (arith, zero))) (λ two. absurd (omega (arith, two))) c.octet_at-tag.ensures c.four_at.ensures c.four_at-count.ensures c.four_at-2.ensures
+    content_again leaf c.args.at _ _ _ _ c.args.octets.now rest range is (λ zero. absurd (omega (arith, zero))) (λ two. absurd (omega (arith, two)))
+    c.octet_at-tag.ensures c.four_at.ensures c.four_at-count.ensures c.four_at-2.ensures
