@@ -96,13 +96,7 @@ module _ (coding : Coding) (path : List Seg) (ps : List Place) where
       around coding path (ps ++ part_in T i count ∷ []) (Done [] at [])
       ≡ around coding path ps (Done [] at [])
   goes_out (Union n scalar select names cases) i count at h = around-append coding path ps (Member (Union n scalar select names cases) i) (Done [] at [])
-  goes_out (Struct n names parts) i count at h = part_out (Struct n names parts) i count at h
-  goes_out (Array n E) i count at h = part_out (Array n E) i count at h
-  goes_out (Sequence bound E) i count at h = part_out (Sequence bound E) i count at h
-  goes_out (Single scalar) i count at h = part_out (Single scalar) i count at h
-  goes_out (Text bound) i count at h = part_out (Text bound) i count at h
-  goes_out (Octets bound) i count at h = part_out (Octets bound) i count at h
-  goes_out (Encapsulation E) i count at h = part_out (Encapsulation E) i count at h
+  goes_out T i count at h = part_out T i count at h
 
 pub all_pop : {X : Type 0} (P : X → Type 0) (xs : List X) (x : X) →
     AllByRecursion P (xs ++ x ∷ []) → AllByRecursion P xs × P x

@@ -29,11 +29,25 @@ faulted_none : (n : ℕ) (why : Kind) → Faulted n why []
 faulted_none n kinds.EncapShort = tt
 faulted_none n kind = refl
 
+-- nothing is said, though an encapsulation may have ended
+abbrev pub Mute : ℕ → Read → Type 0
+Mute n (Done lines at rest) = (lines ≡ []) × (at ≡ n) × (rest ≡ [])
+Mute n (Short lines at outer leaf) = (lines ≡ []) × (at ≡ n)
+Mute n (Fault lines at why S) = (lines ≡ []) × (at ≡ n) × (why ≡ kinds.EncapShort)
+
+mute_front : (n : ℕ) (front : List Line) (r : Read) → OneAt n front → Mute n r →
+    Now n (with_front front r)
+mute_front n front (Done lines at rest) h k = rw (k.0, append-nil front) (h, k.1, k.2)
+mute_front n front (Short lines at outer leaf) h k = rw (k.0, append-nil front) (h, k.1)
+mute_front n front (Fault lines at why S) h k = rw (k.0, append-nil front, k.2) (h, k.1)
+
+pub quiet_mute : (n : ℕ) (r : Read) → Quiet n r → Mute n r
+quiet_mute n (Fault lines at why S) h = absurd h
+quiet_mute n r h = h
+
 now_front : (n : ℕ) (front : List Line) (r : Read) → OneAt n front → Quiet n r →
     Now n (with_front front r)
-now_front n front (Done lines at rest) h k = rw (k.0, append-nil front) (h, k.1, k.2)
-now_front n front (Short lines at outer leaf) h k = rw (k.0, append-nil front) (h, k.1)
-now_front n front (Fault lines at why S) h k = absurd k
+now_front n front r h k = mute_front n front r h (quiet_mute n r k)
 
 quiet_front : (n : ℕ) (r : Read) → Quiet n r → Quiet n (with_front [] r)
 quiet_front n (Done lines at rest) h = h
@@ -180,35 +194,11 @@ enclosed_now n path T inner end (Short lines at outer leaf) h =
     enclosed_by n (ltb at end) lines at (Inside T inner end ∷ outer) leaf (cut_off leaf) h.0 h.1
 enclosed_now n path T inner end (Fault lines at why S) h = h
 
--- nothing is said, though an encapsulation may have ended
-abbrev pub Mute : ℕ → Read → Type 0
-Mute n (Done lines at rest) = (lines ≡ []) × (at ≡ n) × (rest ≡ [])
-Mute n (Short lines at outer leaf) = (lines ≡ []) × (at ≡ n)
-Mute n (Fault lines at why S) = (lines ≡ []) × (at ≡ n) × (why ≡ kinds.EncapShort)
-
-mute_front : (n : ℕ) (front : List Line) (r : Read) → OneAt n front → Mute n r →
-    Now n (with_front front r)
-mute_front n front (Done lines at rest) h k = rw (k.0, append-nil front) (h, k.1, k.2)
-mute_front n front (Short lines at outer leaf) h k = rw (k.0, append-nil front) (h, k.1)
-mute_front n front (Fault lines at why S) h k = rw (k.0, append-nil front, k.2) (h, k.1)
-
-pub quiet_mute : (n : ℕ) (r : Read) → Quiet n r → Mute n r
-quiet_mute n (Fault lines at why S) h = absurd h
-quiet_mute n r h = h
-
 mute_by : (n : ℕ) (test : Bool) (lines : List Line) (at : ℕ) (outer : List Place) (leaf : Leaf)
     (S : Ty) → lines ≡ [] → at ≡ n → Mute n (cond test (Short lines at outer leaf)
     (Fault lines at kinds.EncapShort S))
 mute_by n true lines at outer leaf S none is = (none, is)
 mute_by n false lines at outer leaf S none is = (none, is, refl)
-
-enclosed_mute : (n : ℕ) (path : List Seg) (T : Ty) (inner : Coding) (end : ℕ) (r : Read) →
-    Quiet n r → Mute n (enclosed path T inner end r [])
-enclosed_mute n path T inner end (Done lines at rest) h =
-    rw (h.0, h.1, h.2) (quiet_mute n (with_front [] (rest_of path T (end - n) n [])) (quiet_front n _ (rest_quiet n path T (end - n))))
-enclosed_mute n path T inner end (Short lines at outer leaf) h =
-    mute_by n (ltb at end) lines at (Inside T inner end ∷ outer) leaf (cut_off leaf) h.0 h.1
-enclosed_mute n path T inner end (Fault lines at why S) h = absurd h
 
 mute_followed : (n : ℕ) (r : Read) (next : ℕ → List ℕ → Read) → Mute n r → Quiet n (next n []) →
     Mute n (followed r next)
@@ -221,8 +211,10 @@ mute_within n place r h = h
 
 mute_enclosed : (n : ℕ) (path : List Seg) (T : Ty) (inner : Coding) (end : ℕ) (r : Read) →
     Mute n r → Mute n (enclosed path T inner end r [])
-mute_enclosed n path T inner end (Done lines at rest) h = enclosed_mute n path T inner end (Done lines at rest) h
-mute_enclosed n path T inner end (Short lines at outer leaf) h = enclosed_mute n path T inner end (Short lines at outer leaf) h
+mute_enclosed n path T inner end (Done lines at rest) h =
+    rw (h.0, h.1, h.2) (quiet_mute n (with_front [] (rest_of path T (end - n) n [])) (quiet_front n _ (rest_quiet n path T (end - n))))
+mute_enclosed n path T inner end (Short lines at outer leaf) h =
+    mute_by n (ltb at end) lines at (Inside T inner end ∷ outer) leaf (cut_off leaf) h.0 h.1
 mute_enclosed n path T inner end (Fault lines at why S) h = h
 
 pub around_mute : (n : ℕ) (coding : Coding) (path : List Seg) (outer : List Place) (r : Read) →
@@ -248,7 +240,7 @@ ordered_now n path T origin k None = (refl, refl)
 ordered_now n path T origin k (Some order) =
     let inner = coded order origin in
     rw (take-nil, drop-nil) (mute_front n (line n path (Ordered order) ∷ []) (enclosed path T inner (n + k) (held path T inner n []) []) refl
-    (enclosed_mute n path T inner (n + k) (held path T inner n []) (read_quiet inner (path ++ Held ∷ []) (part_of T 0) n)))
+    (mute_enclosed n path T inner (n + k) _ (quiet_mute n _ (read_quiet inner (path ++ Held ∷ []) (part_of T 0) n))))
 
 opening_now : (n : ℕ) (path : List Seg) (T : Ty) (origin k : ℕ) (g : Grab) → GrabNow n g →
     Now n (opening path T (held path T) origin k g)

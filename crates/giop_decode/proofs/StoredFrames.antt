@@ -21,49 +21,53 @@ four_fields a b c d e = simp append_assoc
 
 -- ---- the innermost part
 
-pub number_again : (leaf : Innermost) (at of tag : ℕ) (octets rest : List ℕ) → LeafHasRange leaf →
-    drop at octets ≡ leaf_octets leaf ++ rest → tag ≡ 0 →
-    ((n : ℕ) (rest : List ℕ) → drop at octets ≡ n ∷ rest → tag ≡ n) → ReadsFour (at + 1) octets of →
-    innermost.Number (type_id of) ≡ leaf
-number_again (innermost.Number t) at of tag octets rest range is zero_tag tag_is of_is =
-    let inner : drop (at + 1) octets ≡ four t.0 ++ (four 0 ++ (four 0 ++ rest)) = behind at 1 octets (0 ∷ []) _ is refl
-        ∙ three (four t.0) (four 0) (four 0) rest in
-    let e : of ≡ t.0 = of_is t.0 _ range inner in
-    rw e refl
-number_again (innermost.Content t total offset) at of tag octets rest range is zero_tag tag_is of_is = absurd (omega (arith, tag_is 1 _ is, zero_tag))
-number_again (innermost.Opening t count) at of tag octets rest range is zero_tag tag_is of_is = absurd (omega (arith, tag_is 2 _ is, zero_tag))
+-- the numbers behind its tag
+numbers_stand : (at tag a b c : ℕ) (octets rest : List ℕ) →
+    drop at octets ≡ (tag ∷ four a ++ four b ++ four c) ++ rest →
+    (drop (at + 1) octets ≡ four a ++ (four b ++ (four c ++ rest)))
+    × (drop (at + 5) octets ≡ four b ++ (four c ++ rest)) × (drop (at + 9) octets ≡ four c ++ rest)
+numbers_stand at tag a b c octets rest is =
+    let first : drop (at + 1) octets ≡ four a ++ (four b ++ (four c ++ rest)) =
+        behind at 1 octets (tag ∷ []) _ is refl ∙ three (four a) (four b) (four c) rest in
+    let second : drop (at + 5) octets ≡ four b ++ (four c ++ rest) =
+        further at 1 4 5 octets _ refl (behind (at + 1) 4 octets _ _ first (four_long a)) in
+    (first, second, further at 5 4 9 octets _ refl (behind (at + 5) 4 octets _ _ second (four_long b)))
 
-pub opening_again : (leaf : Innermost) (at of count tag : ℕ) (octets rest : List ℕ) →
-    LeafHasRange leaf → drop at octets ≡ leaf_octets leaf ++ rest → tag ≡ 2 →
-    ((n : ℕ) (rest : List ℕ) → drop at octets ≡ n ∷ rest → tag ≡ n) → ReadsFour (at + 1) octets of →
-    ReadsFour (at + 5) octets count → innermost.Opening (type_id of) count ≡ leaf
-opening_again (innermost.Number t) at of count tag octets rest range is two tag_is of_is count_is = absurd (omega (arith, tag_is 0 _ is, two))
-opening_again (innermost.Content t total offset) at of count tag octets rest range is two tag_is of_is count_is = absurd (omega (arith, tag_is 1 _ is, two))
-opening_again (innermost.Opening t k) at of count tag octets rest range is two tag_is of_is count_is =
-    let inner : drop (at + 1) octets ≡ four t.0 ++ (four k ++ (four 0 ++ rest)) = behind at 1 octets (2 ∷ []) _ is refl
-        ∙ three (four t.0) (four k) (four 0) rest in
-    let count_at : drop (at + 5) octets ≡ four k ++ (four 0 ++ rest) = further at 1 4 5 octets _ refl (behind (at + 1) 4 octets _ _ inner (four_long t.0)) in
-    let a : of ≡ t.0 = of_is t.0 _ range.0 inner in
-    let b : count ≡ k = count_is k _ range.1 count_at in
-    rw (a, b) refl
+-- an innermost part whose tag and type were read
+module _ (at of tag : ℕ) (octets rest : List ℕ)
+    (tag_is : (n : ℕ) (rest : List ℕ) → drop at octets ≡ n ∷ rest → tag ≡ n)
+    (of_is : ReadsFour (at + 1) octets of) where
+  pub number_again : (leaf : Innermost) → LeafHasRange leaf →
+      drop at octets ≡ leaf_octets leaf ++ rest → tag ≡ 0 → innermost.Number (type_id of) ≡ leaf
+  number_again (innermost.Number t) range is zero_tag =
+      let e : of ≡ t.0 = of_is t.0 _ range (numbers_stand at 0 t.0 0 0 octets rest is).0 in
+      rw e refl
+  number_again (innermost.Content t total offset) range is zero_tag = absurd (omega (arith, tag_is 1 _ is, zero_tag))
+  number_again (innermost.Opening t count) range is zero_tag = absurd (omega (arith, tag_is 2 _ is, zero_tag))
 
-pub content_again : (leaf : Innermost) (at of total offset tag : ℕ) (octets rest : List ℕ) →
-    LeafHasRange leaf → drop at octets ≡ leaf_octets leaf ++ rest → (tag ≡ 0 → ⊥) → (tag ≡ 2 → ⊥) →
-    ((n : ℕ) (rest : List ℕ) → drop at octets ≡ n ∷ rest → tag ≡ n) → ReadsFour (at + 1) octets of →
-    ReadsFour (at + 5) octets total → ReadsFour (at + 9) octets offset →
-    innermost.Content (type_id of) total offset ≡ leaf
-content_again (innermost.Opening t count) at of total offset tag octets rest range is other third tag_is of_is total_is offset_is =
-    absurd (third (tag_is 2 _ is))
-content_again (innermost.Number t) at of total offset tag octets rest range is other third tag_is of_is total_is offset_is = absurd (other (tag_is 0 _ is))
-content_again (innermost.Content t k o) at of total offset tag octets rest range is other third tag_is of_is total_is offset_is =
-    let inner : drop (at + 1) octets ≡ four t.0 ++ (four k ++ (four o ++ rest)) = behind at 1 octets (1 ∷ []) _ is refl
-        ∙ three (four t.0) (four k) (four o) rest in
-    let total_at : drop (at + 5) octets ≡ four k ++ (four o ++ rest) = further at 1 4 5 octets _ refl (behind (at + 1) 4 octets _ _ inner (four_long t.0)) in
-    let offset_at : drop (at + 9) octets ≡ four o ++ rest = further at 5 4 9 octets _ refl (behind (at + 5) 4 octets _ _ total_at (four_long k)) in
-    let a : of ≡ t.0 = of_is t.0 _ range.0 inner in
-    let b : total ≡ k = total_is k _ range.1 total_at in
-    let c : offset ≡ o = offset_is o _ range.2 offset_at in
-    rw (a, b, c) refl
+  pub opening_again : (leaf : Innermost) (count : ℕ) → LeafHasRange leaf →
+      drop at octets ≡ leaf_octets leaf ++ rest → tag ≡ 2 → ReadsFour (at + 5) octets count →
+      innermost.Opening (type_id of) count ≡ leaf
+  opening_again (innermost.Number t) count range is two count_is = absurd (omega (arith, tag_is 0 _ is, two))
+  opening_again (innermost.Content t total offset) count range is two count_is = absurd (omega (arith, tag_is 1 _ is, two))
+  opening_again (innermost.Opening t k) count range is two count_is =
+      let stand = numbers_stand at 2 t.0 k 0 octets rest is in
+      let a : of ≡ t.0 = of_is t.0 _ range.0 stand.0 in
+      let b : count ≡ k = count_is k _ range.1 stand.1 in
+      rw (a, b) refl
+
+  pub content_again : (leaf : Innermost) (total offset : ℕ) → LeafHasRange leaf →
+      drop at octets ≡ leaf_octets leaf ++ rest → (tag ≡ 0 → ⊥) → (tag ≡ 2 → ⊥) →
+      ReadsFour (at + 5) octets total → ReadsFour (at + 9) octets offset →
+      innermost.Content (type_id of) total offset ≡ leaf
+  content_again (innermost.Opening t count) total offset range is other third total_is offset_is = absurd (third (tag_is 2 _ is))
+  content_again (innermost.Number t) total offset range is other third total_is offset_is = absurd (other (tag_is 0 _ is))
+  content_again (innermost.Content t k o) total offset range is other third total_is offset_is =
+      let stand = numbers_stand at 1 t.0 k o octets rest is in
+      let a : of ≡ t.0 = of_is t.0 _ range.0 stand.0 in
+      let b : total ≡ k = total_is k _ range.1 stand.1 in
+      let c : offset ≡ o = offset_is o _ range.2 stand.2 in
+      rw (a, b, c) refl
 
 -- ---- frames
 

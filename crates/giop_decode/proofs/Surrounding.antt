@@ -227,87 +227,60 @@ coded_in C here c order at (f ∷ frames) s h =
 
 -- ---- where there is none
 
-free_place : (here there : ℕ) (inside : Option Order) (T : Ty) (i count : ℕ) →
-    is_some_order inside ≡ false → place_in there inside T i count ≡ place_in here inside T i count
-free_place here there None T i count h = refl
-free_place here there (Some order) T i count h = absurd cc
+free_first : (inside : Option Order) (rest : Bool) → is_some_order inside || rest ≡ false →
+    (inside ≡ None) × (rest ≡ false)
+free_first None rest h = (refl, h)
+free_first (Some order) rest h = let e = h in absurd cc
 
 pub free_places : (C : Table) (here there : ℕ) (frames : List Frame) → is_inside frames ≡ false →
     places C there frames ≡ places C here frames
 free_places C here there [] h = refl
 free_places C here there (f ∷ frames) h =
-    let n = neither (is_some_order f.inside) (is_inside frames) h in
-    ap (λ p. p ∷ places C there frames) (free_place here there f.inside (tree C f.of.0) f.index f.count n.0)
-    ∙ ap (λ ps. place C here f ∷ ps) (free_places C here there frames n.1)
-
-free_stands : (here : ℕ) (inside : Option Order) (i : ℕ) → is_some_order inside ≡ false →
-    IfSome inside (λ order. i ≤ here)
-free_stands here None i h = tt
-free_stands here (Some order) i h = absurd cc
+    let n = free_first f.inside (is_inside frames) h in
+    rw (n.0, free_places C here there frames n.1) refl
 
 pub free_stand : (here : ℕ) (frames : List Frame) → is_inside frames ≡ false → StandAt here frames
 free_stand here [] h = tt
 free_stand here (f ∷ frames) h =
-    let n = neither (is_some_order f.inside) (is_inside frames) h in
-    (free_stands here f.inside f.index n.0, free_stand here frames n.1)
-
-free_coding : (here : ℕ) (c : Coding) (inside : Option Order) (T : Ty) (i count : ℕ) →
-    is_some_order inside ≡ false → coding_at c (place_in here inside T i count) ≡ c
-free_coding here c None T i count h = part_coding c T i count
-free_coding here c (Some order) T i count h = absurd cc
+    let n = free_first f.inside (is_inside frames) h in
+    (rw n.0 tt, free_stand here frames n.1)
 
 pub free_coded : (C : Table) (here : ℕ) (c : Coding) (frames : List Frame) →
     is_inside frames ≡ false → coding_in c (places C here frames) ≡ c
 free_coded C here c [] h = refl
 free_coded C here c (f ∷ frames) h =
-    let n = neither (is_some_order f.inside) (is_inside frames) h in
-    ap (λ k. coding_in k (places C here frames)) (free_coding here c f.inside (tree C f.of.0) f.index f.count n.0) ∙ free_coded C here c frames n.1
-
-free_surround : (here at : ℕ) (inside : Option Order) (T : Ty) (i count : ℕ) →
-    is_some_order inside ≡ false → Surround at (place_in here inside T i count)
-free_surround here at None T i count h = part_surrounds at T i count
-free_surround here at (Some order) T i count h = absurd cc
+    let n = free_first f.inside (is_inside frames) h in
+    rw (n.0, part_coding c (tree C f.of.0) f.index f.count) (free_coded C here c frames n.1)
 
 pub free_surrounds : (C : Table) (here at : ℕ) (frames : List Frame) → is_inside frames ≡ false →
     Surrounds at (places C here frames)
 free_surrounds C here at [] h = tt
 free_surrounds C here at (f ∷ frames) h =
-    let n = neither (is_some_order f.inside) (is_inside frames) h in
-    (free_surround here at f.inside (tree C f.of.0) f.index f.count n.0, free_surrounds C here at frames n.1)
+    let n = free_first f.inside (is_inside frames) h in
+    (rw n.0 (part_surrounds at (tree C f.of.0) f.index f.count), free_surrounds C here at frames n.1)
 
-free_index : (inside : Option Order) (i : ℕ) → is_some_order inside ≡ false → ticked_at inside i ≡ i
-free_index None i h = refl
-free_index (Some order) i h = absurd cc
+free_index : (inside : Option Order) (i : ℕ) → inside ≡ None → ticked_at inside i ≡ i
+free_index inside i h = rw h refl
 
 pub free_ticked : (frames : List Frame) → is_inside frames ≡ false → frames ≡ ticked frames
 free_ticked [] h = refl
 free_ticked (f ∷ frames) h =
-    let n = neither (is_some_order f.inside) (is_inside frames) h in
+    let n = free_first f.inside (is_inside frames) h in
     let one : f ≡ tick_of f = rw (free_index f.inside f.index n.0) refl in
     ap (λ g. g ∷ frames) one ∙ ap (λ fs. tick_of f ∷ fs) (free_ticked frames n.1)
-
-free_end : (inside : Option Order) (i count : ℕ) → is_some_order inside ≡ false →
-    ended_at inside i count ≡ false
-free_end None i count h = refl
-free_end (Some order) i count h = absurd cc
 
 pub free_ended : (frames : List Frame) → is_inside frames ≡ false → has_ended frames ≡ false
 free_ended [] h = refl
 free_ended (f ∷ frames) h =
-    let n = neither (is_some_order f.inside) (is_inside frames) h in
-    rw (free_end f.inside f.index f.count n.0) (free_ended frames n.1)
-
-free_by : (c : Order × ℕ) (inside : Option Order) (i : ℕ) → is_some_order inside ≡ false →
-    coding_of c inside i ≡ c
-free_by c None i h = refl
-free_by c (Some order) i h = absurd cc
+    let n = free_first f.inside (is_inside frames) h in
+    rw n.0 (free_ended frames n.1)
 
 pub free_coding_by : (order : Order) (at : ℕ) (frames : List Frame) → is_inside frames ≡ false →
     coding_by order at frames ≡ (order, at)
 free_coding_by order at [] h = refl
 free_coding_by order at (f ∷ frames) h =
-    let n = neither (is_some_order f.inside) (is_inside frames) h in
-    rw (free_by (order, at) f.inside f.index n.0) (free_coding_by order at frames n.1)
+    let n = free_first f.inside (is_inside frames) h in
+    rw n.0 (free_coding_by order at frames n.1)
 
 -- counting an octet leaves them what they are
 pub inside_ticked : (frames : List Frame) → is_inside (ticked frames) ≡ is_inside frames

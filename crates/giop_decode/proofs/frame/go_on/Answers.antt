@@ -40,7 +40,6 @@ returns-then-left-gt0-clause-linked c root inner h =
     let t = c.args.catalogue.now in
     let f = c.in-Some.frame in
     let rest = c.pop.new.self.items in
-    let T = tree t f.of.0 in
     let v = c.loop-frame.invariant in
     let l = v.linked root inner h in
     link_pop t root c.loop-frame.outer.items rest f l.0 c.in-Some.ensures.items l.1
@@ -72,7 +71,6 @@ push-requires c =
     let t = c.args.catalogue.now in
     let f = c.in-Some.frame in
     let rest = c.pop.new.self.items in
-    let T = tree t f.of.0 in
     let v = c.loop-frame.invariant in
     let p = part_popped t v.are_open.0 c.loop-frame.outer.items rest f v.known v.are_open.1 c.in-Some.ensures.items c.in-None.is in
     (omega arith, omega (arith, p.depth, length_places t v.are_open.0 rest))
@@ -82,7 +80,6 @@ part-part-requires-clause-known c =
     let t = c.args.catalogue.now in
     let f = c.in-Some.frame in
     let rest = c.pop.new.self.items in
-    let T = tree t f.of.0 in
     let v = c.loop-frame.invariant in
     let p = part_popped t v.are_open.0 c.loop-frame.outer.items rest f v.known v.are_open.1 c.in-Some.ensures.items c.in-None.is in
     p.known
@@ -138,10 +135,8 @@ returns-then-frame-last-clause-outside c h =
 
 pub returns-then-frame-last-clause-stand : goal.returns-then-frame-last-clause-stand
 returns-then-frame-last-clause-stand c at h =
-    let t = c.args.catalogue.now in
     let f = c.in-Some.frame in
     let rest = c.pop.new.self.items in
-    let T = tree t f.of.0 in
     let v = c.loop-frame.invariant in
     c.begin.ensures.stand at (rw c.push.ensures.items (stand_push at rest _ (stand_pop at rest f (subst (StandAt at) c.in-Some.ensures.items (v.stand at h)))
     (rw c.in-None.is tt)))
@@ -176,7 +171,6 @@ returns-then-frame-last-clause-linked c root inner h =
     let t = c.args.catalogue.now in
     let f = c.in-Some.frame in
     let rest = c.pop.new.self.items in
-    let T = tree t f.of.0 in
     let v = c.loop-frame.invariant in
     let l = v.linked root inner h in
     c.begin.ensures.linked root (link_push t root rest c.push.new.self.items f.of.0 c.part-part.result.0 _ refl c.push.ensures.items
