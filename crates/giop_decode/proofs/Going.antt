@@ -11,7 +11,7 @@ use Rattle.giop_decode.specs.Pieces.{full_pieces}
 use Rattle.giop_decode.proofs.Turning.{content_none}
 use Rattle.giop_decode.proofs.Beginning.{map_push}
 use Rattle.giop_decode.proofs.Around.{around-append, next_part, last_part}
-use Rattle.giop_sig.specs.Types.{Cases, Ty, Single, Text, Octets, Struct, Union, Sequence, Array, part_of, shape_in, HasPlace, IsUnion, Tag, Encapsulation}
+use Rattle.giop_sig.specs.Types.{Cases, Ty, Struct, Union, Sequence, Array, part_of, shape_in, HasPlace, IsUnion, Tag, Encapsulation}
 use Rattle.giop_sig.specs.Fits.{IsFit}
 use Rattle.giop_cdr.specs.declared.order.Order.{Order}
 use Rattle.giop_sig.specs.Trees.{tree}
@@ -151,14 +151,14 @@ part_popped C at items rest f known are_open e none =
 
 -- and of an encapsulation
 pub record HeldPopped (C : Table) (at : ℕ) (rest : List Frame) (f : Frame) (order : Order) : Type 0
-    where
-  pub known_rest : AreKnown C rest
-  pub known : f.of.0 < length C.types
-  pub kind : IsEncapsulation (tree C f.of.0)
-  pub within : f.index ≤ f.count
-  pub front : OpenFrom 24 (places C at rest)
-  pub is : place C at f ≡ Inside (tree C f.of.0) (coded order (at - f.index))
-      (at + (f.count - f.index))
+  where
+    pub known_rest : AreKnown C rest
+    pub known : f.of.0 < length C.types
+    pub kind : IsEncapsulation (tree C f.of.0)
+    pub within : f.index ≤ f.count
+    pub front : OpenFrom 24 (places C at rest)
+    pub is : place C at f ≡ Inside (tree C f.of.0) (coded order (at - f.index))
+        (at + (f.count - f.index))
 
 pub held_popped : (C : Table) (at : ℕ) (items rest : List Frame) (f : Frame) (order : Order) →
     AreKnown C items → OpenFrom 24 (places C at items) → items ≡ rest ++ f ∷ [] →

@@ -55,32 +55,30 @@ with_front-within front place r = refl
 -- a part, and what follows it
 
 module _ (coding : Coding) (path : List Seg) (T : Ty) (count : ℕ) where
-  pub part_goes : (i more : ℕ) → more ≡ count - suc i →
-      Goes coding path (parts_from (part_at coding path T count) more (suc i)) →
+  abbrev parts : ℕ → ℕ → ℕ → List ℕ → Read
+  parts more i = parts_from (part_at coding path T count) more i
+
+  pub part_goes : (i more : ℕ) → more ≡ count - suc i → Goes coding path (parts more (suc i)) →
       (r : Read) (b : ℕ) → followed (within (Part T i count)
-      (advance coding (inner_path path T i) r b))
-      (parts_from (part_at coding path T count) more (suc i))
-      ≡ advance coding path (followed (within (Part T i count) r)
-      (parts_from (part_at coding path T count) more (suc i))) b
+      (advance coding (inner_path path T i) r b)) (parts more (suc i))
+      ≡ advance coding path (followed (within (Part T i count) r) (parts more (suc i))) b
   part_goes i more is goes (Done lines at rest) b =
-      ap (with_front lines) (goes at rest b) ∙ with_front-advance coding path lines (parts_from (part_at coding path T count) more (suc i) at rest) b
+      ap (with_front lines) (goes at rest b) ∙ with_front-advance coding path lines (parts more (suc i) at rest) b
   part_goes i more is goes (Short lines at outer leaf) b =
-      let r = step coding (inner_path path T i) outer leaf at b in
-      let next = parts_from (part_at coding path T count) more (suc i) in
-      ap (λ x. followed x next) (with_front-within lines (Part T i count) r)
-      ∙ (with_front-followed lines (within (Part T i count) r) next
-      ∙ ap (λ m. with_front lines (followed (within (Part T i count) r) (parts_from (part_at coding path T count) m (suc i)))) is)
+      let r = within (Part T i count) (step coding (inner_path path T i) outer leaf at b) in
+      let next = parts more (suc i) in
+      ap (λ x. followed x next) (with_front-within lines (Part T i count) (step coding (inner_path path T i) outer leaf at b))
+      ∙ (with_front-followed lines r next ∙ ap (λ m. with_front lines (followed r (parts m (suc i)))) is)
   part_goes i more is goes (Fault lines at kind S) b = refl
 
   -- parts, one from where the other ended
   pub parts_go : ((i : ℕ) → Goes coding (inner_path path T i)
       (read coding (inner_path path T i) (part_of T i))) → (more i : ℕ) → more ≡ count - i →
-      Goes coding path (parts_from (part_at coding path T count) more i)
+      Goes coding path (parts more i)
   parts_go each zero i is at s b = refl
   parts_go each (suc more) i is at s b =
-      let next = parts_from (part_at coding path T count) more (suc i) in
       let is_next : more ≡ count - suc i = omega arith in
-      ap (λ r. followed (within (Part T i count) r) next) (each i at s b)
+      ap (λ r. followed (within (Part T i count) r) (parts more (suc i))) (each i at s b)
       ∙ part_goes i more is_next (parts_go each more (suc i) is_next) (read coding (inner_path path T i) (part_of T i) at s) b
 
 -- a union's member, behind which nothing follows
@@ -241,12 +239,23 @@ number_goes o n at s b pos = go (cases_lt (length s) (padding (at - o) n)) (case
         number o n at (s ++ b ∷ []) ≡ more_of (number_step o n) (number o n at s) b
     go (inl h) (inl k) =
         let l : length (s ++ b ∷ []) < padding (at - o) n = rw length_one_more k in
-        rw (number_waits o n at s h, number_waits o n at (s ++ b ∷ []) l, number_step_pads o n (at + length s) b (pad_more_from o at (length s) n pos h),
-        length_one_more, add_assoc) refl
+        rw (
+          number_waits o n at s h,
+          number_waits o n at (s ++ b ∷ []) l,
+          number_step_pads o n (at + length s) b (pad_more_from o at (length s) n pos h),
+          length_one_more,
+          add_assoc,
+        ) refl
     go (inl h) (inr k) =
         let l : padding (at - o) n ≡ length (s ++ b ∷ []) = omega (arith, length_one_more s b) in
-        rw (number_waits o n at s h, number_blocks o n at (s ++ b ∷ []) (le_of_eq l), number_step_pads o n (at + length s) b
-        (pad_more_from o at (length s) n pos h), drop_all (padding (at - o) n) (s ++ b ∷ []) (le_of_eq (sym l)), block_waits n (at + padding (at - o) n) [] pos)
+        rw (
+          number_waits o n at s h,
+          number_blocks o n at (s ++ b ∷ []) (le_of_eq l),
+          number_step_pads o n (at + length s) b
+              (pad_more_from o at (length s) n pos h),
+          drop_all (padding (at - o) n) (s ++ b ∷ []) (le_of_eq (sym l)),
+          block_waits n (at + padding (at - o) n) [] pos,
+        )
         (ap (Waiting []) (omega (arith, length_one_more s b)))
     go (inr h) _ =
         let l : padding (at - o) n ≤ length (s ++ b ∷ []) = omega (arith, length_one_more s b) in
@@ -305,20 +314,22 @@ module _ (coding : Coding) (path : List Seg) where
 
 -- what begins with a number
 
+-- what follows the number, once that has come
+abbrev pub headed_by : Coding → List Seg → Ty → Grab → Read
+headed_by coding path T g =
+    headed T (λ xs at rest. after coding path T (num coding.order xs) at rest) g
+
 pub headed_goes : (coding : Coding) (path : List Seg) (T : Ty) → 0 < head_width T →
     ((n : ℕ) → Goes coding path (after coding path T n)) →
-    Goes coding path (λ at s. headed T (λ xs at rest. after coding path T (num coding.order xs)
-    at rest) (number coding.origin (head_width T) at s))
+    Goes coding path (λ at s. headed_by coding path T (number coding.origin (head_width T) at s))
 headed_goes coding path T pos goes at s b =
-    ap (headed T (λ xs at rest. after coding path T (num coding.order xs) at rest)) (number_goes coding.origin (head_width T) at s b pos)
+    ap (headed_by coding path T) (number_goes coding.origin (head_width T) at s b pos)
     ∙ go (number coding.origin (head_width T) at s)
   where
-    go : (g : Grab) → headed T (λ xs at rest. after coding path T (num coding.order xs) at rest)
-        (more_of (number_step coding.origin (head_width T)) g b)
-        ≡ advance coding path (headed T (λ xs at rest. after coding path T (num coding.order xs)
-        at rest) g) b
+    go : (g : Grab) → headed_by coding path T (more_of (number_step coding.origin (head_width T)) g
+        b) ≡ advance coding path (headed_by coding path T g) b
     go (Waiting carry at) =
-        sym (with_front_none (headed T (λ xs at rest. after coding path T (num coding.order xs) at rest) (number_step coding.origin (head_width T) at carry b)))
+        sym (with_front_none (headed_by coding path T (number_step coding.origin (head_width T) at carry b)))
     go (Got xs at rest) = goes (num coding.order xs) at rest b
 
 pub single_goes : (coding : Coding) (path inner : List Seg) (scalar : Scalar) (n : ℕ) →

@@ -5,12 +5,12 @@ use Rattle.giop_cdr.specs.Alignment.{padding}
 use Rattle.giop_cdr.specs.Numbers.{num}
 use Rattle.giop_decode.specs.Fits.{leaf_ty, Sound, FitsIn, HasCase, HasContent, HasHead, IsOpen, OpenFrom, IsEncapsulation, Surrounds}
 use Rattle.giop_decode.specs.Pieces.{Got, Grab, Waiting, content, full_pieces, tail}
-use Rattle.giop_decode.specs.Reading.{headed, parts_from, enclosed, order_of, ordered}
+use Rattle.giop_decode.specs.Reading.{parts_from, enclosed, order_of, ordered}
 use Rattle.giop_decode.specs.Spine.{Coding, Content, Head, Leaf, Member, Part, Place, Seg, Held, Inside, Opening}
 use Rattle.giop_decode.specs.Steps.{after, block_step, content_step, head_width, leaf_step, number_step, part_at, seg_of, step, held}
 use Rattle.giop_sig.specs.Fits.{IsFit}
 use Rattle.giop_sig.specs.Types.{Encapsulation, Ty, Union, part_of}
-use Rattle.giop_decode.proofs.Law.{block_step_waits, block_step_got, number_step_pads, number_step_blocks, length_one_more}
+use Rattle.giop_decode.proofs.Law.{headed_by, block_step_waits, block_step_got, number_step_pads, number_step_blocks, length_one_more}
 use Rattle.giop_decode.proofs.Around.{fit_none, fit_part}
 use Rattle.giop_decode.proofs.Sound.{Takes, ordered_sound, sound_enclosed, sound_followed, sound_part, sound_member, parts_keep, after_keeps, read_keeps, full_piece_sound, last_piece_sound, content_keeps}
 
@@ -40,9 +40,17 @@ pub leaf_at : (d : ℕ) (T : Ty) (outer : List Place) (leaf : Leaf) → FitsIn T
     IsFit d T → LeafAt d outer leaf
 unfolding IsFit
 leaf_at d T [] (Head U carry) fits fit =
-    record { are_open = tt; left = d; depth = omega arith; fit = rw fits.same fit;
-        fits = record { same = refl; kind = rw fits.same fits.kind;
-        room = rw fits.same fits.room } }
+    record {
+      are_open = tt;
+      left = d;
+      depth = omega arith;
+      fit = rw fits.same fit;
+      fits = record {
+        same = refl;
+        kind = rw fits.same fits.kind;
+        room = rw fits.same fits.room;
+      };
+    }
 leaf_at d T [] (Content U total offset piece) fits fit =
     record {
       are_open = tt;
@@ -52,8 +60,13 @@ leaf_at d T [] (Content U total offset piece) fits fit =
       fits = record { same = refl; kind = rw fits.same fits.kind; ahead = fits.ahead; room_full = fits.room_full; room_last = rw fits.same fits.room_last };
     }
 leaf_at d T [] (Opening U n) fits fit =
-    record { are_open = tt; left = d; depth = omega arith; fit = rw fits.same fit;
-        fits = record { same = refl; kind = rw fits.same fits.kind } }
+    record {
+      are_open = tt;
+      left = d;
+      depth = omega arith;
+      fit = rw fits.same fit;
+      fits = record { same = refl; kind = rw fits.same fits.kind };
+    }
 leaf_at zero T (Part U i count ∷ outer) leaf fits fit = absurd fit
 leaf_at (suc d) T (Part U i count ∷ outer) leaf fits fit =
     deeper d (Part U i count) outer leaf (rw fits.0.same (fits.0.kind, fits.0.below, fit))
@@ -86,8 +99,7 @@ number_step_takes o n at [] b room = go (cases_lt 0 (padding (at - o) n))
 number_step_takes o n at (x ∷ xs) b room = rw (number_step_blocks o n at (x ∷ xs) b (inl (omega arith))) (block_step_takes n at (x ∷ xs) b room)
 
 headed_sound : (d : ℕ) (coding : Coding) (path : List Seg) (T : Ty) (end : ℕ) → IsFit d T →
-    HasHead T → (g : Grab) → Takes (head_width T) end g →
-    Sound T end (headed T (λ xs at rest. after coding path T (num coding.order xs) at rest) g)
+    HasHead T → (g : Grab) → Takes (head_width T) end g → Sound T end (headed_by coding path T g)
 headed_sound d coding path T end fit kind (Waiting carry at) h = (h.0, record { same = refl; kind = kind; room = h.1 }, tt)
 headed_sound d coding path T end fit kind (Got xs at rest) h =
     subst (λ e. Sound T e (after coding path T (num coding.order xs) at rest)) h.0 (after_keeps d coding path T (num coding.order xs) fit at rest)

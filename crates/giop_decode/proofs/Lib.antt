@@ -28,7 +28,7 @@ mod Starting
 mod Hearing
 mod WholeStrings
 mod OneCut
-mod Left
+mod LastHeard
 mod Taking
 mod Runs
 mod Gathering

@@ -7,7 +7,7 @@ use Rattle.std.proofs.lemmas.Bool.{cases_lt, lt-ltb, le-ltb}
 use Rattle.giop_cdr.specs.Alignment.{padding}
 use Rattle.giop_cdr.specs.Numbers.{num}
 use Rattle.giop_decode.specs.Pieces.{Got, Grab, Waiting, block, content, ends, full_piece, full_pieces, last_piece, number, over, tail, unless}
-use Rattle.giop_decode.specs.Reading.{headed, member, parts_from, read, refused, single, wrong, cut_off, enclosed, opening, order_of, ordered, rest_of, sized}
+use Rattle.giop_decode.specs.Reading.{member, parts_from, read, refused, single, wrong, cut_off, enclosed, opening, order_of, ordered, rest_of, sized}
 use Rattle.giop_decode.specs.Spine.{Coding, Content, Count, Done, Fault, Head, Index, Leaf, Line, Member, Name, Part, Piece, Place, Read, Seg, Short, Switch, followed, line, with_front, within, lines_of, coded, Held, Inside, Opening, Ordered, Size}
 use Rattle.giop_decode.specs.Steps.{OneAt, Now, Quiet, inner_path, after, around, block_step, head_width, leaf_step, number_step, part_at, path_in, seg_of, step, Faulted, coding_in, held}
 use Rattle.giop_decode.specs.declared.progress.Kind.{Kind}
@@ -17,7 +17,7 @@ use Rattle.giop_sig.specs.Types.{tag_of, Array, Encapsulation, Octets, Scalar, S
 use Rattle.giop_sig.specs.declared.types.Selected.{Selected}
 use Rattle.giop_sig.specs.declared.types.Selected.TheVariants.{Case, Nothing, Refused}
 use Rattle.giop_decode.specs.Spine
-use Rattle.giop_decode.proofs.Law.{block_waits, number_waits, number_blocks, width_pos}
+use Rattle.giop_decode.proofs.Law.{headed_by, block_waits, number_waits, number_blocks, width_pos}
 
 pub each_append : {A : Type 0} (P : A → Type 0) (xs ys : List A) → Each P xs → Each P ys →
     Each P (xs ++ ys)
@@ -272,7 +272,7 @@ after_now n coding path (Union choice scalar select names cases) k =
 after_now n coding path T k = (tt, refl, refl)
 
 headed_now : (n : ℕ) (coding : Coding) (path : List Seg) (T : Ty) (g : Grab) → GrabNow n g →
-    Now n (headed T (λ xs at rest. after coding path T (num coding.order xs) at rest) g)
+    Now n (headed_by coding path T g)
 headed_now n coding path T (Waiting carry at) h = (tt, h)
 headed_now n coding path T (Got xs at rest) h = rw (h.0, h.1) (after_now n coding path T (num coding.order xs))
 

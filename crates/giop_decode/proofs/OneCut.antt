@@ -22,7 +22,7 @@ cut_one (suc full) zero offset c d xs ys e =
     absurd (true≢false (ap (λ (p : TextPiece). p.more) h.0))
 cut_one (suc full) (suc full') offset c d xs ys e =
     let h = heads (piece offset (take 32 c) true) (piece offset (take 32 d) true) (cut_from full (offset + 32) (drop 32 c) ++ xs)
-        (cut_from full' (offset + 32) (drop 32 d) ++ ys) e in
+    (cut_from full' (offset + 32) (drop 32 d) ++ ys) e in
     let front : take 32 c ≡ take 32 d = ap (λ (p : TextPiece). p.octets) h.0 in
     let rest = cut_one full full' (offset + 32) (drop 32 c) (drop 32 d) xs ys h.1 in
     (sym (take-append-drop 32 c) ∙ (rw (front, rest.0) (take-append-drop 32 d)), rest.1)

@@ -7,7 +7,7 @@ use Rattle.giop_cdr.specs.Alignment.{padding}
 use Rattle.giop_cdr.specs.Numbers.{num}
 use Rattle.giop_decode.specs.Fits.{Sound, HasCase, HasContent, HasHead, HasParts, IsEncapsulation}
 use Rattle.giop_decode.specs.Pieces.{Got, Grab, Waiting, block, content, ends, full_piece, full_pieces, last_piece, number, octets, over, tail, text, unless}
-use Rattle.giop_decode.specs.Reading.{enclosed, headed, inside, member, order_of, ordered, parts_from, read, refused, rest_of, single, sized, wrong}
+use Rattle.giop_decode.specs.Reading.{enclosed, inside, member, order_of, ordered, parts_from, read, refused, rest_of, single, sized, wrong}
 use Rattle.giop_decode.specs.Spine
 use Rattle.giop_decode.specs.Spine.{Coding, Count, Done, Fault, Index, Line, Member, Name, Part, Piece, Read, Seg, Short, Switch, followed, line, with_front, within, coded, Held, Ordered, Size}
 use Rattle.giop_decode.specs.Steps.{inner_path, after, head_width, part_at, held}
@@ -16,7 +16,7 @@ use Rattle.giop_sig.specs.Fits.{IsFit, SelectsBelow}
 use Rattle.giop_sig.specs.Types.{places_of, Choice, Array, Octets, Scalar, Sequence, Single, Struct, Text, Ty, Union, part_of, tag_of, Encapsulation}
 use Rattle.giop_sig.specs.declared.types.Selected.{Selected}
 use Rattle.giop_sig.specs.declared.types.Selected.TheVariants.{Case, Nothing, Refused}
-use Rattle.giop_decode.proofs.Law.{block_waits, block_got, number_waits, number_blocks, width_pos}
+use Rattle.giop_decode.proofs.Law.{headed_by, block_waits, block_got, number_waits, number_blocks, width_pos}
 
 abbrev pub Keeps : Ty → (ℕ → List ℕ → Read) → Type 0
 Keeps T reader = (at : ℕ) (s : List ℕ) → Sound T (at + length s) (reader at s)
@@ -85,13 +85,11 @@ parts_keep coding path T count kind each (suc more) i is at s =
 
 headed_keeps : (coding : Coding) (path : List Seg) (T : Ty) → HasHead T → 0 < head_width T →
     ((n : ℕ) → Keeps T (after coding path T n)) →
-    Keeps T (λ at s. headed T (λ xs at rest. after coding path T (num coding.order xs) at rest)
-    (number coding.origin (head_width T) at s))
+    Keeps T (λ at s. headed_by coding path T (number coding.origin (head_width T) at s))
 headed_keeps coding path T kind pos keeps at s = go (number coding.origin (head_width T) at s) (number_takes coding.origin (head_width T) at s pos)
   where
     go : (g : Grab) → Takes (head_width T) (at + length s) g →
-        Sound T (at + length s) (headed T (λ xs at rest. after coding path T (num coding.order xs)
-        at rest) g)
+        Sound T (at + length s) (headed_by coding path T g)
     go (Waiting carry at') h = (h.0, record { same = refl; kind = kind; room = h.1 }, tt)
     go (Got xs at' rest) h = subst (λ e. Sound T e (after coding path T (num coding.order xs) at' rest)) h.0 (keeps (num coding.order xs) at' rest)
 

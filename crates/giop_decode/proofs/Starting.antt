@@ -29,7 +29,7 @@ module _ (C : Table) (T : Ty) (order : Order) (at message : ℕ) (root : Root) (
       d.at ≡ at % 8 → Reads C T order at message root d []
   first_reads first fit goes_on empty are stand leaf recalls same_order same_message same_root offset =
       let none : read (plain order) [] T at [] ≡ Short [] at (start_outer T) (Head (tree C first.0) []) = read_none (plain order) [] 24 T at fit
-          ∙ ap (Short [] at (start_outer T)) leaf in
+      ∙ ap (Short [] at (start_outer T)) leaf in
       record {
         lines = [];
         is = none ∙ sym (ap (λ l. standing_in C d l [] (at + 0)) goes_on ∙ rw (add-zero at, are at, empty) refl);

@@ -114,8 +114,12 @@ chain_fits : (C : Table) (here id : ℕ) (frames : List Frame) (leaf : Innermost
     (carry piece : List ℕ) → IsTable C → id < length C.types → Chained C id frames leaf →
     LeafFits C leaf carry piece → ChainFits C here id frames leaf carry piece
 chain_fits C here id [] leaf carry piece laws known h inner =
-    record { fits = subst (λ (n : ℕ). FitsIn (tree C n) [] (leaf_of C leaf carry piece)) h inner.0;
-        ahead = tt; known_outer = tt; link = h }
+    record {
+      fits = subst (λ (n : ℕ). FitsIn (tree C n) [] (leaf_of C leaf carry piece)) h inner.0;
+      ahead = tt;
+      known_outer = tt;
+      link = h;
+    }
 chain_fits C here id (f ∷ frames) leaf carry piece laws known h inner =
     let has = h.1 in
     let i = part_index f.inside f.index in
@@ -149,8 +153,11 @@ fits_chain : (C : Table) (here id : ℕ) (frames : List Frame) (leaf : Innermost
     FitsIn (tree C id) (places C here frames) (leaf_of C leaf carry piece) → AreAhead frames →
     AreKnown C frames → Link C id frames (leaf_type leaf) → FitsChain C id frames leaf carry piece
 fits_chain C here id [] leaf carry piece laws known fits ahead are link =
-    record { chain = link; inner = subst (λ (n : ℕ). FitsIn (tree C n) []
-        (leaf_of C leaf carry piece)) (sym link) fits }
+    record {
+      chain = link;
+      inner = subst (λ (n : ℕ). FitsIn (tree C n) []
+          (leaf_of C leaf carry piece)) (sym link) fits;
+    }
 fits_chain C here id (f ∷ frames) leaf carry piece laws known fits ahead are link =
     let ps = places C here frames in
     let inmost = leaf_of C leaf carry piece in

@@ -46,13 +46,13 @@ pub memory_stands : (m : Memory) (at : ℕ) (octets rest : List ℕ) →
     drop at octets ≡ memory_octets m ++ rest → MemoryStands m at octets
 memory_stands m at octets rest is =
     let id : drop at octets ≡ optional m.request_id ++ (optional m.status ++ ((buffer_octet m.buffer ∷ name_octets m) ++ rest)) = is
-        ∙ three (optional m.request_id) (optional m.status) (buffer_octet m.buffer ∷ name_octets m) rest in
+    ∙ three (optional m.request_id) (optional m.status) (buffer_octet m.buffer ∷ name_octets m) rest in
     let status : drop (at + 5) octets ≡ optional m.status ++ ((buffer_octet m.buffer ∷ name_octets m) ++ rest) =
-        behind at 5 octets _ _ id (optional_long m.request_id) in
+    behind at 5 octets _ _ id (optional_long m.request_id) in
     let buffer : drop (at + 10) octets ≡ (buffer_octet m.buffer ∷ []) ++ (name_octets m ++ rest) =
-        further at 5 5 10 octets _ refl (behind (at + 5) 5 octets _ _ status (optional_long m.status)) in
+    further at 5 5 10 octets _ refl (behind (at + 5) 5 octets _ _ status (optional_long m.status)) in
     let name : drop (at + 11) octets ≡ name_octets m ++ rest = further at 10 1 11 octets _ refl
-        (behind (at + 10) 1 octets (buffer_octet m.buffer ∷ []) _ buffer refl) in
+    (behind (at + 10) 1 octets (buffer_octet m.buffer ∷ []) _ buffer refl) in
     record { request_id = (_, id); status = (_, status); buffer = (_, buffer); name = (_, name) }
 
 pub record FieldsStand (d : Decoder) (inner : Innermost) (fixed : List ℕ) : Type 0 where
@@ -83,7 +83,7 @@ fields_stand d leaf fixed is range =
     let carry : drop 24 fixed ≡ held 8 d.carry ++ piece_on = behind 11 13 fixed _ _ inner (leaf_long leaf) in
     let piece : drop 33 fixed ≡ held 32 d.piece.items ++ memory_on = behind 24 9 fixed (held 8 d.carry) _ carry (held_long 8 d.carry range.carry) in
     let memory : drop 66 fixed ≡ memory_octets d.memory ++ zeros = behind 33 33 fixed (held 32 d.piece.items) _ piece
-        (held_long 32 d.piece.items range.piece) in
+    (held_long 32 d.piece.items range.piece) in
     record {
       order = (_, is);
       root = (_, ap (drop 1) is);

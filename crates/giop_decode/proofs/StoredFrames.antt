@@ -28,9 +28,9 @@ numbers_stand : (at tag a b c : ℕ) (octets rest : List ℕ) →
     × (drop (at + 5) octets ≡ four b ++ (four c ++ rest)) × (drop (at + 9) octets ≡ four c ++ rest)
 numbers_stand at tag a b c octets rest is =
     let first : drop (at + 1) octets ≡ four a ++ (four b ++ (four c ++ rest)) =
-        behind at 1 octets (tag ∷ []) _ is refl ∙ three (four a) (four b) (four c) rest in
+    behind at 1 octets (tag ∷ []) _ is refl ∙ three (four a) (four b) (four c) rest in
     let second : drop (at + 5) octets ≡ four b ++ (four c ++ rest) =
-        further at 1 4 5 octets _ refl (behind (at + 1) 4 octets _ _ first (four_long a)) in
+    further at 1 4 5 octets _ refl (behind (at + 1) 4 octets _ _ first (four_long a)) in
     (first, second, further at 5 4 9 octets _ refl (behind (at + 5) 4 octets _ _ second (four_long b)))
 
 -- an innermost part whose tag and type were read
@@ -79,7 +79,7 @@ pub frame_again : (f : Frame) (of index count : ℕ) (inside : Option Order) (oc
 frame_again f of index count inside octets rest range is of_is index_is count_is inside_is =
     let last : List ℕ = inside_octet f.inside ∷ replicate 11 0 in
     let first : drop 0 octets ≡ four f.of.0 ++ (four f.index ++ (four f.count ++ (last ++ rest))) = is
-        ∙ four_fields (four f.of.0) (four f.index) (four f.count) last rest in
+    ∙ four_fields (four f.of.0) (four f.index) (four f.count) last rest in
     let second : drop 4 octets ≡ four f.index ++ (four f.count ++ (last ++ rest)) = behind 0 4 octets _ _ first (four_long f.of.0) in
     let third : drop 8 octets ≡ four f.count ++ (last ++ rest) = behind 4 4 octets _ _ second (four_long f.index) in
     let fourth : drop 12 octets ≡ last ++ rest = behind 8 4 octets _ _ third (four_long f.count) in

@@ -32,7 +32,7 @@ loop-count-preserved c =
 pub push-requires : goal.push-requires
 push-requires c =
     let b = begins (24 - length c.loop-count.outer.items) (tree c.args.catalogue.now c.loop-count.inner.0) c.in-Some.count c.loop-count.invariant.fit
-        c.in-Some.ensures.whole in
+    c.in-Some.ensures.whole in
     (omega arith, omega (arith, b.room))
 
 pub part-inner-requires-clause-place : goal.part-inner-requires-clause-place
@@ -43,5 +43,5 @@ part-inner-requires-clause-place c =
 pub loop-count-smaller : goal.loop-count-smaller
 loop-count-smaller c =
     let b = begins (24 - length c.loop-count.outer.items) (tree c.args.catalogue.now c.loop-count.inner.0) c.in-Some.count c.loop-count.invariant.fit
-        c.in-Some.ensures.whole in
+    c.in-Some.ensures.whole in
     omega (arith, b.room, c.push.ensures.len)

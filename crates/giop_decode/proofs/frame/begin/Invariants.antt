@@ -12,7 +12,7 @@ invariant-loop-count l = record {
   known_outer : AreKnown l.catalogue l.outer.items;
   fit : IsFit (24 - array_vec_len l.outer) (tree l.catalogue l.inner.0);
   placed : (at : ℕ) → places l.catalogue at l.outer.items ++ start_outer (tree l.catalogue l.inner.0)
-  ≡ places l.catalogue at l.fn.outer.items ++ start_outer (tree l.catalogue l.fn.t.0);
+      ≡ places l.catalogue at l.fn.outer.items ++ start_outer (tree l.catalogue l.fn.t.0);
   ended : has_ended l.outer.items ≡ has_ended l.fn.outer.items;
   inside : is_inside l.outer.items ≡ is_inside l.fn.outer.items;
   stand : (at : ℕ) → StandAt at l.fn.outer.items → StandAt at l.outer.items;

@@ -112,7 +112,7 @@ outside_name : (is_header : Bool) (r : Read) (strings : Strings r) → in_string
     (heard is_header nothing (lines_of r)).name ≡ name_of (last_or None strings.contents)
 outside_name is_header r strings outside =
     let whole : text_pieces (lines_of r) ≡ flat_map pieces_of strings.contents = rw (strings.lines, strings.none outside)
-        (append-nil (flat_map pieces_of strings.contents)) in
+    (append-nil (flat_map pieces_of strings.contents)) in
     left_name is_header nothing (lines_of r) ∙ (ap (said None []) whole ∙ said_all None strings.contents)
 
 -- ---- all of it
