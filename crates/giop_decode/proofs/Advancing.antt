@@ -31,10 +31,10 @@ use Rattle.giop_sig.specs.Fits.{IsFit}
 use Rattle.giop_sig.specs.Table.{Table}
 use Rattle.giop_sig.specs.Trees.{tree}
 
-leaf_ty-leaf_of : (C : Table) (leaf : Innermost) (carry piece : List ℕ) →
-    leaf_ty (leaf_of C leaf carry piece) ≡ tree C (leaf_type leaf)
+leaf_ty-leaf_of : (C : Table) (leaf : Innermost) (carry piece : List ℕ) → leaf_ty (leaf_of C leaf carry piece) ≡ tree C (leaf_type leaf)
 leaf_ty-leaf_of C (innermost.Number of) carry piece = refl
-leaf_ty-leaf_of C leaf carry piece = refl
+leaf_ty-leaf_of C (innermost.Opening of left) carry piece = refl
+leaf_ty-leaf_of C (innermost.Content of total offset) carry piece = refl
 
 pub record Stands (C : Table) (d : Decoder) (leaf : Innermost) : Type 0 where
   pub are_open : (at : ℕ) × OpenFrom 24 (places C at d.outer.items)
@@ -58,26 +58,24 @@ stands C d f =
 pub same_some : (a b : Innermost) → Some a ≡ Some b → a ≡ b
 same_some a b e = cc
 
-pub stands_at : (C : Table) (d : Decoder) (f : Fits C d) (leaf : Innermost) → d.leaf ≡ Some leaf →
-    Stands C d leaf
+pub stands_at : (C : Table) (d : Decoder) (f : Fits C d) (leaf : Innermost) → d.leaf ≡ Some leaf → Stands C d leaf
 stands_at C d f leaf e = subst (Stands C d) (same_some f.leaf leaf (sym f.goes_on ∙ e)) (stands C d f)
 
-going_by : (C : Table) (d : Decoder) (named ended : Bool) (leaf : Option Innermost)
-    (lines : List Line) (at : ℕ) (p : Progress) (r : Read) →
-    named ≡ names_operation (is_header_root d.root) lines → ended ≡ has_ended d.outer.items →
-    d.leaf ≡ leaf → r ≡ stopped C d leaf lines at → IsGoing named ended leaf p → Comes C d p at r
+going_by : (C : Table) (d : Decoder) (named ended : Bool) (leaf : Option Innermost) (lines : List Line) (at : ℕ) (p : Progress) (r : Read) →
+    named ≡ names_operation (is_header_root d.root) lines → ended ≡ has_ended d.outer.items → d.leaf ≡ leaf → r ≡ stopped C d leaf lines at → IsGoing named ended leaf p → Comes C d p at r
 going_by C d named ended None lines at p r n k is e h = rw h (lines, (rw is e, is))
 going_by C d named true (Some leaf) lines at p r n k is e h = rw h (lines, (cut_off (leaf_of C leaf d.carry d.piece.items), rw (← k) at e))
 going_by C d true false (Some leaf) lines at p r n k is e h = rw h (lines, (rw is (rw (← k) at e), (leaf, is), sym n))
 going_by C d false false (Some leaf) lines at p r n k is e h = rw h (lines, (rw is (rw (← k) at e), (leaf, is), sym n))
 
-pub comes_by : (C : Table) (T : Ty) (d : Decoder) (named ended : Bool) (turn : Turn)
-    (lines : List Line) (at : ℕ) (p : Progress) (r : Read) →
-    named ≡ names_operation (is_header_root d.root) lines → ended ≡ has_ended d.outer.items →
-    r ≡ settled C T d turn lines at → IsProgress named ended turn d.leaf p → Comes C d p at r
+pub comes_by : (C : Table) (T : Ty) (d : Decoder) (named ended : Bool) (turn : Turn) (lines : List Line) (at : ℕ) (p : Progress) (r : Read) →
+    named ≡ names_operation (is_header_root d.root) lines → ended ≡ has_ended d.outer.items → r ≡ settled C T d turn lines at → IsProgress named ended turn d.leaf p → Comes C d p at r
 comes_by C T d named ended (turns.Refused kind) lines at p r n k e h = rw h (lines, (T, e))
 comes_by C T d named ended (turns.More leaf) lines at p r n k e h = going_by C d named ended d.leaf lines at p r n k refl e h
-comes_by C T d named ended turn lines at p r n k e h = going_by C d named ended d.leaf lines at p r n k refl e h
+comes_by C T d named ended turns.Ended lines at p r n k e h = going_by C d named ended d.leaf lines at p r n k refl e h
+comes_by C T d named ended (turns.Opened count) lines at p r n k e h = going_by C d named ended d.leaf lines at p r n k refl e h
+comes_by C T d named ended (turns.Selected i) lines at p r n k e h = going_by C d named ended d.leaf lines at p r n k refl e h
+comes_by C T d named ended (turns.Entered order count) lines at p r n k e h = going_by C d named ended d.leaf lines at p r n k refl e h
 
 -- a decoder that goes on, behind its lines
 pub record Goes (C : Table) (d : Decoder) (at : ℕ) (r : Read) : Type 0 where
@@ -86,40 +84,41 @@ pub record Goes (C : Table) (d : Decoder) (at : ℕ) (r : Read) : Type 0 where
   pub leaf : Innermost
   pub goes_on : d.leaf ≡ Some leaf
 
-pub goes : (C : Table) (d : Decoder) (p : Progress) (at : ℕ) (r : Read) → Comes C d p at r →
-    GoesOn p → Goes C d at r
+pub goes : (C : Table) (d : Decoder) (p : Progress) (at : ℕ) (r : Read) → Comes C d p at r → GoesOn p → Goes C d at r
+goes C d progress.More at r c h = record { lines = c.0; is = c.1.0; leaf = c.1.1.0; goes_on = c.1.1.1 }
+goes C d progress.Named at r c h = record { lines = c.0; is = c.1.0; leaf = c.1.1.0; goes_on = c.1.1.1 }
 goes C d progress.Done at r c h = absurd h
 goes C d (progress.Fault kind) at r c h = absurd h
-goes C d p at r c h = record { lines = c.0; is = c.1.0; leaf = c.1.1.0; goes_on = c.1.1.1 }
 
-pub moved : (named ended : Bool) (turn : Turn) (leaf : Option Innermost) (p : Progress) →
-    IsProgress named ended turn leaf p → GoesOn p → IsMoved turn
+pub moved : (named ended : Bool) (turn : Turn) (leaf : Option Innermost) (p : Progress) → IsProgress named ended turn leaf p → GoesOn p → IsMoved turn
 moved named ended (turns.Refused kind) leaf p h g = rw h at g
-moved named ended turn leaf p h g = tt
+moved named ended (turns.More leaf') leaf p h g = tt
+moved named ended turns.Ended leaf p h g = tt
+moved named ended (turns.Opened count) leaf p h g = tt
+moved named ended (turns.Selected i) leaf p h g = tt
+moved named ended (turns.Entered order count) leaf p h g = tt
 
 -- where it goes on, no encapsulation has ended
-going_unended : (named ended : Bool) (leaf : Option Innermost) (p : Progress) →
-    IsGoing named ended leaf p → GoesOn p → ended ≡ false
+going_unended : (named ended : Bool) (leaf : Option Innermost) (p : Progress) → IsGoing named ended leaf p → GoesOn p → ended ≡ false
 going_unended named ended None p h g = absurd (rw h at g)
 going_unended named true (Some leaf) p h g = absurd (rw h at g)
 going_unended named false (Some leaf) p h g = refl
 
-pub unended : (named ended : Bool) (turn : Turn) (leaf : Option Innermost) (p : Progress) →
-    IsProgress named ended turn leaf p → GoesOn p → ended ≡ false
+pub unended : (named ended : Bool) (turn : Turn) (leaf : Option Innermost) (p : Progress) → IsProgress named ended turn leaf p → GoesOn p → ended ≡ false
 unended named ended (turns.Refused kind) leaf p h g = absurd (rw h at g)
-unended named ended turn leaf p h g = going_unended named ended leaf p h g
+unended named ended (turns.More leaf') leaf p h g = going_unended named ended leaf p h g
+unended named ended turns.Ended leaf p h g = going_unended named ended leaf p h g
+unended named ended (turns.Opened count) leaf p h g = going_unended named ended leaf p h g
+unended named ended (turns.Selected i) leaf p h g = going_unended named ended leaf p h g
+unended named ended (turns.Entered order count) leaf p h g = going_unended named ended leaf p h g
 
-fits_in : (T : Ty) (end at : ℕ) (C : Table) (d : Decoder) (lines : List Line) (leaf : Innermost)
-    (r : Read) → Sound T end r → r ≡ standing C d lines at → d.leaf ≡ Some leaf →
+fits_in : (T : Ty) (end at : ℕ) (C : Table) (d : Decoder) (lines : List Line) (leaf : Innermost) (r : Read) → Sound T end r → r ≡ standing C d lines at → d.leaf ≡ Some leaf →
     FitsIn T (places C at d.outer.items) (leaf_of C leaf d.carry d.piece.items)
 fits_in T end at C d lines leaf r sound is goes_on = (subst (Sound T end) (is ∙ ap (λ l. standing_in C d l lines at) goes_on) sound).1
 
 -- What a step leaves of a decoder that fits, fits as well.
-pub step_fits : (C : Table) (d new : Decoder) (f : Fits C d) (octet : ℕ)
-    (g : Goes C new (f.here + 1) (stepped C d f.here octet)) → IsHere new (f.here + 1) →
-    AreAhead new.outer.items → new.inside ≡ is_inside new.outer.items →
-    Link C f.root new.outer.items (leaf_type g.leaf) → AreKnown C new.outer.items →
-    leaf_type g.leaf < length C.types → IsClean g.leaf new.carry new.piece.items → Fits C new
+pub step_fits : (C : Table) (d new : Decoder) (f : Fits C d) (octet : ℕ) (g : Goes C new (f.here + 1) (stepped C d f.here octet)) → IsHere new (f.here + 1) → AreAhead new.outer.items →
+    new.inside ≡ is_inside new.outer.items → Link C f.root new.outer.items (leaf_type g.leaf) → AreKnown C new.outer.items → leaf_type g.leaf < length C.types → IsClean g.leaf new.carry new.piece.items → Fits C new
 step_fits C d new f octet g here ahead inside link known_outer known clean =
     let sound : Sound (tree C f.root) (f.here + 1) (stepped C d f.here octet) =
     subst (λ l. Sound (tree C f.root) (f.here + 1) (step (plain d.order) [] (places C f.here d.outer.items) (leaf_in C d l) f.here octet)) (sym f.goes_on)
@@ -143,35 +142,26 @@ step_fits C d new f octet g here ahead inside link known_outer known clean =
       at = omega (arith, here.0);
     }
 
-lines_entered : (C : Table) (coding : Coding) (path : List Seg) (frames : List Frame) (test : Bool)
-    (inner : List Place) (leaf : Leaf) (lines : List Line) (at : ℕ) → AreKnown C frames →
-    lines_of (around coding path (places C at frames) (cond test (Short lines at inner leaf)
-    (Fault lines at kinds.EncapShort (cut_off leaf)))) ≡ lines
+lines_entered : (C : Table) (coding : Coding) (path : List Seg) (frames : List Frame) (test : Bool) (inner : List Place) (leaf : Leaf) (lines : List Line) (at : ℕ) → AreKnown C frames →
+    lines_of (around coding path (places C at frames) (cond test (Short lines at inner leaf) (Fault lines at kinds.EncapShort (cut_off leaf)))) ≡ lines
 lines_entered C coding path frames true inner leaf lines at k =
     ap lines_of (around_shut C coding path at frames lines inner leaf k) ∙ lines_shut (has_ended frames) lines at (places C at frames ++ inner) leaf
-lines_entered C coding path frames false inner leaf lines at k =
-    ap lines_of (around-fault coding path (places C at frames) lines at kinds.EncapShort (cut_off leaf))
+lines_entered C coding path frames false inner leaf lines at k = ap lines_of (around-fault coding path (places C at frames) lines at kinds.EncapShort (cut_off leaf))
 
 -- nothing is said but by the innermost part
-pub lines_turned : (C : Table) (coding : Coding) (path : List Seg) (frames : List Frame) (T : Ty)
-    (turn : Turn) (carry piece : List ℕ) (lines : List Line) (at : ℕ) → AreKnown C frames →
-    lines_of (around coding path (places C at frames) (turned C T turn carry piece lines at))
-    ≡ lines
+pub lines_turned : (C : Table) (coding : Coding) (path : List Seg) (frames : List Frame) (T : Ty) (turn : Turn) (carry piece : List ℕ) (lines : List Line) (at : ℕ) → AreKnown C frames →
+    lines_of (around coding path (places C at frames) (turned C T turn carry piece lines at)) ≡ lines
 lines_turned C coding path frames T (turns.Refused kind) carry piece lines at k = ap lines_of (around-fault coding path (places C at frames) lines at kind T)
 lines_turned C coding path frames T (turns.More leaf) carry piece lines at k =
-    ap lines_of (around_shut C coding path at frames lines [] (leaf_of C leaf carry piece) k)
-    ∙ lines_shut (has_ended frames) lines at (places C at frames ++ []) (leaf_of C leaf carry piece)
+    ap lines_of (around_shut C coding path at frames lines [] (leaf_of C leaf carry piece) k) ∙ lines_shut (has_ended frames) lines at (places C at frames ++ []) (leaf_of C leaf carry piece)
 lines_turned C coding path frames T (turns.Opened count) carry piece lines at k =
     let inner = Part T 0 count ∷ start_outer (part_of T 0) in
-    ap lines_of (around_shut C coding path at frames lines inner (start_leaf (part_of T 0)) k)
-    ∙ lines_shut (has_ended frames) lines at (places C at frames ++ inner) (start_leaf (part_of T 0))
+    ap lines_of (around_shut C coding path at frames lines inner (start_leaf (part_of T 0)) k) ∙ lines_shut (has_ended frames) lines at (places C at frames ++ inner) (start_leaf (part_of T 0))
 lines_turned C coding path frames T (turns.Selected i) carry piece lines at k =
     let inner = Member T i ∷ start_outer (part_of T i) in
-    ap lines_of (around_shut C coding path at frames lines inner (start_leaf (part_of T i)) k)
-    ∙ lines_shut (has_ended frames) lines at (places C at frames ++ inner) (start_leaf (part_of T i))
+    ap lines_of (around_shut C coding path at frames lines inner (start_leaf (part_of T i)) k) ∙ lines_shut (has_ended frames) lines at (places C at frames ++ inner) (start_leaf (part_of T i))
 lines_turned C coding path frames T (turns.Entered order count) carry piece lines at k =
-    lines_entered C coding path frames (ltb at (at + (count - 1))) (Inside T (coded order (at - 1)) (at + (count - 1)) ∷ start_outer (part_of T 0))
-    (start_leaf (part_of T 0)) lines at k
+    lines_entered C coding path frames (ltb at (at + (count - 1))) (Inside T (coded order (at - 1)) (at + (count - 1)) ∷ start_outer (part_of T 0)) (start_leaf (part_of T 0)) lines at k
 lines_turned C coding path frames T turns.Ended carry piece lines at k =
     let ps = places C at frames in
     let inner = around coding path ps (Done [] at []) in

@@ -239,24 +239,14 @@ number_goes o n at s b pos = go (cases_lt (length s) (padding (at - o) n)) (case
         number o n at (s ++ b ∷ []) ≡ more_of (number_step o n) (number o n at s) b
     go (inl h) (inl k) =
         let l : length (s ++ b ∷ []) < padding (at - o) n = rw length_one_more k in
-        rw (
-          number_waits o n at s h,
-          number_waits o n at (s ++ b ∷ []) l,
-          number_step_pads o n (at + length s) b (pad_more_from o at (length s) n pos h),
-          length_one_more,
-          add_assoc,
-        ) refl
+        rw (number_waits o n at s h, number_waits o n at (s ++ b ∷ []) l)
+        (rw (number_step_pads o n (at + length s) b (pad_more_from o at (length s) n pos h), length_one_more, add_assoc) refl)
     go (inl h) (inr k) =
         let l : padding (at - o) n ≡ length (s ++ b ∷ []) = omega (arith, length_one_more s b) in
-        rw (
-          number_waits o n at s h,
-          number_blocks o n at (s ++ b ∷ []) (le_of_eq l),
-          number_step_pads o n (at + length s) b
-              (pad_more_from o at (length s) n pos h),
-          drop_all (padding (at - o) n) (s ++ b ∷ []) (le_of_eq (sym l)),
-          block_waits n (at + padding (at - o) n) [] pos,
-        )
-        (ap (Waiting []) (omega (arith, length_one_more s b)))
+        rw (number_waits o n at s h, number_blocks o n at (s ++ b ∷ []) (le_of_eq l))
+        (rw (number_step_pads o n (at + length s) b (pad_more_from o at (length s) n pos h))
+        (rw (drop_all (padding (at - o) n) (s ++ b ∷ []) (le_of_eq (sym l)), block_waits n (at + padding (at - o) n) [] pos)
+        (ap (Waiting []) (omega (arith, length_one_more s b)))))
     go (inr h) _ =
         let l : padding (at - o) n ≤ length (s ++ b ∷ []) = omega (arith, length_one_more s b) in
         rw (number_blocks o n at s h, number_blocks o n at (s ++ b ∷ []) l, drop-append-le)

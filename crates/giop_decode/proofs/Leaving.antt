@@ -1,5 +1,5 @@
 -- What fits inside a type, and what one octet more leaves of it.
-use Rattle.std.proofs.Common.{◌≡◌, ℕ, zero, suc, ◌+◌, ◌-◌, ◌<◌, ◌≤◌, List, [], ◌∷◌, ◌++◌, length, refl, subst, arith, add-zero, ◌⊎◌, inl, inr, lt-ltb, le-ltb}
+use Rattle.std.proofs.Common.{◌≡◌, ℕ, zero, suc, ◌+◌, ◌-◌, ◌<◌, ◌≤◌, List, [], ◌∷◌, ◌++◌, length, refl, sym, subst, arith, add-zero, ◌⊎◌, inl, inr, lt-ltb, le-ltb}
 use Rattle.std.proofs.lemmas.Bool.{cases_lt}
 use Rattle.giop_cdr.specs.Alignment.{padding}
 use Rattle.giop_cdr.specs.Numbers.{num}
@@ -36,37 +36,17 @@ deeper : (d : ℕ) (place : Place) (outer : List Place) (leaf : Leaf) → IsOpen
     LeafAt d outer leaf → LeafAt (suc d) (place ∷ outer) leaf
 deeper d place outer leaf is l = record { are_open = (is, l.are_open); left = l.left; depth = omega (arith, l.depth); fit = l.fit; fits = l.fits }
 
+leaf_same : (T : Ty) (leaf : Leaf) → FitsIn T [] leaf → leaf_ty leaf ≡ T
+leaf_same T (Head U carry) fits = fits.same
+leaf_same T leaf fits = fits.same
+
 pub leaf_at : (d : ℕ) (T : Ty) (outer : List Place) (leaf : Leaf) → FitsIn T outer leaf →
     IsFit d T → LeafAt d outer leaf
 unfolding IsFit
-leaf_at d T [] (Head U carry) fits fit =
-    record {
-      are_open = tt;
-      left = d;
-      depth = omega arith;
-      fit = rw fits.same fit;
-      fits = record {
-        same = refl;
-        kind = rw fits.same fits.kind;
-        room = rw fits.same fits.room;
-      };
-    }
-leaf_at d T [] (Content U total offset piece) fits fit =
-    record {
-      are_open = tt;
-      left = d;
-      depth = omega arith;
-      fit = rw fits.same fit;
-      fits = record { same = refl; kind = rw fits.same fits.kind; ahead = fits.ahead; room_full = fits.room_full; room_last = rw fits.same fits.room_last };
-    }
-leaf_at d T [] (Opening U n) fits fit =
-    record {
-      are_open = tt;
-      left = d;
-      depth = omega arith;
-      fit = rw fits.same fit;
-      fits = record { same = refl; kind = rw fits.same fits.kind };
-    }
+leaf_at d T [] leaf fits fit =
+    let e : leaf_ty leaf ≡ T = leaf_same T leaf fits in
+    let there : FitsIn (leaf_ty leaf) [] leaf = subst (λ S. FitsIn S [] leaf) (sym e) fits in
+    record { are_open = tt; left = d; depth = omega arith; fit = rw e fit; fits = there }
 leaf_at zero T (Part U i count ∷ outer) leaf fits fit = absurd fit
 leaf_at (suc d) T (Part U i count ∷ outer) leaf fits fit =
     deeper d (Part U i count) outer leaf (rw fits.0.same (fits.0.kind, fits.0.below, fit))

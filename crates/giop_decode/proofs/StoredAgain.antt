@@ -84,19 +84,8 @@ fixed_again : (d e : Decoder) (leaf : Innermost) → IsRestored d e →
     fixed_octets e leaf ≡ fixed_octets d leaf
 unfolding fixed_octets
 fixed_again d e leaf r =
-    rw (
-      r.order,
-      r.root,
-      r.message,
-      r.at,
-      r.carry,
-      r.piece,
-      r.memory.request_id,
-      r.memory.status,
-      r.memory.buffer,
-      r.memory.name,
-      kept_again d.memory.buffer d.memory.name.items,
-    ) refl
+    rw (r.order, r.root, r.message, r.at, r.carry, r.piece, r.memory.request_id, r.memory.status)
+    (rw (r.memory.buffer, r.memory.name, kept_again d.memory.buffer d.memory.name.items) refl)
 
 -- both are stored in the same octets
 pub stored_same : (d e : Decoder) (fixed frames fixed_e frames_e : List ℕ) → IsRestored d e →

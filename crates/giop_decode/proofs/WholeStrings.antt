@@ -113,11 +113,9 @@ full_comes : (bound : Option ℕ) (path : List Seg) (total full offset : ℕ) (n
     Comes total (suc full) offset (with_front (line at path
     (Piece (Text bound) offset xs true) ∷ []) (next at rest))
 full_comes bound path total full offset next xs rest at h (inl (ys, len, is)) =
-    inl (
-      xs ++ ys,
-      omega (arith, length-append {A = ℕ}),
-      rw (lines_front (line at path (Piece (Text bound) offset xs true) ∷ []) (next at rest), is) (cut_more full offset xs ys h),
-    )
+    let front : List Line = line at path (Piece (Text bound) offset xs true) ∷ [] in
+    let long : offset + length (xs ++ ys) ≡ total = omega (arith, length-append {A = ℕ}) in
+    inl (xs ++ ys, long, rw (lines_front front (next at rest), is) (cut_more full offset xs ys h))
 full_comes bound path total full offset next xs rest at h (inr (inside, each)) =
     let front : List Line = line at path (Piece (Text bound) offset xs true) ∷ [] in
     inr (front_inside front (next at rest) ∙ inside, rw (lines_front front (next at rest)) (refl, each))

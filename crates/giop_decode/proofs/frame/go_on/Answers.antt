@@ -106,10 +106,8 @@ begin-requires-clause-known_outer c =
     let p = part_popped t v.are_open.0 c.loop-frame.outer.items rest f v.known v.are_open.1 c.in-Some.ensures.items c.in-None.is in
     let below : suc f.index < f.count = omega arith in
     let n = next_in (suc p.left) T f.index f.count p.«open» p.uncounted below in
-    rw c.push.ensures.items (all_push (IsKnown t) rest _ p.known_rest (record {
-      known = p.known;
-      within = rw c.in-None.is (rw add-one n.placed, p.bare, p.uncounted);
-    }))
+    rw c.push.ensures.items (all_push (IsKnown t) rest _ p.known_rest
+    (record { known = p.known; within = rw c.in-None.is (rw add-one n.placed, p.bare, p.uncounted) }))
 
 pub begin-requires-clause-fit : goal.begin-requires-clause-fit
 begin-requires-clause-fit c =
@@ -159,17 +157,8 @@ returns-then-frame-last-clause-gone c coding path at =
     let new = c.begin.new.outer.items in
     let same : shut (has_ended rest) [] at (places t at rest ++ (next ∷ start_outer part)) (start_leaf part)
     ≡ shut (has_ended new) [] at (places t at new) (start_leaf part) =
-    rw (
-      c.begin.ensures.ended,
-      c.begin.ensures.places at,
-      ended,
-      c.push.ensures.items,
-      map_push,
-      c.part-part.ensures.tree,
-      add-one f.index,
-      c.in-None.is,
-      append_assoc,
-    ) refl in
+    rw (c.begin.ensures.ended, c.begin.ensures.places at, ended, c.push.ensures.items, map_push)
+    (rw (c.part-part.ensures.tree, add-one f.index, c.in-None.is, append_assoc) refl) in
     v.same coding path at
     ∙ (ap (λ ps. around coding path ps (Done [] at [])) (ap (places t at) c.in-Some.ensures.items ∙ map_push (place t at) rest f)
     ∙ (ap (λ q. around coding path (places t at rest ++ q ∷ []) (Done [] at [])) (part_is t at f c.in-None.is)
