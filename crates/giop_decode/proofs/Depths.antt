@@ -1,4 +1,4 @@
--- How many parts that are begun and not ended fit in a type, one in the other. Other crates may cite this.
+-- How many parts that are begun and not ended fit in a type, one in the other.
 use Rattle.std.proofs.Common.{◌≡◌, ℕ, zero, suc, ◌<◌, ◌≤◌, max, List, [], ◌∷◌, length, ap, arith, ◌⊎◌, inl, inr}
 use Rattle.std.proofs.lemmas.Bool.{cases_lt}
 use Rattle.giop_decode.specs.declared.decoder.Decoder.{Decoder}

@@ -12,7 +12,7 @@ mod Linking
 mod StoredFields
 mod StoredFrames
 mod StoredChain
-pub mod Depths
+mod Depths
 mod StoredAgain
 mod Beginning
 mod Going

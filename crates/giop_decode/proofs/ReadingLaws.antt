@@ -5,10 +5,14 @@ use Rattle.std.proofs.Common.{◌≡◌, ℕ, suc, ◌+◌, ◌<◌, Bool, false
 use Rattle.giop_cdr.specs.declared.order.Order.{Order}
 use Rattle.giop_print.specs.declared.path.Root.{Root}
 use Rattle.giop_sig.specs.Fits.{IsFit}
+use Rattle.giop_sig.specs.Table.{Table}
+use Rattle.giop_sig.specs.Trees.{depth_of}
 use Rattle.giop_sig.specs.Types.{Scalar, Ty, part_of, width}
+use Rattle.giop_decode.specs.declared.decoder.Decoder.{Decoder}
+use Rattle.giop_decode.specs.Holding.{Fits}
 use Rattle.giop_decode.specs.Spine.{Coding, Seg, Switch, Line, Place, Part, Leaf, Read, Done, Short, with_front, within, lines_of}
 use Rattle.giop_decode.specs.Pieces.{Waiting, block, number}
-use Rattle.giop_decode.specs.Reading.{cut_off, enclosed, parts_from, read, rest_of}
+use Rattle.giop_decode.specs.Reading.{cut_off, parts_from, read, rest_of}
 use Rattle.giop_decode.specs.Begins.{start_outer, start_leaf}
 use Rattle.giop_decode.specs.Steps.{Now, Quiet, advance, part_at, resumed, step}
 use Rattle.giop_decode.specs.Fits.{HasParts, Sound}
@@ -23,6 +27,7 @@ use Rattle.giop_decode.proofs.Sound as sound
 use Rattle.giop_decode.proofs.Resuming as resuming
 use Rattle.giop_decode.proofs.Hearing as hearing
 use Rattle.giop_decode.proofs.Runs as runs
+use Rattle.giop_decode.proofs.Depths as depths
 
 -- The laws of `reading_laws`: one octet more is one step;
 pub read_goes : (coding : Coding) (path : List Seg) (T : Ty) (at : ℕ) (s : List ℕ) (b : ℕ) →
@@ -55,10 +60,6 @@ front_inside front r = hearing.front_inside front r
 -- What a step comes to stays what an octet comes to, inside a part.
 pub now_within : (n : ℕ) (place : Place) (r : Read) → Now n r → Now n (within place r)
 now_within n place r h = now.now_within n place r h
-
-pub enclosed_now : (n : ℕ) (path : List Seg) (T : Ty) (inner : Coding) (end : ℕ) (r : Read) →
-    Now n r → Now n (enclosed path T inner end r [])
-enclosed_now n path T inner end r h = now.enclosed_now n path T inner end r h
 
 -- what the end of an encapsulation cuts off inside a string is one
 pub cut_inside : (leaf : Leaf) → is_text (cut_off leaf) ≡ in_content leaf
@@ -133,3 +134,7 @@ pub text_both : (message : ℕ) (root : Root) (order : Order) (T : Ty) (at : ℕ
     ≡ lines_text message root (dues order T at s xs) ++ lines_text message root
     (dues order T at (s ++ xs) ys)
 text_both message root order T at s xs ys = runs.text_both message root order T at s xs ys
+
+-- The parts of a decoder that are begun and not ended are fewer than the types of the table are deep.
+pub fits_depth : (C : Table) (d : Decoder) → Fits C d → length d.outer.items < depth_of C.types
+fits_depth C d fits = depths.fits_depth C d fits

@@ -18,7 +18,7 @@ use Rattle.giop_decode.specs.Spine.{Leaf}
 use Rattle.giop_decode.specs.Fits.{FitsIn, HasParts}
 use Rattle.giop_decode.specs.Turns.{part_in, leaf_of, IsWithin}
 use Rattle.giop_decode.specs.Holding as decoder
-use Rattle.giop_decode.proofs.Depths.{fits_depth}
+use Rattle.giop_decode.proofs.ReadingLaws.{fits_depth}
 use Rattle.giop_decode.specs.Stored as decoders
 use Rattle.giop_message.specs.declared.message.Message.{Message}
 use Rattle.giop_message.specs.declared.part.Part.TheVariants as parts
