@@ -7,7 +7,7 @@ use Rattle.giop_cdr.specs.declared.prim.Primitive.TheVariants as prims
 use Rattle.giop_decode.specs.Fits.{HasHead}
 use Rattle.giop_decode.specs.Turns.{IsWhole}
 use Rattle.giop_sig.specs.Fits.{IsEmptyStruct}
-use Rattle.giop_sig.specs.Types.{Ty, Text, Octets, Struct, Union, Sequence, Array, HasShape, Encapsulation}
+use Rattle.giop_sig.specs.Types.{Ty, Struct, HasShape}
 use Rattle.giop_sig.specs.declared.types.Shape.TheVariants as shapes
 
 pub whole_members : (T : Ty) (n : ℕ) → HasShape T (shapes.Members n) → IsWhole T n

@@ -17,7 +17,7 @@ use Rattle.giop_sig.specs.Fits.{IsFit, IsEmptyStruct}
 use Rattle.giop_sig.specs.Headers.{IsTable}
 use Rattle.giop_sig.specs.Table.{Table, part_number}
 use Rattle.giop_sig.specs.Trees.{tree}
-use Rattle.giop_sig.specs.Types.{Cases, Tag, Encapsulation, Ty, Single, Text, Octets, Struct, Union, Sequence, Array, HasPlace, IsUnion, part_of, shape_in, depth}
+use Rattle.giop_sig.specs.Types.{Cases, Tag, Encapsulation, Ty, Single, Text, Octets, Struct, Union, Sequence, Array, HasPlace, IsUnion, part_of, shape_in}
 use Rattle.giop_sig.proofs.PartLaws.{part_is, root_is}
 
 -- ---- one place

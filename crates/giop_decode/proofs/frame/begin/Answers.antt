@@ -31,17 +31,14 @@ loop-count-preserved c =
 
 pub push-requires : goal.push-requires
 push-requires c =
-    let b = begins (24 - length c.loop-count.outer.items) (tree c.args.catalogue.now c.loop-count.inner.0) c.in-Some.count c.loop-count.invariant.fit
-    c.in-Some.ensures.whole in
+    let b = begins _ _ c.in-Some.count c.loop-count.invariant.fit c.in-Some.ensures.whole in
     (omega arith, omega (arith, b.room))
 
 pub part-inner-requires-clause-place : goal.part-inner-requires-clause-place
 part-inner-requires-clause-place c =
-    (begins (24 - length c.loop-count.outer.items) (tree c.args.catalogue.now c.loop-count.inner.0) c.in-Some.count c.loop-count.invariant.fit
-    c.in-Some.ensures.whole).placed
+    (begins _ _ c.in-Some.count c.loop-count.invariant.fit c.in-Some.ensures.whole).placed
 
 pub loop-count-smaller : goal.loop-count-smaller
 loop-count-smaller c =
-    let b = begins (24 - length c.loop-count.outer.items) (tree c.args.catalogue.now c.loop-count.inner.0) c.in-Some.count c.loop-count.invariant.fit
-    c.in-Some.ensures.whole in
+    let b = begins _ _ c.in-Some.count c.loop-count.invariant.fit c.in-Some.ensures.whole in
     omega (arith, b.room, c.push.ensures.len)

@@ -24,8 +24,7 @@ returns-then-left-gt0-clause-gone c coding path at =
     let rest = c.pop.new.self.items in
     let T = tree t f.of.0 in
     let v = c.loop-frame.invariant in
-    let p = held_popped t v.are_open.0 c.loop-frame.outer.items rest f c.in-Some-inside.field-0 v.known v.are_open.1 c.in-Some.ensures.items
-    c.in-Some-inside.is in
+    let p = held_popped c.args.catalogue.now _ _ _ _ _ v.known v.are_open.1 c.in-Some.ensures.items c.in-Some-inside.is in
     let order = c.in-Some-inside.field-0 in
     let end = at + (f.count - f.index) in
     let left : end - at ≡ f.count - f.index = omega arith in
@@ -51,8 +50,7 @@ loop-frame-preserved-else-left-gt0 c =
     let rest = c.pop.new.self.items in
     let T = tree t f.of.0 in
     let v = c.loop-frame.invariant in
-    let p = held_popped t v.are_open.0 c.loop-frame.outer.items rest f c.in-Some-inside.field-0 v.known v.are_open.1 c.in-Some.ensures.items
-    c.in-Some-inside.is in
+    let p = held_popped c.args.catalogue.now _ _ _ _ _ v.known v.are_open.1 c.in-Some.ensures.items c.in-Some-inside.is in
     let order = c.in-Some-inside.field-0 in
     record {
       known = p.known_rest;
@@ -69,29 +67,24 @@ loop-frame-preserved-else-left-gt0 c =
 pub push-requires : goal.push-requires
 push-requires c =
     let t = c.args.catalogue.now in
-    let f = c.in-Some.frame in
     let rest = c.pop.new.self.items in
     let v = c.loop-frame.invariant in
-    let p = part_popped t v.are_open.0 c.loop-frame.outer.items rest f v.known v.are_open.1 c.in-Some.ensures.items c.in-None.is in
+    let p = part_popped c.args.catalogue.now _ _ _ _ v.known v.are_open.1 c.in-Some.ensures.items c.in-None.is in
     (omega arith, omega (arith, p.depth, length_places t v.are_open.0 rest))
 
 pub part-part-requires-clause-known : goal.part-part-requires-clause-known
 part-part-requires-clause-known c =
-    let t = c.args.catalogue.now in
-    let f = c.in-Some.frame in
-    let rest = c.pop.new.self.items in
     let v = c.loop-frame.invariant in
-    let p = part_popped t v.are_open.0 c.loop-frame.outer.items rest f v.known v.are_open.1 c.in-Some.ensures.items c.in-None.is in
+    let p = part_popped c.args.catalogue.now _ _ _ _ v.known v.are_open.1 c.in-Some.ensures.items c.in-None.is in
     p.known
 
 pub part-part-requires-clause-place : goal.part-part-requires-clause-place
 part-part-requires-clause-place c =
     let t = c.args.catalogue.now in
     let f = c.in-Some.frame in
-    let rest = c.pop.new.self.items in
     let T = tree t f.of.0 in
     let v = c.loop-frame.invariant in
-    let p = part_popped t v.are_open.0 c.loop-frame.outer.items rest f v.known v.are_open.1 c.in-Some.ensures.items c.in-None.is in
+    let p = part_popped c.args.catalogue.now _ _ _ _ v.known v.are_open.1 c.in-Some.ensures.items c.in-None.is in
     let below : suc f.index < f.count = omega arith in
     let n = next_in (suc p.left) T f.index f.count p.«open» p.uncounted below in
     rw add-one n.placed
@@ -103,7 +96,7 @@ begin-requires-clause-known_outer c =
     let rest = c.pop.new.self.items in
     let T = tree t f.of.0 in
     let v = c.loop-frame.invariant in
-    let p = part_popped t v.are_open.0 c.loop-frame.outer.items rest f v.known v.are_open.1 c.in-Some.ensures.items c.in-None.is in
+    let p = part_popped c.args.catalogue.now _ _ _ _ v.known v.are_open.1 c.in-Some.ensures.items c.in-None.is in
     let below : suc f.index < f.count = omega arith in
     let n = next_in (suc p.left) T f.index f.count p.«open» p.uncounted below in
     rw c.push.ensures.items (all_push (IsKnown t) rest _ p.known_rest
@@ -116,7 +109,7 @@ begin-requires-clause-fit c =
     let rest = c.pop.new.self.items in
     let T = tree t f.of.0 in
     let v = c.loop-frame.invariant in
-    let p = part_popped t v.are_open.0 c.loop-frame.outer.items rest f v.known v.are_open.1 c.in-Some.ensures.items c.in-None.is in
+    let p = part_popped c.args.catalogue.now _ _ _ _ v.known v.are_open.1 c.in-Some.ensures.items c.in-None.is in
     let below : suc f.index < f.count = omega arith in
     let n = next_in (suc p.left) T f.index f.count p.«open» p.uncounted below in
     let e : p.left ≡ 24 - length c.push.new.self.items = omega (arith, p.depth, length_places t v.are_open.0 rest, c.push.ensures.len) in
@@ -148,7 +141,7 @@ returns-then-frame-last-clause-gone c coding path at =
     let rest = c.pop.new.self.items in
     let T = tree t f.of.0 in
     let v = c.loop-frame.invariant in
-    let p = part_popped t v.are_open.0 c.loop-frame.outer.items rest f v.known v.are_open.1 c.in-Some.ensures.items c.in-None.is in
+    let p = part_popped c.args.catalogue.now _ _ _ _ v.known v.are_open.1 c.in-Some.ensures.items c.in-None.is in
     let below : suc f.index < f.count = omega arith in
     let n = next_in (suc p.left) T f.index f.count p.«open» p.uncounted below in
     let next = part_in T (suc f.index) f.count in
@@ -184,7 +177,7 @@ loop-frame-preserved c =
     let rest = c.pop.new.self.items in
     let T = tree t f.of.0 in
     let v = c.loop-frame.invariant in
-    let p = part_popped t v.are_open.0 c.loop-frame.outer.items rest f v.known v.are_open.1 c.in-Some.ensures.items c.in-None.is in
+    let p = part_popped c.args.catalogue.now _ _ _ _ v.known v.are_open.1 c.in-Some.ensures.items c.in-None.is in
     record {
       known = p.known_rest;
       are_open = (v.are_open.0, p.front);
@@ -201,8 +194,6 @@ pub returns-then-left-gt0-clause-silent : goal.returns-then-left-gt0-clause-sile
 returns-then-left-gt0-clause-silent c =
     let t = c.args.catalogue.now in
     let f = c.in-Some.frame in
-    let rest = c.pop.new.self.items in
     let v = c.loop-frame.invariant in
-    let p = held_popped t v.are_open.0 c.loop-frame.outer.items rest f c.in-Some-inside.field-0 v.known v.are_open.1 c.in-Some.ensures.items
-    c.in-Some-inside.is in
+    let p = held_popped c.args.catalogue.now _ _ _ _ _ v.known v.are_open.1 c.in-Some.ensures.items c.in-Some-inside.is in
     rest_silent (tree t f.of.0) p.kind
