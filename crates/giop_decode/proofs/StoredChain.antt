@@ -10,6 +10,7 @@ use Rattle.giop_decode.specs.Fits.{FitsIn, IsEncapsulation}
 use Rattle.giop_decode.specs.Holding.{Fits}
 use Rattle.giop_decode.specs.Spine.{Place, Leaf}
 use Rattle.giop_decode.specs.Turns.{places, part_in, part_index, place_in, AreAhead, AreKnown, IsWithin, Link, StandAt, leaf_of, leaf_type}
+use Rattle.giop_decode.proofs.Around.{fit_room}
 use Rattle.giop_decode.proofs.Going.{length_places}
 use Rattle.giop_decode.proofs.Starting.{fit_some}
 use Rattle.giop_decode.proofs.Leaving.{leaf_at}
@@ -242,13 +243,8 @@ fits_chains C d laws h =
 
 -- ---- how many
 
-left_some : (d : ℕ) (T : Ty) → IsFit d T → 0 < d
-unfolding IsFit
-left_some zero T fit = absurd fit
-left_some (suc d) T fit = omega arith
-
 -- room is left for the innermost part's frame
 pub fits_few : (C : Table) (d : Decoder) → Fits C d → length d.outer.items < 24
 fits_few C d h =
     let l = leaf_at 24 (tree C h.root) (places C h.here d.outer.items) (leaf_of C h.leaf d.carry d.piece.items) h.fits h.fit in
-    omega (arith, length_places C h.here d.outer.items, l.depth, left_some l.left _ l.fit)
+    omega (arith, length_places C h.here d.outer.items, l.depth, fit_room l.left _ l.fit)
