@@ -8,21 +8,24 @@ use Rattle.giop_decode.specs.Spine.{Coding, Done, Fault, Index, Leaf, Line, Memb
 use Rattle.giop_decode.specs.Steps.{inner_path, around, part_at, path_in, resumed, seg_in, seg_of, coding_at, coding_in}
 use Rattle.giop_decode.specs.declared.progress.Kind.{Kind}
 use Rattle.giop_sig.specs.Fits.{IsFit}
-use Rattle.giop_sig.specs.Types.{Array, Octets, Sequence, Single, Struct, Text, Ty, Union, part_of, width, Encapsulation}
+use Rattle.giop_sig.specs.Types.{Array, Sequence, Single, Struct, Ty, Union, part_of, width}
 use Rattle.giop_decode.proofs.Now.{number_none}
 use Rattle.giop_decode.proofs.Law.{with_front-followed, with_front-within, block_waits, width_pos}
 use Rattle.giop_decode.proofs.Enclosing.{with_front-enclosed}
 
-pub around-append : (coding : Coding) (path : List Seg) (outer : List Place) (place : Place) (r : Read) →
-    around coding path (outer ++ place ∷ []) r ≡ around coding path outer (resumed (coding_in coding outer) (path_in path outer) place r)
+pub around-append : (coding : Coding) (path : List Seg) (outer : List Place) (place : Place)
+    (r : Read) → around coding path (outer ++ place ∷ []) r
+    ≡ around coding path outer (resumed (coding_in coding outer) (path_in path outer) place r)
 around-append coding path [] place r = refl
 around-append coding path (p ∷ outer) place r = ap (resumed coding path p) (around-append (coding_at coding p) (path ++ seg_in p ∷ []) outer place r)
 
-pub path_in-append : (path : List Seg) (outer : List Place) (place : Place) → path_in path (outer ++ place ∷ []) ≡ path_in path outer ++ seg_in place ∷ []
+pub path_in-append : (path : List Seg) (outer : List Place) (place : Place) →
+    path_in path (outer ++ place ∷ []) ≡ path_in path outer ++ seg_in place ∷ []
 path_in-append path [] place = refl
 path_in-append path (p ∷ outer) place = path_in-append (path ++ seg_in p ∷ []) outer place
 
-pub around-short : (coding : Coding) (path : List Seg) (outer : List Place) (lines : List Line) (at : ℕ) (inner : List Place) (leaf : Leaf) → Surrounds at outer →
+pub around-short : (coding : Coding) (path : List Seg) (outer : List Place) (lines : List Line)
+    (at : ℕ) (inner : List Place) (leaf : Leaf) → Surrounds at outer →
     around coding path outer (Short lines at inner leaf) ≡ Short lines at (outer ++ inner) leaf
 around-short coding path [] lines at inner leaf h = refl
 around-short coding path (Part T i count ∷ outer) lines at inner leaf h = rw (around-short coding (path ++ seg_of T i ∷ []) outer lines at inner leaf h.1) refl
@@ -30,20 +33,23 @@ around-short coding path (Member T i ∷ outer) lines at inner leaf h = rw (arou
 around-short coding path (Inside T c end ∷ outer) lines at inner leaf h =
     rw (around-short c (path ++ Held ∷ []) outer lines at inner leaf h.1, lt-ltb at end h.0.0) refl
 
-pub around-fault : (coding : Coding) (path : List Seg) (outer : List Place) (lines : List Line) (at : ℕ) (kind : Kind) (S : Ty) →
-    around coding path outer (Fault lines at kind S) ≡ Fault lines at kind S
+pub around-fault : (coding : Coding) (path : List Seg) (outer : List Place) (lines : List Line)
+    (at : ℕ) (kind : Kind) (S : Ty) → around coding path outer (Fault lines at kind S)
+    ≡ Fault lines at kind S
 around-fault coding path [] lines at kind S = refl
 around-fault coding path (Part T i count ∷ outer) lines at kind S = rw (around-fault coding (path ++ seg_of T i ∷ []) outer lines at kind S) refl
 around-fault coding path (Member T i ∷ outer) lines at kind S = rw (around-fault coding (path ++ seg_of T i ∷ []) outer lines at kind S) refl
 around-fault coding path (Inside T c end ∷ outer) lines at kind S = rw (around-fault c (path ++ Held ∷ []) outer lines at kind S) refl
 
-pub around-front : (coding : Coding) (path : List Seg) (outer : List Place) (front : List Line) (r : Read) →
-    around coding path outer (with_front front r) ≡ with_front front (around coding path outer r)
+pub around-front : (coding : Coding) (path : List Seg) (outer : List Place) (front : List Line)
+    (r : Read) → around coding path outer (with_front front r)
+    ≡ with_front front (around coding path outer r)
 around-front coding path [] front r = refl
 around-front coding path (Part T i count ∷ outer) front r =
     let inner = around coding (path ++ seg_of T i ∷ []) outer r in
     let next = parts_from (part_at coding path T count) (count - suc i) (suc i) in
-    rw (around-front coding (path ++ seg_of T i ∷ []) outer front r, with_front-within front (Part T i count) inner) (with_front-followed front (within (Part T i count) inner) next)
+    rw (around-front coding (path ++ seg_of T i ∷ []) outer front r, with_front-within front (Part T i count) inner)
+    (with_front-followed front (within (Part T i count) inner) next)
 around-front coding path (Member T i ∷ outer) front r =
     rw (around-front coding (path ++ seg_of T i ∷ []) outer front r) (with_front-within front (Member T i) (around coding (path ++ seg_of T i ∷ []) outer r))
 around-front coding path (Inside T c end ∷ outer) front r =
@@ -55,48 +61,53 @@ block_none n at pos = block_waits n at [] pos ∙ ap (Waiting []) (add-zero at)
 
 -- the first of several parts, and what comes behind it
 pub first_part : (coding : Coding) (path : List Seg) (T : Ty) (count more i : ℕ) (at : ℕ) →
-    (read coding (inner_path path T i) (part_of T i) at [] ≡ Short [] at (start_outer (part_of T i)) (start_leaf (part_of T i))) →
-    parts_from (part_at coding path T count) (suc more) i at [] ≡ Short [] at (Part T i count ∷ start_outer (part_of T i)) (start_leaf (part_of T i))
+    (read coding (inner_path path T i) (part_of T i) at []
+    ≡ Short [] at (start_outer (part_of T i)) (start_leaf (part_of T i))) →
+    parts_from (part_at coding path T count) (suc more) i at []
+    ≡ Short [] at (Part T i count ∷ start_outer (part_of T i)) (start_leaf (part_of T i))
 first_part coding path T count more i at e = rw e refl
 
-pub read_none : (coding : Coding) (path : List Seg) (d : ℕ) (T : Ty) (at : ℕ) → IsFit d T → read coding path T at [] ≡ Short [] at (start_outer T) (start_leaf T)
+pub read_none : (coding : Coding) (path : List Seg) (d : ℕ) (T : Ty) (at : ℕ) → IsFit d T →
+    read coding path T at [] ≡ Short [] at (start_outer T) (start_leaf T)
 unfolding IsFit
 read_none coding path zero T at h = absurd h
 read_none coding path (suc d) (Single scalar) at h = rw (number_none coding.origin (width scalar) at (width_pos scalar)) refl
-read_none coding path (suc d) (Text bound) at h = rw (number_none coding.origin 4 at (lit< tt)) refl
-read_none coding path (suc d) (Octets bound) at h = rw (number_none coding.origin 4 at (lit< tt)) refl
-read_none coding path (suc d) (Sequence bound T) at h = rw (number_none coding.origin 4 at (lit< tt)) refl
 read_none coding path (suc d) (Union choice scalar select names cases) at h = rw (number_none coding.origin (width scalar) at (width_pos scalar)) refl
-read_none coding path (suc d) (Encapsulation T) at h = rw (number_none coding.origin 4 at (lit< tt)) refl
 read_none coding path (suc d) (Struct zero names parts) at h = absurd (omega (arith, h.0))
 read_none coding path (suc d) (Struct (suc more) names parts) at h =
     first_part coding path (Struct (suc more) names parts) (suc more) more 0 at (read_none coding (path ++ Name (names 0) ∷ []) d (parts 0) at (h.1 0 h.0))
 read_none coding path (suc d) (Array zero T) at h = absurd (omega (arith, h.0))
 read_none coding path (suc d) (Array (suc more) T) at h =
     first_part coding path (Array (suc more) T) (suc more) more 0 at (read_none coding (path ++ Index 0 ∷ []) d T at h.1)
+read_none coding path (suc d) T at h = rw (number_none coding.origin 4 at (lit< tt)) refl
 
 -- A part that has ended: its whole goes on with the next, or ends too.
-pub fit_part : (d : ℕ) (T : Ty) (i count : ℕ) → IsFit (suc d) T → HasParts T count → i < count → IsFit d (part_of T i)
+pub fit_part : (d : ℕ) (T : Ty) (i count : ℕ) → IsFit (suc d) T → HasParts T count → i < count →
+    IsFit d (part_of T i)
 unfolding IsFit
 fit_part d (Struct n names parts) i count fit kind below = fit.1 i (rw kind at below)
 fit_part d (Array n T) i count fit kind below = fit.1
 fit_part d (Sequence bound T) i count fit kind below = fit
-fit_part d (Single scalar) i count fit kind below = absurd kind
-fit_part d (Text bound) i count fit kind below = absurd kind
-fit_part d (Octets bound) i count fit kind below = absurd kind
-fit_part d (Union choice scalar select names cases) i count fit kind below = absurd kind
-fit_part d (Encapsulation T) i count fit kind below = absurd kind
+fit_part d T i count fit kind below = absurd kind
 
-pub next_part : (coding : Coding) (path : List Seg) (d : ℕ) (T : Ty) (i count at : ℕ) → IsFit (suc d) T → HasParts T count → suc i < count →
-    resumed coding path (Part T i count) (Done [] at []) ≡ Short [] at (Part T (suc i) count ∷ start_outer (part_of T (suc i))) (start_leaf (part_of T (suc i)))
+pub next_part : (coding : Coding) (path : List Seg) (d : ℕ) (T : Ty) (i count at : ℕ) →
+    IsFit (suc d) T → HasParts T count → suc i < count →
+    resumed coding path (Part T i count) (Done [] at [])
+    ≡ Short [] at (Part T (suc i) count ∷ start_outer (part_of T (suc i)))
+    (start_leaf (part_of T (suc i)))
 next_part coding path d T i count at fit kind below = go (count - suc i) refl
   where
     go : (more : ℕ) → count - suc i ≡ more →
-        with_front [] (parts_from (part_at coding path T count) more (suc i) at []) ≡ Short [] at (Part T (suc i) count ∷ start_outer (part_of T (suc i))) (start_leaf (part_of T (suc i)))
+        with_front [] (parts_from (part_at coding path T count) more (suc i) at [])
+        ≡ Short [] at (Part T (suc i) count ∷ start_outer (part_of T (suc i)))
+        (start_leaf (part_of T (suc i)))
     go zero e = absurd (omega arith)
-    go (suc more) e = ap (with_front []) (first_part coding path T count more (suc i) at (read_none coding (inner_path path T (suc i)) d (part_of T (suc i)) at (fit_part d T (suc i) count fit kind below)))
+    go (suc more) e =
+        ap (with_front []) (first_part coding path T count more (suc i) at (read_none coding (inner_path path T (suc i)) d (part_of T (suc i))
+        at (fit_part d T (suc i) count fit kind below)))
 
-pub last_part : (coding : Coding) (path : List Seg) (T : Ty) (i count at : ℕ) → count ≤ suc i → resumed coding path (Part T i count) (Done [] at []) ≡ Done [] at []
+pub last_part : (coding : Coding) (path : List Seg) (T : Ty) (i count at : ℕ) → count ≤ suc i →
+    resumed coding path (Part T i count) (Done [] at []) ≡ Done [] at []
 last_part coding path T i count at h =
     let e : count - suc i ≡ 0 = omega arith in
     rw e refl

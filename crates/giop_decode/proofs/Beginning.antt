@@ -5,7 +5,7 @@ use Rattle.giop_decode.specs.Spine.{Place, Part}
 use Rattle.giop_decode.specs.Fits.{HasParts, IsEncapsulation}
 use Rattle.giop_decode.specs.Begins.{start_outer, start_leaf}
 use Rattle.giop_decode.specs.Turns.{IsWhole, part_in}
-use Rattle.giop_sig.specs.Types.{Encapsulation, Ty, Single, Text, Octets, Struct, Union, Sequence, Array, part_of, shape_in, HasPlace, IsUnion}
+use Rattle.giop_sig.specs.Types.{Ty, Struct, Array, part_of, shape_in, HasPlace, IsUnion}
 use Rattle.giop_sig.specs.Fits.{IsFit}
 
 pub record Begins (d : ℕ) (T : Ty) (count : ℕ) : Type 0 where
@@ -46,20 +46,18 @@ begins (suc d) (Array n E) count fit is =
       uncounted = λ h. absurd h;
       bare = λ h. h;
     }
-begins (suc d) (Single scalar) count fit is = absurd is
-begins (suc d) (Text bound) count fit is = absurd is
-begins (suc d) (Octets bound) count fit is = absurd is
-begins (suc d) (Union choice scalar select names cases) count fit is = absurd is
-begins (suc d) (Sequence bound E) count fit is = absurd is
-begins (suc d) (Encapsulation E) count fit is = absurd is
+begins (suc d) T count fit is = absurd is
 
-pub all_push : {X : Type 0} (P : X → Type 0) (xs : List X) (x : X) → AllByRecursion P xs → P x → AllByRecursion P (xs ++ x ∷ [])
+pub all_push : {X : Type 0} (P : X → Type 0) (xs : List X) (x : X) → AllByRecursion P xs → P x →
+    AllByRecursion P (xs ++ x ∷ [])
 all_push P [] x h p = (p, tt)
 all_push P (y ∷ xs) x h p = (h.0, all_push P xs x h.1 p)
 
-pub map_push : {X Y : Type 0} (f : X → Y) (xs : List X) (x : X) → map f (xs ++ x ∷ []) ≡ map f xs ++ f x ∷ []
+pub map_push : {X Y : Type 0} (f : X → Y) (xs : List X) (x : X) →
+    map f (xs ++ x ∷ []) ≡ map f xs ++ f x ∷ []
 map_push f [] x = refl
 map_push f (y ∷ xs) x = ap (λ ys. f y ∷ ys) (map_push f xs x)
 
-pub begins_places : (d : ℕ) (ps : List Place) (T : Ty) (count : ℕ) → Begins d T count → (ps ++ part_in T 0 count ∷ []) ++ start_outer (part_of T 0) ≡ ps ++ start_outer T
+pub begins_places : (d : ℕ) (ps : List Place) (T : Ty) (count : ℕ) → Begins d T count →
+    (ps ++ part_in T 0 count ∷ []) ++ start_outer (part_of T 0) ≡ ps ++ start_outer T
 begins_places d ps T count b = append_assoc ps (part_in T 0 count ∷ []) (start_outer (part_of T 0)) ∙ ap (λ qs. ps ++ qs) (sym b.outer)

@@ -37,7 +37,8 @@ module _ (C : Table) (d new : Decoder) where
   still_here here on small h = (omega (arith, on.at, h.0, small), rw on.outer h.1)
 
   -- no octet
-  pub none_gathered : IsFurther d new 0 → new.carry ≡ d.carry → new.piece.items ≡ d.piece.items → Fits C d → Fits C new × AllGathered C d new []
+  pub none_gathered : IsFurther d new 0 → new.carry ≡ d.carry → new.piece.items ≡ d.piece.items →
+      Fits C d → Fits C new × AllGathered C d new []
   none_gathered on carry piece f = (
     record {
       leaf = f.leaf;
@@ -83,8 +84,10 @@ module _ (C : Table) (d new : Decoder) where
 
 module _ (C : Table) (d new : Decoder) (leaf : Innermost) (b : ℕ) where
   -- one octet that is held, in no encapsulation
-  one_gathered : is_inside d.outer.items ≡ false → IsFurther d new 1 → Fits C d → d.leaf ≡ Some leaf → IsClean leaf new.carry new.piece.items →
-      ((here : ℕ) → here % 8 ≡ d.at → Holds C d new leaf here b) → Fits C new × AllGathered C d new (b ∷ [])
+  one_gathered : is_inside d.outer.items ≡ false → IsFurther d new 1 → Fits C d →
+      d.leaf ≡ Some leaf → IsClean leaf new.carry new.piece.items →
+      ((here : ℕ) → here % 8 ≡ d.at → Holds C d new leaf here b) →
+      Fits C new × AllGathered C d new (b ∷ [])
   one_gathered free on f e clean holds = (
     held_fits C d new leaf b free f e (on.leaf ∙ e) on.outer on.inside on.at clean (holds f.here f.stands.0),
     λ T order at message root s r.
@@ -102,7 +105,8 @@ module _ (C : Table) (d new : Decoder) (leaf : Innermost) (b : ℕ) where
   )
 
   -- one octet and then the others
-  then_gathered : (mid : Decoder) (bs : List ℕ) → AllGathered C d mid (b ∷ []) → AllGathered C mid new bs → AllGathered C d new (b ∷ bs)
+  then_gathered : (mid : Decoder) (bs : List ℕ) → AllGathered C d mid (b ∷ []) →
+      AllGathered C mid new bs → AllGathered C d new (b ∷ bs)
   then_gathered mid bs g h T order at message root s r =
       let one = g T order at message root s r in
       let others = h T order at message root (s ++ b ∷ []) (one.takes.reads (λ fault. fault)) in
@@ -118,7 +122,8 @@ next_in d carry piece = held_in d carry (record { items = piece }) ((d.at + 1) %
 next_on : (d : Decoder) (carry piece : List ℕ) → IsFurther d (next_in d carry piece) 1
 next_on d carry piece = record { order = refl; root = refl; message = refl; at = refl; outer = refl; inside = refl; leaf = refl; memory = refl }
 
-others_on : (d new : Decoder) (carry piece : List ℕ) (count : ℕ) → IsFurther d new (suc count) → IsFurther (next_in d carry piece) new count
+others_on : (d new : Decoder) (carry piece : List ℕ) (count : ℕ) → IsFurther d new (suc count) →
+    IsFurther (next_in d carry piece) new count
 others_on d new carry piece count on = record {
   order = on.order;
   root = on.root;
@@ -133,18 +138,24 @@ others_on d new carry piece count on = record {
 -- ---- of a content
 
 module _ (C : Table) (of : TypeId) (total offset : ℕ) where
-  content_one : (d new : Decoder) (b : ℕ) → is_inside d.outer.items ≡ false → IsFurther d new 1 → new.carry ≡ d.carry → new.piece.items ≡ d.piece.items ++ b ∷ [] → Fits C d →
-      d.leaf ≡ Some (innermost.Content of total offset) → length d.piece.items + 1 < 32 → length d.piece.items + 1 < total - offset →
-      Fits C new × AllGathered C d new (b ∷ [])
+  content_one : (d new : Decoder) (b : ℕ) → is_inside d.outer.items ≡ false → IsFurther d new 1 →
+      new.carry ≡ d.carry → new.piece.items ≡ d.piece.items ++ b ∷ [] → Fits C d →
+      d.leaf ≡ Some (innermost.Content of total offset) → length d.piece.items + 1 < 32 →
+      length d.piece.items + 1 < total - offset → Fits C new × AllGathered C d new (b ∷ [])
   content_one d new b free on carry piece f e room some =
       let leaf = innermost.Content of total offset in
       let it : f.leaf ≡ leaf = same_some f.leaf leaf (sym f.goes_on ∙ e) in
       let clean : IsClean leaf d.carry d.piece.items = subst (λ l. IsClean l d.carry d.piece.items) it f.clean in
-      one_gathered C d new leaf b free on f e (carry ∙ clean) (λ here h path. rw piece (content_held (tree C of.0) path total offset here d.piece.items b room some))
+      one_gathered C d new leaf b free on f e (carry ∙ clean) (λ here h path. rw piece (content_held (tree C of.0) path total offset here d.piece.items b room
+      some))
 
-  pub content_gathered : (d new : Decoder) (octets : List ℕ) → is_inside d.outer.items ≡ false → IsFurther d new (length octets) → new.carry ≡ d.carry → new.piece.items ≡ d.piece.items ++ octets →
-      Fits C d → d.leaf ≡ Some (innermost.Content of total offset) → (0 < length octets → length d.piece.items + length octets < 32) →
-      (0 < length octets → length d.piece.items + length octets < total - offset) → Fits C new × AllGathered C d new octets
+  pub content_gathered : (d new : Decoder) (octets : List ℕ) → is_inside d.outer.items ≡ false →
+      IsFurther d new (length octets) → new.carry ≡ d.carry →
+      new.piece.items ≡ d.piece.items ++ octets → Fits C d →
+      d.leaf ≡ Some (innermost.Content of total offset) →
+      (0 < length octets → length d.piece.items + length octets < 32) →
+      (0 < length octets → length d.piece.items + length octets < total - offset) →
+      Fits C new × AllGathered C d new octets
   content_gathered d new [] free on carry piece f e room some = none_gathered C d new on carry (piece ∙ append-nil d.piece.items) f
   content_gathered d new (b ∷ bs) free on carry piece f e room some =
       let held = d.piece.items ++ b ∷ [] in
@@ -158,8 +169,11 @@ module _ (C : Table) (of : TypeId) (total offset : ℕ) where
 
 -- ---- of a number, or of the padding in front of it
 
-pub number_gathered : (C : Table) (of : TypeId) (d new : Decoder) (octets : List ℕ) → is_inside d.outer.items ≡ false → IsFurther d new (length octets) → new.piece.items ≡ d.piece.items →
-    Fits C d → d.leaf ≡ Some (innermost.Number of) → AreHeld (head_width (tree C of.0)) d.at d.carry octets new.carry → Fits C new × AllGathered C d new octets
+pub number_gathered : (C : Table) (of : TypeId) (d new : Decoder) (octets : List ℕ) →
+    is_inside d.outer.items ≡ false → IsFurther d new (length octets) →
+    new.piece.items ≡ d.piece.items → Fits C d → d.leaf ≡ Some (innermost.Number of) →
+    AreHeld (head_width (tree C of.0)) d.at d.carry octets new.carry →
+    Fits C new × AllGathered C d new octets
 number_gathered C of d new [] free on piece f e held = none_gathered C d new on held piece f
 number_gathered C of d new (b ∷ bs) free on piece f e held =
     let leaf = innermost.Number of in

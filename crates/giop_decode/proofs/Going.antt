@@ -11,7 +11,7 @@ use Rattle.giop_decode.specs.Pieces.{full_pieces}
 use Rattle.giop_decode.proofs.Turning.{content_none}
 use Rattle.giop_decode.proofs.Beginning.{map_push}
 use Rattle.giop_decode.proofs.Around.{around-append, next_part, last_part}
-use Rattle.giop_sig.specs.Types.{Cases, Ty, Single, Text, Octets, Struct, Union, Sequence, Array, part_of, shape_in, HasPlace, IsUnion, Tag, Encapsulation}
+use Rattle.giop_sig.specs.Types.{Cases, Ty, Struct, Union, Sequence, Array, part_of, shape_in, HasPlace, IsUnion, Tag, Encapsulation}
 use Rattle.giop_sig.specs.Fits.{IsFit}
 use Rattle.giop_cdr.specs.declared.order.Order.{Order}
 use Rattle.giop_sig.specs.Trees.{tree}
@@ -24,7 +24,8 @@ pub record Innermost (d : ℕ) (ps : List Place) (p : Place) : Type 0 where
   pub depth : d ≡ length ps + suc left
   pub «open» : IsOpen (suc left) p
 
-innermost_deeper : (d : ℕ) (q : Place) (ps : List Place) (p : Place) → IsOpen (suc d) q → Innermost d ps p → Innermost (suc d) (q ∷ ps) p
+innermost_deeper : (d : ℕ) (q : Place) (ps : List Place) (p : Place) → IsOpen (suc d) q →
+    Innermost d ps p → Innermost (suc d) (q ∷ ps) p
 innermost_deeper d q ps p is i = record { front = (is, i.front); left = i.left; depth = omega (arith, i.depth); «open» = i.«open» }
 
 pub innermost : (d : ℕ) (ps : List Place) (p : Place) → OpenFrom d (ps ++ p ∷ []) → Innermost d ps p
@@ -41,60 +42,64 @@ pub record Next (d : ℕ) (T : Ty) (i count : ℕ) : Type 0 where
   pub fit : IsFit d T
   pub placed : HasPlace (shape_in T) (suc i)
 
-pub next_in : (d : ℕ) (T : Ty) (i count : ℕ) → IsOpen d (part_in T i count) → (IsUnion (shape_in T) → count ≡ 0) → suc i < count → Next d T i count
+pub next_in : (d : ℕ) (T : Ty) (i count : ℕ) → IsOpen d (part_in T i count) →
+    (IsUnion (shape_in T) → count ≡ 0) → suc i < count → Next d T i count
 next_in d (Struct n names parts) i count h none below = record { is = refl; then = refl; parts = h.0; fit = h.2; placed = rw h.0 at below }
 next_in d (Array n E) i count h none below = record { is = refl; then = refl; parts = h.0; fit = h.2; placed = tt }
 next_in d (Sequence bound E) i count h none below = record { is = refl; then = refl; parts = h.0; fit = h.2; placed = tt }
-next_in d (Single scalar) i count h none below = absurd h.0
-next_in d (Text bound) i count h none below = absurd h.0
-next_in d (Octets bound) i count h none below = absurd h.0
-next_in d (Encapsulation E) i count h none below = absurd h.0
 next_in d (Union (Cases n) scalar select names cases) i count h none below = absurd (let e : count ≡ 0 = none tt in omega arith)
 next_in d (Union Tag scalar select names cases) i count h none below = absurd (let e : count ≡ 0 = none tt in omega arith)
+next_in d T i count h none below = absurd h.0
 
-pub goes_next : (coding : Coding) (path : List Seg) (ps : List Place) (T : Ty) (i count at e : ℕ) → Next (suc e) T i count → suc i < count →
+pub goes_next : (coding : Coding) (path : List Seg) (ps : List Place) (T : Ty) (i count at e : ℕ) →
+    Next (suc e) T i count → suc i < count →
     around coding path (ps ++ part_in T i count ∷ []) (Done [] at [])
-    ≡ around coding path ps (Short [] at (part_in T (suc i) count ∷ start_outer (part_of T (suc i))) (start_leaf (part_of T (suc i))))
+    ≡ around coding path ps (Short [] at (part_in T (suc i) count ∷ start_outer (part_of T (suc i)))
+    (start_leaf (part_of T (suc i))))
 goes_next coding path ps T i count at e next below = rw (next.is, next.then)
     (around-append coding path ps (Part T i count) (Done [] at [])
     ∙ ap (around coding path ps) (next_part (coding_in coding ps) (path_in path ps) e T i count at next.fit next.parts below))
 
 -- behind the value in an encapsulation
-pub goes_rest : (coding : Coding) (path : List Seg) (ps : List Place) (T : Ty) (inner : Coding) (end at left : ℕ) → 0 < left → end - at ≡ left →
-    around coding path (ps ++ Inside T inner end ∷ []) (Done [] at []) ≡ around coding path ps (Short [] at [] (Content T left 0 []))
+pub goes_rest : (coding : Coding) (path : List Seg) (ps : List Place) (T : Ty) (inner : Coding)
+    (end at left : ℕ) → 0 < left → end - at ≡ left →
+    around coding path (ps ++ Inside T inner end ∷ []) (Done [] at [])
+    ≡ around coding path ps (Short [] at [] (Content T left 0 []))
 goes_rest coding path ps T inner end at zero some e = absurd (omega arith)
 goes_rest coding path ps T inner end at (suc left) some e =
     around-append coding path ps (Inside T inner end) (Done [] at [])
     ∙ ap (around coding path ps) (rw (e, content_none (path_in path ps) T (suc left) (full_pieces (suc left)) 0 at (omega arith)) refl)
 
-pub part_is : (C : Table) (at : ℕ) (f : Frame) → f.inside ≡ None → place C at f ≡ part_in (tree C f.of.0) f.index f.count
+pub part_is : (C : Table) (at : ℕ) (f : Frame) → f.inside ≡ None →
+    place C at f ≡ part_in (tree C f.of.0) f.index f.count
 part_is C at f none = ap (λ x. place_in at x (tree C f.of.0) f.index f.count) none
 
-pub held_is : (C : Table) (at : ℕ) (f : Frame) (order : Order) → f.inside ≡ Some order → place C at f ≡ Inside (tree C f.of.0) (coded order (at - f.index)) (at + (f.count - f.index))
+pub held_is : (C : Table) (at : ℕ) (f : Frame) (order : Order) → f.inside ≡ Some order →
+    place C at f ≡ Inside (tree C f.of.0) (coded order (at - f.index)) (at + (f.count - f.index))
 held_is C at f order some = ap (λ x. place_in at x (tree C f.of.0) f.index f.count) some
 
-pub goes_past : (coding : Coding) (path : List Seg) (ps : List Place) (T : Ty) (inner : Coding) (end at : ℕ) → end - at ≡ 0 →
-    around coding path (ps ++ Inside T inner end ∷ []) (Done [] at []) ≡ around coding path ps (Done [] at [])
-goes_past coding path ps T inner end at e =
-    around-append coding path ps (Inside T inner end) (Done [] at []) ∙ ap (around coding path ps) (rw e refl)
+module _ (coding : Coding) (path : List Seg) (ps : List Place) where
+  pub goes_past : (T : Ty) (inner : Coding) (end at : ℕ) → end - at ≡ 0 →
+      around coding path (ps ++ Inside T inner end ∷ []) (Done [] at [])
+      ≡ around coding path ps (Done [] at [])
+  goes_past T inner end at e =
+      around-append coding path ps (Inside T inner end) (Done [] at []) ∙ ap (around coding path ps) (rw e refl)
 
-part_out : (coding : Coding) (path : List Seg) (ps : List Place) (T : Ty) (i count at : ℕ) → count ≤ suc i →
-    around coding path (ps ++ Part T i count ∷ []) (Done [] at []) ≡ around coding path ps (Done [] at [])
-part_out coding path ps T i count at h =
-    around-append coding path ps (Part T i count) (Done [] at []) ∙ ap (around coding path ps) (last_part (coding_in coding ps) (path_in path ps) T i count at h)
+  part_out : (T : Ty) (i count at : ℕ) → count ≤ suc i →
+      around coding path (ps ++ Part T i count ∷ []) (Done [] at [])
+      ≡ around coding path ps (Done [] at [])
+  part_out T i count at h =
+      around-append coding path ps (Part T i count) (Done [] at [])
+      ∙ ap (around coding path ps) (last_part (coding_in coding ps) (path_in path ps) T i count at h)
 
-pub goes_out : (coding : Coding) (path : List Seg) (ps : List Place) (T : Ty) (i count at : ℕ) → count ≤ suc i →
-    around coding path (ps ++ part_in T i count ∷ []) (Done [] at []) ≡ around coding path ps (Done [] at [])
-goes_out coding path ps (Union n scalar select names cases) i count at h = around-append coding path ps (Member (Union n scalar select names cases) i) (Done [] at [])
-goes_out coding path ps (Struct n names parts) i count at h = part_out coding path ps (Struct n names parts) i count at h
-goes_out coding path ps (Array n E) i count at h = part_out coding path ps (Array n E) i count at h
-goes_out coding path ps (Sequence bound E) i count at h = part_out coding path ps (Sequence bound E) i count at h
-goes_out coding path ps (Single scalar) i count at h = part_out coding path ps (Single scalar) i count at h
-goes_out coding path ps (Text bound) i count at h = part_out coding path ps (Text bound) i count at h
-goes_out coding path ps (Octets bound) i count at h = part_out coding path ps (Octets bound) i count at h
-goes_out coding path ps (Encapsulation E) i count at h = part_out coding path ps (Encapsulation E) i count at h
+  pub goes_out : (T : Ty) (i count at : ℕ) → count ≤ suc i →
+      around coding path (ps ++ part_in T i count ∷ []) (Done [] at [])
+      ≡ around coding path ps (Done [] at [])
+  goes_out (Union n scalar select names cases) i count at h = around-append coding path ps (Member (Union n scalar select names cases) i) (Done [] at [])
+  goes_out T i count at h = part_out T i count at h
 
-pub all_pop : {X : Type 0} (P : X → Type 0) (xs : List X) (x : X) → AllByRecursion P (xs ++ x ∷ []) → AllByRecursion P xs × P x
+pub all_pop : {X : Type 0} (P : X → Type 0) (xs : List X) (x : X) →
+    AllByRecursion P (xs ++ x ∷ []) → AllByRecursion P xs × P x
 all_pop P [] x h = (tt, h.0)
 all_pop P (y ∷ xs) x h = let r = all_pop P xs x h.1 in ((h.0, r.0), r.1)
 
@@ -103,7 +108,8 @@ pub record Popped (C : Table) (at : ℕ) (rest : List Frame) (f : Frame) : Type 
   pub known : IsKnown C f
   pub inner : Innermost 24 (places C at rest) (place C at f)
 
-pub popped : (C : Table) (at : ℕ) (items rest : List Frame) (f : Frame) → AreKnown C items → OpenFrom 24 (places C at items) → items ≡ rest ++ f ∷ [] → Popped C at rest f
+pub popped : (C : Table) (at : ℕ) (items rest : List Frame) (f : Frame) → AreKnown C items →
+    OpenFrom 24 (places C at items) → items ≡ rest ++ f ∷ [] → Popped C at rest f
 popped C at items rest f known are_open e =
     let k = all_pop (IsKnown C) rest f (subst (AreKnown C) e known) in
     record {
@@ -124,7 +130,9 @@ pub record PartPopped (C : Table) (at : ℕ) (rest : List Frame) (f : Frame) : T
   pub «open» : IsOpen (suc left) (part_in (tree C f.of.0) f.index f.count)
   pub is : place C at f ≡ part_in (tree C f.of.0) f.index f.count
 
-pub part_popped : (C : Table) (at : ℕ) (items rest : List Frame) (f : Frame) → AreKnown C items → OpenFrom 24 (places C at items) → items ≡ rest ++ f ∷ [] → f.inside ≡ None → PartPopped C at rest f
+pub part_popped : (C : Table) (at : ℕ) (items rest : List Frame) (f : Frame) → AreKnown C items →
+    OpenFrom 24 (places C at items) → items ≡ rest ++ f ∷ [] → f.inside ≡ None →
+    PartPopped C at rest f
 part_popped C at items rest f known are_open e none =
     let p = popped C at items rest f known are_open e in
     let w : IsWithin None f.index f.count (tree C f.of.0) = subst (λ x. IsWithin x f.index f.count (tree C f.of.0)) none p.known.within in
@@ -142,15 +150,19 @@ part_popped C at items rest f known are_open e none =
     }
 
 -- and of an encapsulation
-pub record HeldPopped (C : Table) (at : ℕ) (rest : List Frame) (f : Frame) (order : Order) : Type 0 where
-  pub known_rest : AreKnown C rest
-  pub known : f.of.0 < length C.types
-  pub kind : IsEncapsulation (tree C f.of.0)
-  pub within : f.index ≤ f.count
-  pub front : OpenFrom 24 (places C at rest)
-  pub is : place C at f ≡ Inside (tree C f.of.0) (coded order (at - f.index)) (at + (f.count - f.index))
+pub record HeldPopped (C : Table) (at : ℕ) (rest : List Frame) (f : Frame) (order : Order) : Type 0
+  where
+    pub known_rest : AreKnown C rest
+    pub known : f.of.0 < length C.types
+    pub kind : IsEncapsulation (tree C f.of.0)
+    pub within : f.index ≤ f.count
+    pub front : OpenFrom 24 (places C at rest)
+    pub is : place C at f ≡ Inside (tree C f.of.0) (coded order (at - f.index))
+        (at + (f.count - f.index))
 
-pub held_popped : (C : Table) (at : ℕ) (items rest : List Frame) (f : Frame) (order : Order) → AreKnown C items → OpenFrom 24 (places C at items) → items ≡ rest ++ f ∷ [] → f.inside ≡ Some order → HeldPopped C at rest f order
+pub held_popped : (C : Table) (at : ℕ) (items rest : List Frame) (f : Frame) (order : Order) →
+    AreKnown C items → OpenFrom 24 (places C at items) → items ≡ rest ++ f ∷ [] →
+    f.inside ≡ Some order → HeldPopped C at rest f order
 held_popped C at items rest f order known are_open e some =
     let p = popped C at items rest f known are_open e in
     let w : IsWithin (Some order) f.index f.count (tree C f.of.0) = subst (λ x. IsWithin x f.index f.count (tree C f.of.0)) some p.known.within in
@@ -163,26 +175,16 @@ held_popped C at items rest f order known are_open e some =
       is = ap (λ x. place_in at x (tree C f.of.0) f.index f.count) some;
     }
 
-pub length_places : (C : Table) (at : ℕ) (frames : List Frame) → length (places C at frames) ≡ length frames
+pub length_places : (C : Table) (at : ℕ) (frames : List Frame) →
+    length (places C at frames) ≡ length frames
 length_places C at [] = refl
 length_places C at (f ∷ frames) = ap suc (length_places C at frames)
 
 pub place_part : (T : Ty) (i count : ℕ) → HasParts T count → part_in T i count ≡ Part T i count
-place_part (Struct n names parts) i count h = refl
-place_part (Array n E) i count h = refl
-place_part (Sequence bound E) i count h = refl
-place_part (Single scalar) i count h = refl
-place_part (Text bound) i count h = refl
 place_part (Encapsulation E) i count h = absurd h
-place_part (Octets bound) i count h = refl
 place_part (Union choice scalar select names cases) i count h = absurd h
+place_part T i count h = refl
 
 pub place_case : (T : Ty) (i count : ℕ) → HasCase T i → part_in T i count ≡ Member T i
 place_case (Union choice scalar select names cases) i count h = refl
-place_case (Struct n names parts) i count h = absurd h
-place_case (Array n E) i count h = absurd h
-place_case (Sequence bound E) i count h = absurd h
-place_case (Single scalar) i count h = absurd h
-place_case (Text bound) i count h = absurd h
-place_case (Encapsulation E) i count h = absurd h
-place_case (Octets bound) i count h = absurd h
+place_case T i count h = absurd h

@@ -11,7 +11,7 @@ use Rattle.giop_cdr.specs.Primitives.{size_of}
 use Rattle.giop_cdr.specs.declared.prim.Primitive.{Primitive}
 use Rattle.giop_decode.specs.Pieces.{Got, Grab, Waiting, block, content, ends, full_piece, full_pieces, last_piece, number, octets, over, tail, text, unless}
 use Rattle.giop_decode.specs.Reading.{headed, member, parts_from, read, refused, single, wrong}
-use Rattle.giop_decode.specs.Spine.{Coding, Count, Done, Fault, Index, Line, Member, Name, Part, Piece, Place, Read, Seg, Short, Switch, followed, line, with_front, within}
+use Rattle.giop_decode.specs.Spine.{Coding, Count, Done, Fault, Line, Member, Name, Part, Piece, Place, Read, Seg, Short, Switch, followed, line, with_front, within}
 use Rattle.giop_decode.specs.Steps.{advance, after, block_step, head_width, inner_path, number_step, part_at, step}
 use Rattle.giop_decode.specs.declared.progress.Kind.{Kind}
 use Rattle.giop_sig.specs.Types.{Choice, Enum, Octets, Plain, Scalar, Sequence, Single, Text, Ty, Union, part_of, width, tag_of}
@@ -26,64 +26,67 @@ Goes coding path reader = (at : ℕ) (s : List ℕ) (b : ℕ) → reader at (s +
 
 -- with_front
 
-pub with_front_twice : (front mid : List Line) (r : Read) → with_front front (with_front mid r) ≡ with_front (front ++ mid) r
+pub with_front_twice : (front mid : List Line) (r : Read) →
+    with_front front (with_front mid r) ≡ with_front (front ++ mid) r
 with_front_twice front mid (Done lines at rest) = ap (λ ls. Done ls at rest) (sym (append_assoc front mid lines))
 with_front_twice front mid (Short lines at outer leaf) = ap (λ ls. Short ls at outer leaf) (sym (append_assoc front mid lines))
 with_front_twice front mid (Fault lines at kind S) = ap (λ ls. Fault ls at kind S) (sym (append_assoc front mid lines))
 
 pub with_front_none : (r : Read) → with_front [] r ≡ r
 with_front_none (Done lines at rest) = refl
-with_front_none (Short lines at outer leaf) = refl
-with_front_none (Fault lines at kind S) = refl
+with_front_none r = refl
 
-pub with_front-advance : (coding : Coding) (path : List Seg) (front : List Line) (r : Read) (b : ℕ) → with_front front (advance coding path r b) ≡ advance coding path (with_front front r) b
-with_front-advance coding path front (Done lines at rest) b = refl
+pub with_front-advance : (coding : Coding) (path : List Seg) (front : List Line) (r : Read)
+    (b : ℕ) → with_front front (advance coding path r b)
+    ≡ advance coding path (with_front front r) b
 with_front-advance coding path front (Short lines at outer leaf) b = with_front_twice front lines (step coding path outer leaf at b)
-with_front-advance coding path front (Fault lines at kind S) b = refl
+with_front-advance coding path front r b = refl
 
-pub with_front-followed : (front : List Line) (r : Read) (next : ℕ → List ℕ → Read) → followed (with_front front r) next ≡ with_front front (followed r next)
+pub with_front-followed : (front : List Line) (r : Read) (next : ℕ → List ℕ → Read) →
+    followed (with_front front r) next ≡ with_front front (followed r next)
 with_front-followed front (Done lines at rest) next = sym (with_front_twice front lines (next at rest))
-with_front-followed front (Short lines at outer leaf) next = refl
-with_front-followed front (Fault lines at kind S) next = refl
+with_front-followed front r next = refl
 
-pub with_front-within : (front : List Line) (place : Place) (r : Read) → within place (with_front front r) ≡ with_front front (within place r)
+pub with_front-within : (front : List Line) (place : Place) (r : Read) →
+    within place (with_front front r) ≡ with_front front (within place r)
 with_front-within front place (Done lines at rest) = refl
-with_front-within front place (Short lines at outer leaf) = refl
-with_front-within front place (Fault lines at kind S) = refl
+with_front-within front place r = refl
 
 -- a part, and what follows it
 
-pub part_goes : (coding : Coding) (path : List Seg) (T : Ty) (count i more : ℕ) → more ≡ count - suc i →
-    Goes coding path (parts_from (part_at coding path T count) more (suc i)) → (r : Read) (b : ℕ) →
-    followed (within (Part T i count) (advance coding (inner_path path T i) r b)) (parts_from (part_at coding path T count) more (suc i))
-    ≡ advance coding path (followed (within (Part T i count) r) (parts_from (part_at coding path T count) more (suc i))) b
-part_goes coding path T count i more is goes (Done lines at rest) b =
-    ap (with_front lines) (goes at rest b) ∙ with_front-advance coding path lines (parts_from (part_at coding path T count) more (suc i) at rest) b
-part_goes coding path T count i more is goes (Short lines at outer leaf) b =
-    let r = step coding (inner_path path T i) outer leaf at b in
-    let next = parts_from (part_at coding path T count) more (suc i) in
-    ap (λ x. followed x next) (with_front-within lines (Part T i count) r)
-    ∙ (with_front-followed lines (within (Part T i count) r) next
-    ∙ ap (λ m. with_front lines (followed (within (Part T i count) r) (parts_from (part_at coding path T count) m (suc i)))) is)
-part_goes coding path T count i more is goes (Fault lines at kind S) b = refl
+module _ (coding : Coding) (path : List Seg) (T : Ty) (count : ℕ) where
+  abbrev parts : ℕ → ℕ → ℕ → List ℕ → Read
+  parts more i = parts_from (part_at coding path T count) more i
 
--- parts, one from where the other ended
-pub parts_go : (coding : Coding) (path : List Seg) (T : Ty) (count : ℕ) →
-    ((i : ℕ) → Goes coding (inner_path path T i) (read coding (inner_path path T i) (part_of T i))) →
-    (more i : ℕ) → more ≡ count - i → Goes coding path (parts_from (part_at coding path T count) more i)
-parts_go coding path T count each zero i is at s b = refl
-parts_go coding path T count each (suc more) i is at s b =
-    let next = parts_from (part_at coding path T count) more (suc i) in
-    let is_next : more ≡ count - suc i = omega arith in
-    ap (λ r. followed (within (Part T i count) r) next) (each i at s b)
-    ∙ part_goes coding path T count i more is_next (parts_go coding path T count each more (suc i) is_next) (read coding (inner_path path T i) (part_of T i) at s) b
+  pub part_goes : (i more : ℕ) → more ≡ count - suc i → Goes coding path (parts more (suc i)) →
+      (r : Read) (b : ℕ) → followed (within (Part T i count)
+      (advance coding (inner_path path T i) r b)) (parts more (suc i))
+      ≡ advance coding path (followed (within (Part T i count) r) (parts more (suc i))) b
+  part_goes i more is goes (Done lines at rest) b =
+      ap (with_front lines) (goes at rest b) ∙ with_front-advance coding path lines (parts more (suc i) at rest) b
+  part_goes i more is goes (Short lines at outer leaf) b =
+      let r = within (Part T i count) (step coding (inner_path path T i) outer leaf at b) in
+      let next = parts more (suc i) in
+      ap (λ x. followed x next) (with_front-within lines (Part T i count) (step coding (inner_path path T i) outer leaf at b))
+      ∙ (with_front-followed lines r next ∙ ap (λ m. with_front lines (followed r (parts m (suc i)))) is)
+  part_goes i more is goes (Fault lines at kind S) b = refl
+
+  -- parts, one from where the other ended
+  pub parts_go : ((i : ℕ) → Goes coding (inner_path path T i)
+      (read coding (inner_path path T i) (part_of T i))) → (more i : ℕ) → more ≡ count - i →
+      Goes coding path (parts more i)
+  parts_go each zero i is at s b = refl
+  parts_go each (suc more) i is at s b =
+      let is_next : more ≡ count - suc i = omega arith in
+      ap (λ r. followed (within (Part T i count) r) (parts more (suc i))) (each i at s b)
+      ∙ part_goes i more is_next (parts_go each more (suc i) is_next) (read coding (inner_path path T i) (part_of T i) at s) b
 
 -- a union's member, behind which nothing follows
 pub member_goes : (coding : Coding) (path : List Seg) (T : Ty) (i : ℕ) (r : Read) (b : ℕ) →
-    within (Member T i) (advance coding (inner_path path T i) r b) ≡ advance coding path (within (Member T i) r) b
-member_goes coding path T i (Done lines at rest) b = refl
+    within (Member T i) (advance coding (inner_path path T i) r b)
+    ≡ advance coding path (within (Member T i) r) b
 member_goes coding path T i (Short lines at outer leaf) b = with_front-within lines (Member T i) (step coding (inner_path path T i) outer leaf at b)
-member_goes coding path T i (Fault lines at kind S) b = refl
+member_goes coding path T i r b = refl
 
 -- octets
 
@@ -96,25 +99,30 @@ pub block_waits : (n at : ℕ) (s : List ℕ) → length s < n → block n at s 
 unfolding block
 block_waits n at s h = rw lt-ltb refl
 
-pub block_got : (n at : ℕ) (s : List ℕ) → n ≤ length s → block n at s ≡ Got (take n s) (at + n) (drop n s)
+pub block_got : (n at : ℕ) (s : List ℕ) → n ≤ length s →
+    block n at s ≡ Got (take n s) (at + n) (drop n s)
 unfolding block
 block_got n at s h = rw le-ltb refl
 
-pub block_step_waits : (n at : ℕ) (held : List ℕ) (b : ℕ) → length held + 1 < n → block_step n at held b ≡ Waiting (held ++ b ∷ []) (at + 1)
+pub block_step_waits : (n at : ℕ) (held : List ℕ) (b : ℕ) → length held + 1 < n →
+    block_step n at held b ≡ Waiting (held ++ b ∷ []) (at + 1)
 unfolding block_step
 block_step_waits n at held b h = rw lt-ltb refl
 
-pub block_step_got : (n at : ℕ) (held : List ℕ) (b : ℕ) → n ≤ length held + 1 → block_step n at held b ≡ Got (held ++ b ∷ []) (at + 1) []
+pub block_step_got : (n at : ℕ) (held : List ℕ) (b : ℕ) → n ≤ length held + 1 →
+    block_step n at held b ≡ Got (held ++ b ∷ []) (at + 1) []
 unfolding block_step
 block_step_got n at held b h = rw le-ltb refl
 
 pub length_one_more : (s : List ℕ) (b : ℕ) → length (s ++ b ∷ []) ≡ length s + 1
 length_one_more s b = length-append s (b ∷ [])
 
-pub block_goes : (n at : ℕ) (s : List ℕ) (b : ℕ) → block n at (s ++ b ∷ []) ≡ more_of (block_step n) (block n at s) b
+pub block_goes : (n at : ℕ) (s : List ℕ) (b : ℕ) →
+    block n at (s ++ b ∷ []) ≡ more_of (block_step n) (block n at s) b
 block_goes n at s b = go (cases_lt (length s) n) (cases_lt (length s + 1) n)
   where
-    go : (length s < n) ⊎ (n ≤ length s) → (length s + 1 < n) ⊎ (n ≤ length s + 1) → block n at (s ++ b ∷ []) ≡ more_of (block_step n) (block n at s) b
+    go : (length s < n) ⊎ (n ≤ length s) → (length s + 1 < n) ⊎ (n ≤ length s + 1) →
+        block n at (s ++ b ∷ []) ≡ more_of (block_step n) (block n at s) b
     go (inl h) (inl k) =
         let l : length (s ++ b ∷ []) < n = rw length_one_more k in
         block_waits n at (s ++ b ∷ []) l ∙ (ap (Waiting (s ++ b ∷ [])) (omega (arith, length_one_more s b))
@@ -188,125 +196,148 @@ pad_end_from o at n h = go (cases_lt at o)
         let e : (at + padding (at - o) n) - o ≡ (at - o) + padding (at - o) n = omega arith in
         rw e (pad_end (at - o) n h)
 
-pub number_waits : (o n at : ℕ) (s : List ℕ) → length s < padding (at - o) n → number o n at s ≡ Waiting [] (at + length s)
+pub number_waits : (o n at : ℕ) (s : List ℕ) → length s < padding (at - o) n →
+    number o n at s ≡ Waiting [] (at + length s)
 unfolding number
 number_waits o n at s h = rw lt-ltb refl
 
-pub number_blocks : (o n at : ℕ) (s : List ℕ) → padding (at - o) n ≤ length s → number o n at s ≡ block n (at + padding (at - o) n) (drop (padding (at - o) n) s)
+pub number_blocks : (o n at : ℕ) (s : List ℕ) → padding (at - o) n ≤ length s →
+    number o n at s ≡ block n (at + padding (at - o) n) (drop (padding (at - o) n) s)
 unfolding number
 number_blocks o n at s h = rw le-ltb refl
 
-pub number_step_pads : (o n at b : ℕ) → 0 < padding (at - o) n → number_step o n at [] b ≡ Waiting [] (at + 1)
+pub number_step_pads : (o n at b : ℕ) → 0 < padding (at - o) n →
+    number_step o n at [] b ≡ Waiting [] (at + 1)
 unfolding number_step
 number_step_pads o n at b h = rw lt-ltb refl
 
-pub number_step_blocks : (o n at : ℕ) (carry : List ℕ) (b : ℕ) → (0 < length carry) ⊎ (padding (at - o) n ≡ 0) → number_step o n at carry b ≡ block_step n at carry b
+pub number_step_blocks : (o n at : ℕ) (carry : List ℕ) (b : ℕ) →
+    (0 < length carry) ⊎ (padding (at - o) n ≡ 0) →
+    number_step o n at carry b ≡ block_step n at carry b
 unfolding number_step
 number_step_blocks o n at [] b (inl h) = absurd (omega arith)
 number_step_blocks o n at (x ∷ xs) b (inl h) = refl
 number_step_blocks o n at [] b (inr h) = rw h refl
 number_step_blocks o n at (x ∷ xs) b (inr h) = refl
 
-pub number_goes : (o n at : ℕ) (s : List ℕ) (b : ℕ) → 0 < n → number o n at (s ++ b ∷ []) ≡ more_of (number_step o n) (number o n at s) b
+pub number_goes : (o n at : ℕ) (s : List ℕ) (b : ℕ) → 0 < n →
+    number o n at (s ++ b ∷ []) ≡ more_of (number_step o n) (number o n at s) b
 number_goes o n at s b pos = go (cases_lt (length s) (padding (at - o) n)) (cases_lt (length s + 1) (padding (at - o) n))
   where
     -- past the padding, a block's step is the number's
-    same : (t : List ℕ) → (length t < n) ⊎ (n ≤ length t) → more_of (block_step n) (block n (at + padding (at - o) n) t) b ≡ more_of (number_step o n) (block n (at + padding (at - o) n) t) b
-    same [] (inl h) = rw (block_waits n (at + padding (at - o) n) [] h, add-zero) (sym (number_step_blocks o n (at + padding (at - o) n) [] b (inr (pad_end_from o at n pos))))
+    same : (t : List ℕ) → (length t < n) ⊎ (n ≤ length t) →
+        more_of (block_step n) (block n (at + padding (at - o) n) t) b
+        ≡ more_of (number_step o n) (block n (at + padding (at - o) n) t) b
+    same [] (inl h) =
+        rw (block_waits n (at + padding (at - o) n) [] h, add-zero) (sym (number_step_blocks o n (at + padding (at - o) n) [] b
+        (inr (pad_end_from o at n pos))))
     same (x ∷ t) (inl h) = rw (block_waits n (at + padding (at - o) n) (x ∷ t) h) (sym (number_step_blocks o n _ (x ∷ t) b (inl (omega arith))))
     same t (inr h) = rw (block_got n (at + padding (at - o) n) t h) refl
 
-    go : (length s < padding (at - o) n) ⊎ (padding (at - o) n ≤ length s) → (length s + 1 < padding (at - o) n) ⊎ (padding (at - o) n ≤ length s + 1) → number o n at (s ++ b ∷ []) ≡ more_of (number_step o n) (number o n at s) b
+    go : (length s < padding (at - o) n) ⊎ (padding (at - o) n ≤ length s) →
+        (length s + 1 < padding (at - o) n) ⊎ (padding (at - o) n ≤ length s + 1) →
+        number o n at (s ++ b ∷ []) ≡ more_of (number_step o n) (number o n at s) b
     go (inl h) (inl k) =
         let l : length (s ++ b ∷ []) < padding (at - o) n = rw length_one_more k in
-        rw (number_waits o n at s h, number_waits o n at (s ++ b ∷ []) l, number_step_pads o n (at + length s) b (pad_more_from o at (length s) n pos h), length_one_more, add_assoc) refl
+        rw (number_waits o n at s h, number_waits o n at (s ++ b ∷ []) l)
+        (rw (number_step_pads o n (at + length s) b (pad_more_from o at (length s) n pos h), length_one_more, add_assoc) refl)
     go (inl h) (inr k) =
         let l : padding (at - o) n ≡ length (s ++ b ∷ []) = omega (arith, length_one_more s b) in
-        rw (number_waits o n at s h, number_blocks o n at (s ++ b ∷ []) (le_of_eq l), number_step_pads o n (at + length s) b (pad_more_from o at (length s) n pos h), drop_all (padding (at - o) n) (s ++ b ∷ []) (le_of_eq (sym l)), block_waits n (at + padding (at - o) n) [] pos) (ap (Waiting []) (omega (arith, length_one_more s b)))
+        rw (number_waits o n at s h, number_blocks o n at (s ++ b ∷ []) (le_of_eq l))
+        (rw (number_step_pads o n (at + length s) b (pad_more_from o at (length s) n pos h))
+        (rw (drop_all (padding (at - o) n) (s ++ b ∷ []) (le_of_eq (sym l)), block_waits n (at + padding (at - o) n) [] pos)
+        (ap (Waiting []) (omega (arith, length_one_more s b)))))
     go (inr h) _ =
         let l : padding (at - o) n ≤ length (s ++ b ∷ []) = omega (arith, length_one_more s b) in
         rw (number_blocks o n at s h, number_blocks o n at (s ++ b ∷ []) l, drop-append-le)
-        (block_goes n (at + padding (at - o) n) (drop (padding (at - o) n) s) b ∙ same (drop (padding (at - o) n) s) (cases_lt (length (drop (padding (at - o) n) s)) n))
+        (block_goes n (at + padding (at - o) n) (drop (padding (at - o) n) s) b ∙ same (drop (padding (at - o) n) s)
+        (cases_lt (length (drop (padding (at - o) n) s)) n))
 
 -- content
 
-pub unless_goes : (coding : Coding) (path : List Seg) (T : Ty) (why : Option Kind) (at : ℕ) (r : Read) (b : ℕ) → unless T why at (advance coding path r b) ≡ advance coding path (unless T why at r) b
-unless_goes coding path T None at r b = refl
-unless_goes coding path T (Some kind) at r b = refl
+module _ (coding : Coding) (path : List Seg) where
+  pub unless_goes : (T : Ty) (why : Option Kind) (at : ℕ) (r : Read) (b : ℕ) →
+      unless T why at (advance coding path r b) ≡ advance coding path (unless T why at r) b
+  unless_goes T None at r b = refl
+  unless_goes T (Some kind) at r b = refl
 
-last_piece_goes : (coding : Coding) (path : List Seg) (T : Ty) (total offset : ℕ) → total - offset ≤ 32 → (g : Grab) (b : ℕ) →
-    last_piece T path total offset (more_of (block_step (total - offset + tail T)) g b) ≡ advance coding path (last_piece T path total offset g) b
-last_piece_goes coding path T total offset h (Waiting piece at) b =
-    rw (le-ltb, with_front_none (last_piece T path total offset (block_step (total - offset + tail T) at piece b))) refl
-last_piece_goes coding path T total offset h (Got xs at rest) b =
-    unless_goes coding path T (ends T (total - offset) xs) at (Done (line at path (Piece T offset (take (total - offset) xs) false) ∷ []) at rest) b
+  last_piece_goes : (T : Ty) (total offset : ℕ) → total - offset ≤ 32 → (g : Grab) (b : ℕ) →
+      last_piece T path total offset (more_of (block_step (total - offset + tail T)) g b)
+      ≡ advance coding path (last_piece T path total offset g) b
+  last_piece_goes T total offset h (Waiting piece at) b =
+      rw (le-ltb, with_front_none (last_piece T path total offset (block_step (total - offset + tail T) at piece b))) refl
+  last_piece_goes T total offset h (Got xs at rest) b =
+      unless_goes T (ends T (total - offset) xs) at (Done (line at path (Piece T offset (take (total - offset) xs) false) ∷ []) at rest) b
 
-full_piece_goes : (coding : Coding) (path : List Seg) (T : Ty) (total offset full : ℕ) → suc full ≡ full_pieces (total - offset) →
-    Goes coding path (content T path total full (offset + 32)) → (g : Grab) (b : ℕ) →
-    full_piece T path total offset (content T path total full (offset + 32)) (more_of (block_step 32) g b)
-    ≡ advance coding path (full_piece T path total offset (content T path total full (offset + 32)) g) b
-full_piece_goes coding path T total offset full is goes (Waiting piece at) b =
-    let more : 32 < total - offset = omega arith in
-    let rest : full_pieces (total - (offset + 32)) ≡ full = omega arith in
-    rw (lt-ltb, rest, with_front_none (full_piece T path total offset (content T path total full (offset + 32)) (block_step 32 at piece b))) refl
-full_piece_goes coding path T total offset full is goes (Got xs at rest) b =
-    let front = line at path (Piece T offset xs true) ∷ [] in
-    ap (with_front front) (goes at rest b) ∙ with_front-advance coding path front (content T path total full (offset + 32) at rest) b
+  full_piece_goes : (T : Ty) (total offset full : ℕ) → suc full ≡ full_pieces (total - offset) →
+      Goes coding path (content T path total full (offset + 32)) → (g : Grab) (b : ℕ) →
+      full_piece T path total offset (content T path total full (offset + 32))
+      (more_of (block_step 32) g b) ≡ advance coding path (full_piece T path total offset
+      (content T path total full (offset + 32)) g) b
+  full_piece_goes T total offset full is goes (Waiting piece at) b =
+      let more : 32 < total - offset = omega arith in
+      let rest : full_pieces (total - (offset + 32)) ≡ full = omega arith in
+      rw (lt-ltb, rest, with_front_none (full_piece T path total offset (content T path total full (offset + 32)) (block_step 32 at piece b))) refl
+  full_piece_goes T total offset full is goes (Got xs at rest) b =
+      let front = line at path (Piece T offset xs true) ∷ [] in
+      ap (with_front front) (goes at rest b) ∙ with_front-advance coding path front (content T path total full (offset + 32) at rest) b
 
-pub content_goes : (coding : Coding) (path : List Seg) (T : Ty) (total full offset : ℕ) → full ≡ full_pieces (total - offset) → Goes coding path (content T path total full offset)
-content_goes coding path T total zero offset is at s b =
-    ap (last_piece T path total offset) (block_goes (total - offset + tail T) at s b)
-    ∙ last_piece_goes coding path T total offset (omega arith) (block (total - offset + tail T) at s) b
-content_goes coding path T total (suc full) offset is at s b =
-    ap (full_piece T path total offset (content T path total full (offset + 32))) (block_goes 32 at s b)
-    ∙ full_piece_goes coding path T total offset full is (content_goes coding path T total full (offset + 32) (omega arith)) (block 32 at s) b
+  pub content_goes : (T : Ty) (total full offset : ℕ) → full ≡ full_pieces (total - offset) →
+      Goes coding path (content T path total full offset)
+  content_goes T total zero offset is at s b =
+      ap (last_piece T path total offset) (block_goes (total - offset + tail T) at s b)
+      ∙ last_piece_goes T total offset (omega arith) (block (total - offset + tail T) at s) b
+  content_goes T total (suc full) offset is at s b =
+      ap (full_piece T path total offset (content T path total full (offset + 32))) (block_goes 32 at s b)
+      ∙ full_piece_goes T total offset full is (content_goes T total full (offset + 32) (omega arith)) (block 32 at s) b
 
-pub text_goes : (coding : Coding) (path : List Seg) (bound : Option ℕ) (n : ℕ) → Goes coding path (text bound path n)
-text_goes coding path bound zero at s b = refl
-text_goes coding path bound (suc n) at s b =
-    ap (unless (Text bound) (over bound n) at) (content_goes coding path (Text bound) n (full_pieces n) 0 (omega arith) at s b)
-    ∙ unless_goes coding path (Text bound) (over bound n) at (content (Text bound) path n (full_pieces n) 0 at s) b
+  pub text_goes : (bound : Option ℕ) (n : ℕ) → Goes coding path (text bound path n)
+  text_goes bound zero at s b = refl
+  text_goes bound (suc n) at s b =
+      ap (unless (Text bound) (over bound n) at) (content_goes (Text bound) n (full_pieces n) 0 (omega arith) at s b)
+      ∙ unless_goes (Text bound) (over bound n) at (content (Text bound) path n (full_pieces n) 0 at s) b
 
-pub octets_goes : (coding : Coding) (path : List Seg) (bound : Option ℕ) (n : ℕ) → Goes coding path (octets bound path n)
-octets_goes coding path bound n at s b =
-    ap (unless (Octets bound) (over bound n) at) (content_goes coding path (Octets bound) n (full_pieces n) 0 (omega arith) at s b)
-    ∙ unless_goes coding path (Octets bound) (over bound n) at (content (Octets bound) path n (full_pieces n) 0 at s) b
+  pub octets_goes : (bound : Option ℕ) (n : ℕ) → Goes coding path (octets bound path n)
+  octets_goes bound n at s b =
+      ap (unless (Octets bound) (over bound n) at) (content_goes (Octets bound) n (full_pieces n) 0 (omega arith) at s b)
+      ∙ unless_goes (Octets bound) (over bound n) at (content (Octets bound) path n (full_pieces n) 0 at s) b
 
 -- what begins with a number
 
-pub headed_goes : (coding : Coding) (path : List Seg) (T : Ty) → 0 < head_width T → ((n : ℕ) → Goes coding path (after coding path T n)) →
-    Goes coding path (λ at s. headed T (λ xs at rest. after coding path T (num coding.order xs) at rest) (number coding.origin (head_width T) at s))
+-- what follows the number, once that has come
+abbrev pub headed_by : Coding → List Seg → Ty → Grab → Read
+headed_by coding path T g =
+    headed T (λ xs at rest. after coding path T (num coding.order xs) at rest) g
+
+pub headed_goes : (coding : Coding) (path : List Seg) (T : Ty) → 0 < head_width T →
+    ((n : ℕ) → Goes coding path (after coding path T n)) →
+    Goes coding path (λ at s. headed_by coding path T (number coding.origin (head_width T) at s))
 headed_goes coding path T pos goes at s b =
-    ap (headed T (λ xs at rest. after coding path T (num coding.order xs) at rest)) (number_goes coding.origin (head_width T) at s b pos)
+    ap (headed_by coding path T) (number_goes coding.origin (head_width T) at s b pos)
     ∙ go (number coding.origin (head_width T) at s)
   where
-    go : (g : Grab) → headed T (λ xs at rest. after coding path T (num coding.order xs) at rest) (more_of (number_step coding.origin (head_width T)) g b)
-        ≡ advance coding path (headed T (λ xs at rest. after coding path T (num coding.order xs) at rest) g) b
-    go (Waiting carry at) = sym (with_front_none (headed T (λ xs at rest. after coding path T (num coding.order xs) at rest) (number_step coding.origin (head_width T) at carry b)))
+    go : (g : Grab) → headed_by coding path T (more_of (number_step coding.origin (head_width T)) g
+        b) ≡ advance coding path (headed_by coding path T g) b
+    go (Waiting carry at) =
+        sym (with_front_none (headed_by coding path T (number_step coding.origin (head_width T) at carry b)))
     go (Got xs at rest) = goes (num coding.order xs) at rest b
 
-pub single_goes : (coding : Coding) (path inner : List Seg) (scalar : Scalar) (n : ℕ) → Goes coding path (single inner scalar n)
-single_goes coding path inner scalar n at s b = unless_goes coding path (Single scalar) (wrong scalar n) at (Done (line at inner (Spine.Number scalar n) ∷ []) at s) b
+pub single_goes : (coding : Coding) (path inner : List Seg) (scalar : Scalar) (n : ℕ) →
+    Goes coding path (single inner scalar n)
+single_goes coding path inner scalar n at s b =
+    unless_goes coding path (Single scalar) (wrong scalar n) at (Done (line at inner (Spine.Number scalar n) ∷ []) at s) b
 
 pub size_pos : (p : Primitive) → 0 < size_of p
 size_pos prims.Octet = lit< tt
-size_pos prims.Char = lit< tt
-size_pos prims.Boolean = lit< tt
-size_pos prims.Short = lit< tt
-size_pos prims.UShort = lit< tt
-size_pos prims.Long = lit< tt
-size_pos prims.ULong = lit< tt
-size_pos prims.LongLong = lit< tt
-size_pos prims.ULongLong = lit< tt
-size_pos prims.Float = lit< tt
-size_pos prims.Double = lit< tt
+size_pos p = lit< tt
 
 pub width_pos : (scalar : Scalar) → 0 < width scalar
 width_pos (Plain p) = size_pos p
 width_pos (Enum count names) = lit< tt
 
 pub counted_goes : (coding : Coding) (path : List Seg) (bound : Option ℕ) (T : Ty) (n : ℕ) →
-    Goes coding path (parts_from (part_at coding path (Sequence bound T) n) n 0) → Goes coding path (after coding path (Sequence bound T) n)
+    Goes coding path (parts_from (part_at coding path (Sequence bound T) n) n 0) →
+    Goes coding path (after coding path (Sequence bound T) n)
 counted_goes coding path bound T n goes at s b =
     let front = line at path (Count n) ∷ [] in
     let elements = parts_from (part_at coding path (Sequence bound T) n) n 0 in
@@ -315,16 +346,18 @@ counted_goes coding path bound T n goes at s b =
     ∙ unless_goes coding path (Sequence bound T) (over bound n) at (with_front front (elements at s)) b)
 
 pub selected_goes : (coding : Coding) (path : List Seg) (T : Ty) (selected : Selected) →
-    ((i : ℕ) → Goes coding (inner_path path T i) (read coding (inner_path path T i) (part_of T i))) →
-    Goes coding path (member selected (λ i at s. within (Member T i) (read coding (inner_path path T i) (part_of T i) at s)))
+    ((i : ℕ) → Goes coding (inner_path path T i) (read coding (inner_path path T i) (part_of T i)))
+    → Goes coding path (member selected (λ i at s. within (Member T i)
+    (read coding (inner_path path T i) (part_of T i) at s)))
 selected_goes coding path T (Case i) each at s b =
     ap (within (Member T i)) (each i at s b) ∙ member_goes coding path T i (read coding (inner_path path T i) (part_of T i) at s) b
 selected_goes coding path T Nothing each at s b = refl
 selected_goes coding path T Refused each at s b = refl
 
-pub union_goes : (coding : Coding) (path : List Seg) (choice : Choice) (scalar : Scalar) (select : ℕ → Selected) (names : ℕ → List ℕ) (cases : ℕ → Ty) (n : ℕ) →
-    ((i : ℕ) → Goes coding (path ++ Name (names i) ∷ []) (read coding (path ++ Name (names i) ∷ []) (cases i))) →
-    Goes coding path (after coding path (Union choice scalar select names cases) n)
+pub union_goes : (coding : Coding) (path : List Seg) (choice : Choice) (scalar : Scalar)
+    (select : ℕ → Selected) (names : ℕ → List ℕ) (cases : ℕ → Ty) (n : ℕ) →
+    ((i : ℕ) → Goes coding (path ++ Name (names i) ∷ []) (read coding (path ++ Name (names i) ∷ [])
+    (cases i))) → Goes coding path (after coding path (Union choice scalar select names cases) n)
 union_goes coding path choice scalar select names cases n each at s b =
     let T = Union choice scalar select names cases in
     let next : ℕ → List ℕ → Read = member (select n) (λ i at' s'. within (Member T i) (read coding (inner_path path T i) (part_of T i) at' s')) in

@@ -1,16 +1,16 @@
 -- What fits inside a type, and what one octet more leaves of it.
-use Rattle.std.proofs.Common.{◌≡◌, ℕ, zero, suc, ◌+◌, ◌-◌, ◌<◌, ◌≤◌, List, [], ◌∷◌, ◌++◌, length, refl, subst, arith, add-zero, ◌⊎◌, inl, inr, lt-ltb, le-ltb}
+use Rattle.std.proofs.Common.{◌≡◌, ℕ, zero, suc, ◌+◌, ◌-◌, ◌<◌, ◌≤◌, List, [], ◌∷◌, ◌++◌, length, refl, sym, subst, arith, add-zero, ◌⊎◌, inl, inr, lt-ltb, le-ltb}
 use Rattle.std.proofs.lemmas.Bool.{cases_lt}
 use Rattle.giop_cdr.specs.Alignment.{padding}
 use Rattle.giop_cdr.specs.Numbers.{num}
 use Rattle.giop_decode.specs.Fits.{leaf_ty, Sound, FitsIn, HasCase, HasContent, HasHead, IsOpen, OpenFrom, IsEncapsulation, Surrounds}
 use Rattle.giop_decode.specs.Pieces.{Got, Grab, Waiting, content, full_pieces, tail}
-use Rattle.giop_decode.specs.Reading.{headed, parts_from, enclosed, order_of, ordered}
-use Rattle.giop_decode.specs.Spine.{Coding, Content, Head, Leaf, Member, Part, Place, Seg, within, Held, Inside, Opening}
+use Rattle.giop_decode.specs.Reading.{parts_from, enclosed, order_of, ordered}
+use Rattle.giop_decode.specs.Spine.{Coding, Content, Head, Leaf, Member, Part, Place, Seg, Held, Inside, Opening}
 use Rattle.giop_decode.specs.Steps.{after, block_step, content_step, head_width, leaf_step, number_step, part_at, seg_of, step, held}
 use Rattle.giop_sig.specs.Fits.{IsFit}
-use Rattle.giop_sig.specs.Types.{Array, Encapsulation, Octets, Sequence, Single, Struct, Text, Ty, Union, part_of}
-use Rattle.giop_decode.proofs.Law.{block_step_waits, block_step_got, number_step_pads, number_step_blocks, length_one_more}
+use Rattle.giop_sig.specs.Types.{Encapsulation, Ty, Union, part_of}
+use Rattle.giop_decode.proofs.Law.{headed_by, block_step_waits, block_step_got, number_step_pads, number_step_blocks, length_one_more}
 use Rattle.giop_decode.proofs.Around.{fit_none, fit_part}
 use Rattle.giop_decode.proofs.Sound.{Takes, ordered_sound, sound_enclosed, sound_followed, sound_part, sound_member, parts_keep, after_keeps, read_keeps, full_piece_sound, last_piece_sound, content_keeps}
 
@@ -25,45 +25,32 @@ pub record LeafAt (d : ℕ) (outer : List Place) (leaf : Leaf) : Type 0 where
 pub fit_case : (d : ℕ) (T : Ty) (i : ℕ) → IsFit (suc d) T → HasCase T i → IsFit d (part_of T i)
 unfolding IsFit
 fit_case d (Union choice scalar select names cases) i fit kind = fit.1 i kind
-fit_case d (Struct n names parts) i fit kind = absurd kind
-fit_case d (Array n T) i fit kind = absurd kind
-fit_case d (Encapsulation T) i fit kind = absurd kind
-fit_case d (Sequence bound T) i fit kind = absurd kind
-fit_case d (Single scalar) i fit kind = absurd kind
-fit_case d (Text bound) i fit kind = absurd kind
-fit_case d (Octets bound) i fit kind = absurd kind
+fit_case d T i fit kind = absurd kind
 
 pub fit_held : (d : ℕ) (T : Ty) → IsFit (suc d) T → IsEncapsulation T → IsFit d (part_of T 0)
 unfolding IsFit
 fit_held d (Encapsulation T) fit kind = fit
-fit_held d (Struct n names parts) fit kind = absurd kind
-fit_held d (Array n T) fit kind = absurd kind
-fit_held d (Sequence bound T) fit kind = absurd kind
-fit_held d (Single scalar) fit kind = absurd kind
-fit_held d (Text bound) fit kind = absurd kind
-fit_held d (Octets bound) fit kind = absurd kind
-fit_held d (Union n scalar select names cases) fit kind = absurd kind
+fit_held d T fit kind = absurd kind
 
-deeper : (d : ℕ) (place : Place) (outer : List Place) (leaf : Leaf) → IsOpen (suc d) place → LeafAt d outer leaf → LeafAt (suc d) (place ∷ outer) leaf
+deeper : (d : ℕ) (place : Place) (outer : List Place) (leaf : Leaf) → IsOpen (suc d) place →
+    LeafAt d outer leaf → LeafAt (suc d) (place ∷ outer) leaf
 deeper d place outer leaf is l = record { are_open = (is, l.are_open); left = l.left; depth = omega (arith, l.depth); fit = l.fit; fits = l.fits }
 
-pub leaf_at : (d : ℕ) (T : Ty) (outer : List Place) (leaf : Leaf) → FitsIn T outer leaf → IsFit d T → LeafAt d outer leaf
+leaf_same : (T : Ty) (leaf : Leaf) → FitsIn T [] leaf → leaf_ty leaf ≡ T
+leaf_same T (Head U carry) fits = fits.same
+leaf_same T leaf fits = fits.same
+
+pub leaf_at : (d : ℕ) (T : Ty) (outer : List Place) (leaf : Leaf) → FitsIn T outer leaf →
+    IsFit d T → LeafAt d outer leaf
 unfolding IsFit
-leaf_at d T [] (Head U carry) fits fit =
-    record { are_open = tt; left = d; depth = omega arith; fit = rw fits.same fit; fits = record { same = refl; kind = rw fits.same fits.kind; room = rw fits.same fits.room } }
-leaf_at d T [] (Content U total offset piece) fits fit =
-    record {
-      are_open = tt;
-      left = d;
-      depth = omega arith;
-      fit = rw fits.same fit;
-      fits = record { same = refl; kind = rw fits.same fits.kind; ahead = fits.ahead; room_full = fits.room_full; room_last = rw fits.same fits.room_last };
-    }
-leaf_at d T [] (Opening U n) fits fit =
-    record { are_open = tt; left = d; depth = omega arith; fit = rw fits.same fit; fits = record { same = refl; kind = rw fits.same fits.kind } }
+leaf_at d T [] leaf fits fit =
+    let e : leaf_ty leaf ≡ T = leaf_same T leaf fits in
+    let there : FitsIn (leaf_ty leaf) [] leaf = subst (λ S. FitsIn S [] leaf) (sym e) fits in
+    record { are_open = tt; left = d; depth = omega arith; fit = rw e fit; fits = there }
 leaf_at zero T (Part U i count ∷ outer) leaf fits fit = absurd fit
 leaf_at (suc d) T (Part U i count ∷ outer) leaf fits fit =
-    deeper d (Part U i count) outer leaf (rw fits.0.same (fits.0.kind, fits.0.below, fit)) (leaf_at d (part_of T i) outer leaf fits.1 (fit_part d T i count fit fits.0.kind fits.0.below))
+    deeper d (Part U i count) outer leaf (rw fits.0.same (fits.0.kind, fits.0.below, fit))
+    (leaf_at d (part_of T i) outer leaf fits.1 (fit_part d T i count fit fits.0.kind fits.0.below))
 leaf_at zero T (Member U i ∷ outer) leaf fits fit = absurd fit
 leaf_at (suc d) T (Member U i ∷ outer) leaf fits fit =
     deeper d (Member U i) outer leaf (rw fits.0.same (fits.0.kind, fit)) (leaf_at d (part_of T i) outer leaf fits.1 (fit_case d T i fit fits.0.kind))
@@ -73,59 +60,72 @@ leaf_at (suc d) T (Inside U c end ∷ outer) leaf fits fit =
 
 -- one octet more
 
-block_step_takes : (n at : ℕ) (held : List ℕ) (b : ℕ) → length held < n → Takes n (at + 1) (block_step n at held b)
+block_step_takes : (n at : ℕ) (held : List ℕ) (b : ℕ) → length held < n →
+    Takes n (at + 1) (block_step n at held b)
 block_step_takes n at held b room = go (cases_lt (length held + 1) n)
   where
     go : (length held + 1 < n) ⊎ (n ≤ length held + 1) → Takes n (at + 1) (block_step n at held b)
     go (inl h) = rw (block_step_waits n at held b h) (refl, omega (arith, length_one_more held b))
     go (inr h) = rw (block_step_got n at held b h) (omega arith, omega (arith, length_one_more held b))
 
-number_step_takes : (o n at : ℕ) (carry : List ℕ) (b : ℕ) → length carry < n → Takes n (at + 1) (number_step o n at carry b)
+number_step_takes : (o n at : ℕ) (carry : List ℕ) (b : ℕ) → length carry < n →
+    Takes n (at + 1) (number_step o n at carry b)
 number_step_takes o n at [] b room = go (cases_lt 0 (padding (at - o) n))
   where
-    go : (0 < padding (at - o) n) ⊎ (padding (at - o) n ≤ 0) → Takes n (at + 1) (number_step o n at [] b)
+    go : (0 < padding (at - o) n) ⊎ (padding (at - o) n ≤ 0) →
+        Takes n (at + 1) (number_step o n at [] b)
     go (inl h) = rw (number_step_pads o n at b h) (refl, room)
     go (inr h) = rw (number_step_blocks o n at [] b (inr (omega arith))) (block_step_takes n at [] b room)
 number_step_takes o n at (x ∷ xs) b room = rw (number_step_blocks o n at (x ∷ xs) b (inl (omega arith))) (block_step_takes n at (x ∷ xs) b room)
 
-headed_sound : (d : ℕ) (coding : Coding) (path : List Seg) (T : Ty) (end : ℕ) → IsFit d T → HasHead T → (g : Grab) → Takes (head_width T) end g →
-    Sound T end (headed T (λ xs at rest. after coding path T (num coding.order xs) at rest) g)
+headed_sound : (d : ℕ) (coding : Coding) (path : List Seg) (T : Ty) (end : ℕ) → IsFit d T →
+    HasHead T → (g : Grab) → Takes (head_width T) end g → Sound T end (headed_by coding path T g)
 headed_sound d coding path T end fit kind (Waiting carry at) h = (h.0, record { same = refl; kind = kind; room = h.1 }, tt)
 headed_sound d coding path T end fit kind (Got xs at rest) h =
     subst (λ e. Sound T e (after coding path T (num coding.order xs) at rest)) h.0 (after_keeps d coding path T (num coding.order xs) fit at rest)
 
-content_step_sound : (T : Ty) (path : List Seg) (total offset at : ℕ) (piece : List ℕ) (b : ℕ) → HasContent T → offset ≤ total →
-    (32 < total - offset → length piece < 32) → (total - offset ≤ 32 → length piece < total - offset + tail T) → Sound T (at + 1) (content_step T path total offset at piece b)
+content_step_sound : (T : Ty) (path : List Seg) (total offset at : ℕ) (piece : List ℕ) (b : ℕ) →
+    HasContent T → offset ≤ total → (32 < total - offset → length piece < 32) →
+    (total - offset ≤ 32 → length piece < total - offset + tail T) →
+    Sound T (at + 1) (content_step T path total offset at piece b)
 content_step_sound T path total offset at piece b kind ahead room_full room_last = go (cases_lt 32 (total - offset))
   where
-    go : (32 < total - offset) ⊎ (total - offset ≤ 32) → Sound T (at + 1) (content_step T path total offset at piece b)
+    go : (32 < total - offset) ⊎ (total - offset ≤ 32) →
+        Sound T (at + 1) (content_step T path total offset at piece b)
     go (inl h) = rw lt-ltb (full_piece_sound T path total offset (at + 1) kind h (content T path total (full_pieces (total - (offset + 32))) (offset + 32))
-        (content_keeps T path total kind (full_pieces (total - (offset + 32))) (offset + 32) refl (omega arith)) (block_step 32 at piece b) (block_step_takes 32 at piece b (room_full h)))
+        (content_keeps T path total kind (full_pieces (total - (offset + 32))) (offset + 32) refl (omega arith)) (block_step 32 at piece b)
+        (block_step_takes 32 at piece b (room_full h)))
     go (inr h) = rw le-ltb (last_piece_sound T path total offset (at + 1) kind h ahead (block_step (total - offset + tail T) at piece b)
         (block_step_takes (total - offset + tail T) at piece b (room_last h)))
 
-leaf_step_sound : (d : ℕ) (coding : Coding) (path : List Seg) (T : Ty) (leaf : Leaf) (at b : ℕ) → IsFit d T → FitsIn T [] leaf → Sound T (at + 1) (leaf_step coding path leaf at b)
+leaf_step_sound : (d : ℕ) (coding : Coding) (path : List Seg) (T : Ty) (leaf : Leaf) (at b : ℕ) →
+    IsFit d T → FitsIn T [] leaf → Sound T (at + 1) (leaf_step coding path leaf at b)
 leaf_step_sound d coding path T (Head U carry) at b fit fits =
-    rw fits.same (headed_sound d coding path T (at + 1) fit fits.kind (number_step coding.origin (head_width T) at carry b) (number_step_takes coding.origin (head_width T) at carry b fits.room))
+    rw fits.same (headed_sound d coding path T (at + 1) fit fits.kind (number_step coding.origin (head_width T) at carry b)
+    (number_step_takes coding.origin (head_width T) at carry b fits.room))
 leaf_step_sound zero coding path T (Opening U n) at b fit fits = absurd (fit_none T fit)
 leaf_step_sound (suc d) coding path T (Opening U n) at b fit fits =
-    rw (fits.same, block_step_got 1 at [] b (omega arith)) (subst (λ m. Sound T m (ordered path T (held path T) at n (order_of b) (at + 1) [])) (add-zero (at + 1))
-    (ordered_sound T path at n (order_of b) (at + 1) [] fits.kind (omega arith) (λ inner. read_keeps d inner (path ++ Held ∷ []) (part_of T 0) (fit_held d T fit fits.kind))))
+    rw (fits.same, block_step_got 1 at [] b (omega arith)) (subst (λ m. Sound T m (ordered path T (held path T) at n (order_of b) (at + 1) []))
+    (add-zero (at + 1))
+    (ordered_sound T path at n (order_of b) (at + 1) [] fits.kind (omega arith) (λ inner. read_keeps d inner (path ++ Held ∷ []) (part_of T 0)
+    (fit_held d T fit fits.kind))))
 leaf_step_sound d coding path T (Content U total offset piece) at b fit fits =
     rw fits.same (content_step_sound T path total offset at piece b fits.kind fits.ahead fits.room_full fits.room_last)
 
 -- What one octet more leaves fits as well.
-pub step_keeps : (d : ℕ) (coding : Coding) (path : List Seg) (T : Ty) (outer : List Place) (leaf : Leaf) (at b : ℕ) → IsFit d T → FitsIn T outer leaf → Surrounds at outer →
+pub step_keeps : (d : ℕ) (coding : Coding) (path : List Seg) (T : Ty) (outer : List Place)
+    (leaf : Leaf) (at b : ℕ) → IsFit d T → FitsIn T outer leaf → Surrounds at outer →
     Sound T (at + 1) (step coding path outer leaf at b)
 step_keeps d coding path T [] leaf at b fit fits around = leaf_step_sound d coding path T leaf at b fit fits
 step_keeps zero coding path T (Part U i count ∷ outer) leaf at b fit fits around = absurd (fit_none T fit)
 step_keeps (suc d) coding path T (Part U i count ∷ outer) leaf at b fit fits around =
     let inner = step coding (path ++ seg_of T i ∷ []) outer leaf at b in
     let part_fits : (j : ℕ) → j < count → IsFit d (part_of T j) = λ j below. fit_part d T j count fit fits.0.kind below in
-    rw fits.0.same (sound_followed T (at + 1) (within (Part T i count) inner) (parts_from (part_at coding path T count) (count - suc i) (suc i))
+    rw fits.0.same (sound_followed T (at + 1) _ (parts_from (part_at coding path T count) (count - suc i) (suc i))
     (sound_part T (at + 1) i count inner fits.0.kind fits.0.below
     (step_keeps d coding (path ++ seg_of T i ∷ []) (part_of T i) outer leaf at b (part_fits i fits.0.below) fits.1 around.1))
-    (parts_keep coding path T count fits.0.kind (λ j below. read_keeps d coding (path ++ seg_of T j ∷ []) (part_of T j) (part_fits j below)) (count - suc i) (suc i) refl))
+    (parts_keep coding path T count fits.0.kind (λ j below. read_keeps d coding (path ++ seg_of T j ∷ []) (part_of T j) (part_fits j below)) (count - suc i)
+    (suc i) refl))
 step_keeps zero coding path T (Member U i ∷ outer) leaf at b fit fits around = absurd (fit_none T fit)
 step_keeps (suc d) coding path T (Member U i ∷ outer) leaf at b fit fits around =
     let inner = step coding (path ++ seg_of T i ∷ []) outer leaf at b in

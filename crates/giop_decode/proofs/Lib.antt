@@ -12,6 +12,7 @@ mod Linking
 mod StoredFields
 mod StoredFrames
 mod StoredChain
+mod Depths
 mod StoredAgain
 mod Beginning
 mod Going
@@ -27,7 +28,7 @@ mod Starting
 mod Hearing
 mod WholeStrings
 mod OneCut
-mod Left
+mod LastHeard
 mod Taking
 mod Runs
 mod Gathering

@@ -21,13 +21,15 @@ cut_one (suc full) zero offset c d xs ys e =
     let h = heads (piece offset (take 32 c) true) (piece offset d false) (cut_from full (offset + 32) (drop 32 c) ++ xs) ys e in
     absurd (true≢false (ap (λ (p : TextPiece). p.more) h.0))
 cut_one (suc full) (suc full') offset c d xs ys e =
-    let h = heads (piece offset (take 32 c) true) (piece offset (take 32 d) true) (cut_from full (offset + 32) (drop 32 c) ++ xs) (cut_from full' (offset + 32) (drop 32 d) ++ ys) e in
+    let h = heads (piece offset (take 32 c) true) (piece offset (take 32 d) true) (cut_from full (offset + 32) (drop 32 c) ++ xs)
+    (cut_from full' (offset + 32) (drop 32 d) ++ ys) e in
     let front : take 32 c ≡ take 32 d = ap (λ (p : TextPiece). p.octets) h.0 in
     let rest = cut_one full full' (offset + 32) (drop 32 c) (drop 32 d) xs ys h.1 in
     (sym (take-append-drop 32 c) ∙ (rw (front, rest.0) (take-append-drop 32 d)), rest.1)
 
 -- a whole content has a last piece
-cut_ends : (full offset : ℕ) (c : List ℕ) (xs : List TextPiece) → AreUnended (cut_from full offset c ++ xs) → ⊥
+cut_ends : (full offset : ℕ) (c : List ℕ) (xs : List TextPiece) →
+    AreUnended (cut_from full offset c ++ xs) → ⊥
 cut_ends zero offset c xs h = true≢false (sym h.0)
 cut_ends (suc full) offset c xs h = cut_ends full (offset + 32) (drop 32 c) xs h.1
 
@@ -37,8 +39,8 @@ pieces_end c cs begun other h e =
     cut_ends (full_pieces (length c)) 0 c (flat_map pieces_of cs ++ begun) (rw (e, append_assoc) at h)
 
 -- These contents are the only ones.
-pub contents_one : (cs ds : List (List ℕ)) (begun other : List TextPiece) → AreUnended begun → AreUnended other →
-    flat_map pieces_of cs ++ begun ≡ flat_map pieces_of ds ++ other → cs ≡ ds
+pub contents_one : (cs ds : List (List ℕ)) (begun other : List TextPiece) → AreUnended begun →
+    AreUnended other → flat_map pieces_of cs ++ begun ≡ flat_map pieces_of ds ++ other → cs ≡ ds
 contents_one [] [] begun other h k e = refl
 contents_one [] (d ∷ ds) begun other h k e = absurd (pieces_end d ds other begun h e)
 contents_one (c ∷ cs) [] begun other h k e = absurd (pieces_end c cs begun other k (sym e))

@@ -5,10 +5,14 @@ use Rattle.std.proofs.Common.{◌≡◌, ℕ, suc, ◌+◌, ◌<◌, Bool, false
 use Rattle.giop_cdr.specs.declared.order.Order.{Order}
 use Rattle.giop_print.specs.declared.path.Root.{Root}
 use Rattle.giop_sig.specs.Fits.{IsFit}
+use Rattle.giop_sig.specs.Table.{Table}
+use Rattle.giop_sig.specs.Trees.{depth_of}
 use Rattle.giop_sig.specs.Types.{Scalar, Ty, part_of, width}
+use Rattle.giop_decode.specs.declared.decoder.Decoder.{Decoder}
+use Rattle.giop_decode.specs.Holding.{Fits}
 use Rattle.giop_decode.specs.Spine.{Coding, Seg, Switch, Line, Place, Part, Leaf, Read, Done, Short, with_front, within, lines_of}
 use Rattle.giop_decode.specs.Pieces.{Waiting, block, number}
-use Rattle.giop_decode.specs.Reading.{cut_off, enclosed, parts_from, read, rest_of}
+use Rattle.giop_decode.specs.Reading.{cut_off, parts_from, read, rest_of}
 use Rattle.giop_decode.specs.Begins.{start_outer, start_leaf}
 use Rattle.giop_decode.specs.Steps.{Now, Quiet, advance, part_at, resumed, step}
 use Rattle.giop_decode.specs.Fits.{HasParts, Sound}
@@ -23,6 +27,7 @@ use Rattle.giop_decode.proofs.Sound as sound
 use Rattle.giop_decode.proofs.Resuming as resuming
 use Rattle.giop_decode.proofs.Hearing as hearing
 use Rattle.giop_decode.proofs.Runs as runs
+use Rattle.giop_decode.proofs.Depths as depths
 
 -- The laws of `reading_laws`: one octet more is one step;
 pub read_goes : (coding : Coding) (path : List Seg) (T : Ty) (at : ℕ) (s : List ℕ) (b : ℕ) →
@@ -30,20 +35,23 @@ pub read_goes : (coding : Coding) (path : List Seg) (T : Ty) (at : ℕ) (s : Lis
 read_goes coding path T at s b = enclosing.read_goes coding path T at s b
 
 -- a step has at most one line, which stands at its octet;
-pub step_now : (coding : Coding) (path : List Seg) (outer : List Place) (leaf : Leaf) (at b : ℕ) → Now (at + 1) (step coding path outer leaf at b)
+pub step_now : (coding : Coding) (path : List Seg) (outer : List Place) (leaf : Leaf) (at b : ℕ) →
+    Now (at + 1) (step coding path outer leaf at b)
 step_now coding path outer leaf at b = now.step_now coding path outer leaf at b
 
 -- the parts begun fit in the type.
-pub read_keeps : (d : ℕ) (coding : Coding) (path : List Seg) (T : Ty) → IsFit d T → (at : ℕ) (s : List ℕ) →
-    Sound T (at + length s) (read coding path T at s)
+pub read_keeps : (d : ℕ) (coding : Coding) (path : List Seg) (T : Ty) → IsFit d T →
+    (at : ℕ) (s : List ℕ) → Sound T (at + length s) (read coding path T at s)
 read_keeps d coding path T fit at s = sound.read_keeps d coding path T fit at s
 
 -- Lines in front, and what they leave in mind.
 
-pub lines_front : (front : List Line) (r : Read) → lines_of (with_front front r) ≡ front ++ lines_of r
+pub lines_front : (front : List Line) (r : Read) →
+    lines_of (with_front front r) ≡ front ++ lines_of r
 lines_front front r = resuming.lines_front front r
 
-pub heard-append : (header : Bool) (h : Heard) (xs ys : List Line) → heard header h (xs ++ ys) ≡ heard header (heard header h xs) ys
+pub heard-append : (header : Bool) (h : Heard) (xs ys : List Line) →
+    heard header h (xs ++ ys) ≡ heard header (heard header h xs) ys
 heard-append header h xs ys = resuming.heard-append header h xs ys
 
 pub front_inside : (front : List Line) (r : Read) → in_string (with_front front r) ≡ in_string r
@@ -53,20 +61,19 @@ front_inside front r = hearing.front_inside front r
 pub now_within : (n : ℕ) (place : Place) (r : Read) → Now n r → Now n (within place r)
 now_within n place r h = now.now_within n place r h
 
-pub enclosed_now : (n : ℕ) (path : List Seg) (T : Ty) (inner : Coding) (end : ℕ) (r : Read) → Now n r → Now n (enclosed path T inner end r [])
-enclosed_now n path T inner end r h = now.enclosed_now n path T inner end r h
-
 -- what the end of an encapsulation cuts off inside a string is one
 pub cut_inside : (leaf : Leaf) → is_text (cut_off leaf) ≡ in_content leaf
 cut_inside leaf = hearing.cut_inside leaf
 
 -- a discriminator is no member
-pub switch_member : (name : List ℕ) (path : List Seg) (tag : Option (List ℕ)) → is_member name (path ++ Switch tag ∷ []) ≡ false
+pub switch_member : (name : List ℕ) (path : List Seg) (tag : Option (List ℕ)) →
+    is_member name (path ++ Switch tag ∷ []) ≡ false
 switch_member name path tag = hearing.switch_member name path tag
 
 -- No octets: nothing is said of a value, of its parts, or of those from a place on.
 
-pub read_quiet : (coding : Coding) (path : List Seg) (T : Ty) (n : ℕ) → Quiet n (read coding path T n [])
+pub read_quiet : (coding : Coding) (path : List Seg) (T : Ty) (n : ℕ) →
+    Quiet n (read coding path T n [])
 read_quiet coding path T n = now.read_quiet coding path T n
 
 -- and of what is left of an encapsulation
@@ -76,11 +83,12 @@ rest_quiet n path T k = now.rest_quiet n path T k
 pub quiet_within : (n : ℕ) (place : Place) (r : Read) → Quiet n r → Quiet n (within place r)
 quiet_within n place r h = now.quiet_within n place r h
 
-pub quiet_parts : (n : ℕ) (part : ℕ → ℕ → List ℕ → Read) → ((i : ℕ) → Quiet n (part i n [])) → (more i : ℕ) →
-    Quiet n (parts_from part more i n [])
+pub quiet_parts : (n : ℕ) (part : ℕ → ℕ → List ℕ → Read) → ((i : ℕ) → Quiet n (part i n [])) →
+    (more i : ℕ) → Quiet n (parts_from part more i n [])
 quiet_parts n part h more i = now.quiet_parts n part h more i
 
-pub part_quiet : (coding : Coding) (path : List Seg) (T : Ty) (count n i : ℕ) → Quiet n (part_at coding path T count i n [])
+pub part_quiet : (coding : Coding) (path : List Seg) (T : Ty) (count n i : ℕ) →
+    Quiet n (part_at coding path T count i n [])
 part_quiet coding path T count n i = now.part_quiet coding path T count n i
 
 pub parts_quiet : (coding : Coding) (path : List Seg) (T : Ty) (count n more i : ℕ) →
@@ -99,8 +107,11 @@ pub block_waits : (n at : ℕ) (s : List ℕ) → length s < n → block n at s 
 block_waits n at s h = law.block_waits n at s h
 
 -- Where a part has ended and another follows, that one is begun.
-pub next_part : (coding : Coding) (path : List Seg) (d : ℕ) (T : Ty) (i count at : ℕ) → IsFit (suc d) T → HasParts T count → suc i < count →
-    resumed coding path (Part T i count) (Done [] at []) ≡ Short [] at (Part T (suc i) count ∷ start_outer (part_of T (suc i))) (start_leaf (part_of T (suc i)))
+pub next_part : (coding : Coding) (path : List Seg) (d : ℕ) (T : Ty) (i count at : ℕ) →
+    IsFit (suc d) T → HasParts T count → suc i < count →
+    resumed coding path (Part T i count) (Done [] at [])
+    ≡ Short [] at (Part T (suc i) count ∷ start_outer (part_of T (suc i)))
+    (start_leaf (part_of T (suc i)))
 next_part coding path d T i count at fit kind below = around.next_part coding path d T i count at fit kind below
 
 -- On lists.
@@ -108,7 +119,8 @@ next_part coding path d T i count at fit kind below = around.next_part coding pa
 pub length_one_more : (s : List ℕ) (b : ℕ) → length (s ++ b ∷ []) ≡ length s + 1
 length_one_more s b = law.length_one_more s b
 
-pub each_append : {A : Type 0} (P : A → Type 0) (xs ys : List A) → Each P xs → Each P ys → Each P (xs ++ ys)
+pub each_append : {A : Type 0} (P : A → Type 0) (xs ys : List A) → Each P xs → Each P ys →
+    Each P (xs ++ ys)
 each_append P xs ys h k = now.each_append P xs ys h k
 
 -- The text of the lines that octets more give: of none, and of two lists one after the other.
@@ -119,5 +131,10 @@ text_none message root order T at s = runs.text_none message root order T at s
 
 pub text_both : (message : ℕ) (root : Root) (order : Order) (T : Ty) (at : ℕ) (s xs ys : List ℕ) →
     lines_text message root (dues order T at s (xs ++ ys))
-    ≡ lines_text message root (dues order T at s xs) ++ lines_text message root (dues order T at (s ++ xs) ys)
+    ≡ lines_text message root (dues order T at s xs) ++ lines_text message root
+    (dues order T at (s ++ xs) ys)
 text_both message root order T at s xs ys = runs.text_both message root order T at s xs ys
+
+-- The parts of a decoder that are begun and not ended are fewer than the types of the table are deep.
+pub fits_depth : (C : Table) (d : Decoder) → Fits C d → length d.outer.items < depth_of C.types
+fits_depth C d fits = depths.fits_depth C d fits

@@ -30,7 +30,8 @@ lines_text_both message root (x ∷ xs) ys =
     ∙ sym (append_assoc (line_text message root x) (lines_text message root xs) (lines_text message root ys))
 
 dues_begin : (order : Order) (T : Ty) (at : ℕ) (s xs : List ℕ) →
-    lines_of (read (plain order) [] T at (s ++ xs)) ≡ lines_of (read (plain order) [] T at s) ++ dues order T at s xs
+    lines_of (read (plain order) [] T at (s ++ xs))
+    ≡ lines_of (read (plain order) [] T at s) ++ dues order T at s xs
 dues_begin order T at s xs =
     let front = lines_of (read (plain order) [] T at s) in
     let more = lines_begin (plain order) [] T at s xs in
@@ -60,16 +61,17 @@ text_none message root order T at s = ap (lines_text message root) (dues_none or
 
 pub text_both : (message : ℕ) (root : Root) (order : Order) (T : Ty) (at : ℕ) (s xs ys : List ℕ) →
     lines_text message root (dues order T at s (xs ++ ys))
-    ≡ lines_text message root (dues order T at s xs) ++ lines_text message root (dues order T at (s ++ xs) ys)
+    ≡ lines_text message root (dues order T at s xs) ++ lines_text message root
+    (dues order T at (s ++ xs) ys)
 text_both message root order T at s xs ys =
     ap (lines_text message root) (dues_both order T at s xs ys)
     ∙ lines_text_both message root (dues order T at s xs) (dues order T at (s ++ xs) ys)
 
 -- ---- what has come of them
 
-pub answered_both : (order : Order) (T : Ty) (at : ℕ) (root : Root) (s xs ys : List ℕ) (p : Progress) →
-    AreAnswered order T at root s xs progress.More → AreAnswered order T at root (s ++ xs) ys p →
-    AreAnswered order T at root s (xs ++ ys) p
+pub answered_both : (order : Order) (T : Ty) (at : ℕ) (root : Root) (s xs ys : List ℕ)
+    (p : Progress) → AreAnswered order T at root s xs progress.More →
+    AreAnswered order T at root (s ++ xs) ys p → AreAnswered order T at root s (xs ++ ys) p
 answered_both order T at root s [] ys p h k = subst (λ z. AreAnswered order T at root z ys p) (append-nil s) k
 answered_both order T at root s (x ∷ []) [] p h k = subst (Answers order T at root s x) (sym k) h
 answered_both order T at root s (x ∷ []) (y ∷ ys) p h k = (h, k)
@@ -79,13 +81,15 @@ answered_both order T at root s (x ∷ x' ∷ xs) ys p h k = (
       (subst (λ z. AreAnswered order T at root z ys p) (sym (append_assoc s (x ∷ []) (x' ∷ xs))) k),
 )
 
-pub takes_one : (C : Table) (T : Ty) (order : Order) (at message : ℕ) (root : Root) (d : Decoder) (s : List ℕ) (octet : ℕ)
-    (p : Progress) → Takes C T order at message root d s octet p → TakesRun C T order at message root d s (octet ∷ []) p
+pub takes_one : (C : Table) (T : Ty) (order : Order) (at message : ℕ) (root : Root) (d : Decoder)
+    (s : List ℕ) (octet : ℕ) (p : Progress) → Takes C T order at message root d s octet p →
+    TakesRun C T order at message root d s (octet ∷ []) p
 takes_one C T order at message root d s octet p t = record { answers = t.answer; reads = t.reads; minds = t.minds }
 
-pub takes_both : (C : Table) (T : Ty) (order : Order) (at message : ℕ) (root : Root) (d : Decoder) (s xs ys : List ℕ)
-    (p : Progress) → AreAnswered order T at root s xs progress.More →
-    TakesRun C T order at message root d (s ++ xs) ys p → TakesRun C T order at message root d s (xs ++ ys) p
+pub takes_both : (C : Table) (T : Ty) (order : Order) (at message : ℕ) (root : Root) (d : Decoder)
+    (s xs ys : List ℕ) (p : Progress) → AreAnswered order T at root s xs progress.More →
+    TakesRun C T order at message root d (s ++ xs) ys p →
+    TakesRun C T order at message root d s (xs ++ ys) p
 takes_both C T order at message root d s xs ys p h t =
     let e : (s ++ xs) ++ ys ≡ s ++ (xs ++ ys) = append_assoc s xs ys in
     record {
@@ -96,19 +100,21 @@ takes_both C T order at message root d s xs ys p h t =
 
 -- ---- the octets so far, and one more
 
-pub take_more : (xs : List ℕ) (i : ℕ) → i < length xs → take (i + 1) xs ≡ take i xs ++ get_or xs i 0 ∷ []
+pub take_more : (xs : List ℕ) (i : ℕ) → i < length xs →
+    take (i + 1) xs ≡ take i xs ++ get_or xs i 0 ∷ []
 take_more xs i h = rw add-one (take-suc xs i 0 h)
 
-pub text_more : (message : ℕ) (root : Root) (order : Order) (T : Ty) (at : ℕ) (s octets : List ℕ) (i : ℕ) →
-    i < length octets → lines_text message root (dues order T at s (take (i + 1) octets))
-    ≡ lines_text message root (dues order T at s (take i octets))
-    ++ lines_text message root (due order T at (s ++ take i octets) (get_or octets i 0))
+pub text_more : (message : ℕ) (root : Root) (order : Order) (T : Ty) (at : ℕ) (s octets : List ℕ)
+    (i : ℕ) → i < length octets → lines_text message root (dues order T at s (take (i + 1) octets))
+    ≡ lines_text message root (dues order T at s (take i octets)) ++ lines_text message root
+    (due order T at (s ++ take i octets) (get_or octets i 0))
 text_more message root order T at s octets i h =
     ap (λ xs. lines_text message root (dues order T at s xs)) (take_more octets i h)
     ∙ text_both message root order T at s (take i octets) (get_or octets i 0 ∷ [])
 
-pub takes_more : (C : Table) (T : Ty) (order : Order) (at message : ℕ) (root : Root) (d : Decoder) (s octets : List ℕ)
-    (i : ℕ) (p : Progress) → i < length octets → AreAnswered order T at root s (take i octets) progress.More →
+pub takes_more : (C : Table) (T : Ty) (order : Order) (at message : ℕ) (root : Root) (d : Decoder)
+    (s octets : List ℕ) (i : ℕ) (p : Progress) → i < length octets →
+    AreAnswered order T at root s (take i octets) progress.More →
     Takes C T order at message root d (s ++ take i octets) (get_or octets i 0) p →
     TakesRun C T order at message root d s (take (i + 1) octets) p
 takes_more C T order at message root d s octets i p below h t =
@@ -116,11 +122,12 @@ takes_more C T order at message root d s octets i p below h t =
     (takes_both C T order at message root d s (take i octets) (get_or octets i 0 ∷ []) p h
     (takes_one C T order at message root d (s ++ take i octets) (get_or octets i 0) p t))
 
-pub breaks_off : (T : Ty) (order : Order) (at message : ℕ) (root : Root) (s octets : List ℕ) (i : ℕ) (a b c : OutLog) →
-    i < length octets → AreAnswered order T at root s (take i octets) progress.More →
+pub breaks_off : (T : Ty) (order : Order) (at message : ℕ) (root : Root) (s octets : List ℕ) (i : ℕ)
+    (a b c : OutLog) → i < length octets →
+    AreAnswered order T at root s (take i octets) progress.More →
     Wrote a b (lines_text message root (dues order T at s (take i octets))) →
-    WroteFront b c (lines_text message root (due order T at (s ++ take i octets) (get_or octets i 0))) →
-    BreaksOff T order at message root s octets a c
+    WroteFront b c (lines_text message root (due order T at (s ++ take i octets)
+    (get_or octets i 0))) → BreaksOff T order at message root s octets a c
 breaks_off T order at message root s octets i a b c below h v w =
     record {
       front = take i octets;
@@ -134,17 +141,20 @@ breaks_off T order at message root s octets i a b c below h v w =
           (wrote-front a b c _ _ v w);
     }
 
-pub writes_broken : {E : Type 0} (r : Result (ℕ × Progress) E) (T : Ty) (order : Order) (at message : ℕ) (root : Root)
-    (s octets : List ℕ) (a b : OutLog) → IsErr r → BreaksOff T order at message root s octets a b →
+pub writes_broken : {E : Type 0} (r : Result (ℕ × Progress) E) (T : Ty) (order : Order)
+    (at message : ℕ) (root : Root) (s octets : List ℕ) (a b : OutLog) → IsErr r →
+    BreaksOff T order at message root s octets a b →
     WritesRun r T order at message root s octets a b
 writes_broken (Ok v) T order at message root s octets a b e h = absurd (false≢true e)
 writes_broken (Err e) T order at message root s octets a b _ h = h
 
 -- ---- two runs, one after the other
 
-pub breaks_both : (T : Ty) (order : Order) (at message : ℕ) (root : Root) (s xs ys : List ℕ) (a b c : OutLog) →
-    AreAnswered order T at root s xs progress.More → Wrote a b (lines_text message root (dues order T at s xs)) →
-    BreaksOff T order at message root (s ++ xs) ys b c → BreaksOff T order at message root s (xs ++ ys) a c
+pub breaks_both : (T : Ty) (order : Order) (at message : ℕ) (root : Root) (s xs ys : List ℕ)
+    (a b c : OutLog) → AreAnswered order T at root s xs progress.More →
+    Wrote a b (lines_text message root (dues order T at s xs)) →
+    BreaksOff T order at message root (s ++ xs) ys b c →
+    BreaksOff T order at message root s (xs ++ ys) a c
 breaks_both T order at message root s xs ys a b c h v w =
     record {
       front = xs ++ w.front;

@@ -7,7 +7,7 @@ use Rattle.giop_cdr.specs.declared.prim.Primitive.TheVariants as prims
 use Rattle.giop_decode.specs.Fits.{HasHead}
 use Rattle.giop_decode.specs.Turns.{IsWhole}
 use Rattle.giop_sig.specs.Fits.{IsEmptyStruct}
-use Rattle.giop_sig.specs.Types.{Ty, Single, Text, Octets, Struct, Union, Sequence, Array, HasShape, Encapsulation}
+use Rattle.giop_sig.specs.Types.{Ty, Struct, HasShape}
 use Rattle.giop_sig.specs.declared.types.Shape.TheVariants as shapes
 
 pub whole_members : (T : Ty) (n : ℕ) → HasShape T (shapes.Members n) → IsWhole T n
@@ -34,9 +34,6 @@ head_encapsulation T h = rw h.1 tt
 pub ruleset shape_laws = (whole_members, whole_array, head_prim, head_enum, head_union, head_tag, head_encapsulation)
 
 pub aligned : (p : Primitive) → IsAlignment (size_of p)
-aligned prims.Octet = inl refl
-aligned prims.Char = inl refl
-aligned prims.Boolean = inl refl
 aligned prims.Short = inr (inl refl)
 aligned prims.UShort = inr (inl refl)
 aligned prims.Long = inr (inr (inl refl))
@@ -45,6 +42,7 @@ aligned prims.LongLong = inr (inr (inr refl))
 aligned prims.ULongLong = inr (inr (inr refl))
 aligned prims.Float = inr (inr (inl refl))
 aligned prims.Double = inr (inr (inr refl))
+aligned p = inl refl
 
 -- the struct without members is told by its shape
 pub empty_is : (T : Ty) (n : ℕ) → HasShape T (shapes.Members n) → n ≡ 0 → IsEmptyStruct T
@@ -53,13 +51,7 @@ empty_is T n h e = rw (h.2, e) tt
 pub some_is : (T : Ty) (n : ℕ) → HasShape T (shapes.Members n) → IsEmptyStruct T → n ≡ 0
 some_is (Struct zero names parts) n h empty = let e = h.2 in cc
 some_is (Struct (suc m) names parts) n h empty = absurd empty
-some_is (Array m T) n h empty = absurd empty
-some_is (Single scalar) n h empty = absurd empty
-some_is (Text bound) n h empty = absurd empty
-some_is (Octets bound) n h empty = absurd empty
-some_is (Union m scalar select names cases) n h empty = absurd empty
-some_is (Sequence bound T) n h empty = absurd empty
-some_is (Encapsulation T) n h empty = absurd empty
+some_is T n h empty = absurd empty
 
 pub some_array : (T : Ty) (n : ℕ) → HasShape T (shapes.Array n) → IsEmptyStruct T → ⊥
 some_array T n h empty = rw h.1 at empty
@@ -73,13 +65,15 @@ some_enum T n h empty = rw h.1 at empty
 pub some_text : (T : Ty) (bound : Option ℕ) → HasShape T (shapes.Text bound) → IsEmptyStruct T → ⊥
 some_text T bound h empty = rw h at empty
 
-pub some_octets : (T : Ty) (bound : Option ℕ) → HasShape T (shapes.Octets bound) → IsEmptyStruct T → ⊥
+pub some_octets : (T : Ty) (bound : Option ℕ) → HasShape T (shapes.Octets bound) → IsEmptyStruct T →
+    ⊥
 some_octets T bound h empty = rw h at empty
 
 pub some_union : (T : Ty) (n : ℕ) → HasShape T (shapes.Union n) → IsEmptyStruct T → ⊥
 some_union T n h empty = rw h.4 at empty
 
-pub some_sequence : (T : Ty) (bound : Option ℕ) → HasShape T (shapes.Sequence bound) → IsEmptyStruct T → ⊥
+pub some_sequence : (T : Ty) (bound : Option ℕ) → HasShape T (shapes.Sequence bound) →
+    IsEmptyStruct T → ⊥
 some_sequence T bound h empty = rw h.1 at empty
 
 pub some_tag : (T : Ty) → HasShape T shapes.Tagged → IsEmptyStruct T → ⊥

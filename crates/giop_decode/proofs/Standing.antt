@@ -1,7 +1,7 @@
 -- The path of the innermost part, spelled from its end.
-use Rattle.std.proofs.Common.{◌≡◌, ℕ, zero, suc, true, false, Bool, Option, Some, None, ◌+◌, ◌-◌, ◌<◌, ◌≤◌, List, [], ◌∷◌, ◌++◌, length, get_or, drop, refl, ap, ◌∙◌, sym, append_assoc, append-nil, length-append, arith}
+use Rattle.std.proofs.Common.{◌≡◌, ℕ, true, false, Bool, Option, Some, None, ◌+◌, ◌-◌, ◌<◌, ◌≤◌, List, [], ◌∷◌, ◌++◌, length, get_or, drop, refl, ap, ◌∙◌, sym, append_assoc, append-nil, length-append, arith}
 use Rattle.std.proofs.lemmas.Bool.{false≢true}
-use Rattle.std.proofs.lemmas.List.{drop_all, drop_more}
+use Rattle.std.proofs.lemmas.List.{drop_more}
 use Rattle.giop_cdr.specs.declared.order.Order.{Order}
 use Rattle.giop_decode.specs.Segments.{end_segs, end_text, frames_text}
 use Rattle.giop_decode.specs.Spine.{Seg}
@@ -70,16 +70,7 @@ here_spelled C root outer switch =
     (places C 0 outer)) switch
     ∙ ap (λ text. text ++ end_text C switch) (frames_spelled C [] outer)))
 
--- no room for a path, or for what is left of it
-pub spells_nothing : (a : Line) (text : List ℕ) → Spells false a a text
-spells_nothing a text = record {
-  front = [];
-  spelled = refl;
-  room = omega arith;
-  all = λ no.
-      absurd (false≢true no);
-}
-
+-- no room for what is left of a path
 pub spells_end : (a b : Line) (end text : List ℕ) → line_text b ≡ end ++ line_text a →
     line_room b + length end ≡ line_room a → Spells false a b text
 spells_end a b end text e r = record {
@@ -91,20 +82,19 @@ spells_end a b end text e r = record {
 }
 
 pub spells_more : (w : Bool) (a b c : Line) (end more text : List ℕ) →
-    line_text b ≡ end ++ line_text a → line_room b + length end ≡ line_room a →
-    Spells w b c more → Spells false a c text
+    line_text b ≡ end ++ line_text a → line_room b + length end ≡ line_room a → Spells w b c more →
+    Spells false a c text
 spells_more w a b c end more text e r s =
     spells_end a c (s.front ++ end) text (s.spelled ∙ (ap (λ t. s.front ++ t) e
     ∙ sym (append_assoc s.front end (line_text a))))
     (omega (arith, length-append s.front end, s.room, r))
 
 -- room for all of it
-pub spells_here : (C : Table) (root : Root) (outer : List Frame) (switch : Option TypeId)
-    (w : Bool) (a b c d : Line) (word : List ℕ) →
-    line_text b ≡ end_text C switch ++ line_text a →
-    line_room b + length (end_text C switch) ≡ line_room a →
-    Spells w b c (frames_text C outer) → w ≡ true → word ≡ root_word root →
-    line_text d ≡ word ++ line_text c → line_room d + length word ≡ line_room c →
+pub spells_here : (C : Table) (root : Root) (outer : List Frame) (switch : Option TypeId) (w : Bool)
+    (a b c d : Line) (word : List ℕ) → line_text b ≡ end_text C switch ++ line_text a →
+    line_room b + length (end_text C switch) ≡ line_room a → Spells w b c (frames_text C outer) →
+    w ≡ true → word ≡ root_word root → line_text d ≡ word ++ line_text c →
+    line_room d + length word ≡ line_room c →
     Spells true a d (path_text root (path_in [] (places C 0 outer) ++ end_segs C switch))
 spells_here C root outer switch w a b c d word be br s whole is de dr =
     let frames = frames_text C outer in
@@ -136,34 +126,16 @@ from_end : {X : Type 0} (xs : List X) (i : ℕ) (d : X) → 0 < i → i ≤ leng
 from_end xs i d p h = let e : i - 1 + 1 ≡ i = omega arith in rw e at (drop_more xs (i - 1) d
     (omega arith))
 
-pub frames_none : (C : Table) (outer : List Frame) → frames_text C (drop (length outer) outer) ≡ []
-frames_none C outer = rw (drop_all (length outer) outer (omega arith)) refl
-
 pub frames_more : (C : Table) (outer : List Frame) (i : ℕ) (d : Frame) → 0 < i → i ≤ length outer →
     frames_text C (drop (i - 1) outer)
     ≡ seg_text (seg_in (place C 0 (get_or outer (i - 1) d))) ++ frames_text C (drop i outer)
 frames_more C outer i d p h = rw (from_end outer i d p h) refl
 
-pub text_more : (C : Table) (outer : List Frame) (i : ℕ) (d : Frame) (a b : List ℕ) (text : List ℕ) → 0 < i → i ≤ length outer →
-    a ≡ frames_text C (drop i outer) ++ text →
+pub text_more : (C : Table) (outer : List Frame) (i : ℕ) (d : Frame) (a b : List ℕ)
+    (text : List ℕ) → 0 < i → i ≤ length outer → a ≡ frames_text C (drop i outer) ++ text →
     b ≡ seg_text (seg_in (place C 0 (get_or outer (i - 1) d))) ++ a →
     b ≡ frames_text C (drop (i - 1) outer) ++ text
 text_more C outer i d a b text p h e n =
     let seg = seg_text (seg_in (place C 0 (get_or outer (i - 1) d))) in
     rw (frames_more C outer i d p h) (n ∙ (ap (λ t. seg ++ t) e
     ∙ sym (append_assoc seg (frames_text C (drop i outer)) text)))
-
-pub room_more : (C : Table) (outer : List Frame) (i : ℕ) (d : Frame) (a b all : ℕ) → 0 < i →
-    i ≤ length outer →
-    a + length (frames_text C (drop i outer)) ≡ all → b + length (seg_text (seg_in (place C 0
-    (get_or outer (i - 1) d)))) ≡ a →
-    b + length (frames_text C (drop (i - 1) outer)) ≡ all
-room_more C outer i d a b all p h e n =
-    let seg = seg_text (seg_in (place C 0 (get_or outer (i - 1) d))) in
-    rw (frames_more C outer i d p h) (omega (
-      arith,
-      e,
-      n,
-      length-append seg (frames_text C
-          (drop i outer)),
-    ))

@@ -22,10 +22,14 @@ use Rattle.giop_sig.specs.Types.{Ty}
 
 module _ (C : Table) (T : Ty) (order : Order) (at message : ℕ) (root : Root) (d : Decoder) where
   -- a type that isn't the empty struct begins with a number
-  pub first_reads : (first : TypeId) → IsFit 24 T → d.leaf ≡ Some (innermost.Number first) → d.carry ≡ [] → ((here : ℕ) → places C here d.outer.items ≡ start_outer T) → StandAt at d.outer.items → start_leaf T ≡ Head (tree C first.0) [] →
-      Recalls d.memory nothing → d.order ≡ order → d.message ≡ message → d.root ≡ root → d.at ≡ at % 8 → Reads C T order at message root d []
+  pub first_reads : (first : TypeId) → IsFit 24 T → d.leaf ≡ Some (innermost.Number first) →
+      d.carry ≡ [] → ((here : ℕ) → places C here d.outer.items ≡ start_outer T) →
+      StandAt at d.outer.items → start_leaf T ≡ Head (tree C first.0) [] →
+      Recalls d.memory nothing → d.order ≡ order → d.message ≡ message → d.root ≡ root →
+      d.at ≡ at % 8 → Reads C T order at message root d []
   first_reads first fit goes_on empty are stand leaf recalls same_order same_message same_root offset =
-      let none : read (plain order) [] T at [] ≡ Short [] at (start_outer T) (Head (tree C first.0) []) = read_none (plain order) [] 24 T at fit ∙ ap (Short [] at (start_outer T)) leaf in
+      let none : read (plain order) [] T at [] ≡ Short [] at (start_outer T) (Head (tree C first.0) []) = read_none (plain order) [] 24 T at fit
+      ∙ ap (Short [] at (start_outer T)) leaf in
       record {
         lines = [];
         is = none ∙ sym (ap (λ l. standing_in C d l [] (at + 0)) goes_on ∙ rw (add-zero at, are at, empty) refl);
@@ -36,9 +40,12 @@ module _ (C : Table) (T : Ty) (order : Order) (at message : ℕ) (root : Root) (
         offset = rw (add-zero at) (sym offset, stand);
       }
 
-pub first_fits : (C : Table) (of : ℕ) (d : Decoder) (first : TypeId) → of < length C.types → IsFit 24 (tree C of) → d.leaf ≡ Some (innermost.Number first) → d.carry ≡ [] → d.piece.items ≡ [] →
-    ((here : ℕ) → places C here d.outer.items ≡ start_outer (tree C of)) → StandAt d.at d.outer.items → AreAhead d.outer.items → d.inside ≡ is_inside d.outer.items → start_leaf (tree C of) ≡ Head (tree C first.0) [] →
-    Link C of d.outer.items first.0 → AreKnown C d.outer.items → first.0 < length C.types → d.at < 8 → Fits C d
+pub first_fits : (C : Table) (of : ℕ) (d : Decoder) (first : TypeId) → of < length C.types →
+    IsFit 24 (tree C of) → d.leaf ≡ Some (innermost.Number first) → d.carry ≡ [] →
+    d.piece.items ≡ [] → ((here : ℕ) → places C here d.outer.items ≡ start_outer (tree C of)) →
+    StandAt d.at d.outer.items → AreAhead d.outer.items → d.inside ≡ is_inside d.outer.items →
+    start_leaf (tree C of) ≡ Head (tree C first.0) [] → Link C of d.outer.items first.0 →
+    AreKnown C d.outer.items → first.0 < length C.types → d.at < 8 → Fits C d
 first_fits C of d first known_root fit goes_on empty none are stand ahead inside leaf link known_outer known at =
     let T = tree C of in
     let sound : Sound T (0 + 0) (Short [] 0 (start_outer T) (start_leaf T)) =

@@ -36,10 +36,10 @@ restored_fits C d e r h = record {
 
 -- ---- readings
 
-kept_held : (b : Buffer) (octets so_far : List ℕ) (name : Option (List ℕ)) → IsHeld b octets name so_far → IsHeld b (kept_name b octets) name so_far
-kept_held buffers.Begun octets so_far name held = held
-kept_held buffers.Whole octets so_far name held = held
+kept_held : (b : Buffer) (octets so_far : List ℕ) (name : Option (List ℕ)) →
+    IsHeld b octets name so_far → IsHeld b (kept_name b octets) name so_far
 kept_held buffers.TooLong octets so_far name held = (held.0, refl, held.2)
+kept_held buffer octets so_far name held = held
 
 recalls_again : (m n : Memory) (h : Heard) → IsKept m n → Recalls m h → Recalls n h
 recalls_again m n h kept recalls = record {
@@ -48,20 +48,22 @@ recalls_again m n h kept recalls = record {
   name = rw (kept.buffer, kept.name) (kept_held m.buffer m.name.items h.so_far h.name recalls.name);
 }
 
-minds_again : (root : Root) (d e : Decoder) (r : Read) → IsRestored d e → Minds root d r → Minds root e r
-minds_again roots.Header d e r restored minds = recalls_again d.memory e.memory _ restored.memory minds
-minds_again roots.Exception d e r restored minds = recalls_again d.memory e.memory _ restored.memory minds
+minds_again : (root : Root) (d e : Decoder) (r : Read) → IsRestored d e → Minds root d r →
+    Minds root e r
 minds_again roots.Body d e r restored minds = tt
+minds_again root d e r restored minds = recalls_again d.memory e.memory _ restored.memory minds
 
-standing_again : (C : Table) (d e : Decoder) (lines : List Line) (at : ℕ) → IsRestored d e → standing C d lines at ≡ standing C e lines at
+standing_again : (C : Table) (d e : Decoder) (lines : List Line) (at : ℕ) → IsRestored d e →
+    standing C d lines at ≡ standing C e lines at
 standing_again C d e lines at r = same_in d.leaf ∙ ap (λ l. standing_in C e l lines at) (sym r.leaf)
   where
     same_in : (l : Option Innermost) → standing_in C d l lines at ≡ standing_in C e l lines at
     same_in None = refl
     same_in (Some leaf) = rw (r.outer, r.carry, r.piece) refl
 
-pub restored_reads : (C : Table) (d e : Decoder) (T : Ty) (order : Order) (at message : ℕ) (root : Root) (s : List ℕ) → IsRestored d e
-    → Reads C T order at message root d s → Reads C T order at message root e s
+pub restored_reads : (C : Table) (d e : Decoder) (T : Ty) (order : Order) (at message : ℕ)
+    (root : Root) (s : List ℕ) → IsRestored d e → Reads C T order at message root d s →
+    Reads C T order at message root e s
 restored_reads C d e T order at message root s r reads = record {
   lines = reads.lines;
   is = reads.is ∙ standing_again C d e reads.lines _ r;
@@ -76,16 +78,18 @@ restored_reads C d e T order at message root s r reads = record {
 
 kept_again : (b : Buffer) (name : List ℕ) → kept_name b (kept_name b name) ≡ kept_name b name
 kept_again buffers.Begun name = refl
-kept_again buffers.Whole name = refl
-kept_again buffers.TooLong name = refl
+kept_again buffer name = refl
 
-fixed_again : (d e : Decoder) (leaf : Innermost) → IsRestored d e → fixed_octets e leaf ≡ fixed_octets d leaf
+fixed_again : (d e : Decoder) (leaf : Innermost) → IsRestored d e →
+    fixed_octets e leaf ≡ fixed_octets d leaf
 unfolding fixed_octets
 fixed_again d e leaf r =
-    rw (r.order, r.root, r.message, r.at, r.carry, r.piece, r.memory.request_id, r.memory.status, r.memory.buffer, r.memory.name, kept_again d.memory.buffer d.memory.name.items) refl
+    rw (r.order, r.root, r.message, r.at, r.carry, r.piece, r.memory.request_id, r.memory.status)
+    (rw (r.memory.buffer, r.memory.name, kept_again d.memory.buffer d.memory.name.items) refl)
 
 -- both are stored in the same octets
-pub stored_same : (d e : Decoder) (fixed frames fixed_e frames_e : List ℕ) → IsRestored d e → Stored d fixed frames → Stored e fixed_e frames_e → (fixed_e ≡ fixed) × (frames_e ≡ frames)
+pub stored_same : (d e : Decoder) (fixed frames fixed_e frames_e : List ℕ) → IsRestored d e →
+    Stored d fixed frames → Stored e fixed_e frames_e → (fixed_e ≡ fixed) × (frames_e ≡ frames)
 stored_same d e fixed frames fixed_e frames_e r h k =
     let goes_on : Some k.leaf ≡ Some h.leaf = sym k.goes_on ∙ r.leaf ∙ h.goes_on in
     let same : k.leaf ≡ h.leaf = cc in (
@@ -93,5 +97,6 @@ stored_same d e fixed frames fixed_e frames_e r h k =
       k.frames_are ∙ rw (r.outer, same) refl ∙ sym h.frames_are,
     )
 
-pub stored_by : (d : Decoder) (fixed frames fixed_d frames_d : List ℕ) → Stored d fixed_d frames_d → fixed_d ≡ fixed → frames_d ≡ frames → Stored d fixed frames
+pub stored_by : (d : Decoder) (fixed frames fixed_d frames_d : List ℕ) → Stored d fixed_d frames_d →
+    fixed_d ≡ fixed → frames_d ≡ frames → Stored d fixed frames
 stored_by d fixed frames fixed_d frames_d h e f = rw (← e, ← f) h

@@ -1,114 +1,101 @@
 -- What chains fits, and what fits chains; how many parts that are begun fit in a type.
-use Rattle.std.proofs.Common.{◌≡◌, ℕ, zero, suc, ◌+◌, ◌*◌, ◌<◌, ◌≤◌, max, List, [], ◌∷◌, length, Option, Some, None, refl, sym, ap, subst, arith, ◌⊎◌, inl, inr}
+use Rattle.std.proofs.Common.{◌≡◌, ℕ, zero, suc, ◌+◌, ◌*◌, ◌<◌, ◌≤◌, List, [], ◌∷◌, length, Option, Some, None, refl, sym, subst, arith}
 use Rattle.std.specs.Prelude.{IfSome}
-use Rattle.std.proofs.lemmas.Bool.{cases_lt}
 use Rattle.giop_cdr.specs.declared.order.Order.{Order}
 use Rattle.giop_decode.specs.declared.decoder.Decoder.{Decoder}
 use Rattle.giop_decode.specs.declared.frame.Frame.{Frame}
 use Rattle.giop_decode.specs.declared.leaf.Leaf.{Leaf as Innermost}
 use Rattle.giop_decode.specs.Chained.{HasFrame, HasPart, LeafFits, Chained, Chains, root_of}
-use Rattle.giop_decode.specs.Fits.{FitsIn, HasParts, HasCase, IsEncapsulation}
+use Rattle.giop_decode.specs.Fits.{FitsIn, IsEncapsulation}
 use Rattle.giop_decode.specs.Holding.{Fits}
-use Rattle.giop_decode.specs.Spine.{Place, Part, Member, Inside, Leaf}
+use Rattle.giop_decode.specs.Spine.{Place, Leaf}
 use Rattle.giop_decode.specs.Turns.{places, part_in, part_index, place_in, AreAhead, AreKnown, IsWithin, Link, StandAt, leaf_of, leaf_type}
+use Rattle.giop_decode.proofs.Around.{fit_room}
 use Rattle.giop_decode.proofs.Going.{length_places}
 use Rattle.giop_decode.proofs.Starting.{fit_some}
 use Rattle.giop_decode.proofs.Leaving.{leaf_at}
 use Rattle.giop_sig.specs.Fits.{IsFit, IsEmptyStruct}
 use Rattle.giop_sig.specs.Headers.{IsTable}
 use Rattle.giop_sig.specs.Table.{Table, part_number}
-use Rattle.giop_sig.specs.Trees.{tree, depth_of}
-use Rattle.giop_sig.specs.Types.{Cases, Tag, Encapsulation, places_of, Ty, Single, Text, Octets, Struct, Union, Sequence, Array, HasPlace, IsUnion, part_of, shape_in, depth, most}
-use Rattle.giop_sig.proofs.PartLaws.{part_is, root_is, depth_is}
+use Rattle.giop_sig.specs.Trees.{tree}
+use Rattle.giop_sig.specs.Types.{Cases, Tag, Encapsulation, Ty, Single, Text, Octets, Struct, Union, Sequence, Array, HasPlace, IsUnion, part_of, shape_in}
+use Rattle.giop_sig.proofs.PartLaws.{part_is, root_is}
 
 -- ---- one place
 
 pub part_place : (T : Ty) (i count : ℕ) → HasPart T i count → HasPlace (shape_in T) i
 part_place (Union (Cases n) scalar select names cases) i count has = has.0
 part_place (Union Tag scalar select names cases) i count has = has.0
-part_place (Encapsulation T) i count has = tt
 part_place (Struct n names parts) i count has = let below : i < n = omega (arith, has.0, has.1) in below
-part_place (Array n T) i count has = tt
-part_place (Sequence bound T) i count has = tt
 part_place (Single scalar) i count has = absurd has.0
 part_place (Text bound) i count has = absurd has.0
 part_place (Octets bound) i count has = absurd has.0
+part_place T i count has = tt
 
 part_uncounted : (T : Ty) (i count : ℕ) → HasPart T i count → IsUnion (shape_in T) → count ≡ 0
 part_uncounted (Union choice scalar select names cases) i count has is = has.1
-part_uncounted (Encapsulation T) i count has is = absurd is
-part_uncounted (Struct n names parts) i count has is = absurd is
-part_uncounted (Array n T) i count has is = absurd is
-part_uncounted (Sequence bound T) i count has is = absurd is
 part_uncounted (Single scalar) i count has is = absurd has.0
 part_uncounted (Text bound) i count has is = absurd has.0
 part_uncounted (Octets bound) i count has is = absurd has.0
+part_uncounted T i count has is = absurd is
 
-fits_one_more : (T : Ty) (i count : ℕ) (outer : List Place) (leaf : Leaf) → HasPart T i count → FitsIn (part_of T i) outer leaf → FitsIn T (part_in T i count ∷ outer) leaf
-fits_one_more (Encapsulation T) i count outer leaf has fits = absurd has.0
+fits_one_more : (T : Ty) (i count : ℕ) (outer : List Place) (leaf : Leaf) → HasPart T i count →
+    FitsIn (part_of T i) outer leaf → FitsIn T (part_in T i count ∷ outer) leaf
 fits_one_more (Union choice scalar select names cases) i count outer leaf has fits = (record { same = refl; kind = has.0 }, fits)
 fits_one_more (Struct n names parts) i count outer leaf has fits = (record { same = refl; kind = has.0; below = has.1 }, fits)
 fits_one_more (Array n T) i count outer leaf has fits = (record { same = refl; kind = has.0; below = has.1 }, fits)
 fits_one_more (Sequence bound T) i count outer leaf has fits = (record { same = refl; kind = has.0; below = has.1 }, fits)
-fits_one_more (Single scalar) i count outer leaf has fits = absurd has.0
-fits_one_more (Text bound) i count outer leaf has fits = absurd has.0
-fits_one_more (Octets bound) i count outer leaf has fits = absurd has.0
+fits_one_more T i count outer leaf has fits = absurd has.0
 
-fits_part : (T : Ty) (i count : ℕ) (outer : List Place) (leaf : Leaf) → FitsIn T (part_in T i count ∷ outer) leaf → (IsUnion (shape_in T) → count ≡ 0) → HasPart T i count × FitsIn (part_of T i) outer leaf
-fits_part (Encapsulation T) i count outer leaf fits uncounted = absurd fits.0.kind
+fits_part : (T : Ty) (i count : ℕ) (outer : List Place) (leaf : Leaf) →
+    FitsIn T (part_in T i count ∷ outer) leaf → (IsUnion (shape_in T) → count ≡ 0) →
+    HasPart T i count × FitsIn (part_of T i) outer leaf
 fits_part (Union (Cases n) scalar select names cases) i count outer leaf fits uncounted = ((fits.0.kind, uncounted tt), fits.1)
 fits_part (Union Tag scalar select names cases) i count outer leaf fits uncounted = ((fits.0.kind, uncounted tt), fits.1)
 fits_part (Struct n names parts) i count outer leaf fits uncounted = ((fits.0.kind, fits.0.below), fits.1)
 fits_part (Array n T) i count outer leaf fits uncounted = ((fits.0.kind, fits.0.below), fits.1)
 fits_part (Sequence bound T) i count outer leaf fits uncounted = ((fits.0.kind, fits.0.below), fits.1)
-fits_part (Single scalar) i count outer leaf fits uncounted = absurd fits.0.kind
-fits_part (Text bound) i count outer leaf fits uncounted = absurd fits.0.kind
-fits_part (Octets bound) i count outer leaf fits uncounted = absurd fits.0.kind
+fits_part T i count outer leaf fits uncounted = absurd fits.0.kind
 
 part_bare : (T : Ty) (i count : ℕ) → HasPart T i count → IsEncapsulation T → ⊥
 part_bare (Encapsulation T) i count has is = absurd has.0
-part_bare (Union choice scalar select names cases) i count has is = absurd is
-part_bare (Struct n names parts) i count has is = absurd is
-part_bare (Array n T) i count has is = absurd is
-part_bare (Sequence bound T) i count has is = absurd is
-part_bare (Single scalar) i count has is = absurd is
-part_bare (Text bound) i count has is = absurd is
-part_bare (Octets bound) i count has is = absurd is
+part_bare T i count has is = absurd is
 
 inside_place : (T : Ty) (i : ℕ) → IsEncapsulation T → HasPlace (shape_in T) i
 inside_place (Encapsulation T) i is = tt
-inside_place (Union choice scalar select names cases) i is = absurd is
-inside_place (Struct n names parts) i is = absurd is
-inside_place (Array n T) i is = absurd is
-inside_place (Sequence bound T) i is = absurd is
-inside_place (Single scalar) i is = absurd is
-inside_place (Text bound) i is = absurd is
-inside_place (Octets bound) i is = absurd is
+inside_place T i is = absurd is
 
 -- ---- one frame
 
-pub frame_place : (inside : Option Order) (T : Ty) (i count : ℕ) → HasFrame inside T i count → HasPlace (shape_in T) (part_index inside i)
+pub frame_place : (inside : Option Order) (T : Ty) (i count : ℕ) → HasFrame inside T i count →
+    HasPlace (shape_in T) (part_index inside i)
 frame_place None T i count has = part_place T i count has
 frame_place (Some order) T i count has = inside_place T 0 has.0
 
-frame_within : (inside : Option Order) (T : Ty) (i count : ℕ) → HasFrame inside T i count → IsWithin inside i count T
+frame_within : (inside : Option Order) (T : Ty) (i count : ℕ) → HasFrame inside T i count →
+    IsWithin inside i count T
 frame_within None T i count has = (part_place T i count has, part_bare T i count has, part_uncounted T i count has)
 frame_within (Some order) T i count has = (has.0, has.1, omega (arith, has.2))
 
-frame_ahead : (inside : Option Order) (T : Ty) (i count : ℕ) → HasFrame inside T i count → IfSome inside (λ order. i < count)
+frame_ahead : (inside : Option Order) (T : Ty) (i count : ℕ) → HasFrame inside T i count →
+    IfSome inside (λ order. i < count)
 frame_ahead None T i count has = tt
 frame_ahead (Some order) T i count has = has.2
 
-frame_fits : (here : ℕ) (inside : Option Order) (T : Ty) (i count : ℕ) (outer : List Place) (leaf : Leaf) → HasFrame inside T i count → FitsIn (part_of T (part_index inside i)) outer leaf →
+frame_fits : (here : ℕ) (inside : Option Order) (T : Ty) (i count : ℕ) (outer : List Place)
+    (leaf : Leaf) → HasFrame inside T i count →
+    FitsIn (part_of T (part_index inside i)) outer leaf →
     FitsIn T (place_in here inside T i count ∷ outer) leaf
 frame_fits here None T i count outer leaf has fits = fits_one_more T i count outer leaf has fits
 frame_fits here (Some order) T i count outer leaf has fits = (record { same = refl; kind = has.0 }, fits)
 
-record FrameIs (inside : Option Order) (T : Ty) (i count : ℕ) (outer : List Place) (leaf : Leaf) : Type 0 where
+record FrameIs (inside : Option Order) (T : Ty) (i count : ℕ) (outer : List Place)
+    (leaf : Leaf) : Type 0 where
   has : HasFrame inside T i count
   fits : FitsIn (part_of T (part_index inside i)) outer leaf
 
-frame_is : (here : ℕ) (inside : Option Order) (T : Ty) (i count : ℕ) (outer : List Place) (leaf : Leaf) → IsWithin inside i count T → IfSome inside (λ order. i < count) →
+frame_is : (here : ℕ) (inside : Option Order) (T : Ty) (i count : ℕ) (outer : List Place)
+    (leaf : Leaf) → IsWithin inside i count T → IfSome inside (λ order. i < count) →
     FitsIn T (place_in here inside T i count ∷ outer) leaf → FrameIs inside T i count outer leaf
 frame_is here None T i count outer leaf within ahead fits =
     let p = fits_part T i count outer leaf fits within.2 in
@@ -117,16 +104,23 @@ frame_is here (Some order) T i count outer leaf within ahead fits = record { has
 
 -- ---- a chain
 
-record ChainFits (C : Table) (here id : ℕ) (frames : List Frame) (leaf : Innermost) (carry piece : List ℕ) : Type 0 where
+record ChainFits (C : Table) (here id : ℕ) (frames : List Frame) (leaf : Innermost)
+    (carry piece : List ℕ) : Type 0 where
   fits : FitsIn (tree C id) (places C here frames) (leaf_of C leaf carry piece)
   ahead : AreAhead frames
   known_outer : AreKnown C frames
   link : Link C id frames (leaf_type leaf)
 
-chain_fits : (C : Table) (here id : ℕ) (frames : List Frame) (leaf : Innermost) (carry piece : List ℕ) → IsTable C → id < length C.types
-    → Chained C id frames leaf → LeafFits C leaf carry piece → ChainFits C here id frames leaf carry piece
+chain_fits : (C : Table) (here id : ℕ) (frames : List Frame) (leaf : Innermost)
+    (carry piece : List ℕ) → IsTable C → id < length C.types → Chained C id frames leaf →
+    LeafFits C leaf carry piece → ChainFits C here id frames leaf carry piece
 chain_fits C here id [] leaf carry piece laws known h inner =
-    record { fits = subst (λ (n : ℕ). FitsIn (tree C n) [] (leaf_of C leaf carry piece)) h inner.0; ahead = tt; known_outer = tt; link = h }
+    record {
+      fits = subst (λ (n : ℕ). FitsIn (tree C n) [] (leaf_of C leaf carry piece)) h inner.0;
+      ahead = tt;
+      known_outer = tt;
+      link = h;
+    }
 chain_fits C here id (f ∷ frames) leaf carry piece laws known h inner =
     let has = h.1 in
     let i = part_index f.inside f.index in
@@ -150,14 +144,21 @@ chain_fits C here id (f ∷ frames) leaf carry piece laws known h inner =
       link = (h.0, rest.link);
     }
 
-record FitsChain (C : Table) (id : ℕ) (frames : List Frame) (leaf : Innermost) (carry piece : List ℕ) : Type 0 where
+record FitsChain (C : Table) (id : ℕ) (frames : List Frame) (leaf : Innermost)
+    (carry piece : List ℕ) : Type 0 where
   chain : Chained C id frames leaf
   inner : FitsIn (tree C (leaf_type leaf)) [] (leaf_of C leaf carry piece)
 
-fits_chain : (C : Table) (here id : ℕ) (frames : List Frame) (leaf : Innermost) (carry piece : List ℕ) → IsTable C → id < length C.types
-    → FitsIn (tree C id) (places C here frames) (leaf_of C leaf carry piece) → AreAhead frames → AreKnown C frames → Link C id frames (leaf_type leaf) → FitsChain C id frames leaf carry piece
+fits_chain : (C : Table) (here id : ℕ) (frames : List Frame) (leaf : Innermost)
+    (carry piece : List ℕ) → IsTable C → id < length C.types →
+    FitsIn (tree C id) (places C here frames) (leaf_of C leaf carry piece) → AreAhead frames →
+    AreKnown C frames → Link C id frames (leaf_type leaf) → FitsChain C id frames leaf carry piece
 fits_chain C here id [] leaf carry piece laws known fits ahead are link =
-    record { chain = link; inner = subst (λ (n : ℕ). FitsIn (tree C n) [] (leaf_of C leaf carry piece)) (sym link) fits }
+    record {
+      chain = link;
+      inner = subst (λ (n : ℕ). FitsIn (tree C n) []
+          (leaf_of C leaf carry piece)) (sym link) fits;
+    }
 fits_chain C here id (f ∷ frames) leaf carry piece laws known fits ahead are link =
     let ps = places C here frames in
     let inmost = leaf_of C leaf carry piece in
@@ -194,15 +195,10 @@ some_fit : (T : Ty) → IsFit 24 T → IsEmptyStruct T → ⊥
 unfolding IsFit
 some_fit (Struct zero names parts) fit empty = absurd (omega (arith, fit.0))
 some_fit (Struct (suc n) names parts) fit empty = empty
-some_fit (Array n T) fit empty = empty
-some_fit (Sequence bound T) fit empty = empty
-some_fit (Single scalar) fit empty = empty
-some_fit (Text bound) fit empty = empty
-some_fit (Octets bound) fit empty = empty
-some_fit (Union choice scalar select names cases) fit empty = empty
-some_fit (Encapsulation T) fit empty = empty
+some_fit T fit empty = empty
 
-root_linked : (C : Table) (root : ℕ) (frames : List Frame) (leaf : Innermost) → Link C root frames (leaf_type leaf) → root ≡ root_of frames leaf
+root_linked : (C : Table) (root : ℕ) (frames : List Frame) (leaf : Innermost) →
+    Link C root frames (leaf_type leaf) → root ≡ root_of frames leaf
 root_linked C root [] leaf link = sym link
 root_linked C root (f ∷ frames) leaf link = sym link.0
 
@@ -247,75 +243,8 @@ fits_chains C d laws h =
 
 -- ---- how many
 
-most_at : (n i : ℕ) (f : ℕ → ℕ) → i < n → f i ≤ most n f
-most_at zero i f lt = absurd (omega arith)
-most_at (suc n) i f lt = by_place (cases_lt i n) (λ h. most_at n i f h)
-  where
-    by_place : (i < n) ⊎ (n ≤ i) → (i < n → f i ≤ most n f) → f i ≤ max (most n f) (f n)
-    by_place (inl h) below = omega (arith, below h)
-    by_place (inr h) below = let e : i ≡ n = omega arith in omega (arith, ap f e)
-
-depth_some : (T : Ty) → 0 < depth T
-unfolding depth
-depth_some (Struct n names parts) = omega arith
-depth_some (Array n T) = omega arith
-depth_some (Sequence bound T) = omega arith
-depth_some (Single scalar) = omega arith
-depth_some (Text bound) = omega arith
-depth_some (Octets bound) = omega arith
-depth_some (Union choice scalar select names cases) = omega arith
-depth_some (Encapsulation T) = omega arith
-
-part_shallower : (T : Ty) (i count : ℕ) → HasParts T count → i < count → depth (part_of T i) < depth T
-unfolding depth
-part_shallower (Struct n names parts) i count kind lt = let below : i < n = omega (arith, kind) in omega (arith, most_at n i (λ j. depth (parts j)) below)
-part_shallower (Array n T) i count kind lt = omega arith
-part_shallower (Sequence bound T) i count kind lt = omega arith
-part_shallower (Union choice scalar select names cases) i count kind lt = absurd kind
-part_shallower (Encapsulation T) i count kind lt = absurd kind
-part_shallower (Single scalar) i count kind lt = absurd kind
-part_shallower (Text bound) i count kind lt = absurd kind
-part_shallower (Octets bound) i count kind lt = absurd kind
-
-case_shallower : (T : Ty) (i : ℕ) → HasCase T i → depth (part_of T i) < depth T
-unfolding depth
-case_shallower (Union choice scalar select names cases) i kind = omega (arith, most_at (places_of choice) i (λ j. depth (cases j)) kind)
-case_shallower (Encapsulation T) i kind = absurd kind
-case_shallower (Struct n names parts) i kind = absurd kind
-case_shallower (Array n T) i kind = absurd kind
-case_shallower (Sequence bound T) i kind = absurd kind
-case_shallower (Single scalar) i kind = absurd kind
-case_shallower (Text bound) i kind = absurd kind
-case_shallower (Octets bound) i kind = absurd kind
-
-inside_shallower : (T : Ty) → IsEncapsulation T → depth (part_of T 0) < depth T
-unfolding depth
-inside_shallower (Encapsulation T) kind = omega arith
-inside_shallower (Union choice scalar select names cases) kind = absurd kind
-inside_shallower (Struct n names parts) kind = absurd kind
-inside_shallower (Array n T) kind = absurd kind
-inside_shallower (Sequence bound T) kind = absurd kind
-inside_shallower (Single scalar) kind = absurd kind
-inside_shallower (Text bound) kind = absurd kind
-inside_shallower (Octets bound) kind = absurd kind
-
-fits_shallow : (ps : List Place) (T : Ty) (leaf : Leaf) → FitsIn T ps leaf → length ps < depth T
-fits_shallow [] T leaf fits = depth_some T
-fits_shallow (Part U i count ∷ ps) T leaf fits = omega (arith, fits_shallow ps (part_of T i) leaf fits.1, part_shallower T i count fits.0.kind fits.0.below)
-fits_shallow (Member U i ∷ ps) T leaf fits = omega (arith, fits_shallow ps (part_of T i) leaf fits.1, case_shallower T i fits.0.kind)
-fits_shallow (Inside U coding end ∷ ps) T leaf fits = omega (arith, fits_shallow ps (part_of T 0) leaf fits.1, inside_shallower T fits.0.kind)
-
-pub fits_depth : (C : Table) (d : Decoder) → Fits C d → length d.outer.items < depth_of C.types
-fits_depth C d h =
-    omega (arith, length_places C h.here d.outer.items, fits_shallow (places C h.here d.outer.items) (tree C h.root) _ h.fits, depth_is C h.root h.known_root)
-
-left_some : (d : ℕ) (T : Ty) → IsFit d T → 0 < d
-unfolding IsFit
-left_some zero T fit = absurd fit
-left_some (suc d) T fit = omega arith
-
 -- room is left for the innermost part's frame
 pub fits_few : (C : Table) (d : Decoder) → Fits C d → length d.outer.items < 24
 fits_few C d h =
     let l = leaf_at 24 (tree C h.root) (places C h.here d.outer.items) (leaf_of C h.leaf d.carry d.piece.items) h.fits h.fit in
-    omega (arith, length_places C h.here d.outer.items, l.depth, left_some l.left _ l.fit)
+    omega (arith, length_places C h.here d.outer.items, l.depth, fit_room l.left _ l.fit)

@@ -18,17 +18,15 @@ Stands at octets field = (rest : List ℕ) × (drop at octets ≡ field ++ rest)
 pub leaf_long : (leaf : Innermost) → length (leaf_octets leaf) ≡ 13
 unfolding four
 leaf_long (innermost.Number of) = refl
-leaf_long (innermost.Content of total offset) = refl
-leaf_long (innermost.Opening of count) = refl
+leaf_long leaf = refl
 
 pub frame_long : (f : Frame) → length (frame_octets f) ≡ frame_size
 unfolding four
 frame_long f = refl
 
 pub kept_short : (b : Buffer) (name : List ℕ) → length name ≤ 128 → length (kept_name b name) ≤ 128
-kept_short buffers.Begun name few = few
-kept_short buffers.Whole name few = few
 kept_short buffers.TooLong name few = omega arith
+kept_short buffer name few = few
 
 pub record MemoryStands (m : Memory) (at : ℕ) (octets : List ℕ) : Type 0 where
   pub request_id : Stands at octets (optional m.request_id)
@@ -37,18 +35,24 @@ pub record MemoryStands (m : Memory) (at : ℕ) (octets : List ℕ) : Type 0 whe
   pub name : Stands (at + 11) octets (name_octets m)
 
 -- the same place, counted from an earlier one
-pub further : (at a b c : ℕ) (octets xs : List ℕ) → a + b ≡ c → drop (at + a + b) octets ≡ xs → drop (at + c) octets ≡ xs
+pub further : (at a b c : ℕ) (octets xs : List ℕ) → a + b ≡ c → drop (at + a + b) octets ≡ xs →
+    drop (at + c) octets ≡ xs
 further at a b c octets xs e is = let same : at + a + b ≡ at + c = omega arith in subst (λ (n : ℕ). drop n octets ≡ xs) same is
 
-three : (a b c d : List ℕ) → (a ++ b ++ c) ++ d ≡ a ++ (b ++ (c ++ d))
+pub three : (a b c d : List ℕ) → (a ++ b ++ c) ++ d ≡ a ++ (b ++ (c ++ d))
 three a b c d = simp append_assoc
 
-pub memory_stands : (m : Memory) (at : ℕ) (octets rest : List ℕ) → drop at octets ≡ memory_octets m ++ rest → MemoryStands m at octets
+pub memory_stands : (m : Memory) (at : ℕ) (octets rest : List ℕ) →
+    drop at octets ≡ memory_octets m ++ rest → MemoryStands m at octets
 memory_stands m at octets rest is =
-    let id : drop at octets ≡ optional m.request_id ++ (optional m.status ++ ((buffer_octet m.buffer ∷ name_octets m) ++ rest)) = is ∙ three (optional m.request_id) (optional m.status) (buffer_octet m.buffer ∷ name_octets m) rest in
-    let status : drop (at + 5) octets ≡ optional m.status ++ ((buffer_octet m.buffer ∷ name_octets m) ++ rest) = behind at 5 octets _ _ id (optional_long m.request_id) in
-    let buffer : drop (at + 10) octets ≡ (buffer_octet m.buffer ∷ []) ++ (name_octets m ++ rest) = further at 5 5 10 octets _ refl (behind (at + 5) 5 octets _ _ status (optional_long m.status)) in
-    let name : drop (at + 11) octets ≡ name_octets m ++ rest = further at 10 1 11 octets _ refl (behind (at + 10) 1 octets (buffer_octet m.buffer ∷ []) _ buffer refl) in
+    let id : drop at octets ≡ optional m.request_id ++ (optional m.status ++ ((buffer_octet m.buffer ∷ name_octets m) ++ rest)) = is
+    ∙ three (optional m.request_id) (optional m.status) (buffer_octet m.buffer ∷ name_octets m) rest in
+    let status : drop (at + 5) octets ≡ optional m.status ++ ((buffer_octet m.buffer ∷ name_octets m) ++ rest) =
+    behind at 5 octets _ _ id (optional_long m.request_id) in
+    let buffer : drop (at + 10) octets ≡ (buffer_octet m.buffer ∷ []) ++ (name_octets m ++ rest) =
+    further at 5 5 10 octets _ refl (behind (at + 5) 5 octets _ _ status (optional_long m.status)) in
+    let name : drop (at + 11) octets ≡ name_octets m ++ rest = further at 10 1 11 octets _ refl
+    (behind (at + 10) 1 octets (buffer_octet m.buffer ∷ []) _ buffer refl) in
     record { request_id = (_, id); status = (_, status); buffer = (_, buffer); name = (_, name) }
 
 pub record FieldsStand (d : Decoder) (inner : Innermost) (fixed : List ℕ) : Type 0 where
@@ -64,7 +68,8 @@ pub record FieldsStand (d : Decoder) (inner : Innermost) (fixed : List ℕ) : Ty
 six : (a b c d e f : List ℕ) → a ++ b ++ c ++ d ++ e ++ f ≡ a ++ (b ++ (c ++ (d ++ (e ++ f))))
 six a b c d e f = simp append_assoc
 
-pub fields_stand : (d : Decoder) (leaf : Innermost) (fixed : List ℕ) → fixed ≡ fixed_octets d leaf → HasRange d → FieldsStand d leaf fixed
+pub fields_stand : (d : Decoder) (leaf : Innermost) (fixed : List ℕ) → fixed ≡ fixed_octets d leaf →
+    HasRange d → FieldsStand d leaf fixed
 unfolding fixed_octets
 fields_stand d leaf fixed is range =
     let zeros : List ℕ = replicate 2 0 in
@@ -77,7 +82,8 @@ fields_stand d leaf fixed is range =
     let inner : drop 11 fixed ≡ leaf_octets leaf ++ carry_on = behind 10 1 fixed (d.at ∷ []) _ at refl in
     let carry : drop 24 fixed ≡ held 8 d.carry ++ piece_on = behind 11 13 fixed _ _ inner (leaf_long leaf) in
     let piece : drop 33 fixed ≡ held 32 d.piece.items ++ memory_on = behind 24 9 fixed (held 8 d.carry) _ carry (held_long 8 d.carry range.carry) in
-    let memory : drop 66 fixed ≡ memory_octets d.memory ++ zeros = behind 33 33 fixed (held 32 d.piece.items) _ piece (held_long 32 d.piece.items range.piece) in
+    let memory : drop 66 fixed ≡ memory_octets d.memory ++ zeros = behind 33 33 fixed (held 32 d.piece.items) _ piece
+    (held_long 32 d.piece.items range.piece) in
     record {
       order = (_, is);
       root = (_, ap (drop 1) is);
@@ -90,10 +96,12 @@ fields_stand d leaf fixed is range =
     }
 
 -- the fields, written one behind the other
-pub fields_written : (d : Decoder) (leaf : Innermost) (carry piece o0 o1 o2 o3 o4 o5 o6 o7 o8 o9 : List ℕ) → carry ≡ d.carry → piece ≡ d.piece.items
-    → o0 ≡ [] → o1 ≡ o0 ++ order_octet d.order ∷ [] → o2 ≡ o1 ++ root_octet d.root ∷ [] → o3 ≡ o2 ++ eight d.message → o4 ≡ o3 ++ d.at ∷ []
-    → o5 ≡ o4 ++ leaf_octets leaf → o6 ≡ o5 ++ held 8 carry → o7 ≡ o6 ++ held 32 piece → o8 ≡ o7 ++ memory_octets d.memory → o9 ≡ o8 ++ replicate 2 0
-    → o9 ≡ fixed_octets d leaf
+pub fields_written : (d : Decoder) (leaf : Innermost) (carry piece o0 o1 o2 o3 o4 o5 o6 o7 o8
+    o9 : List ℕ) → carry ≡ d.carry → piece ≡ d.piece.items → o0 ≡ [] →
+    o1 ≡ o0 ++ order_octet d.order ∷ [] → o2 ≡ o1 ++ root_octet d.root ∷ [] →
+    o3 ≡ o2 ++ eight d.message → o4 ≡ o3 ++ d.at ∷ [] → o5 ≡ o4 ++ leaf_octets leaf →
+    o6 ≡ o5 ++ held 8 carry → o7 ≡ o6 ++ held 32 piece → o8 ≡ o7 ++ memory_octets d.memory →
+    o9 ≡ o8 ++ replicate 2 0 → o9 ≡ fixed_octets d leaf
 unfolding fixed_octets
 fields_written d leaf carry piece o0 o1 o2 o3 o4 o5 o6 o7 o8 o9 a b e0 e1 e2 e3 e4 e5 e6 e7 e8 e9 =
     let front : List ℕ = order_octet d.order ∷ root_octet d.root ∷ eight d.message in
@@ -103,6 +111,6 @@ fields_written d leaf carry piece o0 o1 o2 o3 o4 o5 o6 o7 o8 o9 a b e0 e1 e2 e3 
     rw (e9, e8, e7, e6, f5, a, b) refl
 
 -- the fields of a frame, put one behind the other
-pub put_together : (o a b c z : List ℕ) (i : ℕ)
-    → ((((o ++ a) ++ b) ++ c) ++ i ∷ []) ++ z ≡ o ++ (a ++ b ++ c ++ i ∷ z)
+pub put_together : (o a b c z : List ℕ) (i : ℕ) →
+    ((((o ++ a) ++ b) ++ c) ++ i ∷ []) ++ z ≡ o ++ (a ++ b ++ c ++ i ∷ z)
 put_together o a b c z i = simp append_assoc

@@ -7,7 +7,7 @@ use Rattle.giop_decode.specs.declared.frame.Frame.{Frame}
 use Rattle.giop_decode.specs.declared.leaf.Leaf.{Leaf as Innermost}
 use Rattle.giop_decode.specs.declared.leaf.Leaf.TheVariants as innermost
 use Rattle.giop_decode.specs.Stored.{leaf_octets, inside_octet, frame_size, frame_octets, frames_octets, FrameHasRange, LeafHasRange}
-use Rattle.giop_decode.proofs.StoredFields.{frame_long, further}
+use Rattle.giop_decode.proofs.StoredFields.{frame_long, further, three}
 use Rattle.giop_octets.specs.Fields.{four}
 use Rattle.giop_octets.proofs.FieldLaws.{four_long, behind}
 use Rattle.giop_sig.specs.Table.{type_id}
@@ -16,58 +16,70 @@ use Rattle.giop_sig.specs.Table.{type_id}
 abbrev ReadsFour : ℕ → List ℕ → ℕ → Type 0
 ReadsFour at octets n = (m : ℕ) (rest : List ℕ) → m < 2 ^ 32 → drop at octets ≡ four m ++ rest → n ≡ m
 
-three : (a b c d : List ℕ) → (a ++ b ++ c) ++ d ≡ a ++ (b ++ (c ++ d))
-three a b c d = simp append_assoc
-
 four_fields : (a b c d e : List ℕ) → (a ++ b ++ c ++ d) ++ e ≡ a ++ (b ++ (c ++ (d ++ e)))
 four_fields a b c d e = simp append_assoc
 
 -- ---- the innermost part
 
-pub number_again : (leaf : Innermost) (at of tag : ℕ) (octets rest : List ℕ) → LeafHasRange leaf → drop at octets ≡ leaf_octets leaf ++ rest → tag ≡ 0
-    → ((n : ℕ) (rest : List ℕ) → drop at octets ≡ n ∷ rest → tag ≡ n) → ReadsFour (at + 1) octets of → innermost.Number (type_id of) ≡ leaf
-number_again (innermost.Number t) at of tag octets rest range is zero_tag tag_is of_is =
-    let inner : drop (at + 1) octets ≡ four t.0 ++ (four 0 ++ (four 0 ++ rest)) = behind at 1 octets (0 ∷ []) _ is refl ∙ three (four t.0) (four 0) (four 0) rest in
-    let e : of ≡ t.0 = of_is t.0 _ range inner in
-    rw e refl
-number_again (innermost.Content t total offset) at of tag octets rest range is zero_tag tag_is of_is = absurd (omega (arith, tag_is 1 _ is, zero_tag))
-number_again (innermost.Opening t count) at of tag octets rest range is zero_tag tag_is of_is = absurd (omega (arith, tag_is 2 _ is, zero_tag))
+-- the numbers behind its tag
+numbers_stand : (at tag a b c : ℕ) (octets rest : List ℕ) →
+    drop at octets ≡ (tag ∷ four a ++ four b ++ four c) ++ rest →
+    (drop (at + 1) octets ≡ four a ++ (four b ++ (four c ++ rest)))
+    × (drop (at + 5) octets ≡ four b ++ (four c ++ rest)) × (drop (at + 9) octets ≡ four c ++ rest)
+numbers_stand at tag a b c octets rest is =
+    let first : drop (at + 1) octets ≡ four a ++ (four b ++ (four c ++ rest)) =
+    behind at 1 octets (tag ∷ []) _ is refl ∙ three (four a) (four b) (four c) rest in
+    let second : drop (at + 5) octets ≡ four b ++ (four c ++ rest) =
+    further at 1 4 5 octets _ refl (behind (at + 1) 4 octets _ _ first (four_long a)) in
+    (first, second, further at 5 4 9 octets _ refl (behind (at + 5) 4 octets _ _ second (four_long b)))
 
-pub opening_again : (leaf : Innermost) (at of count tag : ℕ) (octets rest : List ℕ) → LeafHasRange leaf → drop at octets ≡ leaf_octets leaf ++ rest → tag ≡ 2
-    → ((n : ℕ) (rest : List ℕ) → drop at octets ≡ n ∷ rest → tag ≡ n) → ReadsFour (at + 1) octets of → ReadsFour (at + 5) octets count
-    → innermost.Opening (type_id of) count ≡ leaf
-opening_again (innermost.Number t) at of count tag octets rest range is two tag_is of_is count_is = absurd (omega (arith, tag_is 0 _ is, two))
-opening_again (innermost.Content t total offset) at of count tag octets rest range is two tag_is of_is count_is = absurd (omega (arith, tag_is 1 _ is, two))
-opening_again (innermost.Opening t k) at of count tag octets rest range is two tag_is of_is count_is =
-    let inner : drop (at + 1) octets ≡ four t.0 ++ (four k ++ (four 0 ++ rest)) = behind at 1 octets (2 ∷ []) _ is refl ∙ three (four t.0) (four k) (four 0) rest in
-    let count_at : drop (at + 5) octets ≡ four k ++ (four 0 ++ rest) = further at 1 4 5 octets _ refl (behind (at + 1) 4 octets _ _ inner (four_long t.0)) in
-    let a : of ≡ t.0 = of_is t.0 _ range.0 inner in
-    let b : count ≡ k = count_is k _ range.1 count_at in
-    rw (a, b) refl
+-- an innermost part whose tag and type were read
+module _ (at of tag : ℕ) (octets rest : List ℕ)
+    (tag_is : (n : ℕ) (rest : List ℕ) → drop at octets ≡ n ∷ rest → tag ≡ n)
+    (of_is : ReadsFour (at + 1) octets of) where
+  pub number_again : (leaf : Innermost) → LeafHasRange leaf →
+      drop at octets ≡ leaf_octets leaf ++ rest → tag ≡ 0 → innermost.Number (type_id of) ≡ leaf
+  number_again (innermost.Number t) range is zero_tag =
+      let e : of ≡ t.0 = of_is t.0 _ range (numbers_stand at 0 t.0 0 0 octets rest is).0 in
+      rw e refl
+  number_again (innermost.Content t total offset) range is zero_tag = absurd (omega (arith, tag_is 1 _ is, zero_tag))
+  number_again (innermost.Opening t count) range is zero_tag = absurd (omega (arith, tag_is 2 _ is, zero_tag))
 
-pub content_again : (leaf : Innermost) (at of total offset tag : ℕ) (octets rest : List ℕ) → LeafHasRange leaf → drop at octets ≡ leaf_octets leaf ++ rest → (tag ≡ 0 → ⊥) → (tag ≡ 2 → ⊥)
-    → ((n : ℕ) (rest : List ℕ) → drop at octets ≡ n ∷ rest → tag ≡ n) → ReadsFour (at + 1) octets of → ReadsFour (at + 5) octets total → ReadsFour (at + 9) octets offset
-    → innermost.Content (type_id of) total offset ≡ leaf
-content_again (innermost.Opening t count) at of total offset tag octets rest range is other third tag_is of_is total_is offset_is = absurd (third (tag_is 2 _ is))
-content_again (innermost.Number t) at of total offset tag octets rest range is other third tag_is of_is total_is offset_is = absurd (other (tag_is 0 _ is))
-content_again (innermost.Content t k o) at of total offset tag octets rest range is other third tag_is of_is total_is offset_is =
-    let inner : drop (at + 1) octets ≡ four t.0 ++ (four k ++ (four o ++ rest)) = behind at 1 octets (1 ∷ []) _ is refl ∙ three (four t.0) (four k) (four o) rest in
-    let total_at : drop (at + 5) octets ≡ four k ++ (four o ++ rest) = further at 1 4 5 octets _ refl (behind (at + 1) 4 octets _ _ inner (four_long t.0)) in
-    let offset_at : drop (at + 9) octets ≡ four o ++ rest = further at 5 4 9 octets _ refl (behind (at + 5) 4 octets _ _ total_at (four_long k)) in
-    let a : of ≡ t.0 = of_is t.0 _ range.0 inner in
-    let b : total ≡ k = total_is k _ range.1 total_at in
-    let c : offset ≡ o = offset_is o _ range.2 offset_at in
-    rw (a, b, c) refl
+  pub opening_again : (leaf : Innermost) (count : ℕ) → LeafHasRange leaf →
+      drop at octets ≡ leaf_octets leaf ++ rest → tag ≡ 2 → ReadsFour (at + 5) octets count →
+      innermost.Opening (type_id of) count ≡ leaf
+  opening_again (innermost.Number t) count range is two count_is = absurd (omega (arith, tag_is 0 _ is, two))
+  opening_again (innermost.Content t total offset) count range is two count_is = absurd (omega (arith, tag_is 1 _ is, two))
+  opening_again (innermost.Opening t k) count range is two count_is =
+      let stand = numbers_stand at 2 t.0 k 0 octets rest is in
+      let a : of ≡ t.0 = of_is t.0 _ range.0 stand.0 in
+      let b : count ≡ k = count_is k _ range.1 stand.1 in
+      rw (a, b) refl
+
+  pub content_again : (leaf : Innermost) (total offset : ℕ) → LeafHasRange leaf →
+      drop at octets ≡ leaf_octets leaf ++ rest → (tag ≡ 0 → ⊥) → (tag ≡ 2 → ⊥) →
+      ReadsFour (at + 5) octets total → ReadsFour (at + 9) octets offset →
+      innermost.Content (type_id of) total offset ≡ leaf
+  content_again (innermost.Opening t count) total offset range is other third total_is offset_is = absurd (third (tag_is 2 _ is))
+  content_again (innermost.Number t) total offset range is other third total_is offset_is = absurd (other (tag_is 0 _ is))
+  content_again (innermost.Content t k o) total offset range is other third total_is offset_is =
+      let stand = numbers_stand at 1 t.0 k o octets rest is in
+      let a : of ≡ t.0 = of_is t.0 _ range.0 stand.0 in
+      let b : total ≡ k = total_is k _ range.1 stand.1 in
+      let c : offset ≡ o = offset_is o _ range.2 stand.2 in
+      rw (a, b, c) refl
 
 -- ---- frames
 
-pub frame_again : (f : Frame) (of index count : ℕ) (inside : Option Order) (octets rest : List ℕ) → FrameHasRange f → octets ≡ frame_octets f ++ rest
-    → ReadsFour 0 octets of → ReadsFour 4 octets index → ReadsFour 8 octets count
-    → ((i : Option Order) (rest : List ℕ) → drop 12 octets ≡ inside_octet i ∷ rest → inside ≡ i)
-    → record { of = type_id of; index = index; count = count; inside = inside } ≡ f
+pub frame_again : (f : Frame) (of index count : ℕ) (inside : Option Order) (octets rest : List ℕ) →
+    FrameHasRange f → octets ≡ frame_octets f ++ rest → ReadsFour 0 octets of →
+    ReadsFour 4 octets index → ReadsFour 8 octets count →
+    ((i : Option Order) (rest : List ℕ) → drop 12 octets ≡ inside_octet i ∷ rest → inside ≡ i) →
+    record { of = type_id of; index = index; count = count; inside = inside } ≡ f
 frame_again f of index count inside octets rest range is of_is index_is count_is inside_is =
     let last : List ℕ = inside_octet f.inside ∷ replicate 11 0 in
-    let first : drop 0 octets ≡ four f.of.0 ++ (four f.index ++ (four f.count ++ (last ++ rest))) = is ∙ four_fields (four f.of.0) (four f.index) (four f.count) last rest in
+    let first : drop 0 octets ≡ four f.of.0 ++ (four f.index ++ (four f.count ++ (last ++ rest))) = is
+    ∙ four_fields (four f.of.0) (four f.index) (four f.count) last rest in
     let second : drop 4 octets ≡ four f.index ++ (four f.count ++ (last ++ rest)) = behind 0 4 octets _ _ first (four_long f.of.0) in
     let third : drop 8 octets ≡ four f.count ++ (last ++ rest) = behind 4 4 octets _ _ second (four_long f.index) in
     let fourth : drop 12 octets ≡ last ++ rest = behind 8 4 octets _ _ third (four_long f.count) in
@@ -84,28 +96,36 @@ pub record Left (all items : List Frame) (own : Frame) (octets : List ℕ) : Typ
   pub octets_are : octets ≡ frames_octets (left ++ own ∷ [])
   pub all_are : all ≡ items ++ left
 
-two_long : (g h : Frame) (gs : List Frame) → 2 * frame_size ≤ length (frames_octets (g ∷ gs ++ h ∷ []))
+two_long : (g h : Frame) (gs : List Frame) →
+    2 * frame_size ≤ length (frames_octets (g ∷ gs ++ h ∷ []))
 two_long g h [] = omega (arith, length-append (frame_octets g) (frame_octets h ++ []), length-append (frame_octets h) [], frame_long g, frame_long h)
 two_long g h (k ∷ gs) = omega (arith, length-append (frame_octets g) (frames_octets (k ∷ gs ++ h ∷ [])), two_long k h gs, frame_long g)
 
-pub frame_more : (all items new : List Frame) (own f : Frame) (octets after : List ℕ) → Left all items own octets → 2 * frame_size ≤ length octets → after ≡ drop frame_size octets → new ≡ items ++ f ∷ []
-    → ((g : Frame) (rest : List ℕ) → FrameHasRange g → octets ≡ frame_octets g ++ rest → f ≡ g) → Left all new own after
+pub frame_more : (all items new : List Frame) (own f : Frame) (octets after : List ℕ) →
+    Left all items own octets → 2 * frame_size ≤ length octets → after ≡ drop frame_size octets →
+    new ≡ items ++ f ∷ [] → ((g : Frame) (rest : List ℕ) → FrameHasRange g →
+    octets ≡ frame_octets g ++ rest → f ≡ g) → Left all new own after
 frame_more all items new own f octets after l long is pushed read = by_left l.left l.range l.octets_are l.all_are
   where
-    by_left : (left : List Frame) → AllByRecursion FrameHasRange left → octets ≡ frames_octets (left ++ own ∷ []) → all ≡ items ++ left → Left all new own after
+    by_left : (left : List Frame) → AllByRecursion FrameHasRange left →
+        octets ≡ frames_octets (left ++ own ∷ []) → all ≡ items ++ left → Left all new own after
     by_left [] range e a = absurd (omega (arith, ap length e, length-append (frame_octets own) [], frame_long own))
     by_left (g ∷ gs) range e a = record {
       left = gs;
       range = range.1;
       octets_are = is ∙ behind 0 frame_size octets (frame_octets g) _ e (frame_long g);
-      all_are = a ∙ ap (λ (x : Frame). items ++ x ∷ gs) (sym (read g _ range.0 e)) ∙ sym (append_assoc items (f ∷ []) gs) ∙ ap (λ (xs : List Frame). xs ++ gs) (sym pushed);
+      all_are = a ∙ ap (λ (x : Frame). items ++ x ∷ gs) (sym (read g _ range.0 e)) ∙ sym (append_assoc items (f ∷ []) gs)
+          ∙ ap (λ (xs : List Frame). xs ++ gs) (sym pushed);
     }
 
 -- none are left where there is less than two frames, or no room
-pub frames_ended : (all items : List Frame) (own : Frame) (octets : List ℕ) → Left all items own octets → length all < 24 → (2 * frame_size ≤ length octets → length items ≡ 24) → items ≡ all
+pub frames_ended : (all items : List Frame) (own : Frame) (octets : List ℕ) →
+    Left all items own octets → length all < 24 →
+    (2 * frame_size ≤ length octets → length items ≡ 24) → items ≡ all
 frames_ended all items own octets l few ended = by_left l.left l.octets_are l.all_are
   where
-    by_left : (left : List Frame) → octets ≡ frames_octets (left ++ own ∷ []) → all ≡ items ++ left → items ≡ all
+    by_left : (left : List Frame) → octets ≡ frames_octets (left ++ own ∷ []) →
+        all ≡ items ++ left → items ≡ all
     by_left [] e a = sym (a ∙ append-nil items)
     by_left (g ∷ gs) e a =
         let long : 2 * frame_size ≤ length octets = omega (arith, ap length e, two_long g own gs) in

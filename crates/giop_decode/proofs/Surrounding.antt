@@ -1,5 +1,5 @@
 -- The encapsulations among a decoder's frames.
-use Rattle.std.proofs.Common.{◌≡◌, ℕ, zero, suc, ◌+◌, ◌-◌, ◌%◌, ◌<◌, ◌≤◌, Bool, true, false, cond, List, [], ◌∷◌, ◌++◌, length, take, drop, get_or, set, Option, Some, None, refl, sym, ◌∙◌, ap, arith, add-one, append-nil, take_all, length-set, ◌⊎◌, inl, inr, lt-ltb, le-ltb, ne_eqb}
+use Rattle.std.proofs.Common.{◌≡◌, ℕ, zero, suc, ◌+◌, ◌-◌, ◌%◌, ◌<◌, ◌≤◌, Bool, true, false, cond, List, [], ◌∷◌, ◌++◌, length, take, drop, get_or, set, Option, Some, None, refl, sym, ◌∙◌, ap, arith, add-one, append-nil, length-set, ◌⊎◌, inl, inr, lt-ltb, le-ltb, ne_eqb}
 use Rattle.std.specs.Prelude.{◌||◌, eqb, IfSome}
 use Rattle.std.proofs.lemmas.Bool.{cases_lt, eq-eqb}
 use Rattle.std.proofs.lemmas.List.{take_more, take_more_set}
@@ -16,11 +16,12 @@ use Rattle.giop_decode.specs.Steps.{around, coding_at, coding_in, resumed, seg_i
 use Rattle.giop_decode.specs.Turns.{IsAhead, tick_of, AreAhead, AreKnown, IsWithin, StandAt, StandsAt, coding_by, coding_of, ended_at, gone_on, gone_to, leaf_of, has_ended, is_inside, is_some_order, part_in, place, place_in, places, ticked, ticked_at}
 use Rattle.giop_sig.specs.Table.{Table}
 use Rattle.giop_sig.specs.Trees.{tree}
-use Rattle.giop_sig.specs.Types.{Array, Encapsulation, Octets, Sequence, Single, Struct, Text, Ty, Union}
+use Rattle.giop_sig.specs.Types.{Ty, Union}
 
 -- ---- an octet more
 
-place_ticked : (here : ℕ) (inside : Option Order) (T : Ty) (i count : ℕ) → IfSome inside (λ order. i < count) →
+place_ticked : (here : ℕ) (inside : Option Order) (T : Ty) (i count : ℕ) →
+    IfSome inside (λ order. i < count) →
     place_in (here + 1) inside T (ticked_at inside i) count ≡ place_in here inside T i count
 place_ticked here None T i count h = refl
 place_ticked here (Some order) T i count h =
@@ -28,26 +29,32 @@ place_ticked here (Some order) T i count h =
     let k : (here + 1) + (count - (i + 1)) ≡ here + (count - i) = omega (arith, h) in
     rw (e, k) refl
 
-pub places_ticked : (C : Table) (here : ℕ) (frames : List Frame) → AreAhead frames → places C (here + 1) (ticked frames) ≡ places C here frames
+pub places_ticked : (C : Table) (here : ℕ) (frames : List Frame) → AreAhead frames →
+    places C (here + 1) (ticked frames) ≡ places C here frames
 places_ticked C here [] h = refl
 places_ticked C here (f ∷ frames) h =
     ap (λ p. p ∷ places C (here + 1) (ticked frames)) (place_ticked here f.inside (tree C f.of.0) f.index f.count h.0)
     ∙ ap (λ ps. place C here f ∷ ps) (places_ticked C here frames h.1)
 
-within_ticked : (inside : Option Order) (i count : ℕ) (T : Ty) → IfSome inside (λ order. i < count) → IsWithin inside i count T → IsWithin inside (ticked_at inside i) count T
+within_ticked : (inside : Option Order) (i count : ℕ) (T : Ty) →
+    IfSome inside (λ order. i < count) → IsWithin inside i count T →
+    IsWithin inside (ticked_at inside i) count T
 within_ticked None i count T h k = k
 within_ticked (Some order) i count T h k = (k.0, omega arith, omega (arith, h))
 
-pub known_ticked : (C : Table) (frames : List Frame) → AreAhead frames → AreKnown C frames → AreKnown C (ticked frames)
+pub known_ticked : (C : Table) (frames : List Frame) → AreAhead frames → AreKnown C frames →
+    AreKnown C (ticked frames)
 known_ticked C [] h k = tt
 known_ticked C (f ∷ frames) h k =
     (record { known = k.0.known; within = within_ticked f.inside f.index f.count (tree C f.of.0) h.0 k.0.within }, known_ticked C frames h.1 k.1)
 
-stands_ticked : (here : ℕ) (inside : Option Order) (i : ℕ) → IfSome inside (λ order. i ≤ here) → IfSome inside (λ order. ticked_at inside i ≤ here + 1)
+stands_ticked : (here : ℕ) (inside : Option Order) (i : ℕ) → IfSome inside (λ order. i ≤ here) →
+    IfSome inside (λ order. ticked_at inside i ≤ here + 1)
 stands_ticked here None i h = tt
 stands_ticked here (Some order) i h = omega (arith, h)
 
-pub stand_ticked : (here : ℕ) (frames : List Frame) → StandAt here frames → StandAt (here + 1) (ticked frames)
+pub stand_ticked : (here : ℕ) (frames : List Frame) → StandAt here frames →
+    StandAt (here + 1) (ticked frames)
 stand_ticked here [] h = tt
 stand_ticked here (f ∷ frames) h = (stands_ticked here f.inside f.index h.0, stand_ticked here frames h.1)
 
@@ -61,7 +68,8 @@ neither : (a b : Bool) → a || b ≡ false → (a ≡ false) × (b ≡ false)
 neither true b h = let e = h in cc
 neither false b h = (refl, h)
 
-ahead_at : (inside : Option Order) (i count : ℕ) (T : Ty) → IsWithin inside i count T → ended_at inside i count ≡ false → IfSome inside (λ order. i < count)
+ahead_at : (inside : Option Order) (i count : ℕ) (T : Ty) → IsWithin inside i count T →
+    ended_at inside i count ≡ false → IfSome inside (λ order. i < count)
 ahead_at None i count T k h = tt
 ahead_at (Some order) i count T k h = go (cases_lt i count)
   where
@@ -72,7 +80,8 @@ ahead_at (Some order) i count T k h = go (cases_lt i count)
         let same : eqb i count ≡ true = eq-eqb i count e in
         absurd cc
 
-pub ahead_by : (C : Table) (frames : List Frame) → AreKnown C frames → has_ended frames ≡ false → AreAhead frames
+pub ahead_by : (C : Table) (frames : List Frame) → AreKnown C frames → has_ended frames ≡ false →
+    AreAhead frames
 ahead_by C [] k h = tt
 ahead_by C (f ∷ frames) k h =
     let n = neither (ended_at f.inside f.index f.count) (has_ended frames) h in
@@ -80,61 +89,51 @@ ahead_by C (f ∷ frames) k h =
 
 part_surrounds : (here : ℕ) (T : Ty) (i count : ℕ) → Surround here (part_in T i count)
 part_surrounds here (Union n scalar select names cases) i count = tt
-part_surrounds here (Single scalar) i count = tt
-part_surrounds here (Text bound) i count = tt
-part_surrounds here (Octets bound) i count = tt
-part_surrounds here (Struct n names parts) i count = tt
-part_surrounds here (Sequence bound E) i count = tt
-part_surrounds here (Array n E) i count = tt
-part_surrounds here (Encapsulation E) i count = tt
+part_surrounds here T i count = tt
 
-surround_at : (here : ℕ) (inside : Option Order) (T : Ty) (i count : ℕ) → IsWithin inside i count T → IfSome inside (λ order. i < count) → IfSome inside (λ order. i ≤ here) →
-    Surround here (place_in here inside T i count)
+surround_at : (here : ℕ) (inside : Option Order) (T : Ty) (i count : ℕ) →
+    IsWithin inside i count T → IfSome inside (λ order. i < count) →
+    IfSome inside (λ order. i ≤ here) → Surround here (place_in here inside T i count)
 surround_at here None T i count k a s = part_surrounds here T i count
 surround_at here (Some order) T i count k a s = (omega (arith, a), omega (arith, k.1, s))
 
-pub surrounds : (C : Table) (here : ℕ) (frames : List Frame) → AreKnown C frames → AreAhead frames → StandAt here frames → Surrounds here (places C here frames)
+pub surrounds : (C : Table) (here : ℕ) (frames : List Frame) → AreKnown C frames → AreAhead frames →
+    StandAt here frames → Surrounds here (places C here frames)
 surrounds C here [] k a s = tt
 surrounds C here (f ∷ frames) k a s =
     (surround_at here f.inside (tree C f.of.0) f.index f.count k.0.within a.0 s.0, surrounds C here frames k.1 a.1 s.1)
 
 -- ---- a part that goes on in these frames
 
-resumed_short : (coding : Coding) (path : List Seg) (T : Ty) (i count : ℕ) (lines : List Line) (at : ℕ) (outer : List Place) (leaf : Leaf) →
-    resumed coding path (part_in T i count) (Short lines at outer leaf) ≡ Short lines at (part_in T i count ∷ outer) leaf
+resumed_short : (coding : Coding) (path : List Seg) (T : Ty) (i count : ℕ) (lines : List Line)
+    (at : ℕ) (outer : List Place) (leaf : Leaf) →
+    resumed coding path (part_in T i count) (Short lines at outer leaf)
+    ≡ Short lines at (part_in T i count ∷ outer) leaf
 resumed_short coding path (Union n scalar select names cases) i count lines at outer leaf = refl
-resumed_short coding path (Single scalar) i count lines at outer leaf = refl
-resumed_short coding path (Text bound) i count lines at outer leaf = refl
-resumed_short coding path (Octets bound) i count lines at outer leaf = refl
-resumed_short coding path (Struct n names parts) i count lines at outer leaf = refl
-resumed_short coding path (Sequence bound E) i count lines at outer leaf = refl
-resumed_short coding path (Array n E) i count lines at outer leaf = refl
-resumed_short coding path (Encapsulation E) i count lines at outer leaf = refl
+resumed_short coding path T i count lines at outer leaf = refl
 
-resumed_fault : (coding : Coding) (path : List Seg) (T : Ty) (i count : ℕ) (lines : List Line) (at : ℕ) (S : Ty) →
-    resumed coding path (part_in T i count) (Fault lines at kinds.EncapShort S) ≡ Fault lines at kinds.EncapShort S
+resumed_fault : (coding : Coding) (path : List Seg) (T : Ty) (i count : ℕ) (lines : List Line)
+    (at : ℕ) (S : Ty) → resumed coding path (part_in T i count) (Fault lines at kinds.EncapShort S)
+    ≡ Fault lines at kinds.EncapShort S
 resumed_fault coding path (Union n scalar select names cases) i count lines at S = refl
-resumed_fault coding path (Single scalar) i count lines at S = refl
-resumed_fault coding path (Text bound) i count lines at S = refl
-resumed_fault coding path (Octets bound) i count lines at S = refl
-resumed_fault coding path (Struct n names parts) i count lines at S = refl
-resumed_fault coding path (Sequence bound E) i count lines at S = refl
-resumed_fault coding path (Array n E) i count lines at S = refl
-resumed_fault coding path (Encapsulation E) i count lines at S = refl
+resumed_fault coding path T i count lines at S = refl
 
 -- so far inside these places, or cut off
 abbrev pub shut : Bool → List Line → ℕ → List Place → Leaf → Read
 shut ended lines at outer leaf = cond ended (Fault lines at kinds.EncapShort (cut_off leaf)) (Short lines at outer leaf)
 
-resumed_shut : (coding : Coding) (path : List Seg) (inside : Option Order) (T : Ty) (i count : ℕ) (ended : Bool) (lines : List Line) (at : ℕ) (outer : List Place) (leaf : Leaf) →
-    IsWithin inside i count T →
-    resumed coding path (place_in at inside T i count) (shut ended lines at outer leaf) ≡ shut (ended_at inside i count || ended) lines at (place_in at inside T i count ∷ outer) leaf
+resumed_shut : (coding : Coding) (path : List Seg) (inside : Option Order) (T : Ty) (i count : ℕ)
+    (ended : Bool) (lines : List Line) (at : ℕ) (outer : List Place) (leaf : Leaf) →
+    IsWithin inside i count T → resumed coding path (place_in at inside T i count)
+    (shut ended lines at outer leaf) ≡ shut (ended_at inside i count || ended) lines
+    at (place_in at inside T i count ∷ outer) leaf
 resumed_shut coding path None T i count true lines at outer leaf k = resumed_fault coding path T i count lines at (cut_off leaf)
 resumed_shut coding path None T i count false lines at outer leaf k = resumed_short coding path T i count lines at outer leaf
 resumed_shut coding path (Some order) T i count ended lines at outer leaf k = go (cases_lt i count) ended
   where
     go : (i < count) ⊎ (count ≤ i) → (b : Bool) →
-        resumed coding path (place_in at (Some order) T i count) (shut b lines at outer leaf) ≡ shut (eqb i count || b) lines at (place_in at (Some order) T i count ∷ outer) leaf
+        resumed coding path (place_in at (Some order) T i count) (shut b lines at outer leaf)
+        ≡ shut (eqb i count || b) lines at (place_in at (Some order) T i count ∷ outer) leaf
     go (inl l) true = rw (ne_eqb i count (λ e. absurd (omega arith))) refl
     go (inl l) false =
         let below : at < at + (count - i) = omega arith in
@@ -149,19 +148,25 @@ resumed_shut coding path (Some order) T i count ended lines at outer leaf k = go
         let over : at + (count - i) ≤ at = omega arith in
         rw (same, le-ltb at (at + (count - i)) over) refl
 
-pub around_shut : (C : Table) (coding : Coding) (path : List Seg) (at : ℕ) (frames : List Frame) (lines : List Line) (inner : List Place) (leaf : Leaf) → AreKnown C frames →
-    around coding path (places C at frames) (Short lines at inner leaf) ≡ shut (has_ended frames) lines at (places C at frames ++ inner) leaf
+pub around_shut : (C : Table) (coding : Coding) (path : List Seg) (at : ℕ) (frames : List Frame)
+    (lines : List Line) (inner : List Place) (leaf : Leaf) → AreKnown C frames →
+    around coding path (places C at frames) (Short lines at inner leaf)
+    ≡ shut (has_ended frames) lines at (places C at frames ++ inner) leaf
 around_shut C coding path at [] lines inner leaf k = refl
 around_shut C coding path at (f ∷ frames) lines inner leaf k =
-    ap (resumed coding path (place C at f)) (around_shut C (coding_at coding (place C at f)) (path ++ seg_in (place C at f) ∷ []) at frames lines inner leaf k.1)
+    ap (resumed coding path (place C at f)) (around_shut C (coding_at coding (place C at f)) (path ++ seg_in (place C at f) ∷ []) at frames lines inner leaf
+    k.1)
     ∙ resumed_shut coding path f.inside (tree C f.of.0) f.index f.count (has_ended frames) lines at (places C at frames ++ inner) leaf k.0.within
 
-pub around_gone : (C : Table) (coding : Coding) (path : List Seg) (at : ℕ) (frames : List Frame) (lines : List Line) (leaf : Leaf) → AreKnown C frames →
-    around coding path (places C at frames) (Short lines at [] leaf) ≡ gone_to C lines at frames leaf
+pub around_gone : (C : Table) (coding : Coding) (path : List Seg) (at : ℕ) (frames : List Frame)
+    (lines : List Line) (leaf : Leaf) → AreKnown C frames →
+    around coding path (places C at frames) (Short lines at [] leaf)
+    ≡ gone_to C lines at frames leaf
 around_gone C coding path at frames lines leaf k =
     around_shut C coding path at frames lines [] leaf k ∙ ap (λ ps. shut (has_ended frames) lines at ps leaf) (append-nil (places C at frames))
 
-pub lines_shut : (ended : Bool) (lines : List Line) (at : ℕ) (outer : List Place) (leaf : Leaf) → lines_of (shut ended lines at outer leaf) ≡ lines
+pub lines_shut : (ended : Bool) (lines : List Line) (at : ℕ) (outer : List Place) (leaf : Leaf) →
+    lines_of (shut ended lines at outer leaf) ≡ lines
 lines_shut true lines at outer leaf = refl
 lines_shut false lines at outer leaf = refl
 
@@ -174,18 +179,22 @@ pub or_true : (b : Bool) → b || true ≡ true
 or_true true = refl
 or_true false = refl
 
-pub inside_push : (frames : List Frame) (f : Frame) → is_inside (frames ++ f ∷ []) ≡ is_inside frames || is_some_order f.inside
+pub inside_push : (frames : List Frame) (f : Frame) →
+    is_inside (frames ++ f ∷ []) ≡ is_inside frames || is_some_order f.inside
 inside_push [] f = or_false (is_some_order f.inside)
-inside_push (g ∷ frames) f = ap (λ b. is_some_order g.inside || b) (inside_push frames f) ∙ or_assoc (is_some_order g.inside) (is_inside frames) (is_some_order f.inside)
+inside_push (g ∷ frames) f =
+    ap (λ b. is_some_order g.inside || b) (inside_push frames f) ∙ or_assoc (is_some_order g.inside) (is_inside frames) (is_some_order f.inside)
   where
     or_assoc : (a b c : Bool) → a || (b || c) ≡ (a || b) || c
     or_assoc true b c = refl
     or_assoc false b c = refl
 
-pub outside_pop : (frames : List Frame) (f : Frame) → is_inside (frames ++ f ∷ []) ≡ false → is_inside frames ≡ false
+pub outside_pop : (frames : List Frame) (f : Frame) → is_inside (frames ++ f ∷ []) ≡ false →
+    is_inside frames ≡ false
 outside_pop frames f h = (neither (is_inside frames) (is_some_order f.inside) (sym (inside_push frames f) ∙ h)).0
 
-pub ended_push : (frames : List Frame) (f : Frame) → ended_at f.inside f.index f.count ≡ false → has_ended (frames ++ f ∷ []) ≡ has_ended frames
+pub ended_push : (frames : List Frame) (f : Frame) → ended_at f.inside f.index f.count ≡ false →
+    has_ended (frames ++ f ∷ []) ≡ has_ended frames
 ended_push [] f h = rw h refl
 ended_push (g ∷ frames) f h = ap (λ b. ended_at g.inside g.index g.count || b) (ended_push frames f h)
 
@@ -193,27 +202,23 @@ ended_push (g ∷ frames) f h = ap (λ b. ended_at g.inside g.index g.count || b
 
 part_coding : (c : Coding) (T : Ty) (i count : ℕ) → coding_at c (part_in T i count) ≡ c
 part_coding c (Union n scalar select names cases) i count = refl
-part_coding c (Single scalar) i count = refl
-part_coding c (Text bound) i count = refl
-part_coding c (Octets bound) i count = refl
-part_coding c (Struct n names parts) i count = refl
-part_coding c (Sequence bound E) i count = refl
-part_coding c (Array n E) i count = refl
-part_coding c (Encapsulation E) i count = refl
+part_coding c T i count = refl
 
 -- a coding as a decoder has it, at an offset
 pub record IsCoded (here : ℕ) (c : Coding) (by : Order × ℕ) : Type 0 where
   pub order : c.order ≡ by.0
   pub at : (here - c.origin) % 8 ≡ by.1
 
-coded_at : (C : Table) (here : ℕ) (c : Coding) (by : Order × ℕ) (inside : Option Order) (T : Ty) (i count : ℕ) → IfSome inside (λ order. i ≤ here) → IsCoded here c by →
+coded_at : (C : Table) (here : ℕ) (c : Coding) (by : Order × ℕ) (inside : Option Order) (T : Ty)
+    (i count : ℕ) → IfSome inside (λ order. i ≤ here) → IsCoded here c by →
     IsCoded here (coding_at c (place_in here inside T i count)) (coding_of by inside i)
 coded_at C here c by None T i count s h = rw (part_coding c T i count) h
 coded_at C here c by (Some order) T i count s h =
     let e : here - (here - i) ≡ i = omega (arith, s) in
     record { order = refl; at = rw e refl }
 
-pub coded_in : (C : Table) (here : ℕ) (c : Coding) (order : Order) (at : ℕ) (frames : List Frame) → StandAt here frames → IsCoded here c (order, at) →
+pub coded_in : (C : Table) (here : ℕ) (c : Coding) (order : Order) (at : ℕ) (frames : List Frame) →
+    StandAt here frames → IsCoded here c (order, at) →
     IsCoded here (coding_in c (places C here frames)) (coding_by order at frames)
 coded_in C here c order at [] s h = h
 coded_in C here c order at (f ∷ frames) s h =
@@ -222,92 +227,78 @@ coded_in C here c order at (f ∷ frames) s h =
 
 -- ---- where there is none
 
-free_place : (here there : ℕ) (inside : Option Order) (T : Ty) (i count : ℕ) → is_some_order inside ≡ false → place_in there inside T i count ≡ place_in here inside T i count
-free_place here there None T i count h = refl
-free_place here there (Some order) T i count h = absurd cc
+free_first : (inside : Option Order) (rest : Bool) → is_some_order inside || rest ≡ false →
+    (inside ≡ None) × (rest ≡ false)
+free_first None rest h = (refl, h)
+free_first (Some order) rest h = let e = h in absurd cc
 
-pub free_places : (C : Table) (here there : ℕ) (frames : List Frame) → is_inside frames ≡ false → places C there frames ≡ places C here frames
+pub free_places : (C : Table) (here there : ℕ) (frames : List Frame) → is_inside frames ≡ false →
+    places C there frames ≡ places C here frames
 free_places C here there [] h = refl
 free_places C here there (f ∷ frames) h =
-    let n = neither (is_some_order f.inside) (is_inside frames) h in
-    ap (λ p. p ∷ places C there frames) (free_place here there f.inside (tree C f.of.0) f.index f.count n.0)
-    ∙ ap (λ ps. place C here f ∷ ps) (free_places C here there frames n.1)
-
-free_stands : (here : ℕ) (inside : Option Order) (i : ℕ) → is_some_order inside ≡ false → IfSome inside (λ order. i ≤ here)
-free_stands here None i h = tt
-free_stands here (Some order) i h = absurd cc
+    let n = free_first f.inside (is_inside frames) h in
+    rw (n.0, free_places C here there frames n.1) refl
 
 pub free_stand : (here : ℕ) (frames : List Frame) → is_inside frames ≡ false → StandAt here frames
 free_stand here [] h = tt
 free_stand here (f ∷ frames) h =
-    let n = neither (is_some_order f.inside) (is_inside frames) h in
-    (free_stands here f.inside f.index n.0, free_stand here frames n.1)
+    let n = free_first f.inside (is_inside frames) h in
+    (rw n.0 tt, free_stand here frames n.1)
 
-free_coding : (here : ℕ) (c : Coding) (inside : Option Order) (T : Ty) (i count : ℕ) → is_some_order inside ≡ false → coding_at c (place_in here inside T i count) ≡ c
-free_coding here c None T i count h = part_coding c T i count
-free_coding here c (Some order) T i count h = absurd cc
-
-pub free_coded : (C : Table) (here : ℕ) (c : Coding) (frames : List Frame) → is_inside frames ≡ false → coding_in c (places C here frames) ≡ c
+pub free_coded : (C : Table) (here : ℕ) (c : Coding) (frames : List Frame) →
+    is_inside frames ≡ false → coding_in c (places C here frames) ≡ c
 free_coded C here c [] h = refl
 free_coded C here c (f ∷ frames) h =
-    let n = neither (is_some_order f.inside) (is_inside frames) h in
-    ap (λ k. coding_in k (places C here frames)) (free_coding here c f.inside (tree C f.of.0) f.index f.count n.0) ∙ free_coded C here c frames n.1
+    let n = free_first f.inside (is_inside frames) h in
+    rw (n.0, part_coding c (tree C f.of.0) f.index f.count) (free_coded C here c frames n.1)
 
-free_surround : (here at : ℕ) (inside : Option Order) (T : Ty) (i count : ℕ) → is_some_order inside ≡ false → Surround at (place_in here inside T i count)
-free_surround here at None T i count h = part_surrounds at T i count
-free_surround here at (Some order) T i count h = absurd cc
-
-pub free_surrounds : (C : Table) (here at : ℕ) (frames : List Frame) → is_inside frames ≡ false → Surrounds at (places C here frames)
+pub free_surrounds : (C : Table) (here at : ℕ) (frames : List Frame) → is_inside frames ≡ false →
+    Surrounds at (places C here frames)
 free_surrounds C here at [] h = tt
 free_surrounds C here at (f ∷ frames) h =
-    let n = neither (is_some_order f.inside) (is_inside frames) h in
-    (free_surround here at f.inside (tree C f.of.0) f.index f.count n.0, free_surrounds C here at frames n.1)
+    let n = free_first f.inside (is_inside frames) h in
+    (rw n.0 (part_surrounds at (tree C f.of.0) f.index f.count), free_surrounds C here at frames n.1)
 
-free_index : (inside : Option Order) (i : ℕ) → is_some_order inside ≡ false → ticked_at inside i ≡ i
-free_index None i h = refl
-free_index (Some order) i h = absurd cc
+free_index : (inside : Option Order) (i : ℕ) → inside ≡ None → ticked_at inside i ≡ i
+free_index inside i h = rw h refl
 
 pub free_ticked : (frames : List Frame) → is_inside frames ≡ false → frames ≡ ticked frames
 free_ticked [] h = refl
 free_ticked (f ∷ frames) h =
-    let n = neither (is_some_order f.inside) (is_inside frames) h in
+    let n = free_first f.inside (is_inside frames) h in
     let one : f ≡ tick_of f = rw (free_index f.inside f.index n.0) refl in
     ap (λ g. g ∷ frames) one ∙ ap (λ fs. tick_of f ∷ fs) (free_ticked frames n.1)
-
-free_end : (inside : Option Order) (i count : ℕ) → is_some_order inside ≡ false → ended_at inside i count ≡ false
-free_end None i count h = refl
-free_end (Some order) i count h = absurd cc
 
 pub free_ended : (frames : List Frame) → is_inside frames ≡ false → has_ended frames ≡ false
 free_ended [] h = refl
 free_ended (f ∷ frames) h =
-    let n = neither (is_some_order f.inside) (is_inside frames) h in
-    rw (free_end f.inside f.index f.count n.0) (free_ended frames n.1)
+    let n = free_first f.inside (is_inside frames) h in
+    rw n.0 (free_ended frames n.1)
 
-free_by : (c : Order × ℕ) (inside : Option Order) (i : ℕ) → is_some_order inside ≡ false → coding_of c inside i ≡ c
-free_by c None i h = refl
-free_by c (Some order) i h = absurd cc
-
-pub free_coding_by : (order : Order) (at : ℕ) (frames : List Frame) → is_inside frames ≡ false → coding_by order at frames ≡ (order, at)
+pub free_coding_by : (order : Order) (at : ℕ) (frames : List Frame) → is_inside frames ≡ false →
+    coding_by order at frames ≡ (order, at)
 free_coding_by order at [] h = refl
 free_coding_by order at (f ∷ frames) h =
-    let n = neither (is_some_order f.inside) (is_inside frames) h in
-    rw (free_by (order, at) f.inside f.index n.0) (free_coding_by order at frames n.1)
+    let n = free_first f.inside (is_inside frames) h in
+    rw n.0 (free_coding_by order at frames n.1)
 
 -- counting an octet leaves them what they are
 pub inside_ticked : (frames : List Frame) → is_inside (ticked frames) ≡ is_inside frames
 inside_ticked [] = refl
 inside_ticked (f ∷ frames) = ap (λ b. is_some_order f.inside || b) (inside_ticked frames)
 
-pub stand_push : (at : ℕ) (frames : List Frame) (f : Frame) → StandAt at frames → StandsAt at f → StandAt at (frames ++ f ∷ [])
+pub stand_push : (at : ℕ) (frames : List Frame) (f : Frame) → StandAt at frames → StandsAt at f →
+    StandAt at (frames ++ f ∷ [])
 stand_push at [] f h k = (k, tt)
 stand_push at (g ∷ frames) f h k = (h.0, stand_push at frames f h.1 k)
 
-pub stand_pop : (at : ℕ) (frames : List Frame) (f : Frame) → StandAt at (frames ++ f ∷ []) → StandAt at frames
+pub stand_pop : (at : ℕ) (frames : List Frame) (f : Frame) → StandAt at (frames ++ f ∷ []) →
+    StandAt at frames
 stand_pop at [] f h = tt
 stand_pop at (g ∷ frames) f h = (h.0, stand_pop at frames f h.1)
 
-pub coding_push : (order : Order) (at : ℕ) (frames : List Frame) (f : Frame) → coding_by order at (frames ++ f ∷ []) ≡ coding_of (coding_by order at frames) f.inside f.index
+pub coding_push : (order : Order) (at : ℕ) (frames : List Frame) (f : Frame) →
+    coding_by order at (frames ++ f ∷ []) ≡ coding_of (coding_by order at frames) f.inside f.index
 coding_push order at [] f = refl
 coding_push order at (g ∷ frames) f = let c = coding_of (order, at) g.inside g.index in coding_push c.0 c.1 frames f
 
@@ -317,14 +308,17 @@ pub record IsCounted (i : ℕ) (now old : List Frame) : Type 0 where
   pub back : drop i now ≡ drop i old
   pub same : length now ≡ length old
 
-ticked_push : (frames : List Frame) (f : Frame) → ticked (frames ++ f ∷ []) ≡ ticked frames ++ tick_of f ∷ []
+ticked_push : (frames : List Frame) (f : Frame) →
+    ticked (frames ++ f ∷ []) ≡ ticked frames ++ tick_of f ∷ []
 ticked_push [] f = refl
 ticked_push (g ∷ frames) f = ap (λ fs. tick_of g ∷ fs) (ticked_push frames f)
 
-get_at : (i : ℕ) (now old : List Frame) (d : Frame) → drop i now ≡ drop i old → get_or now i d ≡ get_or old i d
+get_at : (i : ℕ) (now old : List Frame) (d : Frame) → drop i now ≡ drop i old →
+    get_or now i d ≡ get_or old i d
 get_at i now old d e = sym (get_or-drop-zero i now d) ∙ (ap (λ xs. get_or xs 0 d) e ∙ get_or-drop-zero i old d)
   where
-    get_or-drop-zero : (k : ℕ) (xs : List Frame) (z : Frame) → get_or (drop k xs) 0 z ≡ get_or xs k z
+    get_or-drop-zero : (k : ℕ) (xs : List Frame) (z : Frame) →
+        get_or (drop k xs) 0 z ≡ get_or xs k z
     get_or-drop-zero zero xs z = refl
     get_or-drop-zero (suc k) [] z = refl
     get_or-drop-zero (suc k) (x ∷ xs) z = get_or-drop-zero k xs z
@@ -346,27 +340,33 @@ drop_more i xs ys e = rw (add-one, drop_suc i xs, drop_suc i ys, e) refl
     drop_suc (suc k) [] = refl
     drop_suc (suc k) (z ∷ zs) = drop_suc k zs
 
-pub counted_more : (i : ℕ) (now old : List Frame) (d y : Frame) → IsCounted i now old → i < length now → y ≡ tick_of (get_or now i d) → IsCounted (i + 1) (set now i y) old
+pub counted_more : (i : ℕ) (now old : List Frame) (d y : Frame) → IsCounted i now old →
+    i < length now → y ≡ tick_of (get_or now i d) → IsCounted (i + 1) (set now i y) old
 counted_more i now old d y h below is =
     let lt : i < length old = omega (arith, h.same) in
     record {
-      front = take_more_set now i y below ∙ (rw (h.front, is, get_at i now old d h.back) refl ∙ (sym (ticked_push (take i old) (get_or old i d)) ∙ ap ticked (sym (take_more old i d lt))));
+      front = take_more_set now i y below ∙ (rw (h.front, is, get_at i now old d h.back) refl
+          ∙ (sym (ticked_push (take i old) (get_or old i d)) ∙ ap ticked (sym (take_more old i d lt))));
       back = drop_set i now y ∙ drop_more i now old h.back;
       same = length-set now i y ∙ h.same;
     }
 
-pub ahead_get : (frames : List Frame) (i : ℕ) (d : Frame) → AreAhead frames → i < length frames → IsAhead (get_or frames i d)
+pub ahead_get : (frames : List Frame) (i : ℕ) (d : Frame) → AreAhead frames → i < length frames →
+    IsAhead (get_or frames i d)
 ahead_get [] i d h below = absurd (omega arith)
 ahead_get (f ∷ frames) zero d h below = h.0
 ahead_get (f ∷ frames) (suc i) d h below = ahead_get frames i d h.1 (omega arith)
 
-pub counted_ahead : (i : ℕ) (now old : List Frame) (d : Frame) → IsCounted i now old → AreAhead old → i < length now → IsAhead (get_or now i d)
+pub counted_ahead : (i : ℕ) (now old : List Frame) (d : Frame) → IsCounted i now old →
+    AreAhead old → i < length now → IsAhead (get_or now i d)
 counted_ahead i now old d h ahead below =
     let lt : i < length old = omega (arith, h.same) in
     rw (get_at i now old d h.back) (ahead_get old i d ahead lt)
 
-pub coding_step : (order : Order) (at : ℕ) (outer : List Frame) (i : ℕ) (f d : Frame) (now next : Order × ℕ) → i < length outer → f ≡ get_or outer i d →
-    now ≡ coding_by order at (take i outer) → next ≡ coding_of now f.inside f.index → next ≡ coding_by order at (take (i + 1) outer)
+pub coding_step : (order : Order) (at : ℕ) (outer : List Frame) (i : ℕ) (f d : Frame)
+    (now next : Order × ℕ) → i < length outer → f ≡ get_or outer i d →
+    now ≡ coding_by order at (take i outer) → next ≡ coding_of now f.inside f.index →
+    next ≡ coding_by order at (take (i + 1) outer)
 coding_step order at outer i f d now next below is e n =
     rw (take_more outer i d below, coding_push order at (take i outer) (get_or outer i d), ← is, ← e) n
 
@@ -375,15 +375,19 @@ abbrev pub gone_behind : Table → List Line → ℕ → List Frame → Option I
 gone_behind C lines at frames None = Done lines at []
 gone_behind C lines at frames (Some leaf) = gone_to C lines at frames (leaf_of C leaf [] [])
 
-front_shut : (ended : Bool) (front : List Line) (at : ℕ) (outer : List Place) (leaf : Leaf) → with_front front (shut ended [] at outer leaf) ≡ shut ended front at outer leaf
+front_shut : (ended : Bool) (front : List Line) (at : ℕ) (outer : List Place) (leaf : Leaf) →
+    with_front front (shut ended [] at outer leaf) ≡ shut ended front at outer leaf
 front_shut true front at outer leaf = ap (λ ls. Fault ls at kinds.EncapShort (cut_off leaf)) (append-nil front)
 front_shut false front at outer leaf = ap (λ ls. Short ls at outer leaf) (append-nil front)
 
-pub front_gone : (C : Table) (lines : List Line) (at : ℕ) (frames : List Frame) (leaf : Option Innermost) → with_front lines (gone_on C at frames leaf) ≡ gone_behind C lines at frames leaf
+pub front_gone : (C : Table) (lines : List Line) (at : ℕ) (frames : List Frame)
+    (leaf : Option Innermost) → with_front lines (gone_on C at frames leaf)
+    ≡ gone_behind C lines at frames leaf
 front_gone C lines at frames None = ap (λ ls. Done ls at []) (append-nil lines)
 front_gone C lines at frames (Some leaf) = front_shut (has_ended frames) lines at (places C at frames) (leaf_of C leaf [] [])
 
-pub behind_stopped : (C : Table) (frames : List Frame) (carry piece : List ℕ) (leaf : Option Innermost) (lines : List Line) (at : ℕ) → carry ≡ [] → piece ≡ [] →
+pub behind_stopped : (C : Table) (frames : List Frame) (carry piece : List ℕ)
+    (leaf : Option Innermost) (lines : List Line) (at : ℕ) → carry ≡ [] → piece ≡ [] →
     gone_behind C lines at frames leaf ≡ stopped_with C frames carry piece leaf lines at
 behind_stopped C frames carry piece None lines at no_carry no_piece = refl
 behind_stopped C frames carry piece (Some leaf) lines at no_carry no_piece = rw (no_carry, no_piece) refl

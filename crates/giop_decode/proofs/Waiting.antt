@@ -37,36 +37,49 @@ Holds C d new leaf here octet = (path : List Seg) →
     leaf_step (plain d.order) path (leaf_of C leaf d.carry d.piece.items) here octet ≡ Short [] (here + 1) [] (leaf_of C leaf new.carry new.piece.items)
 
 -- a decoder that stands in no encapsulation
-module _ (C : Table) (d new : Decoder) (leaf : Innermost) (octet : ℕ) (free : is_inside d.outer.items ≡ false) where
-  pub step_held : (here : ℕ) → AreKnown C d.outer.items → d.leaf ≡ Some leaf → new.leaf ≡ Some leaf → new.outer ≡ d.outer → Holds C d new leaf here octet →
-      stepped C d here octet ≡ Short [] (here + 1) (places C (here + 1) new.outer.items) (leaf_of C leaf new.carry new.piece.items)
+module _ (C : Table) (d new : Decoder) (leaf : Innermost) (octet : ℕ)
+    (free : is_inside d.outer.items ≡ false) where
+  pub step_held : (here : ℕ) → AreKnown C d.outer.items → d.leaf ≡ Some leaf →
+      new.leaf ≡ Some leaf → new.outer ≡ d.outer → Holds C d new leaf here octet →
+      stepped C d here octet ≡ Short [] (here + 1) (places C (here + 1) new.outer.items)
+      (leaf_of C leaf new.carry new.piece.items)
   step_held here known e e' same holds =
       let ps = places C here d.outer.items in
       ap (λ l. step (plain d.order) [] ps (leaf_in C d l) here octet) e
-      ∙ (ap (λ c. around (plain d.order) [] ps (leaf_step c (path_in [] ps) (leaf_of C leaf d.carry d.piece.items) here octet)) (free_coded C here (plain d.order) d.outer.items free)
+      ∙ (ap (λ c. around (plain d.order) [] ps (leaf_step c (path_in [] ps) (leaf_of C leaf d.carry d.piece.items) here octet))
+      (free_coded C here (plain d.order) d.outer.items free)
       ∙ (ap (around (plain d.order) [] ps) (holds (path_in [] ps))
       ∙ (around-short (plain d.order) [] ps [] (here + 1) [] (leaf_of C leaf new.carry new.piece.items) (free_surrounds C here (here + 1) d.outer.items free)
       ∙ (ap (λ qs. Short [] (here + 1) qs (leaf_of C leaf new.carry new.piece.items)) (append-nil ps ∙ sym (free_places C here (here + 1) d.outer.items free))
       ∙ ap (λ (o : _). Short [] (here + 1) (places C (here + 1) o.items) (leaf_of C leaf new.carry new.piece.items)) (sym same)))))
 
-  held_stands : (here : ℕ) → AreKnown C d.outer.items → d.leaf ≡ Some leaf → new.leaf ≡ Some leaf → new.outer ≡ d.outer → Holds C d new leaf here octet → stepped C d here octet ≡ standing C new [] (here + 1)
+  held_stands : (here : ℕ) → AreKnown C d.outer.items → d.leaf ≡ Some leaf → new.leaf ≡ Some leaf →
+      new.outer ≡ d.outer → Holds C d new leaf here octet →
+      stepped C d here octet ≡ standing C new [] (here + 1)
   held_stands here known e e' same holds = step_held here known e e' same holds ∙ sym (ap (λ l. standing_in C new l [] (here + 1)) e')
 
-  pub held_comes : (here : ℕ) → AreKnown C d.outer.items → d.leaf ≡ Some leaf → new.leaf ≡ Some leaf → new.outer ≡ d.outer → Holds C d new leaf here octet → Comes C new progress.More (here + 1) (stepped C d here octet)
+  pub held_comes : (here : ℕ) → AreKnown C d.outer.items → d.leaf ≡ Some leaf →
+      new.leaf ≡ Some leaf → new.outer ≡ d.outer → Holds C d new leaf here octet →
+      Comes C new progress.More (here + 1) (stepped C d here octet)
   held_comes here known e e' same holds = ([], (held_stands here known e e' same holds, (leaf, e'), refl))
 
-  pub held_here : (here : ℕ) → new.outer ≡ d.outer → new.at ≡ (d.at + 1) % 8 → IsHere d here → IsHere new (here + 1)
+  pub held_here : (here : ℕ) → new.outer ≡ d.outer → new.at ≡ (d.at + 1) % 8 → IsHere d here →
+      IsHere new (here + 1)
   held_here here same at h = (omega (arith, h.0, at), rw same (free_stand (here + 1) d.outer.items free))
 
-  pub held_fits : (f : Fits C d) → d.leaf ≡ Some leaf → new.leaf ≡ Some leaf → new.outer ≡ d.outer → new.inside ≡ d.inside → new.at ≡ (d.at + 1) % 8 → IsClean leaf new.carry new.piece.items →
+  pub held_fits : (f : Fits C d) → d.leaf ≡ Some leaf → new.leaf ≡ Some leaf → new.outer ≡ d.outer →
+      new.inside ≡ d.inside → new.at ≡ (d.at + 1) % 8 → IsClean leaf new.carry new.piece.items →
       Holds C d new leaf f.here octet → Fits C new
   held_fits f e e' same encloses at clean holds =
       let it : f.leaf ≡ leaf = same_some f.leaf leaf (sym f.goes_on ∙ e) in
-      step_fits C d new f octet (record { lines = []; is = held_stands f.here f.known_outer e e' same holds; leaf = leaf; goes_on = e' }) (held_here f.here same at f.stands) (rw same f.ahead) (rw (encloses, same) f.inside)
+      step_fits C d new f octet (record { lines = []; is = held_stands f.here f.known_outer e e' same holds; leaf = leaf; goes_on = e' })
+      (held_here f.here same at f.stands) (rw same f.ahead) (rw (encloses, same) f.inside)
       (rw (same, ← it) f.link) (rw same f.known_outer) (rw (← it) f.known) clean
 
-  pub held_minds : (here : ℕ) (front : List Line) → AreKnown C d.outer.items → d.leaf ≡ Some leaf → new.leaf ≡ Some leaf → new.outer ≡ d.outer → new.memory ≡ d.memory → Holds C d new leaf here octet →
-      Minds d.root d (standing C d front here) → Minds d.root new (with_front front (stepped C d here octet))
+  pub held_minds : (here : ℕ) (front : List Line) → AreKnown C d.outer.items → d.leaf ≡ Some leaf →
+      new.leaf ≡ Some leaf → new.outer ≡ d.outer → new.memory ≡ d.memory →
+      Holds C d new leaf here octet → Minds d.root d (standing C d front here) →
+      Minds d.root new (with_front front (stepped C d here octet))
   held_minds here front known e e' same memory holds old =
       minds_by d.root new (with_front front (stepped C d here octet)) (λ asked.
       let header = is_header_root d.root in

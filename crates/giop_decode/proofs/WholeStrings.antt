@@ -11,12 +11,12 @@ use Rattle.giop_cdr.specs.Numbers.{num}
 use Rattle.giop_cdr.specs.declared.order.Order.{Order}
 use Rattle.giop_decode.specs.Heard.{in_string}
 use Rattle.giop_decode.specs.Memories.{piece, text_of, text_pieces, cut_from, pieces_of, Strings}
-use Rattle.giop_decode.specs.Pieces.{Got, Grab, Waiting, block, content, ends, full_piece, full_pieces, last_piece, number, octets, over, tail, text, unless}
+use Rattle.giop_decode.specs.Pieces.{Got, Grab, Waiting, block, content, ends, full_piece, full_pieces, last_piece, octets, over, tail, text, unless}
 use Rattle.giop_decode.specs.Reading.{cut_off, enclosed, headed, inside, member, opening, order_of, ordered, parts_from, read, refused, rest_of, single, sized, wrong}
 use Rattle.giop_decode.specs.Spine.{Coding, Count, Done, Fault, Held, Index, Inside, Line, Member, Name, Number, Opening, Ordered, Part, Piece, Place, Read, Seg, Short, Size, Switch, coded, followed, line, with_front, within, lines_of}
 use Rattle.giop_decode.specs.declared.progress.Kind.{Kind}
 use Rattle.giop_decode.specs.declared.progress.Kind.TheVariants as kinds
-use Rattle.giop_sig.specs.Types.{tag_of, Array, Encapsulation, Octets, Scalar, Sequence, Single, Struct, Text, Ty, Union, width}
+use Rattle.giop_sig.specs.Types.{tag_of, Array, Encapsulation, Octets, Scalar, Sequence, Single, Struct, Text, Ty, Union}
 use Rattle.giop_sig.specs.declared.types.Selected.{Selected}
 use Rattle.giop_sig.specs.declared.types.Selected.TheVariants.{Case, Nothing, Refused}
 use Rattle.giop_decode.proofs.Hearing.{cut_inside, front_inside}
@@ -48,16 +48,17 @@ then_strings front r e h = whole_then front [] r e h
 followed_strings : (r : Read) (next : ℕ → List ℕ → Read) → Strings r →
     ((at : ℕ) (s : List ℕ) → Strings (next at s)) → Strings (followed r next)
 followed_strings (Done lines at rest) next h k =
-    whole_then lines h.contents (next at rest) (h.lines ∙ (ap (λ begun. flat_map pieces_of h.contents ++ begun) (h.none refl) ∙ append-nil (flat_map pieces_of h.contents))) (k at rest)
+    whole_then lines h.contents _ (h.lines ∙ (ap (λ begun. flat_map pieces_of h.contents ++ begun) (h.none refl) ∙ append-nil (flat_map pieces_of h.contents)))
+    (k at rest)
 followed_strings (Short lines at outer leaf) next h k = h
 followed_strings (Fault lines at kind T) next h k = h
 
 within_strings : (place : Place) (r : Read) → Strings r → Strings (within place r)
-within_strings place (Done lines at rest) h = h
 within_strings place (Short lines at outer leaf) h = record { contents = h.contents; begun = h.begun; lines = h.lines; unended = h.unended; none = h.none }
-within_strings place (Fault lines at kind T) h = h
+within_strings place r h = h
 
-unless_strings : (T : Ty) (why : Option Kind) (at : ℕ) (r : Read) → Strings r → Strings (unless T why at r)
+unless_strings : (T : Ty) (why : Option Kind) (at : ℕ) (r : Read) → Strings r →
+    Strings (unless T why at r)
 unless_strings T None at r h = h
 unless_strings T (Some kind) at r h = no_strings (Fault [] at kind T) refl
 
@@ -80,21 +81,25 @@ Comes total full offset r =
     ((octets : List ℕ) × (offset + length octets ≡ total) × (text_pieces (lines_of r) ≡ cut_from full offset octets))
     ⊎ ((in_string r ≡ true) × Each (λ p. p.more ≡ true) (text_pieces (lines_of r)))
 
-last_comes : (bound : Option ℕ) (path : List Seg) (total offset at : ℕ) (s : List ℕ) → offset ≤ total →
-    Comes total 0 offset (last_piece (Text bound) path total offset (block (total - offset + 1) at s))
+last_comes : (bound : Option ℕ) (path : List Seg) (total offset at : ℕ) (s : List ℕ) →
+    offset ≤ total → Comes total 0 offset (last_piece (Text bound) path total offset
+    (block (total - offset + 1) at s))
 last_comes bound path total offset at s ahead = go (cases_lt (length s) (total - offset + 1))
   where
     ended : (why : Option Kind) (xs rest : List ℕ) (at : ℕ) → total - offset ≤ length xs →
-        Comes total 0 offset (unless (Text bound) why at (Done (line at path (Piece (Text bound) offset (take (total - offset) xs) false) ∷ []) at rest))
+        Comes total 0 offset (unless (Text bound) why at (Done
+        (line at path (Piece (Text bound) offset (take (total - offset) xs) false) ∷ []) at rest))
     ended None xs rest at h = inl (take (total - offset) xs, let e = length-take-le (total - offset) xs h in omega arith, refl)
     ended (Some kind) xs rest at h = inr (refl, tt)
 
     go : (length s < total - offset + 1) ⊎ (total - offset + 1 ≤ length s) →
-        Comes total 0 offset (last_piece (Text bound) path total offset (block (total - offset + 1) at s))
+        Comes total 0 offset (last_piece (Text bound) path total offset
+        (block (total - offset + 1) at s))
     go (inl h) = rw (block_waits (total - offset + 1) at s h) (inr (refl, tt))
     go (inr h) =
         let e = length-take-le (total - offset + 1) s h in
-        rw (block_got (total - offset + 1) at s h) (ended (ends (Text bound) (total - offset) (take (total - offset + 1) s)) (take (total - offset + 1) s) (drop (total - offset + 1) s) (at + (total - offset + 1)) (omega arith))
+        rw (block_got (total - offset + 1) at s h) (ended (ends (Text bound) (total - offset) (take (total - offset + 1) s)) (take (total - offset + 1) s)
+        (drop (total - offset + 1) s) (at + (total - offset + 1)) (omega arith))
 
 cut_more : (full offset : ℕ) (xs ys : List ℕ) → length xs ≡ 32 →
     piece offset xs true ∷ cut_from full (offset + 32) ys ≡ cut_from (suc full) offset (xs ++ ys)
@@ -103,16 +108,21 @@ cut_more full offset xs ys h =
     let behind : drop 32 (xs ++ ys) ≡ ys = ap (λ n. drop n (xs ++ ys)) (sym h) ∙ drop-append_seam xs ys in
     rw (front, behind) refl
 
-full_comes : (bound : Option ℕ) (path : List Seg) (total full offset : ℕ) (next : ℕ → List ℕ → Read) (xs rest : List ℕ) (at : ℕ) → length xs ≡ 32 →
-    Comes total full (offset + 32) (next at rest) → Comes total (suc full) offset (with_front (line at path (Piece (Text bound) offset xs true) ∷ []) (next at rest))
+full_comes : (bound : Option ℕ) (path : List Seg) (total full offset : ℕ) (next : ℕ → List ℕ → Read)
+    (xs rest : List ℕ) (at : ℕ) → length xs ≡ 32 → Comes total full (offset + 32) (next at rest) →
+    Comes total (suc full) offset (with_front (line at path
+    (Piece (Text bound) offset xs true) ∷ []) (next at rest))
 full_comes bound path total full offset next xs rest at h (inl (ys, len, is)) =
-    inl (xs ++ ys, omega (arith, length-append {A = ℕ}), rw (lines_front (line at path (Piece (Text bound) offset xs true) ∷ []) (next at rest), is) (cut_more full offset xs ys h))
+    let front : List Line = line at path (Piece (Text bound) offset xs true) ∷ [] in
+    let long : offset + length (xs ++ ys) ≡ total = omega (arith, length-append {A = ℕ}) in
+    inl (xs ++ ys, long, rw (lines_front front (next at rest), is) (cut_more full offset xs ys h))
 full_comes bound path total full offset next xs rest at h (inr (inside, each)) =
-    inr (front_inside (line at path (Piece (Text bound) offset xs true) ∷ []) (next at rest) ∙ inside, rw (lines_front (line at path (Piece (Text bound) offset xs true) ∷ []) (next at rest)) (refl, each))
+    let front : List Line = line at path (Piece (Text bound) offset xs true) ∷ [] in
+    inr (front_inside front (next at rest) ∙ inside, rw (lines_front front (next at rest)) (refl, each))
 
 content_comes : (bound : Option ℕ) (path : List Seg) (total full offset at : ℕ) (s : List ℕ) →
-    offset + 32 * full ≤ total →
-    Comes total full offset (content (Text bound) path total full offset at s)
+    offset + 32 * full ≤ total → Comes total full offset (content (Text bound) path total full
+    offset at s)
 content_comes bound path total zero offset at s ahead = last_comes bound path total offset at s (omega arith)
 content_comes bound path total (suc full) offset at s ahead =
     go (cases_lt (length s) 32) (content_comes bound path total full (offset + 32) (at + 32) (drop 32 s) (omega arith))
@@ -120,8 +130,10 @@ content_comes bound path total (suc full) offset at s ahead =
     next : ℕ → List ℕ → Read
     next = content (Text bound) path total full (offset + 32)
 
-    go : (length s < 32) ⊎ (32 ≤ length s) → Comes total full (offset + 32) (next (at + 32) (drop 32 s)) →
-        Comes total (suc full) offset (full_piece (Text bound) path total offset next (block 32 at s))
+    go : (length s < 32) ⊎ (32 ≤ length s) →
+        Comes total full (offset + 32) (next (at + 32) (drop 32 s)) →
+        Comes total (suc full) offset (full_piece (Text bound) path total offset next
+        (block 32 at s))
     go (inl h) k = rw (block_waits 32 at s h) (inr (refl, tt))
     go (inr h) k = rw (block_got 32 at s h) (full_comes bound path total full offset next (take 32 s) (drop 32 s) (at + 32) (length-take-le 32 s h) k)
 
@@ -141,27 +153,33 @@ comes_strings total r (inr (inside, each)) = record {
   none = λ outside. absurd (true≢false (sym inside ∙ outside));
 }
 
-text_strings : (bound : Option ℕ) (path : List Seg) (n at : ℕ) (s : List ℕ) → Strings (text bound path n at s)
+text_strings : (bound : Option ℕ) (path : List Seg) (n at : ℕ) (s : List ℕ) →
+    Strings (text bound path n at s)
 text_strings bound path zero at s = record { contents = [] ∷ []; begun = []; lines = refl; unended = tt; none = λ _. refl }
 text_strings bound path (suc n) at s =
-    unless_strings (Text bound) (over bound n) at (content (Text bound) path n (full_pieces n) 0 at s)
+    unless_strings (Text bound) (over bound n) at _
     (comes_strings n (content (Text bound) path n (full_pieces n) 0 at s) (content_comes bound path n (full_pieces n) 0 at s (omega arith)))
 
 -- ---- octets are no string
 
 -- pieces of a type that say no string, and that no octet ends
-module _ (T : Ty) (none : (offset : ℕ) (octets : List ℕ) (more : Bool) → text_of (Piece T offset octets more) ≡ None) (endless : (n : ℕ) (xs : List ℕ) → ends T n xs ≡ None) where
-  bare_last : (path : List Seg) (total offset : ℕ) (g : Grab) → text_pieces (lines_of (last_piece T path total offset g)) ≡ []
+module _ (T : Ty) (none : (offset : ℕ) (octets : List ℕ) (more : Bool) →
+    text_of (Piece T offset octets more) ≡ None)
+    (endless : (n : ℕ) (xs : List ℕ) → ends T n xs ≡ None) where
+  bare_last : (path : List Seg) (total offset : ℕ) (g : Grab) →
+      text_pieces (lines_of (last_piece T path total offset g)) ≡ []
   bare_last path total offset (Waiting held at) = refl
   bare_last path total offset (Got xs at rest) = rw (endless (total - offset) xs, none offset (take (total - offset) xs) false) refl
 
   bare_full : (path : List Seg) (total offset : ℕ) (next : ℕ → List ℕ → Read) (g : Grab) →
-      ((at : ℕ) (s : List ℕ) → text_pieces (lines_of (next at s)) ≡ []) → text_pieces (lines_of (full_piece T path total offset next g)) ≡ []
+      ((at : ℕ) (s : List ℕ) → text_pieces (lines_of (next at s)) ≡ []) →
+      text_pieces (lines_of (full_piece T path total offset next g)) ≡ []
   bare_full path total offset next (Waiting held at) h = refl
   bare_full path total offset next (Got xs at rest) h =
       rw (lines_front (line at path (Piece T offset xs true) ∷ []) (next at rest), none offset xs true) (h at rest)
 
-  bare_none : (path : List Seg) (total full offset at : ℕ) (s : List ℕ) → text_pieces (lines_of (content T path total full offset at s)) ≡ []
+  bare_none : (path : List Seg) (total full offset at : ℕ) (s : List ℕ) →
+      text_pieces (lines_of (content T path total full offset at s)) ≡ []
   bare_none path total zero offset at s = bare_last path total offset (block (total - offset + tail T) at s)
   bare_none path total (suc full) offset at s =
       bare_full path total offset (content T path total full (offset + 32)) (block 32 at s) (bare_none path total full (offset + 32))
@@ -169,13 +187,14 @@ module _ (T : Ty) (none : (offset : ℕ) (octets : List ℕ) (more : Bool) → t
 octets_strings : (bound : Option ℕ) (path : List Seg) (n at : ℕ) (s : List ℕ) →
     Strings (octets bound path n at s)
 octets_strings bound path n at s =
-    unless_strings (Octets bound) (over bound n) at (content (Octets bound) path n (full_pieces n) 0 at s) (no_strings _ (bare_none (Octets bound) (λ offset octets more. refl) (λ n xs. refl) path n (full_pieces n) 0 at s))
+    unless_strings (Octets bound) (over bound n) at _ (no_strings _ (bare_none (Octets bound) (λ offset octets more. refl) (λ n xs. refl) path n (full_pieces n)
+    0 at s))
 
 -- ---- any type
 
 single_strings : (path : List Seg) (scalar : Scalar) (n at : ℕ) (s : List ℕ) →
     Strings (single path scalar n at s)
-single_strings path scalar n at s = unless_strings (Single scalar) (wrong scalar n) at (Done (line at path (Number scalar n) ∷ []) at s) (no_strings _ refl)
+single_strings path scalar n at s = unless_strings (Single scalar) (wrong scalar n) at _ (no_strings _ refl)
 
 member_strings : (selected : Selected) (case : ℕ → ℕ → List ℕ → Read) →
     ((i at : ℕ) (s : List ℕ) → Strings (case i at s)) → (at : ℕ) (s : List ℕ) →
@@ -186,31 +205,37 @@ member_strings Refused case h at s = no_strings (Done [] at s) refl
 
 -- ---- encapsulations
 
-rest_strings : (path : List Seg) (T : Ty) (n at : ℕ) (s : List ℕ) → Strings (rest_of path (Encapsulation T) n at s)
-rest_strings path T zero at s = no_strings (Done [] at s) refl
-rest_strings path T (suc n) at s = no_strings _ (bare_none (Encapsulation T) (λ offset octets more. refl) (λ n xs. refl) path (suc n) (full_pieces (suc n)) 0 at s)
+module _ (path : List Seg) (T : Ty) where
+  rest_strings : (n at : ℕ) (s : List ℕ) → Strings (rest_of path (Encapsulation T) n at s)
+  rest_strings zero at s = no_strings (Done [] at s) refl
+  rest_strings (suc n) at s = no_strings _ (bare_none (Encapsulation T) (λ offset octets more. refl) (λ n xs. refl) path (suc n) (full_pieces (suc n)) 0 at s)
 
-enclosed_strings : (path : List Seg) (T : Ty) (coding : Coding) (end : ℕ) (r : Read) (more : List ℕ) → Strings r →
-    Strings (enclosed path (Encapsulation T) coding end r more)
-enclosed_strings path T coding end (Done lines at rest) more h =
-    whole_then lines h.contents (rest_of path (Encapsulation T) (end - at) at (rest ++ more))
-    (h.lines ∙ (ap (λ begun. flat_map pieces_of h.contents ++ begun) (h.none refl) ∙ append-nil (flat_map pieces_of h.contents)))
-    (rest_strings path T (end - at) at (rest ++ more))
-enclosed_strings path T coding end (Short lines at outer leaf) more h = go (ltb at end)
-  where
-    go : (test : Bool) → Strings (cond test (Short lines at (Inside (Encapsulation T) coding end ∷ outer) leaf) (Fault lines at kinds.EncapShort (cut_off leaf)))
-    go true = record { contents = h.contents; begun = h.begun; lines = h.lines; unended = h.unended; none = h.none }
-    go false = record { contents = h.contents; begun = h.begun; lines = h.lines; unended = h.unended; none = λ k. h.none (sym (cut_inside leaf) ∙ k) }
-enclosed_strings path T coding end (Fault lines at kind S) more h = h
+  enclosed_strings : (coding : Coding) (end : ℕ) (r : Read) (more : List ℕ) → Strings r →
+      Strings (enclosed path (Encapsulation T) coding end r more)
+  enclosed_strings coding end (Done lines at rest) more h =
+      whole_then lines h.contents _
+      (h.lines ∙ (ap (λ begun. flat_map pieces_of h.contents ++ begun) (h.none refl) ∙ append-nil (flat_map pieces_of h.contents)))
+      (rest_strings (end - at) at (rest ++ more))
+  enclosed_strings coding end (Short lines at outer leaf) more h = go (ltb at end)
+    where
+      go : (test : Bool) → Strings (cond test (Short lines
+          at (Inside (Encapsulation T) coding end ∷ outer) leaf)
+          (Fault lines at kinds.EncapShort (cut_off leaf)))
+      go true = record { contents = h.contents; begun = h.begun; lines = h.lines; unended = h.unended; none = h.none }
+      go false = record { contents = h.contents; begun = h.begun; lines = h.lines; unended = h.unended; none = λ k. h.none (sym (cut_inside leaf) ∙ k) }
+  enclosed_strings coding end (Fault lines at kind S) more h = h
 
-module _ (path : List Seg) (T : Ty) (value : Coding → ℕ → List ℕ → Read) (strings : (coding : Coding) (at : ℕ) (s : List ℕ) → Strings (value coding at s)) where
-  ordered_strings : (origin n : ℕ) (order : Option Order) (at : ℕ) (rest : List ℕ) → Strings (ordered path (Encapsulation T) value origin n order at rest)
+module _ (path : List Seg) (T : Ty) (value : Coding → ℕ → List ℕ → Read)
+    (strings : (coding : Coding) (at : ℕ) (s : List ℕ) → Strings (value coding at s)) where
+  ordered_strings : (origin n : ℕ) (order : Option Order) (at : ℕ) (rest : List ℕ) →
+      Strings (ordered path (Encapsulation T) value origin n order at rest)
   ordered_strings origin n None at rest = no_strings (Fault [] at kinds.EncapOrder (Encapsulation T)) refl
   ordered_strings origin n (Some order) at rest =
-      then_strings (line at path (Ordered order) ∷ []) (inside path (Encapsulation T) value (coded order origin) n at rest) refl
-      (enclosed_strings path T (coded order origin) (at + n) (value (coded order origin) at (take n rest)) (drop n rest) (strings (coded order origin) at (take n rest)))
+      then_strings (line at path (Ordered order) ∷ []) _ refl
+      (enclosed_strings path T (coded order origin) (at + n) _ (drop n rest) (strings (coded order origin) at (take n rest)))
 
-  opening_strings : (origin n : ℕ) (g : Grab) → Strings (opening path (Encapsulation T) value origin n g)
+  opening_strings : (origin n : ℕ) (g : Grab) →
+      Strings (opening path (Encapsulation T) value origin n g)
   opening_strings origin n (Waiting none at) = no_strings (Short [] at [] (Opening (Encapsulation T) n)) refl
   opening_strings origin n (Got octets at rest) = ordered_strings origin n (order_of (get_or octets 0 0)) at rest
 
@@ -222,39 +247,34 @@ module _ (path : List Seg) (T : Ty) (value : Coding → ℕ → List ℕ → Rea
 pub read_strings : (coding : Coding) (path : List Seg) (T : Ty) (at : ℕ) (s : List ℕ) →
     Strings (read coding path T at s)
 read_strings coding path (Single scalar) at s =
-    headed_strings (Single scalar) (λ xs at rest. single path scalar (num coding.order xs) at rest) (λ xs at rest. single_strings path scalar (num coding.order xs) at rest) (number coding.origin (width scalar) at s)
+    headed_strings (Single scalar) _ (λ xs at rest. single_strings path scalar (num coding.order xs) at rest) _
 read_strings coding path (Text bound) at s =
-    headed_strings (Text bound) (λ xs at rest. text bound path (num coding.order xs) at rest) (λ xs at rest. text_strings bound path (num coding.order xs) at rest) (number coding.origin 4 at s)
+    headed_strings (Text bound) _ (λ xs at rest. text_strings bound path (num coding.order xs) at rest) _
 read_strings coding path (Octets bound) at s =
-    headed_strings (Octets bound) (λ xs at rest. octets bound path (num coding.order xs) at rest) (λ xs at rest. octets_strings bound path (num coding.order xs) at rest) (number coding.origin 4 at s)
+    headed_strings (Octets bound) _ (λ xs at rest. octets_strings bound path (num coding.order xs) at rest) _
 read_strings coding path (Struct count names parts) at s =
-    parts_strings (λ i at s. within (Part (Struct count names parts) i count) (read coding (path ++ Name (names i) ∷ []) (parts i) at s))
-    (λ i at s. within_strings (Part (Struct count names parts) i count) (read coding (path ++ Name (names i) ∷ []) (parts i) at s) (read_strings coding (path ++ Name (names i) ∷ []) (parts i) at s)) count 0 at s
+    parts_strings _ (λ i at s. within_strings (Part (Struct count names parts) i count) _
+    (read_strings coding (path ++ Name (names i) ∷ []) (parts i) at s)) count 0 at s
 read_strings coding path (Array count T) at s =
-    parts_strings (λ i at s. within (Part (Array count T) i count) (read coding (path ++ Index i ∷ []) T at s))
-    (λ i at s. within_strings (Part (Array count T) i count) (read coding (path ++ Index i ∷ []) T at s) (read_strings coding (path ++ Index i ∷ []) T at s)) count 0 at s
+    parts_strings _ (λ i at s. within_strings (Part (Array count T) i count) _
+    (read_strings coding (path ++ Index i ∷ []) T at s)) count 0 at s
 read_strings coding path (Sequence bound T) at s =
     headed_strings (Sequence bound T) _ (λ xs at rest.
-    let elements = parts_from (λ i at s. within (Part (Sequence bound T) i (num coding.order xs)) (read coding (path ++ Index i ∷ []) T at s)) (num coding.order xs) 0 at rest in
-    unless_strings (Sequence bound T) (over bound (num coding.order xs)) at (with_front (line at path (Count (num coding.order xs)) ∷ []) elements)
-    (then_strings (line at path (Count (num coding.order xs)) ∷ []) elements refl
-    (parts_strings (λ i at s. within (Part (Sequence bound T) i (num coding.order xs)) (read coding (path ++ Index i ∷ []) T at s))
-    (λ i at s. within_strings (Part (Sequence bound T) i (num coding.order xs)) (read coding (path ++ Index i ∷ []) T at s) (read_strings coding (path ++ Index i ∷ []) T at s)) (num coding.order xs) 0 at rest)))
-    (number coding.origin 4 at s)
+    let n = num coding.order xs in
+    unless_strings (Sequence bound T) (over bound n) at _
+    (then_strings (line at path (Count n) ∷ []) _ refl
+    (parts_strings _ (λ i at s. within_strings (Part (Sequence bound T) i n) _
+    (read_strings coding (path ++ Index i ∷ []) T at s)) n 0 at rest))) _
 read_strings coding path (Union choice scalar select names cases) at s =
     headed_strings (Union choice scalar select names cases) _ (λ xs at rest.
     let T = Union choice scalar select names cases in
     let n = num coding.order xs in
-    let case : ℕ → ℕ → List ℕ → Read = λ i at s. within (Member T i) (read coding (path ++ Name (names i) ∷ []) (cases i) at s) in
     let front : List Line = line at (path ++ Switch (tag_of choice names) ∷ []) (Number scalar n) ∷ [] in
-    unless_strings T (wrong scalar n) at (unless T (refused (select n)) at (with_front front (member (select n) case at rest)))
-    (unless_strings T (refused (select n)) at (with_front front (member (select n) case at rest))
-    (then_strings front (member (select n) case at rest) refl
-    (member_strings (select n) case (λ i at s. within_strings (Member T i) (read coding (path ++ Name (names i) ∷ []) (cases i) at s) (read_strings coding (path ++ Name (names i) ∷ []) (cases i) at s)) at rest))))
-    (number coding.origin (width scalar) at s)
+    unless_strings T (wrong scalar n) at _ (unless_strings T (refused (select n)) at _
+    (then_strings front _ refl (member_strings (select n) _ (λ i at s. within_strings (Member T i) _
+    (read_strings coding (path ++ Name (names i) ∷ []) (cases i) at s)) at rest)))) _
 read_strings coding path (Encapsulation T) at s =
     headed_strings (Encapsulation T) _ (λ xs at rest.
-    let value : Coding → ℕ → List ℕ → Read = λ inner. read inner (path ++ Held ∷ []) T in
-    then_strings (line at path (Size (num coding.order xs)) ∷ []) (sized path (Encapsulation T) value (num coding.order xs) at rest) refl
-    (sized_strings path T value (λ inner at s. read_strings inner (path ++ Held ∷ []) T at s) (num coding.order xs) at rest))
-    (number coding.origin 4 at s)
+    let n = num coding.order xs in
+    then_strings (line at path (Size n) ∷ []) _ refl
+    (sized_strings path T _ (λ inner at s. read_strings inner (path ++ Held ∷ []) T at s) n at rest)) _

@@ -24,7 +24,8 @@ HasFrame (Some order) T i count = IsEncapsulation T × (0 < i) × (i < count)
 
 -- an innermost part of this type, with what is held of it
 abbrev pub LeafFits : Table → Innermost → List ℕ → List ℕ → Type 0
-LeafFits C leaf carry piece = FitsIn (tree C (leaf_type leaf)) [] (leaf_of C leaf carry piece) × IsClean leaf carry piece
+LeafFits C leaf carry piece =
+    FitsIn (tree C (leaf_type leaf)) [] (leaf_of C leaf carry piece) × IsClean leaf carry piece
 
 -- each frame is of the part of the one before at its place, and the innermost part of that of the last
 abbrev pub Chained : Table → ℕ → List Frame → Innermost → Type 0

@@ -37,7 +37,8 @@ pub record Fits (C : Table) (d : Decoder) : Type 0 where
   -- an offset at which it can stand
   pub here : ℕ
   pub stands : IsHere d here
-  pub fits : FitsIn (tree C root) (places C here d.outer.items) (leaf_of C leaf d.carry d.piece.items)
+  pub fits : FitsIn (tree C root) (places C here d.outer.items)
+      (leaf_of C leaf d.carry d.piece.items)
   pub ahead : AreAhead d.outer.items
   pub inside : d.inside ≡ is_inside d.outer.items
   pub known_outer : AreKnown C d.outer.items

@@ -26,7 +26,8 @@ ulong_of value = None
 
 -- the number of a line that is the root's member `request_id`, below a header
 abbrev pub id_of : Bool → Line → Option ℕ
-id_of is_header l = cond (is_header && is_member (codes "request_id") l.path) (ulong_of l.value) None
+id_of is_header l =
+    cond (is_header && is_member (codes "request_id") l.path) (ulong_of l.value) None
 
 -- the numbers of such lines, of which a header has one
 abbrev pub request_ids : Bool → List Line → List ℕ

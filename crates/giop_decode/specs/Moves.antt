@@ -18,9 +18,11 @@ use Rattle.giop_sig.specs.Table.{Table}
 use Rattle.giop_sig.specs.Trees.{tree}
 
 -- what a decoder's fields stand for, unless an encapsulation has ended
-abbrev pub stopped_with : Table → List Frame → List ℕ → List ℕ → Option Innermost → List Line → ℕ → Read
+abbrev pub stopped_with : Table → List Frame → List ℕ → List ℕ → Option Innermost → List Line → ℕ →
+    Read
 stopped_with C frames carry piece None lines at = Done lines at []
-stopped_with C frames carry piece (Some leaf) lines at = gone_to C lines at frames (leaf_of C leaf carry piece)
+stopped_with C frames carry piece (Some leaf) lines at =
+    gone_to C lines at frames (leaf_of C leaf carry piece)
 
 abbrev pub stopped : Table → Decoder → Option Innermost → List Line → ℕ → Read
 stopped C d leaf lines at = stopped_with C d.outer.items d.carry d.piece.items leaf lines at

@@ -45,8 +45,8 @@ refused Refused = Some kinds.Disposition
 refused _ = None
 
 -- a union behind its discriminator, which has a line where it is a value that can stand there
-abbrev pub chosen : List Seg → Ty → Option (List ℕ) → Scalar → Selected → ℕ → (ℕ → ℕ → List ℕ → Read) → ℕ → List ℕ →
-    Read
+abbrev pub chosen : List Seg → Ty → Option (List ℕ) → Scalar → Selected → ℕ →
+    (ℕ → ℕ → List ℕ → Read) → ℕ → List ℕ → Read
 chosen path T tag scalar selected n case at rest =
     unless T (wrong scalar n) at (unless T (refused selected) at
     (with_front (line at (path ++ Switch tag ∷ []) (Number scalar n) ∷ [])
@@ -74,25 +74,31 @@ cut_off (Opening T n) = Encapsulation T
 -- An encapsulation that ends at this offset, of which a value was read so far, and what follows the octets read: the value
 -- has ended, and what is left is the rest; or it needs an octet more, of which there is none where its octets have ended.
 abbrev pub enclosed : List Seg → Ty → Coding → ℕ → Read → List ℕ → Read
-enclosed path T coding end (Done lines at rest) more = with_front lines (rest_of path T (end - at) at (rest ++ more))
+enclosed path T coding end (Done lines at rest) more =
+    with_front lines (rest_of path T (end - at) at (rest ++ more))
 enclosed path T coding end (Short lines at outer leaf) more =
-    cond (ltb at end) (Short lines at (Inside T coding end ∷ outer) leaf) (Fault lines at kinds.EncapShort (cut_off leaf))
+    cond (ltb at end) (Short lines at (Inside T coding end ∷ outer) leaf)
+    (Fault lines at kinds.EncapShort (cut_off leaf))
 enclosed path T coding end (Fault lines at kind S) more = Fault lines at kind S
 
 -- The reading of a value sees none but the n octets.
 abbrev pub inside : List Seg → Ty → (Coding → ℕ → List ℕ → Read) → Coding → ℕ → ℕ → List ℕ → Read
-inside path T value coding n at s = enclosed path T coding (at + n) (value coding at (take n s)) (drop n s)
+inside path T value coding n at s =
+    enclosed path T coding (at + n) (value coding at (take n s)) (drop n s)
 
 -- behind the octet that says the byte order, from which alignment is counted
-abbrev pub ordered : List Seg → Ty → (Coding → ℕ → List ℕ → Read) → ℕ → ℕ → Option Order → ℕ → List ℕ → Read
+abbrev pub ordered : List Seg → Ty → (Coding → ℕ → List ℕ → Read) → ℕ → ℕ → Option Order → ℕ →
+    List ℕ → Read
 ordered path T value origin n None at rest = Fault [] at kinds.EncapOrder T
 ordered path T value origin n (Some order) at rest =
-    with_front (line at path (Ordered order) ∷ []) (inside path T value (coded order origin) n at rest)
+    with_front (line at path (Ordered order) ∷ [])
+    (inside path T value (coded order origin) n at rest)
 
 -- from the octet with the byte order on
 abbrev pub opening : List Seg → Ty → (Coding → ℕ → List ℕ → Read) → ℕ → ℕ → Grab → Read
 opening path T value origin n (Waiting none at) = Short [] at [] (Opening T n)
-opening path T value origin n (Got octets at rest) = ordered path T value origin n (order_of (get_or octets 0 0)) at rest
+opening path T value origin n (Got octets at rest) =
+    ordered path T value origin n (order_of (get_or octets 0 0)) at rest
 
 -- the octets of an encapsulation, behind their number
 abbrev pub sized : List Seg → Ty → (Coding → ℕ → List ℕ → Read) → ℕ → ℕ → List ℕ → Read
@@ -135,5 +141,6 @@ read coding path (Union choice scalar select names cases) at s =
 read coding path (Encapsulation T) at s =
     headed (Encapsulation T) (λ xs at rest.
     with_front (line at path (Size (num coding.order xs)) ∷ [])
-    (sized path (Encapsulation T) (λ inner. read inner (path ++ Held ∷ []) T) (num coding.order xs) at rest))
+    (sized path (Encapsulation T) (λ inner. read inner (path ++ Held ∷ []) T)
+    (num coding.order xs) at rest))
     (number coding.origin 4 at s)

@@ -17,12 +17,14 @@ use Rattle.giop_sig.specs.Table.{Table}
 -- the lines that octets more give
 abbrev pub dues : Order → Ty → ℕ → List ℕ → List ℕ → List Line
 dues order T at s octets =
-    drop (length (lines_of (read (plain order) [] T at s))) (lines_of (read (plain order) [] T at (s ++ octets)))
+    drop (length (lines_of (read (plain order) [] T at s)))
+    (lines_of (read (plain order) [] T at (s ++ octets)))
 
 -- what has come of a list with one octet more
 abbrev pub Answers : Order → Ty → ℕ → Root → List ℕ → ℕ → Progress → Type 0
 Answers order T at root s octet p =
-    IsAnswer (at + length (s ++ octet ∷ [])) (names_operation (is_header_root root) (due order T at s octet)) p
+    IsAnswer (at + length (s ++ octet ∷ []))
+    (names_operation (is_header_root root) (due order T at s octet)) p
     (read (plain order) [] T at (s ++ octet ∷ []))
 
 -- Octets more, one after another: behind each but the last the value goes on, and no operation has ended there.
@@ -34,8 +36,8 @@ AreAnswered order T at root s (octet ∷ next ∷ more) p =
     × AreAnswered order T at root (s ++ octet ∷ []) (next ∷ more) p
 
 -- A decoder that read a list has come to this with these octets more: it reads the longer list, unless that is faulted.
-pub record TakesRun (C : Table) (T : Ty) (order : Order) (at message : ℕ) (root : Root) (d : Decoder)
-    (s octets : List ℕ) (p : Progress) : Type 0 where
+pub record TakesRun (C : Table) (T : Ty) (order : Order) (at message : ℕ) (root : Root)
+    (d : Decoder) (s octets : List ℕ) (p : Progress) : Type 0 where
   pub answers : AreAnswered order T at root s octets p
   pub reads : (IsFault p → ⊥) → Reads C T order at message root d (s ++ octets)
   pub minds : Minds root d (read (plain order) [] T at (s ++ octets))
@@ -49,21 +51,23 @@ pub record BreaksOff (T : Ty) (order : Order) (at message : ℕ) (root : Root) (
   pub rest : List ℕ
   pub all : octets ≡ front ++ octet ∷ rest
   pub answers : AreAnswered order T at root s front progress.More
-  pub wrote : WroteFront before after (lines_text message root (dues order T at s (front ++ octet ∷ [])))
+  pub wrote : WroteFront before after
+      (lines_text message root (dues order T at s (front ++ octet ∷ [])))
 
 -- the lines of the octets that a run took, or those up to the octet at which a put failed
-abbrev pub WritesRun : {E : Type 0} → Result (ℕ × Progress) E → Ty → Order → ℕ → ℕ → Root → List ℕ → List ℕ →
-    OutLog → OutLog → Type 0
+abbrev pub WritesRun : {E : Type 0} → Result (ℕ × Progress) E → Ty → Order → ℕ → ℕ → Root →
+    List ℕ → List ℕ → OutLog → OutLog → Type 0
 WritesRun result T order at message root s octets before after =
     MatchResult result
-    (λ taken. Wrote before after (lines_text message root (dues order T at s (take taken.0 octets))))
+    (λ taken. Wrote before after
+    (lines_text message root (dues order T at s (take taken.0 octets))))
     (λ _. BreaksOff T order at message root s octets before after)
 
 -- ---- octets that only add to a piece
 
 -- a decoder that read a list reads the longer one, and had nothing to say
-pub record Gathered (C : Table) (T : Ty) (order : Order) (at message : ℕ) (root : Root) (new : Decoder)
-    (s octets : List ℕ) : Type 0 where
+pub record Gathered (C : Table) (T : Ty) (order : Order) (at message : ℕ) (root : Root)
+    (new : Decoder) (s octets : List ℕ) : Type 0 where
   pub takes : TakesRun C T order at message root new s octets progress.More
   pub quiet : dues order T at s octets ≡ []
 

@@ -71,11 +71,14 @@ abbrev pub name_octets : Memory → List ℕ
 name_octets m = held 128 (kept_name m.buffer m.name.items)
 
 abbrev pub memory_octets : Memory → List ℕ
-memory_octets m = optional m.request_id ++ optional m.status ++ buffer_octet m.buffer ∷ name_octets m
+memory_octets m =
+    optional m.request_id ++ optional m.status ++ buffer_octet m.buffer ∷ name_octets m
 
 -- of a decoder whose innermost part this is
 unfoldable pub fixed_octets : Decoder → Innermost → List ℕ
-fixed_octets d leaf = order_octet d.order ∷ root_octet d.root ∷ eight d.message ++ d.at ∷ leaf_octets leaf ++ held 8 d.carry ++ held 32 d.piece.items ++ memory_octets d.memory ++ replicate 2 0
+fixed_octets d leaf =
+    order_octet d.order ∷ root_octet d.root ∷ eight d.message ++ d.at ∷ leaf_octets leaf
+    ++ held 8 d.carry ++ held 32 d.piece.items ++ memory_octets d.memory ++ replicate 2 0
 
 -- how many octets a frame has
 abbrev pub frame_size : ℕ
@@ -88,7 +91,8 @@ inside_octet (Some order) = 1 + order_octet order
 
 -- the octets of a frame, of which 11 have no use
 abbrev pub frame_octets : Frame → List ℕ
-frame_octets f = four f.of.0 ++ four f.index ++ four f.count ++ inside_octet f.inside ∷ replicate 11 0
+frame_octets f =
+    four f.of.0 ++ four f.index ++ four f.count ++ inside_octet f.inside ∷ replicate 11 0
 
 abbrev pub frames_octets : List Frame → List ℕ
 frames_octets frames = flat_map frame_octets frames
@@ -106,7 +110,8 @@ pub record FrameHasRange (f : Frame) : Type 0 where
 
 abbrev pub LeafHasRange : Innermost → Type 0
 LeafHasRange (innermost.Number of) = of.0 < 2 ^ 32
-LeafHasRange (innermost.Content of total offset) = (of.0 < 2 ^ 32) × (total < 2 ^ 32) × (offset < 2 ^ 32)
+LeafHasRange (innermost.Content of total offset) =
+    (of.0 < 2 ^ 32) × (total < 2 ^ 32) × (offset < 2 ^ 32)
 LeafHasRange (innermost.Opening of count) = (of.0 < 2 ^ 32) × (count < 2 ^ 32)
 
 pub record MemoryHasRange (m : Memory) : Type 0 where

@@ -65,7 +65,8 @@ fn follow(catalogue: &Catalogue, of: TypeId, frames: &[Frame], leaf: Leaf) -> bo
 /// Whether a frame can be of a type: of a part of its own, or of an encapsulation of which octets are to come.
 fn has_frame(catalogue: &Catalogue, of: TypeId, frame: Frame) -> bool
     requires { of.0 < length catalogue.now.types }
-    ensures { IsTrue result ↔ HasFrame frame.inside (tree catalogue.now of.0) frame.index frame.count }
+    ensures { IsTrue result
+        ↔ HasFrame frame.inside (tree catalogue.now of.0) frame.index frame.count }
 {
     match frame.inside {
         Some(_) => {

@@ -70,7 +70,8 @@ pub(crate) fn take_content(
     ensures voices { Voices (tree catalogue.now of.0) (is_text (tree catalogue.now of.0))
         result.turn result.spoken }
     ensures turns { (path : List Seg) (at : ℕ) →
-        Turns catalogue.now (tree catalogue.now of.0) result.turn result.spoken [] piece.new.items path (at + 1)
+        Turns catalogue.now (tree catalogue.now of.0) result.turn result.spoken []
+        piece.new.items path (at + 1)
         (content_step (tree catalogue.now of.0) path total offset at piece.old.items octet) }
 {
     let left = total - offset;
@@ -126,7 +127,8 @@ fn take_last(
     ensures voices { Voices (tree catalogue.now of.0) (is_text (tree catalogue.now of.0))
         result.turn result.spoken }
     ensures turns { (path : List Seg) (at : ℕ) →
-        Turns catalogue.now (tree catalogue.now of.0) result.turn result.spoken [] piece.new.items path (at + 1)
+        Turns catalogue.now (tree catalogue.now of.0) result.turn result.spoken []
+        piece.new.items path (at + 1)
         (content_step (tree catalogue.now of.0) path total offset at piece.old.items octet) }
 {
     let _types = catalogue;

@@ -236,7 +236,8 @@ impl Decoder {
         ensures order { self.new.order ≡ self.old.order }
         ensures root { self.new.root ≡ self.old.root }
         ensures message { self.new.message ≡ self.old.message }
-        ensures here { IsTrue result → (here : ℕ) → IsHere self.old here → IsHere self.new (here + 1) }
+        ensures here { IsTrue result → (here : ℕ) → IsHere self.old here →
+            IsHere self.new (here + 1) }
         ensures quiet { IsTrue result → (here : ℕ) → IsHere self.old here →
             lines_of (stepped catalogue.now self.old here octet) ≡ [] }
         ensures steps { IsTrue result → (here : ℕ) → IsHere self.old here →
@@ -280,7 +281,8 @@ impl Decoder {
         ensures order { OnOk result (self.new.order ≡ self.old.order) }
         ensures root { OnOk result (self.new.root ≡ self.old.root) }
         ensures message { OnOk result (self.new.message ≡ self.old.message) }
-        ensures here { OnOk result ((here : ℕ) → IsHere self.old here → IsHere self.new (here + 1)) }
+        ensures here { OnOk result ((here : ℕ) → IsHere self.old here →
+            IsHere self.new (here + 1)) }
         ensures fits { IfOk result (λ p. GoesOn p → Fits catalogue.now self.new) }
         ensures writes { (here : ℕ) → IsHere self.old here →
             Writes result (O.log out.old) (O.log out.new) (lines_text self.old.message self.old.root

@@ -39,7 +39,8 @@ pub(crate) fn width(catalogue: &Catalogue, t: TypeId) -> u8
 fn switch_width(catalogue: &Catalogue, t: TypeId) -> u8
     requires known { t.0 < length catalogue.now.types }
     requires union { IsUnion (shape_in (tree catalogue.now t.0)) }
-    ensures width { HasHead (tree catalogue.now t.0) → result ≡ head_width (tree catalogue.now t.0) }
+    ensures width { HasHead (tree catalogue.now t.0) →
+        result ≡ head_width (tree catalogue.now t.0) }
     ensures aligned { IsAlignment result }
 {
     match catalogue.shape(catalogue.switch_type(t)) {

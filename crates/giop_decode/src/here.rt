@@ -197,7 +197,8 @@ fn push_switch(catalogue: &Catalogue, of: TypeId, path: &mut Path)
     requires known { of.0 < length catalogue.now.types }
     requires union { IsUnion (shape_in (tree catalogue.now of.0)) }
     requires room { path.old.segments < 24 }
-    ensures text { path.new.text ≡ path.old.text ++ seg_text (switch_seg (tree catalogue.now of.0)) }
+    ensures text { path.new.text
+        ≡ path.old.text ++ seg_text (switch_seg (tree catalogue.now of.0)) }
 {
     match catalogue.shape(of) {
         Shape::Union(_) => path.push_name(b"switch"),

@@ -39,7 +39,8 @@ pub fn reading_laws()
     // and a step from any parts that fit, of which no encapsulation has ended, leaves such parts.
     ensures kept { (d : ℕ) (coding : Coding) (path : List Seg) (T : Ty) (outer : List Place)
         (leaf : Leaf) (at b : ℕ) → IsFit d T →
-        FitsIn T outer leaf → Surrounds at outer → Sound T (at + 1) (step coding path outer leaf at b) }
+        FitsIn T outer leaf → Surrounds at outer →
+        Sound T (at + 1) (step coding path outer leaf at b) }
 {}
 
 /// What a reading leaves in mind is what its lines say last: of the values at the request id of a header, of the enums, and

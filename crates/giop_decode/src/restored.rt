@@ -32,9 +32,11 @@ impl Decoder {
     pub fn restore(catalogue: &Catalogue, fixed: &[u8; 208], frames: &[u8]) -> Option<Decoder>
         ensures fits { IfSome result (λ d. Fits catalogue.now d) }
         ensures stored { IfSome result (λ d. Stored d fixed.now frames.now) }
-        ensures again { (d : State) → Fits catalogue.now d → Stored d fixed.now frames.now → IsSome result }
+        ensures again { (d : State) → Fits catalogue.now d → Stored d fixed.now frames.now →
+            IsSome result }
         // It reads whatever list the stored one reads.
-        ensures reads { IfSome result (λ e. (d : State) → Fits catalogue.now d → Stored d fixed.now frames.now →
+        ensures reads { IfSome result (λ e. (d : State) → Fits catalogue.now d →
+            Stored d fixed.now frames.now →
             (T : Ty) (order : ByteOrder) (at message : ℕ) (root : PathRoot) (s : List ℕ) →
             Reads catalogue.now T order at message root d s →
             Reads catalogue.now T order at message root e s) }
@@ -52,7 +54,8 @@ impl Decoder {
 
     /// Whether these octets are what is stored of the decoder.
     fn is_stored_as(&self, fixed: &[u8; 208], frames: &[u8]) -> bool
-        ensures stored { (C : Table) → Fits C self.now → IsTrue result → Stored self.now fixed.now frames.now }
+        ensures stored { (C : Table) → Fits C self.now → IsTrue result →
+            Stored self.now fixed.now frames.now }
         ensures again { (C : Table) (d : State) → Fits C self.now → Stored d fixed.now frames.now →
             IsRestored d self.now → IsTrue result }
     {
@@ -171,7 +174,8 @@ fn memory_at(octets: &[u8], at: usize) -> Memory
 /// What the name buffer has, as it stands there.
 fn buffer_at(octets: &[u8], at: usize) -> Buffer
     requires room { at < length octets.now }
-    ensures { (buffer : BufferState) (rest : List ℕ) → drop at octets.now ≡ buffer_octet buffer ∷ rest →
+    ensures { (buffer : BufferState) (rest : List ℕ) →
+        drop at octets.now ≡ buffer_octet buffer ∷ rest →
         result ≡ buffer }
 {
     match octet_at(octets, at) {
@@ -184,7 +188,8 @@ fn buffer_at(octets: &[u8], at: usize) -> Buffer
 /// The frames that stand in octets, but for the last, which is the innermost part's.
 fn outer_at(octets: &[u8]) -> ArrayVec<Frame, 24>
     ensures { (frames : List FrameState) (own : FrameState) → AllByRecursion FrameHasRange frames →
-        length frames < 24 → octets.now ≡ frames_octets (frames ++ own ∷ []) → result.items ≡ frames }
+        length frames < 24 → octets.now ≡ frames_octets (frames ++ own ∷ []) →
+        result.items ≡ frames }
 {
     let mut outer = ArrayVec::new();
     let mut rest = octets;
@@ -213,7 +218,8 @@ fn frame_at(octets: &[u8]) -> Frame
 /// The byte order of an encapsulation that stands there, or none.
 fn inside_at(octets: &[u8], at: usize) -> Option<Order>
     requires room { at < length octets.now }
-    ensures { (inside : Option ByteOrder) (rest : List ℕ) → drop at octets.now ≡ inside_octet inside ∷ rest →
+    ensures { (inside : Option ByteOrder) (rest : List ℕ) →
+        drop at octets.now ≡ inside_octet inside ∷ rest →
         result ≡ inside }
 {
     match octet_at(octets, at) {

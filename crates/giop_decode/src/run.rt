@@ -26,13 +26,15 @@ impl Decoder {
         out: &mut O,
     ) -> Result<(usize, Progress), OutFault>
         requires { Fits catalogue.now self.old }
-        ensures writes { (T : Ty) (order : ByteOrder) (at message : ℕ) (root : PathRoot) (s : List ℕ) →
+        ensures writes { (T : Ty) (order : ByteOrder) (at message : ℕ) (root : PathRoot)
+            (s : List ℕ) →
             Reads catalogue.now T order at message root self.old s →
             WritesRun result T order at message root s octets.now (O.log out.old) (O.log out.new) }
         ensures takes { IfOk result (λ taken. (T : Ty) (order : ByteOrder) (at message : ℕ)
             (root : PathRoot) (s : List ℕ) →
             Reads catalogue.now T order at message root self.old s →
-            TakesRun catalogue.now T order at message root self.new s (take taken.0 octets.now) taken.1) }
+            TakesRun catalogue.now T order at message root self.new s
+            (take taken.0 octets.now) taken.1) }
         ensures within { IfOk result (λ taken. taken.0 ≤ length octets.now) }
         ensures some { IfOk result (λ taken. 0 < length octets.now → 0 < taken.0) }
         ensures all { IfOk result (λ taken. taken.1 ≡ Progress.More → taken.0 ≡ length octets.now) }
@@ -61,13 +63,15 @@ impl Decoder {
     ) -> Result<(usize, Progress), OutFault>
         requires fits { Fits catalogue.now self.old }
         requires some { 0 < length octets.now }
-        ensures writes { (T : Ty) (order : ByteOrder) (at message : ℕ) (root : PathRoot) (s : List ℕ) →
+        ensures writes { (T : Ty) (order : ByteOrder) (at message : ℕ) (root : PathRoot)
+            (s : List ℕ) →
             Reads catalogue.now T order at message root self.old s →
             WritesRun result T order at message root s octets.now (O.log out.old) (O.log out.new) }
         ensures takes { IfOk result (λ taken. (T : Ty) (order : ByteOrder) (at message : ℕ)
             (root : PathRoot) (s : List ℕ) →
             Reads catalogue.now T order at message root self.old s →
-            TakesRun catalogue.now T order at message root self.new s (take taken.0 octets.now) taken.1) }
+            TakesRun catalogue.now T order at message root self.new s
+            (take taken.0 octets.now) taken.1) }
         ensures within { IfOk result (λ taken. taken.0 ≤ length octets.now) }
         ensures some { IfOk result (λ taken. 0 < taken.0) }
         ensures fits { IfOk result (λ taken. GoesOn taken.1 → Fits catalogue.now self.new) }

@@ -1,6 +1,6 @@
 //! What a checkpoint keeps of a decoder that goes on, as octets.
 
-ghost use Rattle.std.specs.Prelude.{◌≡◌, ◌+◌, ◌*◌, ◌<◌, ◌≤◌, [], ◌∷◌, ◌++◌, length, take};
+ghost use Rattle.std.specs.Prelude.{◌≡◌, ◌+◌, ◌*◌, ◌<◌, ◌≤◌, [], ◌∷◌, ◌++◌, length, take, drop};
 ghost use Rattle.std.specs.List.{AllByRecursion};
 ghost use Rattle.arrayvec.specs.ArrayVec.{array_vec_len};
 ghost use Rattle.giop_decode.specs.Holding.{Fits};
@@ -27,6 +27,8 @@ impl Decoder {
         ensures depth { (C : Table) → Fits C self.now → result ≤ depth_of C.types }
         ensures stored { (C : Table) → Fits C self.now →
             Stored self.now fixed.new (take (frame_size * result) frames.new) }
+        // The octets behind them are as they were.
+        ensures behind { drop (frame_size * result) frames.new ≡ drop (frame_size * result) frames.old }
     {
         let Some(leaf) = self.leaf else {
             return 0;

@@ -9,7 +9,6 @@ use Rattle.giop_sig.specs.Fits.{IsFit}
 use Rattle.giop_sig.specs.Table.{type_id, part_number}
 use Rattle.giop_sig.specs.Trees.{tree}
 use Rattle.giop_sig.specs.Types.{Ty, part_of}
-use Rattle.giop_sig.proofs.PartLaws.{depth_is}
 use Rattle.giop_decode.specs.declared.decoder.Decoder.{Decoder}
 use Rattle.giop_decode.specs.declared.frame.Frame.{Frame}
 use Rattle.giop_decode.specs.declared.leaf.Leaf.{Leaf as Innermost}
@@ -19,6 +18,7 @@ use Rattle.giop_decode.specs.Spine.{Leaf}
 use Rattle.giop_decode.specs.Fits.{FitsIn, HasParts}
 use Rattle.giop_decode.specs.Turns.{part_in, leaf_of, IsWithin}
 use Rattle.giop_decode.specs.Holding as decoder
+use Rattle.giop_decode.proofs.ReadingLaws.{fits_depth}
 use Rattle.giop_decode.specs.Stored as decoders
 use Rattle.giop_message.specs.declared.message.Message.{Message}
 use Rattle.giop_message.specs.declared.part.Part.TheVariants as parts
@@ -38,7 +38,7 @@ use Rattle.giop_stream.specs.Remembering.{Memory}
 use Rattle.giop_stream.specs.Checkpoint.{IsHeld}
 use Rattle.giop_stream_rows.specs.Worked.{bigs}
 use Rattle.giop_stream_rows.specs.Checkpoints.{two_requests, between_messages, in_a_number, behind_a_body, BetweenMessages}
-use Rattle.giop_stream_rows.proofs.OnePart.{one_deep, one_part}
+use Rattle.giop_stream_rows.proofs.OnePart.{one_part}
 use Rattle.giop_stream_rows.proofs.Computing.{one_message, a_stream, told_with, a_checkpoint, are_octets}
 
 -- ---- The first Request, within the number of its body.
@@ -196,7 +196,7 @@ unfolding kept_messages
 first_held = record {
   stored = first_stored;
   shallow = λ C h.
-      omega (arith, one_deep (tree C h.root) _ _ h.fits, depth_is C h.root h.known_root);
+      omega (arith, fits_depth C in_body h);
 }
 
 second_held : IsHeld second second_entry

@@ -19,24 +19,26 @@ loop-count-preserved c =
       known_outer = rw c.push.ensures.items (all_push (IsKnown t) old _ c.loop-count.invariant.known_outer
           (record { known = c.loop-count.invariant.known; within = (b.placed, b.bare, b.uncounted) }));
       fit = rw (← e, c.part-inner.ensures.tree) b.fit;
-      placed = λ at. rw (c.push.ensures.items, map_push, c.part-inner.ensures.tree) (begins_places d (places t at old) T c.in-Some.count b ∙ c.loop-count.invariant.placed at);
+      placed = λ at. rw (c.push.ensures.items, map_push, c.part-inner.ensures.tree) (begins_places d (places t at old) T c.in-Some.count b
+          ∙ c.loop-count.invariant.placed at);
       ended = rw c.push.ensures.items (ended_push old _ refl ∙ c.loop-count.invariant.ended);
       inside = rw (c.push.ensures.items, inside_push) (or_false (is_inside old) ∙ c.loop-count.invariant.inside);
       stand = λ at h. rw c.push.ensures.items (stand_push at old _ (c.loop-count.invariant.stand at h) tt);
       leaf = rw c.part-inner.ensures.tree (sym b.leaf ∙ c.loop-count.invariant.leaf);
-      linked = λ root h. link_push t root old c.push.new.self.items c.loop-count.inner.0 c.part-inner.result.0 _ refl c.push.ensures.items c.part-inner.ensures.number (c.loop-count.invariant.linked root h);
+      linked = λ root h. link_push t root old c.push.new.self.items c.loop-count.inner.0 c.part-inner.result.0 _ refl c.push.ensures.items
+          c.part-inner.ensures.number (c.loop-count.invariant.linked root h);
     }
 
 pub push-requires : goal.push-requires
 push-requires c =
-    let b = begins (24 - length c.loop-count.outer.items) (tree c.args.catalogue.now c.loop-count.inner.0) c.in-Some.count c.loop-count.invariant.fit c.in-Some.ensures.whole in
+    let b = begins _ _ c.in-Some.count c.loop-count.invariant.fit c.in-Some.ensures.whole in
     (omega arith, omega (arith, b.room))
 
 pub part-inner-requires-clause-place : goal.part-inner-requires-clause-place
 part-inner-requires-clause-place c =
-    (begins (24 - length c.loop-count.outer.items) (tree c.args.catalogue.now c.loop-count.inner.0) c.in-Some.count c.loop-count.invariant.fit c.in-Some.ensures.whole).placed
+    (begins _ _ c.in-Some.count c.loop-count.invariant.fit c.in-Some.ensures.whole).placed
 
 pub loop-count-smaller : goal.loop-count-smaller
 loop-count-smaller c =
-    let b = begins (24 - length c.loop-count.outer.items) (tree c.args.catalogue.now c.loop-count.inner.0) c.in-Some.count c.loop-count.invariant.fit c.in-Some.ensures.whole in
+    let b = begins _ _ c.in-Some.count c.loop-count.invariant.fit c.in-Some.ensures.whole in
     omega (arith, b.room, c.push.ensures.len)

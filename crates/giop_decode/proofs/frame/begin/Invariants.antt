@@ -11,12 +11,15 @@ invariant-loop-count l = record {
   known : l.inner.0 < length l.catalogue.types;
   known_outer : AreKnown l.catalogue l.outer.items;
   fit : IsFit (24 - array_vec_len l.outer) (tree l.catalogue l.inner.0);
-  placed : (at : ℕ) → places l.catalogue at l.outer.items ++ start_outer (tree l.catalogue l.inner.0) ≡ places l.catalogue at l.fn.outer.items ++ start_outer (tree l.catalogue l.fn.t.0);
+  placed : (at : ℕ) →
+      places l.catalogue at l.outer.items ++ start_outer (tree l.catalogue l.inner.0)
+      ≡ places l.catalogue at l.fn.outer.items ++ start_outer (tree l.catalogue l.fn.t.0);
   ended : has_ended l.outer.items ≡ has_ended l.fn.outer.items;
   inside : is_inside l.outer.items ≡ is_inside l.fn.outer.items;
   stand : (at : ℕ) → StandAt at l.fn.outer.items → StandAt at l.outer.items;
   leaf : start_leaf (tree l.catalogue l.inner.0) ≡ start_leaf (tree l.catalogue l.fn.t.0);
-  linked : (root : ℕ) → Link l.catalogue root l.fn.outer.items l.fn.t.0 → Link l.catalogue root l.outer.items l.inner.0;
+  linked : (root : ℕ) → Link l.catalogue root l.fn.outer.items l.fn.t.0 →
+      Link l.catalogue root l.outer.items l.inner.0;
 }
 
 abbrev pub decreases-loop-count : goal.decreases-loop-count

@@ -24,7 +24,7 @@ returns-then-left-gt0-clause-gone c coding path at =
     let rest = c.pop.new.self.items in
     let T = tree t f.of.0 in
     let v = c.loop-frame.invariant in
-    let p = held_popped t v.are_open.0 c.loop-frame.outer.items rest f c.in-Some-inside.field-0 v.known v.are_open.1 c.in-Some.ensures.items c.in-Some-inside.is in
+    let p = held_popped c.args.catalogue.now _ _ _ _ _ v.known v.are_open.1 c.in-Some.ensures.items c.in-Some-inside.is in
     let order = c.in-Some-inside.field-0 in
     let end = at + (f.count - f.index) in
     let left : end - at ≡ f.count - f.index = omega arith in
@@ -39,7 +39,6 @@ returns-then-left-gt0-clause-linked c root inner h =
     let t = c.args.catalogue.now in
     let f = c.in-Some.frame in
     let rest = c.pop.new.self.items in
-    let T = tree t f.of.0 in
     let v = c.loop-frame.invariant in
     let l = v.linked root inner h in
     link_pop t root c.loop-frame.outer.items rest f l.0 c.in-Some.ensures.items l.1
@@ -51,7 +50,7 @@ loop-frame-preserved-else-left-gt0 c =
     let rest = c.pop.new.self.items in
     let T = tree t f.of.0 in
     let v = c.loop-frame.invariant in
-    let p = held_popped t v.are_open.0 c.loop-frame.outer.items rest f c.in-Some-inside.field-0 v.known v.are_open.1 c.in-Some.ensures.items c.in-Some-inside.is in
+    let p = held_popped c.args.catalogue.now _ _ _ _ _ v.known v.are_open.1 c.in-Some.ensures.items c.in-Some-inside.is in
     let order = c.in-Some-inside.field-0 in
     record {
       known = p.known_rest;
@@ -68,31 +67,24 @@ loop-frame-preserved-else-left-gt0 c =
 pub push-requires : goal.push-requires
 push-requires c =
     let t = c.args.catalogue.now in
-    let f = c.in-Some.frame in
     let rest = c.pop.new.self.items in
-    let T = tree t f.of.0 in
     let v = c.loop-frame.invariant in
-    let p = part_popped t v.are_open.0 c.loop-frame.outer.items rest f v.known v.are_open.1 c.in-Some.ensures.items c.in-None.is in
+    let p = part_popped c.args.catalogue.now _ _ _ _ v.known v.are_open.1 c.in-Some.ensures.items c.in-None.is in
     (omega arith, omega (arith, p.depth, length_places t v.are_open.0 rest))
 
 pub part-part-requires-clause-known : goal.part-part-requires-clause-known
 part-part-requires-clause-known c =
-    let t = c.args.catalogue.now in
-    let f = c.in-Some.frame in
-    let rest = c.pop.new.self.items in
-    let T = tree t f.of.0 in
     let v = c.loop-frame.invariant in
-    let p = part_popped t v.are_open.0 c.loop-frame.outer.items rest f v.known v.are_open.1 c.in-Some.ensures.items c.in-None.is in
+    let p = part_popped c.args.catalogue.now _ _ _ _ v.known v.are_open.1 c.in-Some.ensures.items c.in-None.is in
     p.known
 
 pub part-part-requires-clause-place : goal.part-part-requires-clause-place
 part-part-requires-clause-place c =
     let t = c.args.catalogue.now in
     let f = c.in-Some.frame in
-    let rest = c.pop.new.self.items in
     let T = tree t f.of.0 in
     let v = c.loop-frame.invariant in
-    let p = part_popped t v.are_open.0 c.loop-frame.outer.items rest f v.known v.are_open.1 c.in-Some.ensures.items c.in-None.is in
+    let p = part_popped c.args.catalogue.now _ _ _ _ v.known v.are_open.1 c.in-Some.ensures.items c.in-None.is in
     let below : suc f.index < f.count = omega arith in
     let n = next_in (suc p.left) T f.index f.count p.«open» p.uncounted below in
     rw add-one n.placed
@@ -104,10 +96,11 @@ begin-requires-clause-known_outer c =
     let rest = c.pop.new.self.items in
     let T = tree t f.of.0 in
     let v = c.loop-frame.invariant in
-    let p = part_popped t v.are_open.0 c.loop-frame.outer.items rest f v.known v.are_open.1 c.in-Some.ensures.items c.in-None.is in
+    let p = part_popped c.args.catalogue.now _ _ _ _ v.known v.are_open.1 c.in-Some.ensures.items c.in-None.is in
     let below : suc f.index < f.count = omega arith in
     let n = next_in (suc p.left) T f.index f.count p.«open» p.uncounted below in
-    rw c.push.ensures.items (all_push (IsKnown t) rest _ p.known_rest (record { known = p.known; within = rw c.in-None.is (rw add-one n.placed, p.bare, p.uncounted) }))
+    rw c.push.ensures.items (all_push (IsKnown t) rest _ p.known_rest
+    (record { known = p.known; within = rw c.in-None.is (rw add-one n.placed, p.bare, p.uncounted) }))
 
 pub begin-requires-clause-fit : goal.begin-requires-clause-fit
 begin-requires-clause-fit c =
@@ -116,7 +109,7 @@ begin-requires-clause-fit c =
     let rest = c.pop.new.self.items in
     let T = tree t f.of.0 in
     let v = c.loop-frame.invariant in
-    let p = part_popped t v.are_open.0 c.loop-frame.outer.items rest f v.known v.are_open.1 c.in-Some.ensures.items c.in-None.is in
+    let p = part_popped c.args.catalogue.now _ _ _ _ v.known v.are_open.1 c.in-Some.ensures.items c.in-None.is in
     let below : suc f.index < f.count = omega arith in
     let n = next_in (suc p.left) T f.index f.count p.«open» p.uncounted below in
     let e : p.left ≡ 24 - length c.push.new.self.items = omega (arith, p.depth, length_places t v.are_open.0 rest, c.push.ensures.len) in
@@ -135,12 +128,11 @@ returns-then-frame-last-clause-outside c h =
 
 pub returns-then-frame-last-clause-stand : goal.returns-then-frame-last-clause-stand
 returns-then-frame-last-clause-stand c at h =
-    let t = c.args.catalogue.now in
     let f = c.in-Some.frame in
     let rest = c.pop.new.self.items in
-    let T = tree t f.of.0 in
     let v = c.loop-frame.invariant in
-    c.begin.ensures.stand at (rw c.push.ensures.items (stand_push at rest _ (stand_pop at rest f (subst (StandAt at) c.in-Some.ensures.items (v.stand at h))) (rw c.in-None.is tt)))
+    c.begin.ensures.stand at (rw c.push.ensures.items (stand_push at rest _ (stand_pop at rest f (subst (StandAt at) c.in-Some.ensures.items (v.stand at h)))
+    (rw c.in-None.is tt)))
 
 pub returns-then-frame-last-clause-gone : goal.returns-then-frame-last-clause-gone
 returns-then-frame-last-clause-gone c coding path at =
@@ -149,15 +141,17 @@ returns-then-frame-last-clause-gone c coding path at =
     let rest = c.pop.new.self.items in
     let T = tree t f.of.0 in
     let v = c.loop-frame.invariant in
-    let p = part_popped t v.are_open.0 c.loop-frame.outer.items rest f v.known v.are_open.1 c.in-Some.ensures.items c.in-None.is in
+    let p = part_popped c.args.catalogue.now _ _ _ _ v.known v.are_open.1 c.in-Some.ensures.items c.in-None.is in
     let below : suc f.index < f.count = omega arith in
     let n = next_in (suc p.left) T f.index f.count p.«open» p.uncounted below in
     let next = part_in T (suc f.index) f.count in
     let part = part_of T (suc f.index) in
     let ended : has_ended c.push.new.self.items ≡ has_ended rest = rw c.push.ensures.items (ended_push rest _ (rw c.in-None.is refl)) in
     let new = c.begin.new.outer.items in
-    let same : shut (has_ended rest) [] at (places t at rest ++ (next ∷ start_outer part)) (start_leaf part) ≡ shut (has_ended new) [] at (places t at new) (start_leaf part) =
-    rw (c.begin.ensures.ended, c.begin.ensures.places at, ended, c.push.ensures.items, map_push, c.part-part.ensures.tree, add-one f.index, c.in-None.is, append_assoc) refl in
+    let same : shut (has_ended rest) [] at (places t at rest ++ (next ∷ start_outer part)) (start_leaf part)
+    ≡ shut (has_ended new) [] at (places t at new) (start_leaf part) =
+    rw (c.begin.ensures.ended, c.begin.ensures.places at, ended, c.push.ensures.items, map_push)
+    (rw (c.part-part.ensures.tree, add-one f.index, c.in-None.is, append_assoc) refl) in
     v.same coding path at
     ∙ (ap (λ ps. around coding path ps (Done [] at [])) (ap (places t at) c.in-Some.ensures.items ∙ map_push (place t at) rest f)
     ∙ (ap (λ q. around coding path (places t at rest ++ q ∷ []) (Done [] at [])) (part_is t at f c.in-None.is)
@@ -170,10 +164,10 @@ returns-then-frame-last-clause-linked c root inner h =
     let t = c.args.catalogue.now in
     let f = c.in-Some.frame in
     let rest = c.pop.new.self.items in
-    let T = tree t f.of.0 in
     let v = c.loop-frame.invariant in
     let l = v.linked root inner h in
-    c.begin.ensures.linked root (link_push t root rest c.push.new.self.items f.of.0 c.part-part.result.0 _ refl c.push.ensures.items (rw c.in-None.is c.part-part.ensures.number)
+    c.begin.ensures.linked root (link_push t root rest c.push.new.self.items f.of.0 c.part-part.result.0 _ refl c.push.ensures.items
+    (rw c.in-None.is c.part-part.ensures.number)
     (link_pop t root c.loop-frame.outer.items rest f l.0 c.in-Some.ensures.items l.1))
 
 pub loop-frame-preserved : goal.loop-frame-preserved
@@ -183,7 +177,7 @@ loop-frame-preserved c =
     let rest = c.pop.new.self.items in
     let T = tree t f.of.0 in
     let v = c.loop-frame.invariant in
-    let p = part_popped t v.are_open.0 c.loop-frame.outer.items rest f v.known v.are_open.1 c.in-Some.ensures.items c.in-None.is in
+    let p = part_popped c.args.catalogue.now _ _ _ _ v.known v.are_open.1 c.in-Some.ensures.items c.in-None.is in
     record {
       known = p.known_rest;
       are_open = (v.are_open.0, p.front);
@@ -200,7 +194,6 @@ pub returns-then-left-gt0-clause-silent : goal.returns-then-left-gt0-clause-sile
 returns-then-left-gt0-clause-silent c =
     let t = c.args.catalogue.now in
     let f = c.in-Some.frame in
-    let rest = c.pop.new.self.items in
     let v = c.loop-frame.invariant in
-    let p = held_popped t v.are_open.0 c.loop-frame.outer.items rest f c.in-Some-inside.field-0 v.known v.are_open.1 c.in-Some.ensures.items c.in-Some-inside.is in
+    let p = held_popped c.args.catalogue.now _ _ _ _ _ v.known v.are_open.1 c.in-Some.ensures.items c.in-Some-inside.is in
     rest_silent (tree t f.of.0) p.kind

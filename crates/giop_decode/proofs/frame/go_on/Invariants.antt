@@ -13,8 +13,10 @@ invariant-loop-frame l = record {
   outside : is_inside l.fn.outer.items ≡ false → is_inside l.outer.items ≡ false;
   stand : (at : ℕ) → StandAt at l.fn.outer.items → StandAt at l.outer.items;
   same : (coding : Coding) (path : List Seg) (at : ℕ) →
-      around coding path (places l.catalogue at l.fn.outer.items) (Done [] at []) ≡ around coding path (places l.catalogue at l.outer.items) (Done [] at []);
-  linked : (root inner : ℕ) → Link l.catalogue root l.fn.outer.items inner → (now : ℕ) × Link l.catalogue root l.outer.items now;
+      around coding path (places l.catalogue at l.fn.outer.items) (Done [] at [])
+      ≡ around coding path (places l.catalogue at l.outer.items) (Done [] at []);
+  linked : (root inner : ℕ) → Link l.catalogue root l.fn.outer.items inner →
+      (now : ℕ) × Link l.catalogue root l.outer.items now;
 }
 
 abbrev pub decreases-loop-frame : goal.decreases-loop-frame

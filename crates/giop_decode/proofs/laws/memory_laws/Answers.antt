@@ -1,4 +1,4 @@
-use Rattle.giop_decode.proofs.Left.{read_left}
+use Rattle.giop_decode.proofs.LastHeard.{read_left}
 use Rattle.giop_decode.proofs.OneCut.{contents_one}
 use Rattle.giop_decode.proofs.laws.memory_laws.Goals as goal
 

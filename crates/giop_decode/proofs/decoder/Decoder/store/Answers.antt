@@ -1,6 +1,7 @@
 use Rattle.std.proofs.Common.{arith}
 use Rattle.std.proofs.lemmas.Bool.Decides.{nat_tests}
-use Rattle.giop_decode.proofs.StoredChain.{fits_few, fits_depth}
+use Rattle.giop_decode.proofs.Depths.{fits_depth}
+use Rattle.giop_decode.proofs.StoredChain.{fits_few}
 use Rattle.giop_decode.proofs.decoder.Decoder.store.Goals as goal
 
 pub returns-then-is_full-clause-stored : goal.returns-then-is_full-clause-stored

@@ -37,7 +37,8 @@ left_status : (is_header : Bool) (h : Heard) (lines : List Line) →
 left_status is_header h [] = refl
 left_status is_header h (l ∷ ls) =
     left_status is_header (hear is_header h l) ls
-    ∙ (ap (λ o. last_or o (enums ls)) (value_status (is_header && is_member (codes "request_id") l.path) h l.value) ∙ sym (last_cons h.status (enum_of l.value) (enums ls)))
+    ∙ (ap (λ o. last_or o (enums ls)) (value_status (is_header && is_member (codes "request_id") l.path) h l.value)
+    ∙ sym (last_cons h.status (enum_of l.value) (enums ls)))
 
 -- ---- the request id
 
@@ -62,7 +63,8 @@ first_cons None (Some n) xs = refl
 first_cons None None xs = refl
 
 left_id : (is_header : Bool) (h : Heard) (lines : List Line) →
-    (heard is_header h lines).request_id ≡ first_of h.request_id (first_in (request_ids is_header lines))
+    (heard is_header h lines).request_id
+    ≡ first_of h.request_id (first_in (request_ids is_header lines))
 left_id is_header h [] = kept true h.request_id
 left_id is_header h (l ∷ ls) =
     let is_id = is_header && is_member (codes "request_id") l.path in
@@ -78,7 +80,8 @@ said name so_far [] = name
 said name so_far (p ∷ ps) = cond p.more (said None (so_far ++ p.octets) ps) (said (name_if (so_far ++ p.octets)) [] ps)
 
 value_name : (is_id : Bool) (h : Heard) (value : Value) (ps : List TextPiece) →
-    said (hear_value is_id h value).name (hear_value is_id h value).so_far ps ≡ said h.name h.so_far (cons_option (text_of value) ps)
+    said (hear_value is_id h value).name (hear_value is_id h value).so_far ps
+    ≡ said h.name h.so_far (cons_option (text_of value) ps)
 value_name is_id h (Piece (Text bound) offset octets true) ps = refl
 value_name is_id h (Piece (Text bound) offset octets false) ps = refl
 value_name is_id h (Number (Plain prims.ULong) n) ps = refl
@@ -90,12 +93,14 @@ left_name is_header h [] = refl
 left_name is_header h (l ∷ ls) =
     left_name is_header (hear is_header h l) ls ∙ value_name (is_header && is_member (codes "request_id") l.path) h l.value (text_pieces ls)
 
-said_cut : (full offset : ℕ) (content : List ℕ) (name : Option (List ℕ)) (so_far : List ℕ) (ps : List TextPiece) →
-    said name so_far (cut_from full offset content ++ ps) ≡ said (name_if (so_far ++ content)) [] ps
+said_cut : (full offset : ℕ) (content : List ℕ) (name : Option (List ℕ)) (so_far : List ℕ)
+    (ps : List TextPiece) → said name so_far (cut_from full offset content ++ ps)
+    ≡ said (name_if (so_far ++ content)) [] ps
 said_cut zero offset content name so_far ps = refl
 said_cut (suc full) offset content name so_far ps =
     said_cut full (offset + 32) (drop 32 content) None (so_far ++ take 32 content) ps
-    ∙ ap (λ octets. said (name_if octets) [] ps) (append_assoc so_far (take 32 content) (drop 32 content) ∙ ap (λ octets. so_far ++ octets) (take-append-drop 32 content))
+    ∙ ap (λ octets. said (name_if octets) [] ps) (append_assoc so_far (take 32 content) (drop 32 content)
+    ∙ ap (λ octets. so_far ++ octets) (take-append-drop 32 content))
 
 said_all : (before : Option (List ℕ)) (contents : List (List ℕ)) →
     said (name_of before) [] (flat_map pieces_of contents) ≡ name_of (last_or before contents)
@@ -106,7 +111,8 @@ said_all before (c ∷ contents) =
 outside_name : (is_header : Bool) (r : Read) (strings : Strings r) → in_string r ≡ false →
     (heard is_header nothing (lines_of r)).name ≡ name_of (last_or None strings.contents)
 outside_name is_header r strings outside =
-    let whole : text_pieces (lines_of r) ≡ flat_map pieces_of strings.contents = rw (strings.lines, strings.none outside) (append-nil (flat_map pieces_of strings.contents)) in
+    let whole : text_pieces (lines_of r) ≡ flat_map pieces_of strings.contents = rw (strings.lines, strings.none outside)
+    (append-nil (flat_map pieces_of strings.contents)) in
     left_name is_header nothing (lines_of r) ∙ (ap (said None []) whole ∙ said_all None strings.contents)
 
 -- ---- all of it
@@ -128,11 +134,13 @@ is_left is_header r strings = record {
 }
   where
     name : (inside : Bool) → in_string r ≡ inside →
-        (hushed inside (heard is_header nothing (lines_of r))).name ≡ cond inside None (name_of (last_or None strings.contents))
+        (hushed inside (heard is_header nothing (lines_of r))).name
+        ≡ cond inside None (name_of (last_or None strings.contents))
     name true e = refl
     name false e = outside_name is_header r strings e
 
 -- What is left in mind of any reading.
-pub read_left : (is_header : Bool) (coding : Coding) (path : List Seg) (T : Ty) (at : ℕ) (s : List ℕ) →
-    IsLeft is_header (read coding path T at s) (heard_of is_header (read coding path T at s))
+pub read_left : (is_header : Bool) (coding : Coding) (path : List Seg) (T : Ty) (at : ℕ)
+    (s : List ℕ) → IsLeft is_header (read coding path T at s)
+    (heard_of is_header (read coding path T at s))
 read_left is_header coding path T at s = is_left is_header (read coding path T at s) (read_strings coding path T at s)

@@ -1,0 +1,55 @@
+-- How many parts that are begun and not ended fit in a type, one in the other.
+use Rattle.std.proofs.Common.{◌≡◌, ℕ, zero, suc, ◌<◌, ◌≤◌, max, List, [], ◌∷◌, length, ap, arith, ◌⊎◌, inl, inr}
+use Rattle.std.proofs.lemmas.Bool.{cases_lt}
+use Rattle.giop_decode.specs.declared.decoder.Decoder.{Decoder}
+use Rattle.giop_decode.specs.Fits.{FitsIn, HasParts, HasCase, IsEncapsulation}
+use Rattle.giop_decode.specs.Holding.{Fits}
+use Rattle.giop_decode.specs.Spine.{Place, Part, Member, Inside, Leaf}
+use Rattle.giop_decode.specs.Turns.{places}
+use Rattle.giop_decode.proofs.Going.{length_places}
+use Rattle.giop_sig.proofs.PartLaws.{depth_is}
+use Rattle.giop_sig.specs.Table.{Table}
+use Rattle.giop_sig.specs.Trees.{tree, depth_of}
+use Rattle.giop_sig.specs.Types.{Encapsulation, places_of, Ty, Struct, Union, Sequence, Array, part_of, depth, most}
+
+most_at : (n i : ℕ) (f : ℕ → ℕ) → i < n → f i ≤ most n f
+most_at zero i f lt = absurd (omega arith)
+most_at (suc n) i f lt = by_place (cases_lt i n) (λ h. most_at n i f h)
+  where
+    by_place : (i < n) ⊎ (n ≤ i) → (i < n → f i ≤ most n f) → f i ≤ max (most n f) (f n)
+    by_place (inl h) below = omega (arith, below h)
+    by_place (inr h) below = let e : i ≡ n = omega arith in omega (arith, ap f e)
+
+depth_some : (T : Ty) → 0 < depth T
+unfolding depth
+depth_some (Struct n names parts) = omega arith
+depth_some T = omega arith
+
+part_shallower : (T : Ty) (i count : ℕ) → HasParts T count → i < count →
+    depth (part_of T i) < depth T
+unfolding depth
+part_shallower (Struct n names parts) i count kind lt = let below : i < n = omega (arith, kind) in omega (arith, most_at n i (λ j. depth (parts j)) below)
+part_shallower (Array n T) i count kind lt = omega arith
+part_shallower (Sequence bound T) i count kind lt = omega arith
+part_shallower T i count kind lt = absurd kind
+
+case_shallower : (T : Ty) (i : ℕ) → HasCase T i → depth (part_of T i) < depth T
+unfolding depth
+case_shallower (Union choice scalar select names cases) i kind = omega (arith, most_at (places_of choice) i (λ j. depth (cases j)) kind)
+case_shallower T i kind = absurd kind
+
+inside_shallower : (T : Ty) → IsEncapsulation T → depth (part_of T 0) < depth T
+unfolding depth
+inside_shallower (Encapsulation T) kind = omega arith
+inside_shallower T kind = absurd kind
+
+fits_shallow : (ps : List Place) (T : Ty) (leaf : Leaf) → FitsIn T ps leaf → length ps < depth T
+fits_shallow [] T leaf fits = depth_some T
+fits_shallow (Part U i count ∷ ps) T leaf fits = omega (arith, fits_shallow ps (part_of T i) leaf fits.1, part_shallower T i count fits.0.kind fits.0.below)
+fits_shallow (Member U i ∷ ps) T leaf fits = omega (arith, fits_shallow ps (part_of T i) leaf fits.1, case_shallower T i fits.0.kind)
+fits_shallow (Inside U coding end ∷ ps) T leaf fits = omega (arith, fits_shallow ps (part_of T 0) leaf fits.1, inside_shallower T fits.0.kind)
+
+-- They are fewer than the types of a table are deep.
+pub fits_depth : (C : Table) (d : Decoder) → Fits C d → length d.outer.items < depth_of C.types
+fits_depth C d h =
+    omega (arith, length_places C h.here d.outer.items, fits_shallow (places C h.here d.outer.items) (tree C h.root) _ h.fits, depth_is C h.root h.known_root)
