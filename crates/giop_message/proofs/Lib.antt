@@ -16,6 +16,7 @@ mod Parts
 mod Followings
 mod Sections
 mod Runs
+mod SectionRuns
 mod Rests
 mod Results
 mod Dues

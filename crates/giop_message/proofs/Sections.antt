@@ -13,7 +13,7 @@ use Rattle.giop_decode.specs.declared.progress.Progress.{Progress}
 use Rattle.giop_decode.specs.declared.progress.Progress.TheVariants as progress
 use Rattle.giop_decode.specs.Spine
 use Rattle.giop_decode.specs.Spine.{plain, Line, Read, Done, Short, Fault, lines_of}
-use Rattle.giop_decode.specs.Fits.{Sound}
+use Rattle.giop_decode.specs.Fits.{FitsIn, Sound}
 use Rattle.giop_decode.specs.Steps.{OneAt}
 use Rattle.giop_decode.specs.Heard.{Heard, nothing, hear, heard, heard_of, hushed, in_string, ends_text, is_member, is_header_root, ends_operation, names_operation}
 use Rattle.giop_decode.specs.Holding as decoders
@@ -27,7 +27,7 @@ use Rattle.giop_message.specs.Signatures.{Signatures}
 use Rattle.giop_message.specs.Messages.{Called, Told, tell, is_shown, call_of, calls, is_request, root_of, may_call}
 use Rattle.giop_message.specs.MessageReading.{saying_of, text_of}
 use Rattle.giop_message.specs.Text.{fault_word}
-use Rattle.giop_message.specs.Holding.{speech_line, told_text, due_text}
+use Rattle.giop_message.specs.Holding.{speech_line, told_text, due_text, IsFirst}
 use Rattle.giop_message.specs.Moves.{fault_text, called_text, request_call}
 use Rattle.giop_message.proofs.Faulting.{fault_is, no_fault}
 use Rattle.giop_message.proofs.Spelling.{call_said}
@@ -35,7 +35,7 @@ use Rattle.giop_message.proofs.CutOff.{CallsNone}
 use Rattle.giop_message.proofs.Operations.{AllHold, fits_hold, step_closed, NoEnds}
 use Rattle.giop_message.proofs.LastParts.{request_ends, header_fit, EndsOtherwise, done_test, last_no_call}
 use Rattle.giop_message.proofs.Octets.{first_call, no_first, one_of}
-use Rattle.giop_message.proofs.Parts.{Inside, Next, Added, heard_before, next_is, added_none, added_now, lines_due, text_here}
+use Rattle.giop_message.proofs.Parts.{Begun, start, is_named, Inside, Next, Added, heard_before, next_is, added_none, added_now, lines_due, text_here}
 
 -- ---- calls
 
@@ -160,109 +160,112 @@ named_is end named (Short lines at outer leaf) answer = answer
 named_is end named (Done lines at rest) answer = absurd answer
 named_is end named (Fault lines at why T) answer = absurd answer
 
--- the last octet of a section ends no operation
-ends_by : (S : Signatures) (number : ℕ) (header s : List ℕ) (section : Section) (T : Ty) (before : List Told) (front octets : List ℕ)
-    (i : Inside S header s section T before front octets) (b : ℕ) →
-    done_test (Added S number header s section T before front octets i b) ≡ true →
-    Each (λ l. ends_operation (may_call header section) l ≡ false) (lines_of (Added S number header s section T before front octets i b))
-ends_by S number header s sections.Header T before front octets i b done = go (is_request header) refl
-  where
-    found : header_type (minor header) (kind header) ≡ Some T
-    found = i.first.0
+-- what a header that stands in this part has begun is of its types
+sound_by : (w : Begun) (s octets : List ℕ) (i : Inside w s octets) →
+    header_type (minor w.header) (kind w.header) ≡ Some w.T → FitsIn w.T i.outer i.leaf
+sound_by w s octets i found =
+    let reads = read_keeps 24 (plain (order w.header)) [] w.T (header_fit (minor w.header) (kind w.header) w.T found) (start w) octets in
+    (subst (Sound w.T (start w + length octets)) i.was_short reads).1
 
-    go : (is : Bool) → is_request header ≡ is → Each (λ l. ends_operation is l ≡ false) (lines_of (Added S number header s sections.Header T before front octets i b))
-    go false r = never (lines_of (Added S number header s sections.Header T before front octets i b))
-    go true r =
-        let zero_kind : kind header ≡ 0 = request_kind header r in
-        let ends : EndsOtherwise T = subst (λ o. IfSome o EndsOtherwise) (subst (λ k. header_type (minor header) k ≡ Some T) zero_kind found) (request_ends (minor header)) in
-        let sound = (subst (Sound T ((12 + length front) + length octets)) i.was_short
-        (read_keeps 24 (plain (order header)) [] T (header_fit (minor header) (kind header) T found) (12 + length front) octets)).1 in
-        last_no_call (plain (order header)) true T _ _ _ b ends (header_fit (minor header) (kind header) T found) sound done
-ends_by S number header s sections.Exception T before front octets i b done = never (lines_of (Added S number header s sections.Exception T before front octets i b))
-ends_by S number header s sections.Body T before front octets i b done = never (lines_of (Added S number header s sections.Body T before front octets i b))
-
--- the encapsulations that a header stands in are of their types
-holds_by : (S : Signatures) (header s : List ℕ) (section : Section) (T : Ty) (before : List Told) (front octets : List ℕ)
-    (i : Inside S header s section T before front octets) → section ≡ sections.Header → AllHold i.outer
-holds_by S header s sections.Header T before front octets i e =
-    let fit = header_fit (minor header) (kind header) T i.first.0 in
-    let sound = (subst (Sound T ((12 + length front) + length octets)) i.was_short (read_keeps 24 (plain (order header)) [] T fit (12 + length front) octets)).1 in
-    fits_hold i.outer T i.leaf sound
-holds_by S header s sections.Exception T before front octets i e = absurd cc
-holds_by S header s sections.Body T before front octets i e = absurd cc
+-- the encapsulations that it stands in are of their types
+holds_by : (w : Begun) (s octets : List ℕ) (i : Inside w s octets) → w.section ≡ sections.Header → AllHold i.outer
+holds_by w s octets i e = fits_hold i.outer w.T i.leaf (sound_by w s octets i (subst (λ x. IsFirst w.header x w.T w.before) e i.first).0)
 
 -- ---- an octet of a message
 
--- a text of three parts, by its last two
-joined_text : (text lines fault call f c : List ℕ) → text ≡ (lines ++ fault) ++ call → fault ≡ f → call ≡ c → text ≡ lines ++ (f ++ c)
-joined_text text lines fault call f c e is_fault is_call = e ∙ (append_assoc lines fault call ∙ rw (is_fault, is_call) refl)
+module _ (w : Begun) (s octets : List ℕ) (i : Inside w s octets) (b : ℕ) where
+  open w use {S, number, header, section, T}
 
-module _ (S : Signatures) (number : ℕ) (header s : List ℕ) (section : Section) (T : Ty) (before : List Told) (front octets : List ℕ)
-    (i : Inside S header s section T before front octets) (b : ℕ) where
   abbrev R : Root
   R = root_of section
 
-  abbrev A : ℕ
-  A = 12 + length front
-
   abbrev Behind : Read
-  Behind = Next S number header s section T before front octets i b
+  Behind = Next w s octets i b
 
   abbrev St : Read
-  St = Added S number header s section T before front octets i b
+  St = Added w s octets i b
 
-  -- its lines, its call, and its whole text
+  -- its lines, its fault, its call, and its whole text
   abbrev Lines : List ℕ
-  Lines = lines_text number R (decoders.due (order header) T A octets b)
+  Lines = lines_text number R (decoders.due (order header) T (start w) octets b)
+
+  abbrev Wrongs : ℕ → List ℕ
+  Wrongs place = fault_text number (place + 1) Behind
 
   abbrev Call : ℕ → List ℕ
-  Call place = told_text number place (12 + length s) (first_call R (may_call header section) (heard_before S number header s section T before front octets i b) (lines_of St))
+  Call place =
+      told_text number place (12 + length s) (first_call R (may_call header section) (heard_before w s octets i b) (lines_of St))
 
   abbrev Due : ℕ → List ℕ
   Due place = due_text S number place header s (b ∷ [])
 
   abbrev End : ℕ
-  End = A + length (octets ++ b ∷ [])
+  End = start w + length (octets ++ b ∷ [])
 
   abbrev Names : Bool
-  Names = names_operation (is_header_root R) (decoders.due (order header) T A octets b)
+  Names = is_named w octets b
 
   abbrev Is : Progress → Type 0
-  Is p = Answers (order header) T A R octets b p
+  Is p = Answers (order header) T (start w) R octets b p
 
-  here : (place : ℕ) → Due place ≡ (Lines ++ fault_text number (place + 1) Behind) ++ Call place
-  here place = text_here S number header s section T before front octets i b place
+  -- no line of it ends an operation that may be called
+  abbrev Silences : Type 0
+  Silences = Each (λ l. ends_operation (may_call header section) l ≡ false) (lines_of St)
 
-  uncalled : (place : ℕ) → Each (λ l. ends_operation (may_call header section) l ≡ false) (lines_of St) → Call place ≡ []
+  -- the last octet of a section ends no operation
+  ends_by : done_test St ≡ true → Silences
+  ends_by done = go section i.first
+    where
+      go : (x : Section) → IsFirst header x T w.before → Each (λ l. ends_operation (may_call header x) l ≡ false) (lines_of St)
+      go sections.Header first = of_header (is_request header) refl
+        where
+          of_header : (is : Bool) → is_request header ≡ is → Each (λ l. ends_operation is l ≡ false) (lines_of St)
+          of_header false r = never (lines_of St)
+          of_header true r =
+              let found = subst (λ k. header_type (minor header) k ≡ Some T) (request_kind header r) first.0 in
+              let ends = subst (λ o. IfSome o EndsOtherwise) found (request_ends (minor header)) in
+              last_no_call (plain (order header)) true T _ _ _ b ends (header_fit (minor header) (kind header) T first.0)
+              (sound_by w s octets i first.0) done
+      go sections.Exception first = never (lines_of St)
+      go sections.Body first = never (lines_of St)
+
+  -- a text of three parts, by its last two
+  joined_text : (place : ℕ) (fault call : List ℕ) → Wrongs place ≡ fault → Call place ≡ call →
+      Due place ≡ Lines ++ (fault ++ call)
+  joined_text place fault call is_fault is_call =
+      text_here w s octets i b place ∙ (append_assoc Lines (Wrongs place) (Call place) ∙ rw (is_fault, is_call) refl)
+
+  uncalled : (place : ℕ) → Silences → Call place ≡ []
   unfolding told_text
   uncalled place each =
-      ap (told_text number place (12 + length s)) (no_first R (may_call header section) (heard_before S number header s section T before front octets i b) (lines_of St) each)
+      ap (told_text number place (12 + length s)) (no_first R (may_call header section) (heard_before w s octets i b) (lines_of St) each)
 
   -- any octet
-  pub any_text : (place : ℕ) → Due place ≡ Lines ++ (fault_text number (place + 1) Behind ++ Call place)
-  any_text place = here place ∙ append_assoc Lines (fault_text number (place + 1) Behind) (Call place)
+  pub any_text : (place : ℕ) → Due place ≡ Lines ++ (Wrongs place ++ Call place)
+  any_text place = joined_text place (Wrongs place) (Call place) refl refl
 
   -- one behind which the section goes on
   pub more_text : Is progress.More → (place : ℕ) → Due place ≡ Lines
   more_text answer place =
-      let none = subst (λ ls. names_operation (is_header_root R) ls ≡ false) (lines_due S number header s section T before front octets i b) (more_unnamed End Names Behind answer) in
-      joined_text (Due place) Lines (fault_text number (place + 1) Behind) (Call place) [] [] (here place) (no_fault number (place + 1) End Names progress.More Behind answer (λ fault. fault))
+      let none = subst (λ ls. names_operation (is_header_root R) ls ≡ false) (lines_due w s octets i b) (more_unnamed End Names Behind answer) in
+      joined_text place [] [] (no_fault number (place + 1) End Names progress.More Behind answer (λ fault. fault))
       (uncalled place (unnamed_by header section (lines_of St) none))
       ∙ append-nil Lines
 
   -- the last of the section
   pub done_text : Is progress.Done → (place : ℕ) → Due place ≡ Lines ++ []
   done_text answer place =
-      joined_text (Due place) Lines (fault_text number (place + 1) Behind) (Call place) [] [] (here place) (no_fault number (place + 1) End Names progress.Done Behind answer (λ fault. fault))
-      (uncalled place (ends_by S number header s section T before front octets i b
-      (done_is End Names St i.lines (subst (decoders.IsAnswer End Names progress.Done) (next_is S number header s section T before front octets i b) answer))))
+      let is = subst (decoders.IsAnswer End Names progress.Done) (next_is w s octets i b) answer in
+      joined_text place [] [] (no_fault number (place + 1) End Names progress.Done Behind answer (λ fault. fault))
+      (uncalled place (ends_by (done_is End Names St i.lines is)))
 
   -- one that breaks a rule
-  pub wrong_text : (why : Kind) → Is (progress.Fault why) → (place : ℕ) → Due place ≡ Lines ++ fault_line number (fault_word why) (place + 1)
+  pub wrong_text : (why : Kind) → Is (progress.Fault why) → (place : ℕ) →
+      Due place ≡ Lines ++ fault_line number (fault_word why) (place + 1)
   wrong_text why answer place =
-      let none = none_faulted (may_call header section) End Names why St i.lines (subst (decoders.IsAnswer End Names (progress.Fault why)) (next_is S number header s section T before front octets i b) answer) (added_none S number header s section T before front octets i b) in
-      joined_text (Due place) Lines (fault_text number (place + 1) Behind) (Call place) (fault_line number (fault_word why) (place + 1)) [] (here place) (fault_is number (place + 1) End Names why Behind answer)
-      (uncalled place none)
+      let is = subst (decoders.IsAnswer End Names (progress.Fault why)) (next_is w s octets i b) answer in
+      let none = none_faulted (may_call header section) End Names why St i.lines is (added_none w s octets i b) in
+      joined_text place _ [] (fault_is number (place + 1) End Names why Behind answer) (uncalled place none)
       ∙ ap (λ z. Lines ++ z) (append-nil _)
 
   -- one that ends an operation
@@ -271,10 +274,9 @@ module _ (S : Signatures) (number : ℕ) (header s : List ℕ) (section : Sectio
 
   pub named_text : Is progress.Named → (place : ℕ) → Due place ≡ Lines ++ request_call number header (heard_of true Behind)
   named_text answer place =
-      let now = added_now S number header s section T before front octets i b in
-      let named = subst (λ ls. names_operation (is_header_root R) ls ≡ true) (lines_due S number header s section T before front octets i b) (named_is End Names Behind answer) in
-      let closed = step_closed (plain (order header)) [] i.outer i.leaf _ b (holds_by S header s section T before front octets i (named_in answer)) in
-      joined_text (Due place) Lines (fault_text number (place + 1) Behind) (Call place) [] (request_call number header (heard_of true Behind)) (here place)
-      (no_fault number (place + 1) End Names progress.Named Behind answer (λ fault. fault))
+      let now = added_now w s octets i b in
+      let named = subst (λ ls. names_operation (is_header_root R) ls ≡ true) (lines_due w s octets i b) (named_is End Names Behind answer) in
+      let closed = step_closed (plain (order header)) [] i.outer i.leaf _ b (holds_by w s octets i (named_in answer)) in
+      joined_text place [] _ (no_fault number (place + 1) End Names progress.Named Behind answer (λ fault. fault))
       (call_here number place (12 + length s) header section i.lines St _ (one_of _ St now) closed named
-      ∙ ap (λ r. request_call number header (heard_of true r)) (sym (next_is S number header s section T before front octets i b)))
+      ∙ ap (λ r. request_call number header (heard_of true r)) (sym (next_is w s octets i b)))
