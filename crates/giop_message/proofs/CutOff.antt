@@ -12,8 +12,7 @@ use Rattle.giop_decode.specs.Steps.{Faulted, Now, OneAt, Quiet, leaf_step, part_
 use Rattle.giop_decode.specs.Heard.{is_member, ends_operation, ends_text}
 use Rattle.giop_decode.proofs.ReadingLaws.{now_within, parts_quiet, step_now}
 use Rattle.giop_message.proofs.LastParts.{deep_member, no_ends}
-use Rattle.giop_message.proofs.Operations.{Firm, leaf_firm}
-use Rattle.giop_message.proofs.Saying.{step_of}
+use Rattle.giop_message.proofs.StepLines.{Firm, leaf_says, step_of}
 
 -- of a reading that is faulted no line ends an operation
 abbrev pub CallsNone : Bool → Read → Type 0
@@ -68,7 +67,7 @@ held_member name (a ∷ b ∷ path) outer = deep_member name a b (path ++ Held �
 
 -- An octet that ends an encapsulation too soon may say what it completes, which is no operation.
 pub step_none : (is : Bool) (coding : Coding) (path : List Seg) (outer : List Place) (leaf : Leaf) (at b : ℕ) → CallsNone is (step coding path outer leaf at b)
-step_none is coding path [] leaf at b = firm_none is (leaf_step coding path leaf at b) (leaf_firm coding path leaf at b)
+step_none is coding path [] leaf at b = firm_none is (leaf_step coding path leaf at b) (leaf_says coding path leaf at b).firm
 step_none is coding path (Part T i count ∷ outer) leaf at b =
     let inner = step coding (path ++ seg_of T i ∷ []) outer leaf at b in
     followed_none is (at + 1) (within (Part T i count) inner) (parts_from (part_at coding path T count) (count - suc i) (suc i))
@@ -81,13 +80,3 @@ step_none is coding path (Inside T inner end ∷ outer) leaf at b =
     let r = step coding path (Inside T inner end ∷ outer) leaf at b in
     each_none is r (no_ends is (path_in (path ++ Held ∷ []) outer) (lines_of r) (step_of coding path (Inside T inner end ∷ outer) leaf at b)
     (held_member (codes "operation") path outer))
-
--- what is said with a fault is one line at most
-pub one_faulted : (n : ℕ) (why : Kind) (lines : List Line) → Faulted n why lines → OneAt n lines
-one_faulted n kinds.EncapShort lines h = h
-one_faulted n kinds.Boolean lines h = rw h tt
-one_faulted n kinds.StringEnd lines h = rw h tt
-one_faulted n kinds.Enum lines h = rw h tt
-one_faulted n kinds.Bound lines h = rw h tt
-one_faulted n kinds.Disposition lines h = rw h tt
-one_faulted n kinds.EncapOrder lines h = rw h tt

@@ -19,7 +19,7 @@ use Rattle.giop_decode.specs.Steps.{Now, part_at, path_in, seg_of, seg_in, step,
 use Rattle.giop_decode.specs.Fits.{FitsIn}
 use Rattle.giop_decode.specs.Heard.{is_member, ends_operation, ends_text}
 use Rattle.giop_decode.proofs.ReadingLaws.{step_now, next_part, switch_member}
-use Rattle.giop_message.proofs.Saying.{IsOf, step_of}
+use Rattle.giop_message.proofs.StepLines.{IsOf, step_of}
 
 -- a struct whose last part has another name
 abbrev pub EndsOtherwise : Ty → Type 0

@@ -4,7 +4,7 @@ mod Named
 mod Faults
 mod AtOctet
 mod Spelling
-mod Saying
+mod StepLines
 mod Starting
 mod Octets
 mod Operations

@@ -14,7 +14,8 @@ use Rattle.giop_message.specs.MessageReading.{saying_of, text_of}
 use Rattle.giop_message.specs.Holding.{speech_line, told_text, due}
 use Rattle.giop_message.specs.Moves.{fault_text}
 use Rattle.giop_message.proofs.Causal.{Silent}
-use Rattle.giop_message.proofs.CutOff.{CallsNone, one_faulted}
+use Rattle.giop_message.proofs.CutOff.{CallsNone}
+use Rattle.giop_message.proofs.StepLines.{one_of}
 use Rattle.giop_message.proofs.Spelling.{said_is_line}
 
 pub told_front : (front : List Told) (m : Message) → told_of (with_front front m) ≡ front ++ told_of m
@@ -41,11 +42,6 @@ abbrev pub wrongs : Read → List Told
 wrongs (Done lines at rest) = []
 wrongs (Short lines at outer leaf) = []
 wrongs (Fault lines at why T) = tell at (Wrong why) ∷ []
-
-pub one_of : (n : ℕ) (st : Read) → Now n st → OneAt n (lines_of st)
-one_of n (Done lines at rest) now = now.0
-one_of n (Short lines at outer leaf) now = now.0
-one_of n (Fault lines at why T) now = one_faulted n why lines now.0
 
 -- ---- the text
 

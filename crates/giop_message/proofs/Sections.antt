@@ -32,9 +32,10 @@ use Rattle.giop_message.specs.Moves.{fault_text, called_text, request_call}
 use Rattle.giop_message.proofs.Faulting.{fault_is, no_fault}
 use Rattle.giop_message.proofs.Spelling.{call_said}
 use Rattle.giop_message.proofs.CutOff.{CallsNone}
-use Rattle.giop_message.proofs.Operations.{AllHold, fits_hold, step_closed, NoEnds}
+use Rattle.giop_message.proofs.Operations.{AllHold, fits_hold, step_closed}
 use Rattle.giop_message.proofs.LastParts.{request_ends, header_fit, EndsOtherwise, done_test, last_no_call}
-use Rattle.giop_message.proofs.Octets.{first_call, no_first, one_of}
+use Rattle.giop_message.proofs.Octets.{first_call, no_first}
+use Rattle.giop_message.proofs.StepLines.{NoEnds, one_of}
 use Rattle.giop_message.proofs.Parts.{Begun, start, is_named, Inside, Next, Added, heard_before, next_is, added_none, added_now, lines_due, text_here}
 
 -- ---- calls

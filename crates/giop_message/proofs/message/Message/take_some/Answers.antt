@@ -18,7 +18,7 @@ returns-in-More-clause-writes g c number header s f =
     let t = standing f c.in-Typed.is c.requires.fits in
     let octets = c.args.octets.now in
     let ran = c.in_ok-taken-in-Typed.ensures in
-    let k = took t octets _ ran.within (ran.some c.requires.some) (by_reads t ran.takes) c.in-More.is in
+    let k = took t octets c.in_ok-taken-in-Typed.taken ran.within (ran.some c.requires.some) (by_reads t ran.takes) c.in-More.is in
     rw (text_more k c.args.place) (by_reads t ran.writes)
 
 pub returns-in-More-clause-went : goal.returns-in-More-clause-went
@@ -26,7 +26,7 @@ returns-in-More-clause-went g c number header s f =
     let t = standing f c.in-Typed.is c.requires.fits in
     let octets = c.args.octets.now in
     let ran = c.in_ok-taken-in-Typed.ensures in
-    let k = took t octets _ ran.within (ran.some c.requires.some) (by_reads t ran.takes) c.in-More.is in
+    let k = took t octets c.in_ok-taken-in-Typed.taken ran.within (ran.some c.requires.some) (by_reads t ran.takes) c.in-More.is in
     went_on k (λ fault. fault) _ (record { number = refl; header = refl; at = refl }) refl refl
 
 pub returns-in_err-call-in-Named-clause-writes : goal.returns-in_err-call-in-Named-clause-writes
@@ -34,8 +34,8 @@ returns-in_err-call-in-Named-clause-writes g c number header s f =
     let t = standing f c.in-Typed.is c.requires.fits in
     let octets = c.args.octets.now in
     let ran = c.in_ok-taken-in-Typed.ensures in
-    let k = took t octets _ ran.within (ran.some c.requires.some) (by_reads t ran.takes) c.in-Named.is in
-    let called = c.in_err-call-in-Named.ensures (ReadWith t _) (minds_header k) in
+    let k = took t octets c.in_ok-taken-in-Typed.taken ran.within (ran.some c.requires.some) (by_reads t ran.takes) c.in-Named.is in
+    let called = c.in_err-call-in-Named.ensures (ReadWith t (take c.in_ok-taken-in-Typed.taken octets)) (minds_header k) in
     failed_behind c.from_residual-in_err-call-in-Named.result c.args.place c.from_residual-in_err-call-in-Named.ensures.0 k (text_named k c.args.place) (by_reads t ran.writes) called
 
 pub returns-in_ok-call-in-Named-clause-writes : goal.returns-in_ok-call-in-Named-clause-writes
@@ -43,8 +43,8 @@ returns-in_ok-call-in-Named-clause-writes g c number header s f =
     let t = standing f c.in-Typed.is c.requires.fits in
     let octets = c.args.octets.now in
     let ran = c.in_ok-taken-in-Typed.ensures in
-    let k = took t octets _ ran.within (ran.some c.requires.some) (by_reads t ran.takes) c.in-Named.is in
-    let called = c.in_ok-call-in-Named.ensures (ReadWith t _) (minds_header k) in
+    let k = took t octets c.in_ok-taken-in-Typed.taken ran.within (ran.some c.requires.some) (by_reads t ran.takes) c.in-Named.is in
+    let called = c.in_ok-call-in-Named.ensures (ReadWith t (take c.in_ok-taken-in-Typed.taken octets)) (minds_header k) in
     rw (text_named k c.args.place) (wrote-append _ _ _ _ _ (by_reads t ran.writes) called)
 
 pub returns-in_ok-call-in-Named-clause-went : goal.returns-in_ok-call-in-Named-clause-went
@@ -52,7 +52,7 @@ returns-in_ok-call-in-Named-clause-went g c number header s f =
     let t = standing f c.in-Typed.is c.requires.fits in
     let octets = c.args.octets.now in
     let ran = c.in_ok-taken-in-Typed.ensures in
-    let k = took t octets _ ran.within (ran.some c.requires.some) (by_reads t ran.takes) c.in-Named.is in
+    let k = took t octets c.in_ok-taken-in-Typed.taken ran.within (ran.some c.requires.some) (by_reads t ran.takes) c.in-Named.is in
     went_on k (λ fault. fault) _ (record { number = refl; header = refl; at = refl }) refl refl
 
 pub returns-in-Done-clause-writes : goal.returns-in-Done-clause-writes
@@ -60,7 +60,7 @@ returns-in-Done-clause-writes g c number header s f =
     let t = standing f c.in-Typed.is c.requires.fits in
     let octets = c.args.octets.now in
     let ran = c.in_ok-taken-in-Typed.ensures in
-    let k = took t octets _ ran.within (ran.some c.requires.some) (by_reads t ran.takes) c.in-Done.is in
+    let k = took t octets c.in_ok-taken-in-Typed.taken ran.within (ran.some c.requires.some) (by_reads t ran.takes) c.in-Done.is in
     rw (text_done k c.args.place) (by_reads t ran.writes)
 
 pub returns-in-Done-clause-went : goal.returns-in-Done-clause-went
@@ -68,7 +68,7 @@ returns-in-Done-clause-went g c number header s f =
     let t = standing f c.in-Typed.is c.requires.fits in
     let octets = c.args.octets.now in
     let ran = c.in_ok-taken-in-Typed.ensures in
-    let k = took t octets _ ran.within (ran.some c.requires.some) (by_reads t ran.takes) c.in-Done.is in
+    let k = took t octets c.in_ok-taken-in-Typed.taken ran.within (ran.some c.requires.some) (by_reads t ran.takes) c.in-Done.is in
     let e = c.leave.ensures in
     let xs = take c.in_ok-taken-in-Typed.taken octets in
     went_done k _ _ (record { number = refl; header = refl; at = refl }) refl
@@ -80,7 +80,7 @@ returns-in_err-fault_line-in-Fault-clause-writes g c number header s f =
     let t = standing f c.in-Typed.is c.requires.fits in
     let octets = c.args.octets.now in
     let ran = c.in_ok-taken-in-Typed.ensures in
-    let k = took t octets _ ran.within (ran.some c.requires.some) (by_reads t ran.takes) c.in-Fault.is in
+    let k = took t octets c.in_ok-taken-in-Typed.taken ran.within (ran.some c.requires.some) (by_reads t ran.takes) c.in-Fault.is in
     let told = rw c.fault_word.ensures at c.in_err-fault_line-in-Fault.ensures in
     failed_behind c.from_residual-in_err-fault_line-in-Fault.result c.args.place c.from_residual-in_err-fault_line-in-Fault.ensures.0 k (text_wrong c.in-Fault.kind k c.args.place) (by_reads t ran.writes) told
 
@@ -89,7 +89,7 @@ returns-in_ok-fault_line-in-Fault-clause-writes g c number header s f =
     let t = standing f c.in-Typed.is c.requires.fits in
     let octets = c.args.octets.now in
     let ran = c.in_ok-taken-in-Typed.ensures in
-    let k = took t octets _ ran.within (ran.some c.requires.some) (by_reads t ran.takes) c.in-Fault.is in
+    let k = took t octets c.in_ok-taken-in-Typed.taken ran.within (ran.some c.requires.some) (by_reads t ran.takes) c.in-Fault.is in
     let told = rw c.fault_word.ensures at c.in_ok-fault_line-in-Fault.ensures in
     rw (text_wrong c.in-Fault.kind k c.args.place) (wrote-append _ _ _ _ _ (by_reads t ran.writes) told)
 
@@ -98,7 +98,7 @@ returns-in_ok-fault_line-in-Fault-clause-went g c number header s f =
     let t = standing f c.in-Typed.is c.requires.fits in
     let octets = c.args.octets.now in
     let ran = c.in_ok-taken-in-Typed.ensures in
-    let k = took t octets _ ran.within (ran.some c.requires.some) (by_reads t ran.takes) c.in-Fault.is in
+    let k = took t octets c.in_ok-taken-in-Typed.taken ran.within (ran.some c.requires.some) (by_reads t ran.takes) c.in-Fault.is in
     went_wrong c.in-Fault.kind k
 
 pub returns-in-Padding-clause-writes : goal.returns-in-Padding-clause-writes
