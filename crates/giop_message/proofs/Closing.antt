@@ -46,26 +46,13 @@ unfolding may_lack
 lacks_members (Struct zero names parts) count e = ap (λ k. k == 0) (sym (members_of e))
 lacks_members (Struct (suc n) names parts) count e = ne_eqb count 0 (λ none. absurd (suc_none n (members_of e ∙ none)))
 lacks_members (Single (Plain p)) count e = absurd cc
-lacks_members (Single (Enum n names)) count e = absurd cc
-lacks_members (Text bound) count e = absurd cc
-lacks_members (Octets bound) count e = absurd cc
 lacks_members (Union (Cases n) scalar select names cases) count e = absurd cc
-lacks_members (Union Tag scalar select names cases) count e = absurd cc
-lacks_members (Encapsulation T) count e = absurd cc
-lacks_members (Sequence bound T) count e = absurd cc
-lacks_members (Array n T) count e = absurd cc
+lacks_members T count e = absurd cc
 
 pub lacks_none : (T : Ty) → ((count : ℕ) → shape_in T ≡ shapes.Members count → ⊥) → false ≡ may_lack (Typed T)
 unfolding may_lack
 lacks_none (Struct count names parts) other = absurd (other count refl)
-lacks_none (Single (Plain p)) other = refl
-lacks_none (Single (Enum n names)) other = refl
-lacks_none (Text bound) other = refl
-lacks_none (Octets bound) other = refl
-lacks_none (Union choice scalar select names cases) other = refl
-lacks_none (Encapsulation T) other = refl
-lacks_none (Sequence bound T) other = refl
-lacks_none (Array n T) other = refl
+lacks_none T other = refl
 
 -- ---- where it stands
 

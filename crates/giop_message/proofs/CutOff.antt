@@ -3,12 +3,10 @@ use Rattle.std.proofs.Common.{◌≡◌, ℕ, suc, ◌+◌, ◌-◌, Bool, true,
 use Rattle.std.specs.Prelude.{◌&&◌, codes}
 use Rattle.std.specs.List.{AllByRecursion as Each}
 use Rattle.std.proofs.lemmas.Bool.{false≢true}
-use Rattle.giop_decode.specs.declared.progress.Kind.{Kind}
-use Rattle.giop_decode.specs.declared.progress.Kind.TheVariants as kinds
 use Rattle.giop_decode.specs.Spine
 use Rattle.giop_decode.specs.Spine.{Coding, Seg, Held, Line, Place, Part, Member, Inside, Leaf, Read, Done, Short, Fault, lines_of, followed, within}
 use Rattle.giop_decode.specs.Reading.{parts_from}
-use Rattle.giop_decode.specs.Steps.{Faulted, Now, OneAt, Quiet, leaf_step, part_at, path_in, seg_of, seg_in, step}
+use Rattle.giop_decode.specs.Steps.{Now, Quiet, leaf_step, part_at, path_in, seg_of, seg_in, step}
 use Rattle.giop_decode.specs.Heard.{is_member, ends_operation, ends_text}
 use Rattle.giop_decode.proofs.ReadingLaws.{now_within, parts_quiet, step_now}
 use Rattle.giop_message.proofs.LastParts.{deep_member, no_ends}
@@ -55,8 +53,7 @@ followed_none is n (Fault lines at why T) next now quiet h = h
 
 within_none : (is : Bool) (place : Place) (r : Read) → CallsNone is r → CallsNone is (within place r)
 within_none is place (Done lines at rest) h = h
-within_none is place (Short lines at outer leaf) h = h
-within_none is place (Fault lines at why T) h = h
+within_none is place r h = h
 
 -- what stands in an encapsulation is no member of the root
 held_member : (name : List ℕ) (path : List Seg) (outer : List Place) → is_member name (path_in (path ++ Held ∷ []) outer) ≡ false

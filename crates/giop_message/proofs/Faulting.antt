@@ -11,8 +11,7 @@ use Rattle.giop_message.specs.Moves.{fault_text}
 
 pub fault_is : (number place end : ℕ) (named : Bool) (kind : Kind) (r : Read) → IsAnswer end named (progress.Fault kind) r → fault_text number place r ≡ fault_line number (fault_word kind) place
 fault_is number place end named kind (Fault lines at why T) answer = ap (λ k. fault_line number (fault_word k) place) (sym answer.0)
-fault_is number place end named kind (Done lines at rest) answer = absurd answer
-fault_is number place end named kind (Short lines at outer leaf) answer = absurd answer
+fault_is number place end named kind r answer = absurd answer
 
 pub no_fault : (number place end : ℕ) (named : Bool) (p : Progress) (r : Read) → IsAnswer end named p r → (IsFault p → ⊥) → fault_text number place r ≡ []
 no_fault number place end named p (Done lines at rest) answer none = refl

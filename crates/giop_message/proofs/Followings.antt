@@ -111,8 +111,7 @@ call_no_id n told (inr f) = rw f.2 refl
 wrongs_no_id : (r : Read) → id_said (wrongs r) ≡ None
 unfolding id_said id_in tell first_id
 wrongs_no_id (Done lines at s) = refl
-wrongs_no_id (Short lines at outer leaf) = refl
-wrongs_no_id (Fault lines at why T) = refl
+wrongs_no_id r = refl
 
 -- one line more, with its call
 line_id : (section : Section) (is : Bool) (h : Heard) (l : Line) (ls : List Line) →
@@ -130,8 +129,7 @@ line_id section is h l ls =
 others_none : (section : Section) → is_header section ≡ false → (path : List Seg) (v : Value) → id_in (Said (root_of section) path v) ≡ None
 unfolding id_in
 others_none sections.Header e path v = absurd (false≢true (sym e))
-others_none sections.Exception e path v = refl
-others_none sections.Body e path v = refl
+others_none section e path v = refl
 
 no_id : (section : Section) → is_header section ≡ false → (is : Bool) (h : Heard) (lines : List Line) → id_said (tells (root_of section) is h lines) ≡ None
 unfolding tells id_said first_id
@@ -154,29 +152,9 @@ hear_id : (h : Heard) (at : ℕ) (path : List Seg) (v : Value) →
     (hear true h (record { at = at; path = path; value = v })).request_id ≡ first_id h.request_id (id_in (Said roots.Header path v))
 unfolding id_in
 hear_id h at path (Number (Plain prims.ULong) n) = first_same h.request_id _
-hear_id h at path (Number (Plain prims.Octet) n) = sym (first_none h.request_id)
-hear_id h at path (Number (Plain prims.Char) n) = sym (first_none h.request_id)
-hear_id h at path (Number (Plain prims.Boolean) n) = sym (first_none h.request_id)
-hear_id h at path (Number (Plain prims.Short) n) = sym (first_none h.request_id)
-hear_id h at path (Number (Plain prims.UShort) n) = sym (first_none h.request_id)
-hear_id h at path (Number (Plain prims.Long) n) = sym (first_none h.request_id)
-hear_id h at path (Number (Plain prims.LongLong) n) = sym (first_none h.request_id)
-hear_id h at path (Number (Plain prims.ULongLong) n) = sym (first_none h.request_id)
-hear_id h at path (Number (Plain prims.Float) n) = sym (first_none h.request_id)
-hear_id h at path (Number (Plain prims.Double) n) = sym (first_none h.request_id)
-hear_id h at path (Number (Enum count names) n) = sym (first_none h.request_id)
-hear_id h at path (Count n) = sym (first_none h.request_id)
 hear_id h at path (Piece (Text bound) offset octets true) = sym (first_none h.request_id)
 hear_id h at path (Piece (Text bound) offset octets false) = sym (first_none h.request_id)
-hear_id h at path (Piece (Single scalar) offset octets more) = sym (first_none h.request_id)
-hear_id h at path (Piece (Octets bound) offset octets more) = sym (first_none h.request_id)
-hear_id h at path (Piece (Struct count names parts) offset octets more) = sym (first_none h.request_id)
-hear_id h at path (Piece (Union choice scalar select names cases) offset octets more) = sym (first_none h.request_id)
-hear_id h at path (Piece (Sequence bound T) offset octets more) = sym (first_none h.request_id)
-hear_id h at path (Piece (Encapsulation T) offset octets more) = sym (first_none h.request_id)
-hear_id h at path (Size n) = sym (first_none h.request_id)
-hear_id h at path (Ordered order) = sym (first_none h.request_id)
-hear_id h at path (Piece (Array count T) offset octets more) = sym (first_none h.request_id)
+hear_id h at path v = sym (first_none h.request_id)
 
 lines_heard : (is : Bool) (h : Heard) (lines : List Line) → (heard true h lines).request_id ≡ first_id h.request_id (id_said (tells roots.Header is h lines))
 unfolding tells id_said
@@ -194,8 +172,7 @@ hushed_id false h = refl
 
 pub header_only : (section : Section) → is_header section ≡ true → section ≡ sections.Header
 header_only sections.Header e = refl
-header_only sections.Exception e = absurd (false≢true e)
-header_only sections.Body e = absurd (false≢true e)
+header_only section e = absurd (false≢true e)
 
 -- what a header's decoder has in mind is the id that the message has said
 pub id_heard : (C : Table) (S : Signatures) (number : ℕ) (header s : List ℕ) (section : Section) (d : Decoder) (e : Decodes C S number header s section d) → section ≡ sections.Header →
@@ -211,8 +188,7 @@ id_heard C S number header s sections.Header d e in_it =
     hushed_id (in_string r) (heard true nothing (lines_of r))
     ∙ (ap (λ ls. (heard true nothing ls).request_id) lines
     ∙ (lines_heard is nothing e.reads.lines ∙ ap id_said (sym told)))
-id_heard C S number header s sections.Exception d e in_it = absurd cc
-id_heard C S number header s sections.Body d e in_it = absurd cc
+id_heard C S number header s section d e in_it = absurd cc
 
 -- what a message answers inside a section
 pub id_read : (C : Table) (listed : Listed) (number : ℕ) (header : List ℕ) (m : Struct_of) (s : List ℕ) → Follows C listed number header m s → (section : Section) (d : Decoder) → m.part ≡ parts.Typed section d →

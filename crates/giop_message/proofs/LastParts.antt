@@ -85,13 +85,11 @@ no_ends is path (l ∷ ls) each e = (no_end is path l each.0 e, no_ends is path 
 -- a reading that is done
 abbrev pub done_test : Read → Bool
 done_test (Done lines at rest) = true
-done_test (Short lines at outer leaf) = false
-done_test (Fault lines at why T) = false
+done_test r = false
 
 short_front : (front : List Line) (r : Read) (at : ℕ) (outer : List Place) (leaf : Leaf) → with_front [] r ≡ Short [] at outer leaf → done_test (with_front front r) ≡ false
 short_front front (Done lines at rest) at' outer leaf e = absurd (false≢true (sym (ap done_test e)))
-short_front front (Short lines at outer leaf) at' outer' leaf' e = refl
-short_front front (Fault lines at why T) at' outer' leaf' e = refl
+short_front front r at' outer' leaf' e = refl
 
 -- a struct goes on behind a part that isn't its last
 goes_on : (coding : Coding) (d n : ℕ) (names : ℕ → List ℕ) (parts : ℕ → Ty) (i at : ℕ) (inner : Read) → IsFit (suc d) (Struct (suc n) names parts) → suc i < suc n → Now at inner →

@@ -1,37 +1,27 @@
 -- Where an operation ends: behind it no string has begun, and it isn't the last part of a Request's header.
-use Rattle.std.proofs.Common.{◌≡◌, ℕ, zero, suc, ◌+◌, ◌-◌, ◌<◌, ◌≤◌, ◌⊎◌, inl, inr, Bool, true, false, List, [], ◌∷◌, ◌++◌, take, get_or, Option, Some, None, refl, sym, subst, ◌∙◌, arith, lit<}
-use Rattle.std.proofs.Math.Seq.{take-nil, drop-nil}
-use Rattle.giop_cdr.specs.declared.order.Order.{Order}
+use Rattle.std.proofs.Common.{◌≡◌, ℕ, zero, suc, ◌+◌, ◌-◌, ◌⊎◌, inl, inr, Bool, true, false, List, [], ◌∷◌, ◌++◌, refl, sym, subst, ◌∙◌, arith, lit<}
 use Rattle.std.specs.Prelude.{cond, ltb}
 use Rattle.std.specs.List.{AllByRecursion as Each}
-use Rattle.std.proofs.lemmas.Bool.{cases_lt, lt-ltb, le-ltb}
-use Rattle.giop_cdr.specs.Numbers.{num}
-use Rattle.giop_sig.specs.Types.{tag_of, Encapsulation, Ty, Single, Text, Octets, Struct, Union, Sequence, Array, part_of, width}
-use Rattle.giop_sig.specs.declared.types.Selected.{Selected}
-use Rattle.giop_sig.specs.declared.types.Selected.TheVariants.{Case, Nothing, Refused}
-use Rattle.giop_decode.specs.declared.progress.Kind.{Kind}
+use Rattle.giop_sig.specs.Types.{Encapsulation, Ty, Single, Text, Octets, Struct, Union, Sequence, Array, part_of, width}
 use Rattle.giop_decode.specs.declared.progress.Kind.TheVariants as kinds
-use Rattle.giop_decode.specs.Spine
-use Rattle.giop_decode.specs.Spine.{Coding, coded, Seg, Name, Index, Switch, Held, Line, Count, Size, Ordered, Piece, line, Place, Part, Member, Inside, Leaf, Head, Opening, Content, Read, Done, Short, Fault, lines_of, with_front, followed, within}
-use Rattle.giop_decode.specs.Pieces.{Grab, Waiting, Got, unless, over, block, content, full_piece, full_pieces, last_piece, tail, ends}
-use Rattle.giop_decode.specs.Reading.{read, headed, wrong, refused, member, parts_from, cut_off, enclosed, opening, order_of, ordered, rest_of, sized}
-use Rattle.giop_decode.specs.Steps.{held, inner_path, Quiet, Now, after, block_step, head_width, leaf_step, number_step, part_at, seg_of, step}
+use Rattle.giop_decode.specs.Spine.{Coding, Seg, Name, Index, Held, Place, Part, Member, Inside, Leaf, Read, Done, Short, Fault, followed, within}
+use Rattle.giop_decode.specs.Pieces.{content, full_pieces, tail}
+use Rattle.giop_decode.specs.Reading.{read, parts_from, cut_off, enclosed, rest_of}
+use Rattle.giop_decode.specs.Steps.{inner_path, Quiet, Now, leaf_step, part_at, seg_of, step}
 use Rattle.giop_decode.specs.Fits.{FitsIn, IsEncapsulation}
-use Rattle.giop_decode.specs.Heard.{in_string, ends_text}
-use Rattle.giop_decode.proofs.ReadingLaws.{cut_inside, rest_quiet, front_inside, now_within, block_waits, width_pos, each_append, number_none, quiet_within, part_quiet, read_quiet, parts_quiet, step_now, lines_front}
+use Rattle.giop_decode.specs.Heard.{in_string}
+use Rattle.giop_decode.proofs.ReadingLaws.{cut_inside, front_inside, now_within, block_waits, width_pos, number_none, part_quiet, step_now}
 use Rattle.giop_message.proofs.StepLines.{NoEnds, Firm, leaf_says}
 
 -- ---- no octets begin no string
 
 mute_within : (place : Place) (r : Read) → in_string (within place r) ≡ in_string r
 mute_within place (Done lines at rest) = refl
-mute_within place (Short lines at outer leaf) = refl
-mute_within place (Fault lines at why T) = refl
+mute_within place r = refl
 
 mute_followed : (n : ℕ) (r : Read) (next : ℕ → List ℕ → Read) → Quiet n r → in_string r ≡ false → in_string (next n []) ≡ false → in_string (followed r next) ≡ false
 mute_followed n (Done lines at rest) next quiet h k = rw (quiet.1, quiet.2) (front_inside lines (next n []) ∙ k)
-mute_followed n (Short lines at outer leaf) next quiet h k = h
-mute_followed n (Fault lines at why T) next quiet h k = h
+mute_followed n r next quiet h k = h
 
 mute_parts : (n : ℕ) (part : ℕ → ℕ → List ℕ → Read) → ((i : ℕ) → Quiet n (part i n [])) → ((i : ℕ) → in_string (part i n []) ≡ false) → (more i : ℕ) → in_string (parts_from part more i n []) ≡ false
 mute_parts n part quiet h zero i = refl
@@ -67,13 +57,11 @@ closed_firm r (inr h) = inr h.0
 
 closed_within : (place : Place) (r : Read) → Closed r → Closed (within place r)
 closed_within place (Done lines at rest) h = h
-closed_within place (Short lines at outer leaf) h = h
-closed_within place (Fault lines at why T) h = h
+closed_within place r h = h
 
 closed_followed : (n : ℕ) (r : Read) (next : ℕ → List ℕ → Read) → Now n r → in_string (next n []) ≡ false → Closed r → Closed (followed r next)
 closed_followed n (Done lines at rest) next now mute h = rw (now.1, now.2) (inr (front_inside lines (next n []) ∙ mute))
-closed_followed n (Short lines at outer leaf) next now mute h = h
-closed_followed n (Fault lines at why T) next now mute h = h
+closed_followed n r next now mute h = h
 
 -- an encapsulation of its type
 abbrev pub Holds : Place → Type 0

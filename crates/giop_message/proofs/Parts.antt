@@ -75,8 +75,7 @@ ReadsAll r = Unit {0}
 
 pub now_all : (n : ℕ) (st : Read) → Now n st → ReadsAll st
 now_all n (Done lines at rest) now = now.2
-now_all n (Short lines at outer leaf) now = tt
-now_all n (Fault lines at why T) now = tt
+now_all n r now = tt
 
 -- what is told of a section, of which nothing follows without an octet
 pub passed_tells : (S : Signatures) (header : List ℕ) (section : Section) (h : Heard) (r : Read) → ReadsAll r →
@@ -97,8 +96,7 @@ short_told S header section before lines at outer leaf = refl
 
 fault_front : (number place : ℕ) (front : List Line) (r : Read) → fault_text number place (Spine.with_front front r) ≡ fault_text number place r
 fault_front number place front (Done lines at rest) = refl
-fault_front number place front (Short lines at outer leaf) = refl
-fault_front number place front (Fault lines at why T) = refl
+fault_front number place front r = refl
 
 -- a reading that is done, at this offset
 abbrev pub EndsAt : ℕ → Read → Type 0
@@ -107,8 +105,7 @@ EndsAt n r = Unit {0}
 
 offset_is : (n : ℕ) (r st : Read) (lines : List Line) → r ≡ Spine.with_front lines st → Now n st → EndsAt n r
 offset_is n r (Done ls at rest) lines e now = subst (EndsAt n) (sym e) now.1
-offset_is n r (Short ls at outer leaf) lines e now = subst (EndsAt n) (sym e) tt
-offset_is n r (Fault ls at why U) lines e now = subst (EndsAt n) (sym e) tt
+offset_is n r q lines e now = subst (EndsAt n) (sym e) tt
 
 -- what a reading that goes on has begun and not ended, at this offset
 short_by : (n end : ℕ) (named : Bool) (r st : Read) (lines : List Line) → r ≡ Spine.with_front lines st → Now n st →

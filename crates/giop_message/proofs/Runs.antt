@@ -1,45 +1,39 @@
 -- Octets of a section, taken as a run: their text, and where the message stands behind them.
-use Rattle.std.proofs.Common.{◌≡◌, Result, Ok, Err, IsErr, ℕ, ◌+◌, ◌-◌, ◌<◌, ◌≤◌, Bool, true, false, List, [], ◌∷◌, ◌++◌, length, take, drop, get_or, Option, None, refl, sym, ap, subst, ◌∙◌, append_assoc, append-nil, arith, length-append}
-use Rattle.std.specs.Prelude.{cond}
+use Rattle.std.proofs.Common.{◌≡◌, ℕ, ◌+◌, ◌-◌, ◌<◌, ◌≤◌, Bool, true, false, List, [], ◌∷◌, ◌++◌, length, take, drop, refl, sym, ap, subst, ◌∙◌, append_assoc, append-nil, arith, length-append}
 use Rattle.std.proofs.Math.Seq.{take-append_seam}
 use Rattle.std.proofs.lemmas.List.{length-take-le, take-append-drop}
-use Rattle.std.proofs.lemmas.Bool.{false≢true}
 use Rattle.giop_cdr.specs.declared.order.Order.{Order}
 use Rattle.giop_print.proofs.Writing.{front-append}
 use Rattle.giop_print.specs.Lines.{fault_line}
 use Rattle.giop_print.specs.Output.{OutLog, WroteFront}
 use Rattle.giop_print.specs.declared.path.Root.{Root}
-use Rattle.giop_print.specs.declared.path.Root.TheVariants as roots
 use Rattle.giop_sig.specs.Types.{Ty}
 use Rattle.giop_sig.specs.Table.{Table}
 use Rattle.giop_decode.specs.declared.decoder.Decoder.{Decoder}
 use Rattle.giop_decode.specs.declared.progress.Kind.{Kind}
 use Rattle.giop_decode.specs.declared.progress.Progress.{Progress}
 use Rattle.giop_decode.specs.declared.progress.Progress.TheVariants as progress
-use Rattle.giop_decode.specs.Spine.{plain, Read, Done, Short, Fault}
-use Rattle.giop_decode.specs.Reading.{read}
-use Rattle.giop_decode.specs.Heard.{nothing, heard_of, is_header_root, names_operation}
+use Rattle.giop_decode.specs.Spine.{Read, Done, Short, Fault}
+use Rattle.giop_decode.specs.Heard.{nothing, heard_of, is_header_root}
 use Rattle.giop_decode.specs.Holding as decoders
 use Rattle.giop_decode.specs.Runs.{dues, Answers, AreAnswered, BreaksOff}
 use Rattle.giop_decode.specs.Spelling.{lines_text}
 use Rattle.giop_decode.proofs.ReadingLaws as readings
-use Rattle.giop_message.specs.declared.message.Message.{Message as Struct_of}
 use Rattle.giop_message.specs.declared.part.Section.{Section}
 use Rattle.giop_message.specs.declared.part.Section.TheVariants as sections
-use Rattle.giop_message.specs.declared.part.Part.TheVariants as parts
 use Rattle.giop_message.specs.Headers.{order}
-use Rattle.giop_message.specs.Signatures.{Signatures, Listed, said_by}
+use Rattle.giop_message.specs.Signatures.{Signatures}
 use Rattle.giop_message.specs.Messages.{Told, tells, with_front, passes, message, told_of, stage_of, root_of, may_call, after, through}
 use Rattle.giop_message.specs.MessageReading.{id_said, is_over}
 use Rattle.giop_message.specs.Text.{fault_word}
-use Rattle.giop_message.specs.Holding.{due_text, Decodes, Stands, is_header, in_header, Follows, FaultedAt}
-use Rattle.giop_message.specs.Moves.{request_call, Arrives, WritesRun}
+use Rattle.giop_message.specs.Holding.{due_text, Decodes, is_header, FaultedAt}
+use Rattle.giop_message.specs.Moves.{request_call}
 use Rattle.giop_message.proofs.Going.{front_twice}
 use Rattle.giop_message.proofs.Dues as whole
 use Rattle.giop_message.proofs.Octets.{told_front, stage_front}
 use Rattle.giop_message.proofs.Parts.{Begun, start, reading, is_named, comes, Inside, ReadsAll, EndsAt, passed_tells, goes_one, inside_on, ends_here}
 use Rattle.giop_message.proofs.Sections.{any_text, more_text, done_text, wrong_text, named_in, named_text}
-use Rattle.giop_message.proofs.Followings.{id_both, first_none, section_no_id, header_only, id_heard, Moved, at_more, is_at, follows_on}
+use Rattle.giop_message.proofs.Followings.{id_both, first_none, section_no_id}
 
 -- ---- the last of them
 
@@ -134,8 +128,7 @@ answer_all end named progress.Done (Done lines at rest) answer = answer
 answer_all end named progress.More (Done lines at rest) answer = absurd answer
 answer_all end named progress.Named (Done lines at rest) answer = absurd answer
 answer_all end named (progress.Fault kind) (Done lines at rest) answer = absurd answer
-answer_all end named p (Short lines at outer leaf) answer = tt
-answer_all end named p (Fault lines at why T) answer = tt
+answer_all end named p r answer = tt
 
 -- ---- where it ends
 
@@ -143,8 +136,7 @@ done_by : (S : Signatures) (header : List ℕ) (section : Section) (end : ℕ) (
     (more : List Told) × (through S header section nothing r ≡ with_front more (after S header section (heard_of (is_header_root (root_of section)) r) n []))
 unfolding passes
 done_by S header section end named n (Done lines at rest) answer e = (tells (root_of section) (may_call header section) nothing lines, rw (answer, e) refl)
-done_by S header section end named n (Short lines at outer leaf) answer e = absurd answer
-done_by S header section end named n (Fault lines at why U) answer e = absurd answer
+done_by S header section end named n r answer e = absurd answer
 
 fault_by : (S : Signatures) (header : List ℕ) (section : Section) (end : ℕ) (named : Bool) (kind : Kind) (r : Read) → decoders.IsAnswer end named (progress.Fault kind) r →
     is_over (stage_of (through S header section nothing r)) ≡ true

@@ -22,7 +22,6 @@ use Rattle.giop_decode.specs.Holding as decoders
 use Rattle.giop_decode.specs.Runs.{TakesRun, BreaksOff}
 use Rattle.giop_message.specs.declared.message.Message.{Message as Struct_of}
 use Rattle.giop_message.specs.declared.part.Section.{Section}
-use Rattle.giop_message.specs.declared.part.Section.TheVariants as sections
 use Rattle.giop_message.specs.declared.part.Part.TheVariants as parts
 use Rattle.giop_message.specs.Headers.{order}
 use Rattle.giop_message.specs.Signatures.{Signatures, Listed, said_by}

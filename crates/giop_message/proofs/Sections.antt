@@ -6,7 +6,6 @@ use Rattle.std.proofs.lemmas.Bool.{false≢true, eqb-true}
 use Rattle.giop_print.specs.Lines.{call_line, fault_line}
 use Rattle.giop_print.specs.declared.path.Root.{Root}
 use Rattle.giop_print.specs.declared.path.Root.TheVariants as roots
-use Rattle.giop_sig.specs.Types.{Ty}
 use Rattle.giop_sig.specs.Headers.{header_type}
 use Rattle.giop_decode.specs.declared.progress.Kind.{Kind}
 use Rattle.giop_decode.specs.declared.progress.Progress.{Progress}
@@ -23,8 +22,7 @@ use Rattle.giop_decode.proofs.ReadingLaws.{front_inside, lines_front, heard-appe
 use Rattle.giop_message.specs.declared.part.Section.{Section}
 use Rattle.giop_message.specs.declared.part.Section.TheVariants as sections
 use Rattle.giop_message.specs.Headers.{minor, kind, order}
-use Rattle.giop_message.specs.Signatures.{Signatures}
-use Rattle.giop_message.specs.Messages.{Called, Told, tell, is_shown, call_of, calls, is_request, root_of, may_call}
+use Rattle.giop_message.specs.Messages.{Called, tell, is_shown, call_of, calls, is_request, root_of, may_call}
 use Rattle.giop_message.specs.MessageReading.{saying_of, text_of}
 use Rattle.giop_message.specs.Text.{fault_word}
 use Rattle.giop_message.specs.Holding.{speech_line, told_text, due_text, IsFirst}
@@ -117,13 +115,11 @@ request_kind header e = eqb-true (kind header) 0 e
 unnamed_by : (header : List ℕ) (section : Section) (lines : List Line) → names_operation (is_header_root (root_of section)) lines ≡ false →
     Each (λ l. ends_operation (may_call header section) l ≡ false) lines
 unnamed_by header sections.Header lines e = unnamed (is_request header) lines e
-unnamed_by header sections.Exception lines e = never lines
-unnamed_by header sections.Body lines e = never lines
+unnamed_by header section lines e = never lines
 
 named_header : (section : Section) (lines : List Line) → names_operation (is_header_root (root_of section)) lines ≡ true → section ≡ sections.Header
 named_header sections.Header lines e = refl
-named_header sections.Exception lines e = absurd (false≢true (sym (none_named lines) ∙ e))
-named_header sections.Body lines e = absurd (false≢true (sym (none_named lines) ∙ e))
+named_header section lines e = absurd (false≢true (sym (none_named lines) ∙ e))
 
 -- the call of a step's line
 call_here : (number place offset : ℕ) (header : List ℕ) (section : Section) (before : List Line) (st : Read) (n : ℕ) → OneAt n (lines_of st) → NoEnds st ⊎ (in_string st ≡ false) →
@@ -137,29 +133,24 @@ call_here number place offset header sections.Header before st n one closed name
     ap (λ ls. told_text number place offset (first_call roots.Header (is_request header) (heard true nothing before) ls)) x.1
     ∙ (call_by (is_request header) number place offset x.0 now x.2
     ∙ ap (λ h. if is_request header then called_text number h.request_id h.name else []) (sym (muted before st x.0 closed x.1 x.2)))
-call_here number place offset header sections.Exception before st n one closed named = absurd (false≢true (sym (none_named (lines_of st)) ∙ named))
-call_here number place offset header sections.Body before st n one closed named = absurd (false≢true (sym (none_named (lines_of st)) ∙ named))
+call_here number place offset header section before st n one closed named = absurd (false≢true (sym (none_named (lines_of st)) ∙ named))
 
 done_is : (end : ℕ) (named : Bool) (st : Read) (lines : List Line) → decoders.IsAnswer end named progress.Done (Spine.with_front lines st) → done_test st ≡ true
 done_is end named (Done ls at rest) lines answer = refl
-done_is end named (Short ls at outer leaf) lines answer = absurd answer
-done_is end named (Fault ls at why U) lines answer = absurd answer
+done_is end named r lines answer = absurd answer
 
 none_faulted : (is : Bool) (end : ℕ) (named : Bool) (kind : Kind) (st : Read) (lines : List Line) → decoders.IsAnswer end named (progress.Fault kind) (Spine.with_front lines st) → CallsNone is st →
     Each (λ l. ends_operation is l ≡ false) (lines_of st)
 none_faulted is end named kind (Fault ls at why U) lines answer none = none
-none_faulted is end named kind (Done ls at rest) lines answer none = absurd answer
-none_faulted is end named kind (Short ls at outer leaf) lines answer none = absurd answer
+none_faulted is end named kind r lines answer none = absurd answer
 
 more_unnamed : (end : ℕ) (named : Bool) (r : Read) → decoders.IsAnswer end named progress.More r → named ≡ false
 more_unnamed end named (Short lines at outer leaf) answer = answer
-more_unnamed end named (Done lines at rest) answer = absurd answer
-more_unnamed end named (Fault lines at why T) answer = absurd answer
+more_unnamed end named r answer = absurd answer
 
 named_is : (end : ℕ) (named : Bool) (r : Read) → decoders.IsAnswer end named progress.Named r → named ≡ true
 named_is end named (Short lines at outer leaf) answer = answer
-named_is end named (Done lines at rest) answer = absurd answer
-named_is end named (Fault lines at why T) answer = absurd answer
+named_is end named r answer = absurd answer
 
 -- what a header that stands in this part has begun is of its types
 sound_by : (w : Begun) (s octets : List ℕ) (i : Inside w s octets) →
@@ -227,8 +218,7 @@ module _ (w : Begun) (s octets : List ℕ) (i : Inside w s octets) (b : ℕ) whe
               let ends = subst (λ o. IfSome o EndsOtherwise) found (request_ends (minor header)) in
               last_no_call (plain (order header)) true T _ _ _ b ends (header_fit (minor header) (kind header) T first.0)
               (sound_by w s octets i first.0) done
-      go sections.Exception first = never (lines_of St)
-      go sections.Body first = never (lines_of St)
+      go section first = never (lines_of St)
 
   -- a text of three parts, by its last two
   joined_text : (place : ℕ) (fault call : List ℕ) → Wrongs place ≡ fault → Call place ≡ call →

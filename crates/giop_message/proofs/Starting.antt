@@ -23,14 +23,7 @@ use Rattle.giop_message.proofs.Octets.{told_silent}
 pub fit_some : (T : Ty) → IsFit 24 T → IsEmptyStruct T → ⊥
 unfolding IsFit
 fit_some (Struct zero names parts) fit empty = absurd (omega (arith, fit.0))
-fit_some (Struct (suc count) names parts) fit empty = absurd empty
-fit_some (Single scalar) fit empty = absurd empty
-fit_some (Text bound) fit empty = absurd empty
-fit_some (Octets bound) fit empty = absurd empty
-fit_some (Union choice scalar select names cases) fit empty = absurd empty
-fit_some (Sequence bound T) fit empty = absurd empty
-fit_some (Encapsulation T) fit empty = absurd empty
-fit_some (Array count T) fit empty = absurd empty
+fit_some T fit empty = absurd empty
 
 -- before its first octet a message has no line
 pub none_told : (S : Signatures) (header : List ℕ) → told_of (message S header []) ≡ []
@@ -100,27 +93,13 @@ left_bare S header section h n e = follows_by S header section h n ∙ rw e refl
 pub empty_rests : (o : Order) (T : Ty) (n : ℕ) → may_lack (Typed T) ≡ true → typed o T n [] ≡ rest n []
 unfolding typed passes tells may_lack
 empty_rests o (Struct zero names parts) n empty = front_none (rest n [])
-empty_rests o (Struct (suc count) names parts) n empty = absurd (false≢true empty)
-empty_rests o (Single scalar) n empty = absurd (false≢true empty)
-empty_rests o (Text bound) n empty = absurd (false≢true empty)
-empty_rests o (Octets bound) n empty = absurd (false≢true empty)
-empty_rests o (Union choice scalar select names cases) n empty = absurd (false≢true empty)
-empty_rests o (Sequence bound T) n empty = absurd (false≢true empty)
-empty_rests o (Encapsulation T) n empty = absurd (false≢true empty)
-empty_rests o (Array count T) n empty = absurd (false≢true empty)
+empty_rests o T n empty = absurd (false≢true empty)
 
 -- and no other type is
 pub some_not_empty : (T : Ty) → may_lack (Typed T) ≡ false → IsEmptyStruct T → ⊥
 unfolding may_lack
 some_not_empty (Struct zero names parts) e empty = false≢true (sym e)
-some_not_empty (Struct (suc count) names parts) e empty = empty
-some_not_empty (Single scalar) e empty = empty
-some_not_empty (Text bound) e empty = empty
-some_not_empty (Octets bound) e empty = empty
-some_not_empty (Union choice scalar select names cases) e empty = empty
-some_not_empty (Sequence bound T) e empty = empty
-some_not_empty (Encapsulation T) e empty = empty
-some_not_empty (Array count T) e empty = empty
+some_not_empty T e empty = empty
 
 -- ---- by the message type
 

@@ -9,7 +9,7 @@ use Rattle.giop_decode.specs.declared.progress.Kind.{Kind}
 use Rattle.giop_decode.specs.declared.progress.Kind.TheVariants as kinds
 use Rattle.giop_decode.specs.Spine
 use Rattle.giop_decode.specs.Spine.{Coding, Seg, Switch, Held, Line, Count, Size, Ordered, Piece, line, Place, Part, Member, Inside, Leaf, Head, Opening, Content, Read, Done, Short, Fault, lines_of, with_front, followed, within}
-use Rattle.giop_decode.specs.Pieces.{Grab, Waiting, Got, block, unless, over, content, full_piece, full_pieces, last_piece, tail, ends, text}
+use Rattle.giop_decode.specs.Pieces.{Grab, Waiting, Got, block, unless, over, content, full_piece, full_pieces, last_piece, tail, ends}
 use Rattle.giop_decode.specs.Reading.{headed, wrong, refused, parts_from, cut_off, enclosed, opening, order_of, ordered, rest_of}
 use Rattle.giop_decode.specs.Steps.{coding_in, held, Faulted, OneAt, Quiet, Now, after, block_step, head_width, leaf_step, number_step, part_at, path_in, seg_of, step}
 use Rattle.giop_decode.specs.Heard.{ends_text, in_string}
@@ -162,13 +162,11 @@ lines_alone n lines r k = lines_front lines r ∙ (ap (λ ls. lines ++ ls) (quie
 
 lines_followed : (n : ℕ) (r : Read) (next : ℕ → List ℕ → Read) → Now n r → Quiet n (next n []) → lines_of (followed r next) ≡ lines_of r
 lines_followed n (Done lines at rest) next h k = rw (h.1, h.2) (lines_alone n lines (next n []) k)
-lines_followed n (Short lines at outer leaf) next h k = refl
-lines_followed n (Fault lines at why S) next h k = refl
+lines_followed n r next h k = refl
 
 lines_within : (place : Place) (r : Read) → lines_of (within place r) ≡ lines_of r
 lines_within place (Done lines at rest) = refl
-lines_within place (Short lines at outer leaf) = refl
-lines_within place (Fault lines at why S) = refl
+lines_within place r = refl
 
 lines_enclosed : (n : ℕ) (path : List Seg) (T : Ty) (inner : Coding) (end : ℕ) (r : Read) → Now n r → lines_of (enclosed path T inner end r []) ≡ lines_of r
 lines_enclosed n path T inner end (Done lines at rest) h =

@@ -1,6 +1,6 @@
 use Rattle.std.proofs.Common.{◌≡◌, ◌+◌, ◌-◌, ◌<◌, ◌≤◌, ◌∷◌, [], ◌++◌, length, take, get_or, min, refl, subst, arith}
 use Rattle.std.proofs.lemmas.List.{length-take-le}
-use Rattle.giop_print.proofs.Writing.{wrote-append, wrote-front, wrote-nil}
+use Rattle.giop_print.proofs.Writing.{wrote-append, wrote-nil}
 use Rattle.giop_message.specs.Signatures.{said_by}
 use Rattle.giop_message.specs.Holding.{Follows}
 use Rattle.giop_message.proofs.Rests.{no_text, rest_text, rest_follows}
