@@ -61,27 +61,30 @@ short_stage : (S : Signatures) (header : List ℕ) (section : Section) (h : Hear
 unfolding passes stage_of close
 short_stage S header section h lines at outer leaf = refl
 
-module _ (C : Table) (listed : Listed) (number : ℕ) (header : List ℕ) (m : Struct_of) (s : List ℕ) (f : Follows C listed number header m s) (fits : Fits C m) where
+module _ {C : Table} {listed : Listed} {number : ℕ} {header : List ℕ} {m : Struct_of} {s : List ℕ}
+    (f : Follows C listed number header m s) (fits : Fits C m) where
   abbrev At : Stage
   At = stage_of (message (said_by C listed) header s)
 
   -- inside a section it is short
-  pub section_short : (section : Section) (d : Decoder) → m.part ≡ parts.Typed section d → close At ≡ Incomplete ∷ []
-  section_short section d is =
+  pub section_short : {section : Section} {d : Decoder} → m.part ≡ parts.Typed section d → close At ≡ Incomplete ∷ []
+  section_short {section} {d} is =
+      let S = said_by C listed in
       let e = subst (Stands C listed number header s) is f.stands in
       let fit = subst (FitsPart C m.at) is fits in
       let r = read (plain (order header)) [] e.T (12 + length e.front) e.octets in
-      let stage : At ≡ stage_of (through (said_by C listed) header section nothing r) = ap stage_of e.is ∙ stage_front e.before (through (said_by C listed) header section nothing r) in
-      let short = e.reads.is ∙ ap (λ leaf. decoders.standing_in C d leaf e.reads.lines ((12 + length e.front) + length e.octets)) fit.goes_on in
-      ap close (stage ∙ ap (λ r. stage_of (through (said_by C listed) header section nothing r)) short) ∙ short_stage (said_by C listed) header section nothing e.reads.lines _ _ _
+      let stage : At ≡ stage_of (through S header section nothing r) = ap stage_of e.is ∙ stage_front e.before (through S header section nothing r) in
+      let stands = ap (λ leaf. decoders.standing_in C d leaf e.reads.lines ((12 + length e.front) + length e.octets)) fit.goes_on in
+      ap close (stage ∙ ap (λ r. stage_of (through S header section nothing r)) (e.reads.is ∙ stands))
+      ∙ short_stage S header section nothing e.reads.lines _ _ _
 
-  pub padding_stage : (wanted : Wanted) → m.part ≡ parts.Padding wanted → At ≡ In_padding (body_type C wanted)
+  pub padding_stage : {wanted : Wanted} → m.part ≡ parts.Padding wanted → At ≡ In_padding (body_type C wanted)
   unfolding stage_of
-  padding_stage wanted is = let x = subst (Stands C listed number header s) is f.stands in ap stage_of x.1
+  padding_stage is = let x = subst (Stands C listed number header s) is f.stands in ap stage_of x.1
 
-  pub rest_stage : (r : Rest) → m.part ≡ parts.Rest r → At ≡ In_rest r.offset r.held.items
+  pub rest_stage : {r : Rest} → m.part ≡ parts.Rest r → At ≡ In_rest r.offset r.held.items
   unfolding stage_of
-  rest_stage r is = let x = subst (Stands C listed number header s) is f.stands in ap stage_of x.1
+  rest_stage is = let x = subst (Stands C listed number header s) is f.stands in ap stage_of x.1
 
 -- ---- its text
 
@@ -134,17 +137,18 @@ unfolding close
 rest_ends number place offset [] = ends_text_is number place
 rest_ends number place offset (x ∷ held) = last_then number place offset (x ∷ held)
 
-module _ (C : Table) (listed : Listed) (number : ℕ) (header : List ℕ) (m : Struct_of) (s : List ℕ) (f : Follows C listed number header m s) (fits : Fits C m) (place : ℕ) where
+module _ {C : Table} {listed : Listed} {number : ℕ} {header : List ℕ} {m : Struct_of} {s : List ℕ}
+    (f : Follows C listed number header m s) (fits : Fits C m) (place : ℕ) where
   abbrev Close : List Speech
   Close = close (stage_of (message (said_by C listed) header s))
 
   ended_by : (p : Part) → m.part ≡ p → is_short Close ≡ false → closing_text number place Close ≡ last_rest_text number p ++ end_line number
   unfolding close is_short
-  ended_by (parts.Typed section d) is e = absurd (false≢true (sym (rw (section_short C listed number header m s f fits section d is) at e)))
+  ended_by (parts.Typed section d) is e = absurd (false≢true (sym (rw (section_short f fits is) at e)))
   ended_by (parts.Padding wanted) is e =
-      let stage = padding_stage C listed number header m s f fits wanted is in
+      let stage = padding_stage f fits is in
       ap (λ stage. closing_text number place (close stage)) stage ∙ (ap (closing_text number place) (if_ends (may_lack (body_type C wanted)) (rw stage at e)) ∙ ends_text_is number place)
-  ended_by (parts.Rest r) is e = ap (λ stage. closing_text number place (close stage)) (rest_stage C listed number header m s f fits r is) ∙ rest_ends number place r.offset r.held.items
+  ended_by (parts.Rest r) is e = ap (λ stage. closing_text number place (close stage)) (rest_stage f fits is) ∙ rest_ends number place r.offset r.held.items
 
   pub ended_text : is_short Close ≡ false → closing_text number place Close ≡ last_rest_text m.number m.part ++ end_line m.number
   ended_text e = rw f.same_number (ended_by m.part refl e)

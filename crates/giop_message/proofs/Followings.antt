@@ -22,7 +22,7 @@ use Rattle.giop_message.specs.Headers.{order}
 use Rattle.giop_message.specs.Signatures.{Signatures, Listed, said_by}
 use Rattle.giop_message.specs.Messages.{Said, Told, tell, calls, tells, Message, Comes, passes, message, told_of, stage_of, root_of, may_call, after, through}
 use Rattle.giop_message.specs.MessageReading.{id_in, first_id, id_said, is_over}
-use Rattle.giop_message.specs.Holding.{due, Decodes, Stands, is_header, in_header, Follows}
+use Rattle.giop_message.specs.Holding.{due, IsFirst, Decodes, Stands, is_header, in_header, Follows}
 use Rattle.giop_message.specs.Moves.{IsAt}
 use Rattle.giop_message.proofs.Causal.{MayCall, calls_is, Silent, after_silent, told_begins}
 use Rattle.giop_message.proofs.Faults.{Tallies, after_tallies}
@@ -59,18 +59,21 @@ module _ (S : Signatures) (header : List ℕ) (section : Section) (C : Table) (d
   lines_standing None = refl
   lines_standing (Some leaf) = refl
 
-section_over : (C : Table) (S : Signatures) (number : ℕ) (header s : List ℕ) (section : Section) (d : Decoder) → Decodes C S number header s section d → is_over (stage_of (message S header s)) ≡ false
-section_over C S number header s section d e =
+section_over : {C : Table} {S : Signatures} {number : ℕ} {header s : List ℕ} {section : Section} {d : Decoder} →
+    Decodes C S number header s section d → is_over (stage_of (message S header s)) ≡ false
+section_over {C} {S} {number} {header} {s} {section} {d} e =
     let r = read (plain (order header)) [] e.T (12 + length e.front) e.octets in
     ap (λ m. is_over (stage_of m)) e.is ∙ (ap is_over (stage_front e.before (through S header section nothing r))
-    ∙ (ap (λ r. is_over (stage_of (through S header section nothing r))) e.reads.is ∙ standing_over S header section C d e.reads.lines _ d.leaf))
+    ∙ (ap (λ r. is_over (stage_of (through S header section nothing r))) e.reads.is
+    ∙ standing_over S header section C d e.reads.lines _ d.leaf))
 
-pub follows_goes : (C : Table) (listed : Listed) (number : ℕ) (header : List ℕ) (m : Struct_of) (s : List ℕ) → Follows C listed number header m s → is_over (stage_of (message (said_by C listed) header s)) ≡ false
+pub follows_goes : {C : Table} {listed : Listed} {number : ℕ} {header : List ℕ} {m : Struct_of} {s : List ℕ} →
+    Follows C listed number header m s → is_over (stage_of (message (said_by C listed) header s)) ≡ false
 unfolding is_over stage_of
-follows_goes C listed number header m s f = go m.part f.stands
+follows_goes {C} {listed} {number} {header} {m} {s} f = go m.part f.stands
   where
     go : (p : Part) → Stands C listed number header s p → is_over (stage_of (message (said_by C listed) header s)) ≡ false
-    go (parts.Typed section d) e = section_over C (said_by C listed) number header s section d e
+    go (parts.Typed section d) e = section_over e
     go (parts.Padding wanted) (told, e) = rw e refl
     go (parts.Rest r) (told, e) = rw e refl
 
@@ -175,30 +178,41 @@ header_only sections.Header e = refl
 header_only section e = absurd (false≢true e)
 
 -- what a header's decoder has in mind is the id that the message has said
-pub id_heard : (C : Table) (S : Signatures) (number : ℕ) (header s : List ℕ) (section : Section) (d : Decoder) (e : Decodes C S number header s section d) → section ≡ sections.Header →
-    (heard_of true (read (plain (order header)) [] e.T (12 + length e.front) e.octets)).request_id ≡ id_said (told_of (message S header s))
-unfolding first_id
-id_heard C S number header s sections.Header d e in_it =
-    let r = read (plain (order header)) [] e.T (12 + length e.front) e.octets in
-    let is = may_call header sections.Header in
-    let lines : lines_of r ≡ e.reads.lines = ap lines_of e.reads.is ∙ lines_standing S header sections.Header C d e.reads.lines _ d.leaf in
-    let told : told_of (message S header s) ≡ tells roots.Header is nothing e.reads.lines =
-    ap told_of e.is ∙ (told_front e.before (through S header sections.Header nothing r) ∙ (ap (λ ts. ts ++ told_of (through S header sections.Header nothing r)) e.first.1
-    ∙ (ap (λ r. told_of (through S header sections.Header nothing r)) e.reads.is ∙ standing_told S header sections.Header C d e.reads.lines _ d.leaf))) in
-    hushed_id (in_string r) (heard true nothing (lines_of r))
-    ∙ (ap (λ ls. (heard true nothing ls).request_id) lines
-    ∙ (lines_heard is nothing e.reads.lines ∙ ap id_said (sym told)))
-id_heard C S number header s section d e in_it = absurd cc
+module _ {C : Table} {S : Signatures} {number : ℕ} {header s : List ℕ} {section : Section} {d : Decoder}
+    (e : Decodes C S number header s section d) where
+  -- the reading that the decoder has in mind
+  abbrev pub in_mind : Read
+  in_mind = read (plain (order header)) [] e.T (12 + length e.front) e.octets
+
+  header_told : section ≡ sections.Header → told_of (message S header s) ≡ tells (root_of section) (may_call header section) nothing e.reads.lines
+  header_told in_it =
+      let first = subst (λ x. IsFirst header x e.T e.before) in_it e.first in
+      ap told_of e.is ∙ (told_front e.before (through S header section nothing in_mind)
+      ∙ (ap (λ ts. ts ++ told_of (through S header section nothing in_mind)) first.1
+      ∙ (ap (λ r. told_of (through S header section nothing r)) e.reads.is ∙ standing_told S header section C d e.reads.lines _ d.leaf)))
+
+  pub id_heard : section ≡ sections.Header → (heard_of true in_mind).request_id ≡ id_said (told_of (message S header s))
+  unfolding first_id
+  id_heard in_it =
+      let lines : lines_of in_mind ≡ e.reads.lines = ap lines_of e.reads.is ∙ lines_standing S header section C d e.reads.lines _ d.leaf in
+      let told = subst (λ x. told_of (message S header s) ≡ tells (root_of x) (may_call header x) nothing e.reads.lines) in_it (header_told in_it) in
+      hushed_id (in_string in_mind) (heard true nothing (lines_of in_mind))
+      ∙ (ap (λ ls. (heard true nothing ls).request_id) lines
+      ∙ (lines_heard (may_call header sections.Header) nothing e.reads.lines ∙ ap id_said (sym told)))
 
 -- what a message answers inside a section
-pub id_read : (C : Table) (listed : Listed) (number : ℕ) (header : List ℕ) (m : Struct_of) (s : List ℕ) → Follows C listed number header m s → (section : Section) (d : Decoder) → m.part ≡ parts.Typed section d →
-    (r : Read) × decoders.Minds (root_of section) d r × (cond (is_header section) (heard_of true r).request_id m.id ≡ id_said (told_of (message (said_by C listed) header s)))
-id_read C listed number header m s f section d is =
-    let e = subst (Stands C listed number header s) is f.stands in
-    (read (plain (order header)) [] e.T (12 + length e.front) e.octets, e.reads.minds, go (is_header section) refl)
+pub id_read : {C : Table} {listed : Listed} {number : ℕ} {header : List ℕ} {m : Struct_of} {s : List ℕ} {section : Section}
+    {d : Decoder} → Follows C listed number header m s → m.part ≡ parts.Typed section d →
+    (r : Read) × decoders.Minds (root_of section) d r
+    × (cond (is_header section) (heard_of true r).request_id m.id ≡ id_said (told_of (message (said_by C listed) header s)))
+id_read {C} {listed} {number} {header} {m} {s} {section} {d} f is = (in_mind stands, stands.reads.minds, go (is_header section) refl)
   where
-    go : (inside : Bool) → is_header section ≡ inside → cond inside (heard_of true (read (plain (order header)) [] (subst (Stands C listed number header s) is f.stands).T (12 + length (subst (Stands C listed number header s) is f.stands).front) (subst (Stands C listed number header s) is f.stands).octets)).request_id m.id ≡ id_said (told_of (message (said_by C listed) header s))
-    go true e = id_heard C (said_by C listed) number header s section d (subst (Stands C listed number header s) is f.stands) (header_only section e)
+    stands : Decodes C (said_by C listed) number header s section d
+    stands = subst (Stands C listed number header s) is f.stands
+
+    go : (inside : Bool) → is_header section ≡ inside →
+        cond inside (heard_of true (in_mind stands)).request_id m.id ≡ id_said (told_of (message (said_by C listed) header s))
+    go true e = id_heard stands (header_only section e)
     go false e = f.id ∙ rw (is, e) refl
 
 -- ---- octets more
@@ -209,26 +223,27 @@ pub record Moved (m n : Struct_of) (count : ℕ) : Type 0 where
   pub header : n.header ≡ m.header
   pub at : n.at ≡ m.at + count
 
-pub at_more : (number : ℕ) (header : List ℕ) (m n : Struct_of) (s more : List ℕ) → IsAt number header m s → Moved m n (length more) → IsAt number header n (s ++ more)
-at_more number header m n s more is move = record {
+pub at_more : {number : ℕ} {header : List ℕ} {m n : Struct_of} {s : List ℕ} (more : List ℕ) → IsAt number header m s →
+    Moved m n (length more) → IsAt number header n (s ++ more)
+at_more {s = s} more is move = record {
   same_number = move.number ∙ is.same_number;
   same_header = move.header ∙ is.same_header;
   at = omega (arith, length-append s more, is.at, move.at);
 }
 
-pub is_at : (C : Table) (listed : Listed) (number : ℕ) (header : List ℕ) (m : Struct_of) (s : List ℕ) → Follows C listed number header m s → IsAt number header m s
-is_at C listed number header m s f = record { same_number = f.same_number; same_header = f.same_header; at = f.at }
+module _ {C : Table} {listed : Listed} {number : ℕ} {header : List ℕ} {m : Struct_of} {s : List ℕ}
+    (f : Follows C listed number header m s) (more : List ℕ) where
+  pub is_at : {n : Struct_of} → Moved m n (length more) → IsAt number header n (s ++ more)
+  is_at move = at_more more (record { same_number = f.same_number; same_header = f.same_header; at = f.at }) move
 
-pub follows_on : (C : Table) (listed : Listed) (number : ℕ) (header : List ℕ) (m n : Struct_of) (s more : List ℕ) → Follows C listed number header m s → Moved m n (length more) →
-    n.id ≡ cond (in_header n.part) None (id_said (told_of (message (said_by C listed) header (s ++ more)))) →
-    Stands C listed number header (s ++ more) n.part → Follows C listed number header n (s ++ more)
-follows_on C listed number header m n s more f move id stands =
-    let is = at_more number header m n s more (is_at C listed number header m s f) move in
-    record { same_number = is.same_number; same_header = is.same_header; id = id; at = is.at; stands = stands }
+  pub follows_on : {n : Struct_of} → Moved m n (length more) →
+      n.id ≡ cond (in_header n.part) None (id_said (told_of (message (said_by C listed) header (s ++ more)))) →
+      Stands C listed number header (s ++ more) n.part → Follows C listed number header n (s ++ more)
+  follows_on move id stands =
+      let is = is_at move in
+      record { same_number = is.same_number; same_header = is.same_header; id = id; at = is.at; stands = stands }
 
--- where nothing of an id is said the message keeps what it has
-pub id_kept : (C : Table) (listed : Listed) (number : ℕ) (header : List ℕ) (m : Struct_of) (s more : List ℕ) → Follows C listed number header m s →
-    id_said (due (said_by C listed) header s more) ≡ None → (inside : Bool) → in_header m.part ≡ inside →
-    m.id ≡ cond inside None (id_said (told_of (message (said_by C listed) header (s ++ more))))
-id_kept C listed number header m s more f none inside is =
-    f.id ∙ rw (is) (ap (cond inside None) (sym (id_stays (said_by C listed) header s more none)))
+  -- where nothing of an id is said the message keeps what it has
+  pub id_kept : id_said (due (said_by C listed) header s more) ≡ None → in_header m.part ≡ false →
+      m.id ≡ id_said (told_of (message (said_by C listed) header (s ++ more)))
+  id_kept none past = f.id ∙ rw past (sym (id_stays (said_by C listed) header s more none))

@@ -64,7 +64,7 @@ over_where_faulted S header s = faults.over_where_faulted S header s
 
 pub follows_goes : (C : Table) (listed : Listed) (number : ℕ) (header : List ℕ) (m : MessageValue) (s : List ℕ) →
     Follows C listed number header m s → is_over (stage_of (message (said_by C listed) header s)) ≡ false
-follows_goes C listed number header m s f = followings.follows_goes C listed number header m s f
+follows_goes C listed number header m s f = followings.follows_goes f
 
 -- The text of octets: of two lists one after the other, of none, and behind a fault.
 

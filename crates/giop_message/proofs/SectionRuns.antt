@@ -32,7 +32,7 @@ use Rattle.giop_message.specs.Holding.{due_text, Decodes, Stands, FitsPart, Fits
 use Rattle.giop_message.specs.Moves.{request_call, Arrives, WritesRun}
 use Rattle.giop_message.proofs.Dues.{text_both}
 use Rattle.giop_message.proofs.Parts.{Begun, start, reading, Inside}
-use Rattle.giop_message.proofs.Followings.{header_only, id_heard, Moved, at_more, is_at, follows_on}
+use Rattle.giop_message.proofs.Followings.{header_only, id_heard, Moved, is_at, follows_on}
 use Rattle.giop_message.proofs.Runs.{Last, LinesOf, last_one, run_more, run_done, run_named_in, run_named, run_wrong, run_broken, decodes, same_id, done_comes, fault_comes}
 
 -- ---- what a go over a run wrote
@@ -125,7 +125,7 @@ module _ (t : Standing) where
   section_on : (xs : List ℕ) (p : Progress) → LastOf xs p → (n : Struct_of) (d' : Decoder) → Moved m n (length xs) →
       n.id ≡ m.id → n.part ≡ parts.Typed section d' → ReadsWith d' xs → Follows C listed number header n (s ++ xs)
   section_on xs p l n d' move id part reads =
-      follows_on C listed number header m n s xs follows move (id ∙ rw part (kept_id xs p l (is_header section) refl))
+      follows_on follows xs move (id ∙ rw part (kept_id xs p l (is_header section) refl))
       (subst (Stands C listed number header (s ++ xs)) (sym part) (decodes begun s octets_of inside C xs d' reads))
 
   ended_id : (xs : List ℕ) → LastOf xs progress.Done → (d' : Decoder) → ReadsWith d' xs → (id : Option ℕ) (inside : Bool) →
@@ -133,7 +133,7 @@ module _ (t : Standing) where
       id ≡ id_said (told_of (message S header (s ++ xs)))
   ended_id xs l d' reads id false e id_is = id_is ∙ kept_id xs progress.Done l false e
   ended_id xs l d' reads id true e id_is =
-      id_is ∙ id_heard C S number header (s ++ xs) section d' (decodes begun s octets_of inside C xs d' reads) (header_only section e)
+      id_is ∙ id_heard (decodes begun s octets_of inside C xs d' reads) (header_only section e)
 
   -- what holds of each reading of its decoder holds of this one
   pub by_reads : {P : Ty → Order → ℕ → ℕ → Root → List ℕ → Type 0} →
@@ -235,8 +235,8 @@ module _ {t : Standing} {octets : List ℕ} {n : ℕ} {d' : Decoder} where
       let g = done_comes (begun t) s (octets_of t) (inside t) (take n octets) l in
       let id_m = ap (cond (is_header section) (heard_of true (ReadWith t (take n octets))).request_id) id_1 in
       let id = ended_id t (take n octets) l d' (k.takes.reads (λ fault. fault)) m2.id (is_header section) refl (id_2 ∙ id_m) in
-      let at = at_more number header m m1 s (take n octets) (is_at C listed number header m s follows) (moved progress.Done k m1 move_1) in
-      follows_on C listed number header m m2 s (take n octets) follows (moved progress.Done k m2 move_2) (rw past id) (arrives at g.0 g.1)
+      let at = is_at follows (take n octets) (moved progress.Done k m1 move_1) in
+      follows_on follows (take n octets) (moved progress.Done k m2 move_2) (rw past id) (arrives at g.0 g.1)
 
   pub went_wrong : (why : Kind) → Took t octets n d' (progress.Fault why) → FaultedAt (S t) header s octets n
   went_wrong why k = fault_comes (begun t) s (octets_of t) (inside t) octets n why k.within (last (progress.Fault why) k)

@@ -142,7 +142,7 @@ returns-in_err-take-in-Rest-clause-writes g c number header s f =
     let some : 0 < length xs = omega (arith, size, few, rest.room, c.requires.some) in
     let room : length rest.held.items + length xs ≤ 32 = omega (arith, size, few) in
     let At = 12 + length s in
-    let text = rest_text C listed number header m s f rest c.in-Rest.is xs some room place in
+    let text = rest_text f c.in-Rest.is xs some room place in
     run_failed c.from_residual-in_err-take-in-Rest.result S number place header s octets _ _ c.from_residual-in_err-take-in-Rest.ensures.0
     (run_front S number place header s octets n _ _ (rw text (c.in_err-take-in-Rest.ensures.writes place At (At + length xs))))
 
@@ -162,7 +162,7 @@ returns-in_ok-take-in-Rest-clause-writes g c number header s f =
     let some : 0 < length xs = omega (arith, size, few, rest.room, c.requires.some) in
     let room : length rest.held.items + length xs ≤ 32 = omega (arith, size, few) in
     let At = 12 + length s in
-    let text = rest_text C listed number header m s f rest c.in-Rest.is xs some room place in
+    let text = rest_text f c.in-Rest.is xs some room place in
     rw text (c.in_ok-take-in-Rest.ensures.writes place At (At + length xs))
 
 pub returns-in_ok-take-in-Rest-clause-went : goal.returns-in_ok-take-in-Rest-clause-went
@@ -181,6 +181,6 @@ returns-in_ok-take-in-Rest-clause-went g c number header s f =
     let some : 0 < length xs = omega (arith, size, few, rest.room, c.requires.some) in
     let room : length rest.held.items + length xs ≤ 32 = omega (arith, size, few) in
     let At = 12 + length s in
-    let text = rest_text C listed number header m s f rest c.in-Rest.is xs some room place in
-    rest_follows C listed number header m s f rest c.in-Rest.is xs some room _ c.take.new.self
+    let text = rest_text f c.in-Rest.is xs some room place in
+    rest_follows f c.in-Rest.is xs some room
     (record { number = refl; header = refl; at = rw size refl }) refl refl (c.in_ok-take-in-Rest.ensures.holds (At + length xs))
