@@ -12,26 +12,22 @@ pub no_request : (number : ℕ) (header : List ℕ) (h : Heard) → (kind header
 unfolding request_call is_request
 no_request number header h other = rw (ne_eqb (kind header) 0 other) refl
 
-if_none : (test : Bool) (text : List ℕ) → text ≡ [] → (if test then text else []) ≡ []
-if_none true text e = e
-if_none false text e = refl
-
-none_called : (number : ℕ) (id : Option ℕ) (name : Option (List ℕ)) → id ≡ None → called_text number id name ≡ []
-unfolding called_text
-none_called number id name e = rw e refl
-
-unnamed_called : (number : ℕ) (id : Option ℕ) (name : Option (List ℕ)) → name ≡ None → called_text number id name ≡ []
-unfolding called_text
-unnamed_called number None name e = refl
-unnamed_called number (Some id) name e = rw e refl
-
 pub no_id : (number : ℕ) (header : List ℕ) (h : Heard) → h.request_id ≡ None → request_call number header h ≡ []
-unfolding request_call
-no_id number header h e = if_none (is_request header) (called_text number h.request_id h.name) (none_called number h.request_id h.name e)
+unfolding request_call called_text
+no_id number header h e = go (is_request header)
+  where
+    go : (test : Bool) → (if test then called_text number h.request_id h.name else []) ≡ []
+    go true = rw e refl
+    go false = refl
 
 pub no_name : (number : ℕ) (header : List ℕ) (h : Heard) → h.name ≡ None → request_call number header h ≡ []
-unfolding request_call
-no_name number header h e = if_none (is_request header) (called_text number h.request_id h.name) (unnamed_called number h.request_id h.name e)
+unfolding request_call called_text
+no_name number header h e = rw e (go (is_request header) h.request_id)
+  where
+    go : (test : Bool) (id : Option ℕ) → (if test then called_text number id None else []) ≡ []
+    go true None = refl
+    go true (Some id) = refl
+    go false id = refl
 
 pub request_called : (number : ℕ) (header : List ℕ) (h : Heard) (id : ℕ) (name : List ℕ) → kind header ≡ 0 → h.request_id ≡ Some id → h.name ≡ Some name →
     request_call number header h ≡ (if is_shown name then call_line number id name else [])

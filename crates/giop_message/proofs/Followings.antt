@@ -247,3 +247,15 @@ module _ {C : Table} {listed : Listed} {number : ℕ} {header : List ℕ} {m : S
   pub id_kept : id_said (due (said_by C listed) header s more) ≡ None → in_header m.part ≡ false →
       m.id ≡ id_said (told_of (message (said_by C listed) header (s ++ more)))
   id_kept none past = f.id ∙ rw past (sym (id_stays (said_by C listed) header s more none))
+
+-- a message of the same fields follows what it does
+pub same_fields : {C : Table} {listed : Listed} {number : ℕ} {header : List ℕ} {m n : Struct_of} {s : List ℕ} →
+    Follows C listed number header m s → n.number ≡ m.number → n.header ≡ m.header → n.id ≡ m.id → n.at ≡ m.at →
+    n.part ≡ m.part → Follows C listed number header n s
+same_fields f same_number same_header id at part = record {
+  same_number = same_number ∙ f.same_number;
+  same_header = same_header ∙ f.same_header;
+  id = id ∙ rw part f.id;
+  at = at ∙ f.at;
+  stands = rw part f.stands;
+}

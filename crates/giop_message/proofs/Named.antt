@@ -26,6 +26,7 @@ use Rattle.giop_message.specs.Signatures.{Signatures, Listed, said_by}
 use Rattle.giop_message.specs.Messages.{Said, Incomplete, Ends, Told, tell, calls, tells, may_lack, Stage, In_typed, In_padding, In_rest, Over, Message, Comes, with_front, passes, rest_in, rest, is_request, after_header, of_header, message, told_of, stage_of, close}
 use Rattle.giop_message.specs.MessageReading.{saying_of, remark_of, closing_of, reading_by, HasIds, id_in, first_id, id_said}
 use Rattle.giop_message.proofs.Going.{passes_front}
+use Rattle.giop_message.proofs.Octets.{told_front, told_silent}
 use Rattle.giop_message.proofs.Causal.{Silent, passes_silent, after_silent, told_begins}
 
 -- ---- the close
@@ -46,14 +47,6 @@ is_ending S = record { ends = λ header xs. go (stage_of (message S header xs)) 
     go Over = refl
 
 -- ---- an unsigned long at the front
-
-told_front : (front : List Told) (m : Message) → told_of (with_front front m) ≡ front ++ told_of m
-unfolding told_of with_front
-told_front front (Comes told at stage) = refl
-
-told_silent : (m : Message) → Silent 16 m → told_of m ≡ []
-unfolding told_of
-told_silent (Comes told at stage) h = h.0
 
 ulong : Ty
 ulong = Single (Plain prims.ULong)
@@ -114,7 +107,7 @@ module _ (o : Order) (n : ℕ) (of : ℕ → List ℕ) (parts : ℕ → Ty) (is 
         ap (λ r. told_of (passes sections.Header is_req onward nothing r)) (first_four a b c d)
         ∙ (ap told_of (passes_front sections.Header is_req onward nothing (l ∷ []) (next 16 []))
         ∙ (told_front (tells roots.Header is_req nothing (l ∷ [])) (passes sections.Header is_req onward (heard true nothing (l ∷ [])) (next 16 []))
-        ∙ (ap (λ ts. tells roots.Header is_req nothing (l ∷ []) ++ ts) (told_silent (passes sections.Header is_req onward (heard true nothing (l ∷ [])) (next 16 [])) (passes_silent sections.Header is_req onward 16 silent (heard true nothing (l ∷ [])) (next 16 []) next_quiet))
+        ∙ (ap (λ ts. tells roots.Header is_req nothing (l ∷ []) ++ ts) (told_silent 16 (passes sections.Header is_req onward (heard true nothing (l ∷ [])) (next 16 [])) (passes_silent sections.Header is_req onward 16 silent (heard true nothing (l ∷ [])) (next 16 []) next_quiet))
         ∙ (append-nil (tells roots.Header is_req nothing (l ∷ [])) ∙ tells_id is_req (Name (of 0) ∷ []) (num o (a ∷ b ∷ c ∷ d ∷ []))))))
 
 -- of a header that begins with its request id

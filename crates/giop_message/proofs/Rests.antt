@@ -1,6 +1,7 @@
 -- One octet in the padding, and those of one part in the rest.
-use Rattle.std.proofs.Common.{◌≡◌, ℕ, ◌+◌, ◌<◌, ◌≤◌, Bool, true, false, List, [], ◌∷◌, ◌++◌, length, None, refl, sym, ap, subst, ◌∙◌, append-nil, append_assoc, length-append, arith}
+use Rattle.std.proofs.Common.{◌≡◌, ℕ, ◌+◌, ◌-◌, ◌<◌, ◌≤◌, Bool, true, false, List, [], ◌∷◌, ◌++◌, length, take, min, None, refl, sym, ap, subst, ◌∙◌, append-nil, append_assoc, length-append, arith}
 use Rattle.std.specs.Prelude.{◌==◌, if◌then◌else◌}
+use Rattle.std.proofs.lemmas.List.{length-take-le}
 use Rattle.std.proofs.lemmas.Bool.{lt-ltb, le-ltb}
 use Rattle.giop_cdr.specs.Alignment.{padding}
 use Rattle.giop_print.specs.Lines.{rest_line}
@@ -140,8 +141,14 @@ part_goes S header told at offset held b (b' ∷ bs) h =
     ∙ rw (n, append_assoc held (b ∷ []) (b' ∷ bs)) refl))
 
 module _ {C : Table} {listed : Listed} {number : ℕ} {header : List ℕ} {m : Struct_of} {s : List ℕ} {r : Rest}
-    (f : Follows C listed number header m s) (is : m.part ≡ parts.Rest r)
-    (xs : List ℕ) (some : 0 < length xs) (room : length r.held.items + length xs ≤ 32) where
+    {room n : ℕ} (f : Follows C listed number header m s) (is : m.part ≡ parts.Rest r) (octets : List ℕ)
+    (some : 0 < length octets) (left : room ≡ 32 - length r.held.items) (taken : n ≡ min room (length octets)) where
+  abbrev xs : List ℕ
+  xs = take n octets
+
+  size : length xs ≡ n
+  size = length-take-le n octets (omega (arith, taken))
+
   abbrev At : ℕ
   At = 12 + length s
 
@@ -156,7 +163,8 @@ module _ {C : Table} {listed : Listed} {number : ℕ} {header : List ℕ} {m : S
 
   rest_comes : message (said_by C listed) header (s ++ xs) ≡ with_front stood.0 Step
   rest_comes =
-      message_resumes (said_by C listed) header s xs ∙ (ap (λ m. goes_on (said_by C listed) header m xs) stood.1 ∙ go xs some room)
+      message_resumes (said_by C listed) header s xs ∙ (ap (λ m. goes_on (said_by C listed) header m xs) stood.1
+      ∙ go xs (omega (arith, size, taken, left, r.room, some)) (omega (arith, size, taken, left, r.room)))
     where
       go : (xs : List ℕ) → 0 < length xs → length r.held.items + length xs ≤ 32 → goes_on (said_by C listed) header (Stood stood.0) xs
           ≡ with_front stood.0 (rest_step r.offset (r.held.items ++ xs) (At + length xs))
@@ -171,14 +179,14 @@ module _ {C : Table} {listed : Listed} {number : ℕ} {header : List ℕ} {m : S
   unfolding due_text
   rest_text place = ap (told_text number place At) rest_due ∙ ap (λ n. told_text n place At (told_of Step)) (sym f.same_number)
 
-  pub rest_follows : {n : Struct_of} {r' : Rest} → Moved m n (length xs) → n.id ≡ m.id → n.part ≡ parts.Rest r' →
-      stage_of Step ≡ In_rest r'.offset r'.held.items → Follows C listed number header n (s ++ xs)
+  pub rest_follows : {m' : Struct_of} {r' : Rest} → Moved m m' n → m'.id ≡ m.id → m'.part ≡ parts.Rest r' →
+      stage_of Step ≡ In_rest r'.offset r'.held.items → Follows C listed number header m' (s ++ xs)
   rest_follows {r' = r'} move id part stage =
       let step = rested r.offset (r.held.items ++ xs) (At + length xs) in
       let e : At + length xs ≡ 12 + length (s ++ xs) = omega (arith, length-append s xs) in
       let next = comes_next stood.0 (told_of Step) (At + length xs) (12 + length (s ++ xs)) (In_rest r'.offset r'.held.items) e in
       let comes = ap (with_front stood.0) (step.comes ∙ ap (Comes (told_of Step) (At + length xs)) stage) in
-      follows_on f xs move (id ∙ rw part (id_kept f xs (ap id_said rest_due ∙ step.no_id) (rw is refl)))
+      follows_on f xs (rw size move) (id ∙ rw part (id_kept f xs (ap id_said rest_due ∙ step.no_id) (rw is refl)))
       (subst (Stands C listed number header (s ++ xs)) (sym part) (stood.0 ++ told_of Step, rest_comes ∙ (comes ∙ next)))
 
 -- the text of a step in the rest
