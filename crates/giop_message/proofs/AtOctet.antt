@@ -1,5 +1,5 @@
--- What a message writes and answers at one octet, and at its close, is what its reading says.
-use Rattle.std.proofs.Common.{◌≡◌, ℕ, suc, ◌+◌, ◌-◌, ◌≤◌, Bool, true, false, List, [], ◌∷◌, ◌++◌, length, map, drop, refl, sym, ap, ◌∙◌, arith}
+-- What a message writes and answers of octets, and at its close, is what its reading says.
+use Rattle.std.proofs.Common.{◌≡◌, ℕ, suc, ◌+◌, ◌-◌, ◌≤◌, Bool, true, false, List, [], ◌∷◌, ◌++◌, length, map, drop, refl, sym, ap, ◌∙◌, arith, flat_map}
 use Rattle.std.specs.Prelude.{◌||◌, ◌==◌, if◌then◌else◌}
 use Rattle.std.specs.List.{filter, list_any, AllByRecursion as Each}
 use Rattle.std.proofs.Math.Seq.{drop-append_seam}
@@ -11,10 +11,11 @@ use Rattle.giop_message.specs.Text.{saying_line, said_text}
 use Rattle.giop_message.specs.Signatures.{Signatures}
 use Rattle.giop_message.specs.Messages.{Speech, Said, Called, Left, Wrong, Incomplete, Ends, Told, may_lack, Stage, In_typed, In_padding, In_rest, Over, message, told_of, stage_of, close}
 use Rattle.giop_message.specs.MessageReading.{saying_of, text_of, remark_of, closing_of, reading_by, is_over, is_wrong}
-use Rattle.giop_message.specs.Holding.{speech_line, told_text, due, due_text, is_short}
+use Rattle.giop_message.specs.Holding.{speech_line, told_text, due, due_text, is_short, closing_text, remarks_text, closes_text}
 use Rattle.giop_message.proofs.Going.{message_goes}
 use Rattle.giop_message.proofs.Causal.{ToldAt, map_both, stands, one_more, ordered}
 use Rattle.giop_message.proofs.Faults.{over_where_faulted}
+use Rattle.std.proofs.lemmas.List.{drop-map, length-map}
 
 -- ---- what is told of an octet, and what is said at it
 
@@ -133,3 +134,27 @@ close_short S header xs = go (stage_of (message S header xs))
     go (In_rest offset []) = refl
     go (In_rest offset (x ∷ held)) = refl
     go Over = refl
+
+each_remark : (number place n : ℕ) (told : List Told) → flat_map (λ t. speech_line number (place + (t.at - (12 + n))) t.speech) told ≡ remarks_text number place n (map remark_of told)
+unfolding speech_line remarks_text
+each_remark number place n [] = refl
+each_remark number place n (t ∷ ts) =
+    let e : t.at - (12 + n) ≡ (t.at - 12) - n = omega arith in
+    rw e (ap (λ z. saying_line (place + ((t.at - 12) - n)) number (saying_of t.speech) (text_of t.speech) ++ z) (each_remark number place n ts))
+
+pub text_is : (S : Signatures) (number place : ℕ) (header s more : List ℕ) →
+    due_text S number place header s more ≡ remarks_text number place (length s) (drop (length ((reading_by S).reads header s)) ((reading_by S).reads header (s ++ more)))
+unfolding due_text told_text due reading_by
+text_is S number place header s more =
+    each_remark number place (length s) (drop (length (told_of (message S header s))) (told_of (message S header (s ++ more))))
+    ∙ ap (remarks_text number place (length s)) (sym (ap (λ n. drop n (map remark_of (told_of (message S header (s ++ more))))) (length-map (told_of (message S header s)) remark_of)
+    ∙ drop-map remark_of (length (told_of (message S header s))) (told_of (message S header (s ++ more)))))
+
+each_close : (number place : ℕ) (speeches : List Speech) → flat_map (speech_line number place) speeches ≡ closes_text number place (map closing_of speeches)
+unfolding speech_line closes_text
+each_close number place [] = refl
+each_close number place (s ∷ ss) = ap (λ z. saying_line place number (saying_of s) (text_of s) ++ z) (each_close number place ss)
+
+pub close_is : (S : Signatures) (number place : ℕ) (header s : List ℕ) → closing_text number place (close (stage_of (message S header s))) ≡ closes_text number place ((reading_by S).closes header s)
+unfolding closing_text reading_by
+close_is S number place header s = each_close number place (close (stage_of (message S header s)))

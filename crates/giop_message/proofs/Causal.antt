@@ -21,7 +21,7 @@ use Rattle.giop_message.specs.Signatures.{Signatures}
 use Rattle.giop_message.specs.Messages.{Said, Called, Left, Wrong, Told, tell, is_shown, call_of, calls, tells, BodyType, Stage, In_typed, In_padding, In_rest, Over, Message, Comes, with_front, passes, rest_in, rest, body, padded, message, told_of, root_of, may_call, after, through}
 use Rattle.giop_message.specs.Steps.{rest_step, message_step, advance}
 use Rattle.giop_message.specs.MessageReading.{saying_of, remark_of, reading_by}
-use Rattle.giop_message.proofs.CutOff.{CallsNone, step_none}
+use Rattle.giop_message.proofs.LastParts.{CallsNone, step_none}
 use Rattle.giop_message.proofs.StepLines.{one_faulted}
 use Rattle.giop_message.proofs.Going.{front_none, body_has, after_has, message_has, message_goes}
 

@@ -9,22 +9,16 @@ mod Starting
 mod Octets
 mod Operations
 mod LastParts
-mod CutOff
-mod Calling
-mod Faulting
 mod Parts
 mod Followings
 mod Sections
 mod Runs
 mod SectionRuns
 mod Rests
-mod Results
 mod Dues
 mod Closing
-mod Remarks
 mod Leaving
 mod Closes
-mod Apart
 mod Rows
 mod Storing
 pub mod MessageLaws

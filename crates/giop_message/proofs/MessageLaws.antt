@@ -23,7 +23,7 @@ pub use Rattle.giop_message.proofs.Faults.{over_where_faulted}
 pub use Rattle.giop_message.proofs.Dues.{text_both, text_none, text_over}
 -- one octet, and the close, told by the reading alone (`saying_laws`)
 pub use Rattle.giop_message.proofs.AtOctet.{octet_text, octet_over, close_short}
-pub use Rattle.giop_message.proofs.Remarks.{close_is}
+pub use Rattle.giop_message.proofs.AtOctet.{close_is}
 
 -- and by a catalogue's table and what is kept of a request list
 

@@ -14,7 +14,7 @@ use Rattle.giop_message.specs.MessageReading.{saying_of, text_of}
 use Rattle.giop_message.specs.Holding.{speech_line, told_text, due}
 use Rattle.giop_message.specs.Moves.{fault_text}
 use Rattle.giop_message.proofs.Causal.{Silent}
-use Rattle.giop_message.proofs.CutOff.{CallsNone}
+use Rattle.giop_message.proofs.LastParts.{CallsNone}
 use Rattle.giop_message.proofs.StepLines.{one_of}
 use Rattle.giop_message.proofs.Spelling.{said_is_line}
 

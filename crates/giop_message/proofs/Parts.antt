@@ -23,7 +23,7 @@ use Rattle.giop_message.specs.Holding.{told_text, due, due_text, IsFirst}
 use Rattle.giop_message.specs.Moves.{fault_text}
 use Rattle.giop_message.proofs.Going.{front_twice, front_advance, passes_front, through_goes, after_goes, message_goes}
 use Rattle.giop_message.proofs.Causal.{after_silent}
-use Rattle.giop_message.proofs.CutOff.{CallsNone, step_none}
+use Rattle.giop_message.proofs.LastParts.{CallsNone, step_none}
 use Rattle.giop_message.proofs.Octets.{told_front, told_silent, due_is, wrongs, first_call, step_text}
 
 -- A section that a message has begun: the message's number and header, the section and its type, and the lines and the

@@ -1,4 +1,4 @@
--- One octet of a section that goes on: its text, with its call.
+-- One octet of a section that goes on: its text, with its fault or its call.
 use Rattle.std.proofs.Common.{◌≡◌, ℕ, ◌+◌, ◌-◌, Bool, true, false, List, [], ◌∷◌, ◌++◌, length, ◌⊎◌, inl, inr, Option, Some, None, refl, sym, ap, subst, ◌∙◌, append-nil, append_assoc}
 use Rattle.std.specs.Prelude.{◌&&◌, ◌||◌, codes, IfSome, if◌then◌else◌}
 use Rattle.std.specs.List.{AllByRecursion as Each}
@@ -27,14 +27,25 @@ use Rattle.giop_message.specs.MessageReading.{saying_of, text_of}
 use Rattle.giop_message.specs.Text.{fault_word}
 use Rattle.giop_message.specs.Holding.{speech_line, told_text, due_text, IsFirst}
 use Rattle.giop_message.specs.Moves.{fault_text, called_text, request_call}
-use Rattle.giop_message.proofs.Faulting.{fault_is, no_fault}
 use Rattle.giop_message.proofs.Spelling.{call_said}
-use Rattle.giop_message.proofs.CutOff.{CallsNone}
+use Rattle.giop_message.proofs.LastParts.{CallsNone, request_ends, header_fit, EndsOtherwise, done_test, last_no_call}
 use Rattle.giop_message.proofs.Operations.{AllHold, fits_hold, step_closed}
-use Rattle.giop_message.proofs.LastParts.{request_ends, header_fit, EndsOtherwise, done_test, last_no_call}
 use Rattle.giop_message.proofs.Octets.{first_call, no_first}
 use Rattle.giop_message.proofs.StepLines.{NoEnds, one_of}
 use Rattle.giop_message.proofs.Parts.{Begun, start, is_named, Inside, Next, Added, heard_before, next_is, added_none, added_now, lines_due, text_here}
+use Rattle.giop_decode.specs.Holding.{IsAnswer, IsFault}
+
+pub fault_is : (number place end : ℕ) (named : Bool) (kind : Kind) (r : Read) → IsAnswer end named (progress.Fault kind) r → fault_text number place r ≡ fault_line number (fault_word kind) place
+fault_is number place end named kind (Fault lines at why T) answer = ap (λ k. fault_line number (fault_word k) place) (sym answer.0)
+fault_is number place end named kind r answer = absurd answer
+
+pub no_fault : (number place end : ℕ) (named : Bool) (p : Progress) (r : Read) → IsAnswer end named p r → (IsFault p → ⊥) → fault_text number place r ≡ []
+no_fault number place end named p (Done lines at rest) answer none = refl
+no_fault number place end named p (Short lines at outer leaf) answer none = refl
+no_fault number place end named progress.More (Fault lines at why T) answer none = absurd answer
+no_fault number place end named progress.Named (Fault lines at why T) answer none = absurd answer
+no_fault number place end named progress.Done (Fault lines at why T) answer none = absurd answer
+no_fault number place end named (progress.Fault kind) (Fault lines at why T) answer none = absurd (none tt)
 
 -- ---- calls
 

@@ -1,8 +1,12 @@
-use Rattle.std.proofs.Common.{◌≡◌, ◌<◌, ◌++◌, length, length-append, arith}
+use Rattle.std.proofs.Common.{◌≡◌, ◌<◌, ◌++◌, length, length-append, arith, Result, Ok, Err}
 use Rattle.giop_print.proofs.Writing.{wrote-nil}
 use Rattle.giop_message.proofs.Rests.{few_told, full_told, few_stage, full_stage}
-use Rattle.giop_message.proofs.Results.{on_any}
 use Rattle.giop_message.proofs.part.Rest.take.Goals as goal
+use Rattle.std.specs.Prelude.{OnOk}
+
+on_any : {A E : Type 0} (r : Result A E) (P : Type 0) → P → OnOk r P
+on_any (Ok v) P p = p
+on_any (Err e) P p = tt
 
 pub returns-then-octets-room-clause-writes : goal.returns-then-octets-room-clause-writes
 returns-then-octets-room-clause-writes g c place offset at =
