@@ -29,7 +29,8 @@ closes_say (In_rest offset (x ∷ held)) = inr (inr refl)
 closes_say Over = inr (inl refl)
 
 -- a close that ends has no more of the rest
-ends_only : (stage : Stage) → Sayings (close stage) ≡ End ∷ [] → Sayings (close stage) ≡ Rest ∷ End ∷ [] → ⊥
+ends_only : (stage : Stage) → Sayings (close stage) ≡ End ∷ [] →
+    Sayings (close stage) ≡ Rest ∷ End ∷ [] → ⊥
 ends_only stage e f = clash (rw e at f)
   where
     clash : End ∷ [] ≡ Rest ∷ End ∷ [] → ⊥
@@ -54,7 +55,8 @@ other : (a b : Saying) → a ≢ b → AreApart (a ∷ b ∷ [])
 other a b h = ((h, tt), (tt, tt))
 
 -- one line and those of a close, which are of other kinds
-one_apart : (a : Saying) (sayings : List Saying) → AtClose sayings → a ≢ Fault → a ≢ End → a ≢ Rest →
+one_apart : (a : Saying) (sayings : List Saying) → AtClose sayings → a ≢ Fault → a ≢ End →
+    a ≢ Rest →
     AreApart (a ∷ sayings)
 one_apart a sayings (inl e) f g h = rw e (other a Fault f)
 one_apart a sayings (inr (inl e)) f g h = rw e (other a End g)
@@ -68,9 +70,11 @@ close_apart sayings (inr (inr e)) = rw e (((λ k. cc), tt), (tt, tt))
 call_apart : (sayings : List Saying) → AtClose sayings → AreApart (Value ∷ Call ∷ sayings)
 call_apart sayings (inl e) = rw e (((λ k. cc), ((λ k. cc), tt)), other Call Fault (λ k. cc))
 call_apart sayings (inr (inl e)) = rw e (((λ k. cc), ((λ k. cc), tt)), other Call End (λ k. cc))
-call_apart sayings (inr (inr e)) = rw e (((λ k. cc), ((λ k. cc), ((λ k. cc), tt))), one_apart Call (Rest ∷ End ∷ []) (inr (inr refl)) (λ k. cc) (λ k. cc) (λ k. cc))
+call_apart sayings (inr (inr e)) =
+    rw e (((λ k. cc), ((λ k. cc), ((λ k. cc), tt))), one_apart Call (Rest ∷ End ∷ []) (inr (inr refl)) (λ k. cc) (λ k. cc) (λ k. cc))
 
-turn_apart : (sayings : List Saying) (stage : Stage) → InTurn sayings → Leaves sayings stage → AtClose (Sayings (close stage)) →
+turn_apart : (sayings : List Saying) (stage : Stage) → InTurn sayings → Leaves sayings stage →
+    AtClose (Sayings (close stage)) →
     AreApart (sayings ++ Sayings (close stage))
 turn_apart sayings stage (inl e) h closed = rw e (close_apart (Sayings (close stage)) closed)
 turn_apart sayings stage (inr (inl e)) h closed =
@@ -84,7 +88,9 @@ turn_apart sayings stage (inr (inr (inr (inr (inr e))))) h closed =
     rw (leaves_end sayings stage h (inr (ap (list_any is_fault) e)), e) (((λ k. cc), ((λ k. cc), tt)), other Fault End (λ k. cc))
 
 octet_apart : (S : Signatures) (header xs : List ℕ) (x : ℕ) →
-    AreApart (map (λ r. r.saying) (said.due (reading_by S) header xs x) ++ map (λ l. l.0) ((reading_by S).closes header (xs ++ x ∷ [])))
+    AreApart
+    (map (λ r. r.saying) (said.due (reading_by S) header xs x)
+    ++ map (λ l. l.0) ((reading_by S).closes header (xs ++ x ∷ [])))
 unfolding reading_by
 octet_apart S header xs x =
     turn_apart (map (λ r. r.saying) (said.due (reading_by S) header xs x)) (stage_of (message S header (xs ++ x ∷ [])))

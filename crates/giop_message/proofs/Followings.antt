@@ -34,18 +34,24 @@ none_over : (n : ℕ) (m : Message) → Silent n m → Tallies m → is_over (st
 unfolding stage_of
 none_over n (Comes told at stage) silent tallies = rw silent.0 at tallies
 
-module _ (S : Signatures) (header : List ℕ) (section : Section) (C : Table) (d : Decoder) (lines : List Line) (at : ℕ) where
+module _ (S : Signatures) (header : List ℕ) (section : Section) (C : Table) (d : Decoder)
+    (lines : List Line) (at : ℕ) where
   -- a section that a decoder stands in isn't over, and has told its lines
-  standing_over : (leaf : Option Innermost) → is_over (stage_of (through S header section nothing (decoders.standing_in C d leaf lines at))) ≡ false
+  standing_over : (leaf : Option Innermost) →
+      is_over (stage_of (through S header section nothing (decoders.standing_in C d leaf lines at)))
+      ≡ false
   unfolding passes stage_of is_over
   standing_over None =
       let R = root_of section in
       let h = heard (is_header_root R) nothing lines in
       let next = after S header section h at [] in
-      ap is_over (stage_front (tells R (may_call header section) nothing lines) next) ∙ none_over at next (after_silent S header section h at) (after_tallies S header section h at [])
+      ap is_over (stage_front (tells R (may_call header section) nothing lines) next)
+      ∙ none_over at next (after_silent S header section h at) (after_tallies S header section h at [])
   standing_over (Some leaf) = refl
 
-  standing_told : (leaf : Option Innermost) → told_of (through S header section nothing (decoders.standing_in C d leaf lines at)) ≡ tells (root_of section) (may_call header section) nothing lines
+  standing_told : (leaf : Option Innermost) →
+      told_of (through S header section nothing (decoders.standing_in C d leaf lines at))
+      ≡ tells (root_of section) (may_call header section) nothing lines
   unfolding passes told_of
   standing_told None =
       let R = root_of section in
@@ -55,11 +61,13 @@ module _ (S : Signatures) (header : List ℕ) (section : Section) (C : Table) (d
       told_front told next ∙ (ap (λ ts. told ++ ts) (told_silent at next (after_silent S header section h at)) ∙ append-nil told)
   standing_told (Some leaf) = refl
 
-  lines_standing : (leaf : Option Innermost) → lines_of (decoders.standing_in C d leaf lines at) ≡ lines
+  lines_standing : (leaf : Option Innermost) →
+      lines_of (decoders.standing_in C d leaf lines at) ≡ lines
   lines_standing None = refl
   lines_standing (Some leaf) = refl
 
-section_over : {C : Table} {S : Signatures} {number : ℕ} {header s : List ℕ} {section : Section} {d : Decoder} →
+section_over : {C : Table} {S : Signatures} {number : ℕ} {header s : List ℕ} {section : Section}
+    {d : Decoder} →
     Decodes C S number header s section d → is_over (stage_of (message S header s)) ≡ false
 section_over {C} {S} {number} {header} {s} {section} {d} e =
     let r = read (plain (order header)) [] e.T (12 + length e.front) e.octets in
@@ -67,23 +75,28 @@ section_over {C} {S} {number} {header} {s} {section} {d} e =
     ∙ (ap (λ r. is_over (stage_of (through S header section nothing r))) e.reads.is
     ∙ standing_over S header section C d e.reads.lines _ d.leaf))
 
-pub follows_goes : {C : Table} {listed : Listed} {number : ℕ} {header : List ℕ} {m : Struct_of} {s : List ℕ} →
-    Follows C listed number header m s → is_over (stage_of (message (said_by C listed) header s)) ≡ false
+pub follows_goes : {C : Table} {listed : Listed} {number : ℕ} {header : List ℕ} {m : Struct_of}
+    {s : List ℕ} →
+    Follows C listed number header m s →
+    is_over (stage_of (message (said_by C listed) header s)) ≡ false
 unfolding is_over stage_of
 follows_goes {C} {listed} {number} {header} {m} {s} f = go m.part f.stands
   where
-    go : (p : Part) → Stands C listed number header s p → is_over (stage_of (message (said_by C listed) header s)) ≡ false
+    go : (p : Part) → Stands C listed number header s p →
+        is_over (stage_of (message (said_by C listed) header s)) ≡ false
     go (parts.Typed section d) e = section_over e
     go (parts.Padding wanted) (told, e) = rw e refl
     go (parts.Rest r) (told, e) = rw e refl
 
 -- ---- the request id
 
-pub told_more : (S : Signatures) (header s more : List ℕ) → told_of (message S header (s ++ more)) ≡ told_of (message S header s) ++ due S header s more
+pub told_more : (S : Signatures) (header s more : List ℕ) →
+    told_of (message S header (s ++ more)) ≡ told_of (message S header s) ++ due S header s more
 unfolding due
 told_more S header s more =
     let g = told_begins S header s more in
-    g.1 ∙ ap (λ ts. told_of (message S header s) ++ ts) (sym (ap (drop (length (told_of (message S header s)))) g.1 ∙ drop-append_seam (told_of (message S header s)) g.0))
+    g.1 ∙ ap (λ ts. told_of (message S header s) ++ ts)
+    (sym (ap (drop (length (told_of (message S header s)))) g.1 ∙ drop-append_seam (told_of (message S header s)) g.0))
 
 first_all : (a b c : Option ℕ) → first_id a (first_id b c) ≡ first_id (first_id a b) c
 unfolding first_id
@@ -101,7 +114,8 @@ first_none (Some a) = refl
 first_none None = refl
 
 -- more lines that say none leave it
-pub id_stays : (S : Signatures) (header s more : List ℕ) → id_said (due S header s more) ≡ None → id_said (told_of (message S header (s ++ more))) ≡ id_said (told_of (message S header s))
+pub id_stays : (S : Signatures) (header s more : List ℕ) → id_said (due S header s more) ≡ None →
+    id_said (told_of (message S header (s ++ more))) ≡ id_said (told_of (message S header s))
 id_stays S header s more e =
     ap id_said (told_more S header s more) ∙ (id_both (told_of (message S header s)) (due S header s more)
     ∙ (ap (first_id (id_said (told_of (message S header s)))) e ∙ first_none (id_said (told_of (message S header s)))))
@@ -119,7 +133,8 @@ wrongs_no_id r = refl
 -- one line more, with its call
 line_id : (section : Section) (is : Bool) (h : Heard) (l : Line) (ls : List Line) →
     id_said (tells (root_of section) is h (l ∷ ls))
-    ≡ first_id (id_in (Said (root_of section) l.path l.value)) (id_said (tells (root_of section) is (hear (is_header_root (root_of section)) h l) ls))
+    ≡ first_id (id_in (Said (root_of section) l.path l.value))
+    (id_said (tells (root_of section) is (hear (is_header_root (root_of section)) h l) ls))
 unfolding tells id_said tell
 line_id section is h l ls =
     let R = root_of section in
@@ -129,18 +144,23 @@ line_id section is h l ls =
     (rw (call_no_id l.at (calls is l now) (calls_is is l now), first_none) refl)
 
 -- outside of the header none is said
-others_none : (section : Section) → is_header section ≡ false → (path : List Seg) (v : Value) → id_in (Said (root_of section) path v) ≡ None
+others_none : (section : Section) → is_header section ≡ false → (path : List Seg) (v : Value) →
+    id_in (Said (root_of section) path v) ≡ None
 unfolding id_in
 others_none sections.Header e path v = absurd (false≢true (sym e))
 others_none section e path v = refl
 
-no_id : (section : Section) → is_header section ≡ false → (is : Bool) (h : Heard) (lines : List Line) → id_said (tells (root_of section) is h lines) ≡ None
+no_id : (section : Section) → is_header section ≡ false →
+    (is : Bool) (h : Heard) (lines : List Line) →
+    id_said (tells (root_of section) is h lines) ≡ None
 unfolding tells id_said first_id
 no_id section other is h [] = refl
 no_id section other is h (l ∷ ls) =
     line_id section is h l ls ∙ rw (others_none section other l.path l.value) (no_id section other is (hear (is_header_root (root_of section)) h l) ls)
 
-pub section_no_id : (section : Section) → is_header section ≡ false → (is : Bool) (h : Heard) (r : Read) → id_said (tells (root_of section) is h (lines_of r) ++ wrongs r) ≡ None
+pub section_no_id : (section : Section) → is_header section ≡ false →
+    (is : Bool) (h : Heard) (r : Read) →
+    id_said (tells (root_of section) is h (lines_of r) ++ wrongs r) ≡ None
 unfolding first_id
 section_no_id section other is h r =
     id_both (tells (root_of section) is h (lines_of r)) (wrongs r) ∙ rw (no_id section other is h (lines_of r), wrongs_no_id r) refl
@@ -152,14 +172,17 @@ first_same None b = refl
 
 -- in the header it is what is heard
 hear_id : (h : Heard) (at : ℕ) (path : List Seg) (v : Value) →
-    (hear true h (record { at = at; path = path; value = v })).request_id ≡ first_id h.request_id (id_in (Said roots.Header path v))
+    (hear true h (record { at = at; path = path; value = v })).request_id
+    ≡ first_id h.request_id (id_in (Said roots.Header path v))
 unfolding id_in
 hear_id h at path (Number (Plain prims.ULong) n) = first_same h.request_id _
 hear_id h at path (Piece (Text bound) offset octets true) = sym (first_none h.request_id)
 hear_id h at path (Piece (Text bound) offset octets false) = sym (first_none h.request_id)
 hear_id h at path v = sym (first_none h.request_id)
 
-lines_heard : (is : Bool) (h : Heard) (lines : List Line) → (heard true h lines).request_id ≡ first_id h.request_id (id_said (tells roots.Header is h lines))
+lines_heard : (is : Bool) (h : Heard) (lines : List Line) →
+    (heard true h lines).request_id
+    ≡ first_id h.request_id (id_said (tells roots.Header is h lines))
 unfolding tells id_said
 lines_heard is h [] = sym (first_none h.request_id)
 lines_heard is h (l ∷ ls) =
@@ -178,20 +201,24 @@ header_only sections.Header e = refl
 header_only section e = absurd (false≢true e)
 
 -- what a header's decoder has in mind is the id that the message has said
-module _ {C : Table} {S : Signatures} {number : ℕ} {header s : List ℕ} {section : Section} {d : Decoder}
+module _ {C : Table} {S : Signatures} {number : ℕ} {header s : List ℕ} {section : Section}
+    {d : Decoder}
     (e : Decodes C S number header s section d) where
   -- the reading that the decoder has in mind
   abbrev pub in_mind : Read
   in_mind = read (plain (order header)) [] e.T (12 + length e.front) e.octets
 
-  header_told : section ≡ sections.Header → told_of (message S header s) ≡ tells (root_of section) (may_call header section) nothing e.reads.lines
+  header_told : section ≡ sections.Header →
+      told_of (message S header s)
+      ≡ tells (root_of section) (may_call header section) nothing e.reads.lines
   header_told in_it =
       let first = subst (λ x. IsFirst header x e.T e.before) in_it e.first in
       ap told_of e.is ∙ (told_front e.before (through S header section nothing in_mind)
       ∙ (ap (λ ts. ts ++ told_of (through S header section nothing in_mind)) first.1
       ∙ (ap (λ r. told_of (through S header section nothing r)) e.reads.is ∙ standing_told S header section C d e.reads.lines _ d.leaf)))
 
-  pub id_heard : section ≡ sections.Header → (heard_of true in_mind).request_id ≡ id_said (told_of (message S header s))
+  pub id_heard : section ≡ sections.Header →
+      (heard_of true in_mind).request_id ≡ id_said (told_of (message S header s))
   unfolding first_id
   id_heard in_it =
       let lines : lines_of in_mind ≡ e.reads.lines = ap lines_of e.reads.is ∙ lines_standing S header section C d e.reads.lines _ d.leaf in
@@ -201,17 +228,20 @@ module _ {C : Table} {S : Signatures} {number : ℕ} {header s : List ℕ} {sect
       ∙ (lines_heard (may_call header sections.Header) nothing e.reads.lines ∙ ap id_said (sym told)))
 
 -- what a message answers inside a section
-pub id_read : {C : Table} {listed : Listed} {number : ℕ} {header : List ℕ} {m : Struct_of} {s : List ℕ} {section : Section}
+pub id_read : {C : Table} {listed : Listed} {number : ℕ} {header : List ℕ} {m : Struct_of}
+    {s : List ℕ} {section : Section}
     {d : Decoder} → Follows C listed number header m s → m.part ≡ parts.Typed section d →
     (r : Read) × decoders.Minds (root_of section) d r
-    × (cond (is_header section) (heard_of true r).request_id m.id ≡ id_said (told_of (message (said_by C listed) header s)))
+    × (cond (is_header section) (heard_of true r).request_id m.id
+    ≡ id_said (told_of (message (said_by C listed) header s)))
 id_read {C} {listed} {number} {header} {m} {s} {section} {d} f is = (in_mind stands, stands.reads.minds, go (is_header section) refl)
   where
     stands : Decodes C (said_by C listed) number header s section d
     stands = subst (Stands C listed number header s) is f.stands
 
     go : (inside : Bool) → is_header section ≡ inside →
-        cond inside (heard_of true (in_mind stands)).request_id m.id ≡ id_said (told_of (message (said_by C listed) header s))
+        cond inside (heard_of true (in_mind stands)).request_id m.id
+        ≡ id_said (told_of (message (said_by C listed) header s))
     go true e = id_heard stands (header_only section e)
     go false e = f.id ∙ rw (is, e) refl
 
@@ -223,7 +253,8 @@ pub record Moved (m n : Struct_of) (count : ℕ) : Type 0 where
   pub header : n.header ≡ m.header
   pub at : n.at ≡ m.at + count
 
-pub at_more : {number : ℕ} {header : List ℕ} {m n : Struct_of} {s : List ℕ} (more : List ℕ) → IsAt number header m s →
+pub at_more : {number : ℕ} {header : List ℕ} {m n : Struct_of} {s : List ℕ} (more : List ℕ) →
+    IsAt number header m s →
     Moved m n (length more) → IsAt number header n (s ++ more)
 at_more {s = s} more is move = record {
   same_number = move.number ∙ is.same_number;
@@ -237,8 +268,10 @@ module _ {C : Table} {listed : Listed} {number : ℕ} {header : List ℕ} {m : S
   is_at move = at_more more (record { same_number = f.same_number; same_header = f.same_header; at = f.at }) move
 
   pub follows_on : {n : Struct_of} → Moved m n (length more) →
-      n.id ≡ cond (in_header n.part) None (id_said (told_of (message (said_by C listed) header (s ++ more)))) →
-      Stands C listed number header (s ++ more) n.part → Follows C listed number header n (s ++ more)
+      n.id ≡ cond (in_header n.part) None
+      (id_said (told_of (message (said_by C listed) header (s ++ more)))) →
+      Stands C listed number header (s ++ more) n.part →
+      Follows C listed number header n (s ++ more)
   follows_on move id stands =
       let is = is_at move in
       record { same_number = is.same_number; same_header = is.same_header; id = id; at = is.at; stands = stands }
@@ -249,8 +282,10 @@ module _ {C : Table} {listed : Listed} {number : ℕ} {header : List ℕ} {m : S
   id_kept none past = f.id ∙ rw past (sym (id_stays (said_by C listed) header s more none))
 
 -- a message of the same fields follows what it does
-pub same_fields : {C : Table} {listed : Listed} {number : ℕ} {header : List ℕ} {m n : Struct_of} {s : List ℕ} →
-    Follows C listed number header m s → n.number ≡ m.number → n.header ≡ m.header → n.id ≡ m.id → n.at ≡ m.at →
+pub same_fields : {C : Table} {listed : Listed} {number : ℕ} {header : List ℕ} {m n : Struct_of}
+    {s : List ℕ} →
+    Follows C listed number header m s → n.number ≡ m.number → n.header ≡ m.header → n.id ≡ m.id →
+    n.at ≡ m.at →
     n.part ≡ m.part → Follows C listed number header n s
 same_fields f same_number same_header id at part = record {
   same_number = same_number ∙ f.same_number;

@@ -78,23 +78,29 @@ now_all n (Done lines at rest) now = now.2
 now_all n r now = tt
 
 -- what is told of a section, of which nothing follows without an octet
-pub passed_tells : (S : Signatures) (header : List ℕ) (section : Section) (h : Heard) (r : Read) → ReadsAll r →
-    told_of (through S header section h r) ≡ tells (root_of section) (may_call header section) h (lines_of r) ++ wrongs r
+pub passed_tells : (S : Signatures) (header : List ℕ) (section : Section) (h : Heard) (r : Read) →
+    ReadsAll r →
+    told_of (through S header section h r)
+    ≡ tells (root_of section) (may_call header section) h (lines_of r) ++ wrongs r
 unfolding passes told_of
 passed_tells S header section h (Done lines at rest) all =
     let R = root_of section in
     let told = tells R (may_call header section) h lines in
     let next = after S header section (heard (is_header_root R) h lines) in
-    rw (all) (told_front told (next at []) ∙ ap (λ ts. told ++ ts) (told_silent at (next at []) (after_silent S header section (heard (is_header_root R) h lines) at)))
+    rw (all)
+    (told_front told (next at []) ∙ ap (λ ts. told ++ ts) (told_silent at (next at []) (after_silent S header section (heard (is_header_root R) h lines) at)))
 passed_tells S header section h (Short lines at outer leaf) all = sym (append-nil (tells (root_of section) (may_call header section) h lines))
 passed_tells S header section h (Fault lines at why T) all = refl
 
-short_told : (S : Signatures) (header : List ℕ) (section : Section) (before : List Told) (lines : List Line) (at : ℕ) (outer : List Place) (leaf : Leaf) →
-    told_of (with_front before (through S header section nothing (Short lines at outer leaf))) ≡ before ++ tells (root_of section) (may_call header section) nothing lines
+short_told : (S : Signatures) (header : List ℕ) (section : Section) (before : List Told)
+    (lines : List Line) (at : ℕ) (outer : List Place) (leaf : Leaf) →
+    told_of (with_front before (through S header section nothing (Short lines at outer leaf)))
+    ≡ before ++ tells (root_of section) (may_call header section) nothing lines
 unfolding passes with_front told_of
 short_told S header section before lines at outer leaf = refl
 
-fault_front : (number place : ℕ) (front : List Line) (r : Read) → fault_text number place (Spine.with_front front r) ≡ fault_text number place r
+fault_front : (number place : ℕ) (front : List Line) (r : Read) →
+    fault_text number place (Spine.with_front front r) ≡ fault_text number place r
 fault_front number place front (Done lines at rest) = refl
 fault_front number place front r = refl
 
@@ -103,12 +109,14 @@ abbrev pub EndsAt : ℕ → Read → Type 0
 EndsAt n (Done lines at rest) = at ≡ n
 EndsAt n r = Unit {0}
 
-offset_is : (n : ℕ) (r st : Read) (lines : List Line) → r ≡ Spine.with_front lines st → Now n st → EndsAt n r
+offset_is : (n : ℕ) (r st : Read) (lines : List Line) → r ≡ Spine.with_front lines st → Now n st →
+    EndsAt n r
 offset_is n r (Done ls at rest) lines e now = subst (EndsAt n) (sym e) now.1
 offset_is n r q lines e now = subst (EndsAt n) (sym e) tt
 
 -- what a reading that goes on has begun and not ended, at this offset
-short_by : (n end : ℕ) (named : Bool) (r st : Read) (lines : List Line) → r ≡ Spine.with_front lines st → Now n st →
+short_by : (n end : ℕ) (named : Bool) (r st : Read) (lines : List Line) →
+    r ≡ Spine.with_front lines st → Now n st →
     decoders.IsAnswer end named progress.More r →
     (ls : List Line) × (outer : List Place) × (leaf : Leaf) × (r ≡ Short ls n outer leaf)
 short_by n end named r (Done ls at rest) lines e now answer = absurd (subst (decoders.IsAnswer end named progress.More) e answer)
@@ -118,7 +126,8 @@ short_by n end named r (Fault ls at why U) lines e now answer = absurd (subst (d
 
 -- ---- an octet of it
 
-pub goes_one : (w : Begun) (s octets : List ℕ) → message w.S w.header s ≡ comes w (reading w octets) →
+pub goes_one : (w : Begun) (s octets : List ℕ) →
+    message w.S w.header s ≡ comes w (reading w octets) →
     (b : ℕ) → message w.S w.header (s ++ b ∷ []) ≡ comes w (reading w (octets ++ b ∷ []))
 goes_one w s octets is b =
     let r = reading w octets in
@@ -185,7 +194,8 @@ module _ (w : Begun) (s octets : List ℕ) (i : Inside w s octets) (b : ℕ) whe
 
   -- the text of the octet: its line or its fault, and its call
   pub text_here : (place : ℕ) → due_text S number place header s (b ∷ []) ≡
-      (lines_text number R (decoders.due (order header) T (start w) octets b) ++ fault_text number (place + 1) Next)
+      (lines_text number R (decoders.due (order header) T (start w) octets b)
+      ++ fault_text number (place + 1) Next)
       ++ told_text number place (12 + length s) (first_call R Is heard_before (lines_of Added))
   unfolding due_text
   text_here place =
@@ -195,7 +205,8 @@ module _ (w : Begun) (s octets : List ℕ) (i : Inside w s octets) (b : ℕ) whe
       ∙ rw (lines_due, next_is, fault_front number (place + 1) i.lines Added) refl)
 
   -- where it goes on
-  pub inside_on : Answers (order header) T (start w) R octets b progress.More → Inside w (s ++ b ∷ []) (octets ++ b ∷ [])
+  pub inside_on : Answers (order header) T (start w) R octets b progress.More →
+      Inside w (s ++ b ∷ []) (octets ++ b ∷ [])
   inside_on answer =
       let g = short_by (Here + 1) (start w + length (octets ++ b ∷ [])) (is_named w octets b) Next Added i.lines next_is added_now answer in
       let n : Here + 1 ≡ start w + length (octets ++ b ∷ []) = omega (arith, length_one_more octets b) in

@@ -24,18 +24,22 @@ use Rattle.giop_message.proofs.Spelling.{rest_said}
 use Rattle.giop_message.proofs.Followings.{Moved, is_at, id_kept, follows_on}
 
 -- from where a message comes to
-pub comes_more : (S : Signatures) (header s : List ℕ) (b : ℕ) (told : List Told) (at : ℕ) (stage : Stage) → message S header s ≡ Comes told at stage →
+pub comes_more : (S : Signatures) (header s : List ℕ) (b : ℕ) (told : List Told) (at : ℕ)
+    (stage : Stage) → message S header s ≡ Comes told at stage →
     message S header (s ++ b ∷ []) ≡ with_front told (message_step S header at stage b)
 unfolding advance
 comes_more S header s b told at stage e = message_goes S header s b ∙ ap (λ m. advance S header m b) e
 
-pub comes_due : (S : Signatures) (header s : List ℕ) (b : ℕ) (told : List Told) (at : ℕ) (stage : Stage) (m : Message) → message S header s ≡ Comes told at stage → message_step S header at stage b ≡ m →
+pub comes_due : (S : Signatures) (header s : List ℕ) (b : ℕ) (told : List Told) (at : ℕ)
+    (stage : Stage) (m : Message) → message S header s ≡ Comes told at stage →
+    message_step S header at stage b ≡ m →
     due S header s (b ∷ []) ≡ told_of m
 unfolding told_of
 comes_due S header s b told at stage m e f =
     due_is S header s (b ∷ []) told (Comes told at stage) m e (comes_more S header s b told at stage e ∙ ap (with_front told) f) refl
 
-comes_next : (before told : List Told) (n m : ℕ) (stage : Stage) → n ≡ m → with_front before (Comes told n stage) ≡ Comes (before ++ told) m stage
+comes_next : (before told : List Told) (n m : ℕ) (stage : Stage) → n ≡ m →
+    with_front before (Comes told n stage) ≡ Comes (before ++ told) m stage
 unfolding with_front
 comes_next before told n m stage e = rw e refl
 
@@ -44,11 +48,13 @@ next_at s b = omega (arith, length_one_more s b)
 
 -- ---- in the padding
 
-padding_on : (S : Signatures) (header : List ℕ) (at b : ℕ) (t : BodyType) → 1 < padding at 8 → message_step S header at (In_padding t) b ≡ Comes [] (at + 1) (In_padding t)
+padding_on : (S : Signatures) (header : List ℕ) (at b : ℕ) (t : BodyType) → 1 < padding at 8 →
+    message_step S header at (In_padding t) b ≡ Comes [] (at + 1) (In_padding t)
 unfolding message_step
 padding_on S header at b t h = rw (lt-ltb 1 (padding at 8) h) refl
 
-padding_last : (S : Signatures) (header : List ℕ) (at b : ℕ) (t : BodyType) → padding at 8 ≤ 1 → message_step S header at (In_padding t) b ≡ body S header t (at + 1) []
+padding_last : (S : Signatures) (header : List ℕ) (at b : ℕ) (t : BodyType) → padding at 8 ≤ 1 →
+    message_step S header at (In_padding t) b ≡ body S header t (at + 1) []
 unfolding message_step
 padding_last S header at b t h = rw (le-ltb 1 (padding at 8) h) refl
 
@@ -56,11 +62,13 @@ none_said : (told : List Told) → told ≡ [] → id_said told ≡ None
 unfolding id_said
 none_said told e = rw e refl
 
-pub no_text : (S : Signatures) (number place : ℕ) (header s more : List ℕ) → due S header s more ≡ [] → due_text S number place header s more ≡ []
+pub no_text : (S : Signatures) (number place : ℕ) (header s more : List ℕ) →
+    due S header s more ≡ [] → due_text S number place header s more ≡ []
 unfolding due_text told_text
 no_text S number place header s more e = rw e refl
 
-module _ {C : Table} {listed : Listed} {number : ℕ} {header : List ℕ} {m : Struct_of} {s : List ℕ} {wanted : Wanted}
+module _ {C : Table} {listed : Listed} {number : ℕ} {header : List ℕ} {m : Struct_of} {s : List ℕ}
+    {wanted : Wanted}
     (f : Follows C listed number header m s) (is : m.part ≡ parts.Padding wanted) (b : ℕ) where
   abbrev S : Signatures
   S = said_by C listed
@@ -77,10 +85,12 @@ module _ {C : Table} {listed : Listed} {number : ℕ} {header : List ℕ} {m : S
   padded : (told : List Told) × (message S header s ≡ Comes told Here (In_padding T))
   padded = subst (Stands C listed number header s) is f.stands
 
-  one_due : (x : Message) → message_step S header Here (In_padding T) b ≡ x → due S header s (b ∷ []) ≡ told_of x
+  one_due : (x : Message) → message_step S header Here (In_padding T) b ≡ x →
+      due S header s (b ∷ []) ≡ told_of x
   one_due x e = comes_due S header s b padded.0 Here (In_padding T) x padded.1 e
 
-  one_comes : (x : Message) → message_step S header Here (In_padding T) b ≡ x → message S header further ≡ with_front padded.0 x
+  one_comes : (x : Message) → message_step S header Here (In_padding T) b ≡ x →
+      message S header further ≡ with_front padded.0 x
   one_comes x e = comes_more S header s b padded.0 Here (In_padding T) padded.1 ∙ ap (with_front padded.0) e
 
   pub padding_told : (1 < padding Here 8) → due S header s (b ∷ []) ≡ []
@@ -95,7 +105,8 @@ module _ {C : Table} {listed : Listed} {number : ℕ} {header : List ℕ} {m : S
   same_id : due S header s (b ∷ []) ≡ [] → m.id ≡ id_said (told_of (message S header further))
   same_id none = id_kept f (b ∷ []) (none_said _ none) (rw is refl)
 
-  pub padding_follows : (1 < padding Here 8) → {n : Struct_of} → Moved m n 1 → n.id ≡ m.id → n.part ≡ m.part →
+  pub padding_follows : (1 < padding Here 8) → {n : Struct_of} → Moved m n 1 → n.id ≡ m.id →
+      n.part ≡ m.part →
       Follows C listed number header n further
   padding_follows h move id part =
       let comes = one_comes (Comes [] (Here + 1) (In_padding T)) (padding_on S header Here b T h) in
@@ -105,7 +116,8 @@ module _ {C : Table} {listed : Listed} {number : ℕ} {header : List ℕ} {m : S
 
   pub last_follows : padding Here 8 ≤ 1 → {k n : Struct_of} → Moved m k 1 →
       Arrives C listed number header k n further (body S header T (12 + length further) []) →
-      Moved m n 1 → n.id ≡ m.id → in_header n.part ≡ false → Follows C listed number header n further
+      Moved m n 1 → n.id ≡ m.id → in_header n.part ≡ false →
+      Follows C listed number header n further
   last_follows h move_k arrives move_n id past =
       let comes = one_comes (body S header T (Here + 1) []) (padding_last S header Here b T h) in
       follows_on f (b ∷ []) move_n (id ∙ rw past (same_id (last_told h)))
@@ -122,27 +134,34 @@ rested : (offset : ℕ) (held : List ℕ) (at : ℕ) → Rested (rest_step offse
 unfolding rest_step told_of stage_of id_said id_in first_id tell
 rested offset held at = go (length held == 32)
   where
-    go : (full : Bool) → Rested (if full then Comes (tell at (Left offset held) ∷ []) at (In_rest (offset + 32) [])
+    go : (full : Bool) →
+        Rested (if full then Comes (tell at (Left offset held) ∷ []) at (In_rest (offset + 32) [])
         else Comes [] at (In_rest offset held)) at
     go true = record { comes = refl; no_id = refl }
     go false = record { comes = refl; no_id = refl }
 
 -- octets of one part are one step
-part_goes : (S : Signatures) (header : List ℕ) (told : List Told) (at offset : ℕ) (held : List ℕ) (b : ℕ) (bs : List ℕ) → length held + length (b ∷ bs) ≤ 32 →
-    goes_on S header (Comes told at (In_rest offset held)) (b ∷ bs) ≡ with_front told (rest_step offset (held ++ b ∷ bs) (at + length (b ∷ bs)))
+part_goes : (S : Signatures) (header : List ℕ) (told : List Told) (at offset : ℕ) (held : List ℕ)
+    (b : ℕ) (bs : List ℕ) → length held + length (b ∷ bs) ≤ 32 →
+    goes_on S header (Comes told at (In_rest offset held)) (b ∷ bs)
+    ≡ with_front told (rest_step offset (held ++ b ∷ bs) (at + length (b ∷ bs)))
 unfolding advance message_step
 part_goes S header told at offset held b [] h = refl
 part_goes S header told at offset held b (b' ∷ bs) h =
     let few : length (held ++ b ∷ []) < 32 = omega (arith, length_one_more held b, h) in
     let n : (at + 1) + length (b' ∷ bs) ≡ at + length (b ∷ b' ∷ bs) = omega arith in
     ap (λ m. goes_on S header (with_front told m) (b' ∷ bs)) (rest_step_more offset (held ++ b ∷ []) (at + 1) few)
-    ∙ (ap (λ m. goes_on S header m (b' ∷ bs)) (comes_next told [] (at + 1) (at + 1) (In_rest offset (held ++ b ∷ [])) refl ∙ ap (λ ts. Comes ts (at + 1) (In_rest offset (held ++ b ∷ []))) (append-nil told))
+    ∙ (ap (λ m. goes_on S header m (b' ∷ bs)) (comes_next told [] (at + 1) (at + 1) (In_rest offset (held ++ b ∷ [])) refl
+    ∙ ap (λ ts. Comes ts (at + 1) (In_rest offset (held ++ b ∷ []))) (append-nil told))
     ∙ (part_goes S header told (at + 1) offset (held ++ b ∷ []) b' bs (omega (arith, length_one_more held b, h))
     ∙ rw (n, append_assoc held (b ∷ []) (b' ∷ bs)) refl))
 
-module _ {C : Table} {listed : Listed} {number : ℕ} {header : List ℕ} {m : Struct_of} {s : List ℕ} {r : Rest}
-    {room n : ℕ} (f : Follows C listed number header m s) (is : m.part ≡ parts.Rest r) (octets : List ℕ)
-    (some : 0 < length octets) (left : room ≡ 32 - length r.held.items) (taken : n ≡ min room (length octets)) where
+module _ {C : Table} {listed : Listed} {number : ℕ} {header : List ℕ} {m : Struct_of} {s : List ℕ}
+    {r : Rest}
+    {room n : ℕ} (f : Follows C listed number header m s) (is : m.part ≡ parts.Rest r)
+    (octets : List ℕ)
+    (some : 0 < length octets) (left : room ≡ 32 - length r.held.items)
+    (taken : n ≡ min room (length octets)) where
   abbrev xs : List ℕ
   xs = take n octets
 
@@ -166,7 +185,8 @@ module _ {C : Table} {listed : Listed} {number : ℕ} {header : List ℕ} {m : S
       message_resumes (said_by C listed) header s xs ∙ (ap (λ m. goes_on (said_by C listed) header m xs) stood.1
       ∙ go xs (omega (arith, size, taken, left, r.room, some)) (omega (arith, size, taken, left, r.room)))
     where
-      go : (xs : List ℕ) → 0 < length xs → length r.held.items + length xs ≤ 32 → goes_on (said_by C listed) header (Stood stood.0) xs
+      go : (xs : List ℕ) → 0 < length xs → length r.held.items + length xs ≤ 32 →
+          goes_on (said_by C listed) header (Stood stood.0) xs
           ≡ with_front stood.0 (rest_step r.offset (r.held.items ++ xs) (At + length xs))
       go [] some room = absurd (omega arith)
       go (b ∷ bs) some room = part_goes (said_by C listed) header stood.0 At r.offset r.held.items b bs room
@@ -175,11 +195,13 @@ module _ {C : Table} {listed : Listed} {number : ℕ} {header : List ℕ} {m : S
   unfolding told_of
   rest_due = due_is (said_by C listed) header s xs stood.0 (Stood stood.0) Step stood.1 rest_comes refl
 
-  pub rest_text : (place : ℕ) → due_text (said_by C listed) number place header s xs ≡ told_text m.number place At (told_of Step)
+  pub rest_text : (place : ℕ) → due_text (said_by C listed) number place header s xs
+      ≡ told_text m.number place At (told_of Step)
   unfolding due_text
   rest_text place = ap (told_text number place At) rest_due ∙ ap (λ n. told_text n place At (told_of Step)) (sym f.same_number)
 
-  pub rest_follows : {m' : Struct_of} {r' : Rest} → Moved m m' n → m'.id ≡ m.id → m'.part ≡ parts.Rest r' →
+  pub rest_follows : {m' : Struct_of} {r' : Rest} → Moved m m' n → m'.id ≡ m.id →
+      m'.part ≡ parts.Rest r' →
       stage_of Step ≡ In_rest r'.offset r'.held.items → Follows C listed number header m' (s ++ xs)
   rest_follows {r' = r'} move id part stage =
       let step = rested r.offset (r.held.items ++ xs) (At + length xs) in
@@ -190,18 +212,22 @@ module _ {C : Table} {listed : Listed} {number : ℕ} {header : List ℕ} {m : S
       (subst (Stands C listed number header (s ++ xs)) (sym part) (stood.0 ++ told_of Step, rest_comes ∙ (comes ∙ next)))
 
 -- the text of a step in the rest
-pub few_told : (number place offset at : ℕ) (from : ℕ) (held : List ℕ) → length held < 32 → told_text number place offset (told_of (rest_step from held at)) ≡ []
+pub few_told : (number place offset at : ℕ) (from : ℕ) (held : List ℕ) → length held < 32 →
+    told_text number place offset (told_of (rest_step from held at)) ≡ []
 unfolding told_text told_of
 few_told number place offset at from held h = rw (rest_step_more from held at h) refl
 
-pub full_told : (number place offset at : ℕ) (from : ℕ) (held : List ℕ) → length held ≡ 32 → told_text number place offset (told_of (rest_step from held at)) ≡ rest_line number from held
+pub full_told : (number place offset at : ℕ) (from : ℕ) (held : List ℕ) → length held ≡ 32 →
+    told_text number place offset (told_of (rest_step from held at)) ≡ rest_line number from held
 unfolding told_text told_of speech_line saying_of text_of tell
 full_told number place offset at from held h = rw (rest_step_full from held at h) (append-nil _ ∙ rest_said number from held)
 
-pub few_stage : (at from : ℕ) (held : List ℕ) → length held < 32 → stage_of (rest_step from held at) ≡ In_rest from held
+pub few_stage : (at from : ℕ) (held : List ℕ) → length held < 32 →
+    stage_of (rest_step from held at) ≡ In_rest from held
 unfolding stage_of
 few_stage at from held h = rw (rest_step_more from held at h) refl
 
-pub full_stage : (at from : ℕ) (held : List ℕ) → length held ≡ 32 → stage_of (rest_step from held at) ≡ In_rest (from + 32) []
+pub full_stage : (at from : ℕ) (held : List ℕ) → length held ≡ 32 →
+    stage_of (rest_step from held at) ≡ In_rest (from + 32) []
 unfolding stage_of
 full_stage at from held h = rw (rest_step_full from held at h) refl

@@ -121,7 +121,8 @@ record NoBody (octets : List ℕ) : Type 0 where
   at_header : Row (head 2 0) octets t_nop ended
   within : Row (head 2 0) (octets ++ 0 ∷ 0 ∷ []) t_nop ended
   padded : Row (head 2 0) (octets ++ 0 ∷ 0 ∷ 0 ∷ 0 ∷ []) t_nop ended
-  rest : Row (head 2 0) (octets ++ 0 ∷ 0 ∷ 0 ∷ 0 ∷ 171 ∷ 205 ∷ []) t_nop ((Rest, codes "rest @0 abcd") ∷ ended)
+  rest : Row (head 2 0) (octets ++ 0 ∷ 0 ∷ 0 ∷ 0 ∷ 171 ∷ 205 ∷ []) t_nop
+      ((Rest, codes "rest @0 abcd") ∷ ended)
 
 no_body : NoBody (h (codes "nop"))
 unfolding rows head h t_nop t_say t_raw ended short
@@ -138,7 +139,8 @@ unfolding rows head h t_nop t_say t_raw ended short
 missing_body = record { at_header = (refl, refl); within = (refl, refl); padded = (refl, refl) }
 
 -- a string of 6 octets, of which 4 have come
-cut_string : Row (head 2 0) (h (codes "say") ++ 0 ∷ 0 ∷ 0 ∷ 0 ∷ 0 ∷ 0 ∷ 0 ∷ 6 ∷ 97 ∷ 98 ∷ 99 ∷ 100 ∷ []) t_say short
+cut_string : Row (head 2 0)
+    (h (codes "say") ++ 0 ∷ 0 ∷ 0 ∷ 0 ∷ 0 ∷ 0 ∷ 0 ∷ 6 ∷ 97 ∷ 98 ∷ 99 ∷ 100 ∷ []) t_say short
 unfolding rows head h t_nop t_say t_raw ended short
 cut_string = (refl, refl)
 
@@ -150,12 +152,15 @@ wrong_end = (refl, refl)
 
 -- a rest of 32 octets behind an empty octet sequence
 rest_of_32 : Row (head 2 0) (h (codes "raw") ++ 0 ∷ 0 ∷ 0 ∷ 0 ∷ 0 ∷ 0 ∷ 0 ∷ 0 ∷ replicate 32 17)
-    (t_raw ++ says 40 (codes "body.o octets @0") ∷ record { at = 72; saying = Rest; text = codes "rest @0 1111111111111111111111111111111111111111111111111111111111111111" } ∷ []) ended
+    (t_raw ++ says 40 (codes "body.o octets @0") ∷ record
+    { at = 72; saying = Rest; text = codes "rest @0 1111111111111111111111111111111111111111111111111111111111111111" } ∷ []) ended
 unfolding rows head h t_nop t_say t_raw ended short
 rest_of_32 = (refl, refl)
 
 -- In 1.0 a body follows its header at once, here at the offset 44.
-body_of_1_0 : Row (head 0 0) (0 ∷ 0 ∷ 0 ∷ 0 ∷ 0 ∷ 0 ∷ 0 ∷ 7 ∷ 1 ∷ 0 ∷ 0 ∷ 0 ∷ 0 ∷ 0 ∷ 0 ∷ 2 ∷ 107 ∷ 49 ∷ 0 ∷ 0 ∷ 0 ∷ 0 ∷ 0 ∷ 4 ∷ 115 ∷ 101 ∷ 116 ∷ 0 ∷ 0 ∷ 0 ∷ 0 ∷ 0 ∷ 255 ∷ 255 ∷ 255 ∷ 251 ∷ [])
+body_of_1_0 : Row (head 0 0)
+    (0 ∷ 0 ∷ 0 ∷ 0 ∷ 0 ∷ 0 ∷ 0 ∷ 7 ∷ 1 ∷ 0 ∷ 0 ∷ 0 ∷ 0 ∷ 0 ∷ 0 ∷ 2 ∷ 107 ∷ 49 ∷ 0 ∷ 0 ∷ 0 ∷ 0 ∷ 0
+    ∷ 4 ∷ 115 ∷ 101 ∷ 116 ∷ 0 ∷ 0 ∷ 0 ∷ 0 ∷ 0 ∷ 255 ∷ 255 ∷ 255 ∷ 251 ∷ [])
     (says 4 (codes "header.service_contexts count 0")
     ∷ says 8 (codes "header.request_id ulong 7")
     ∷ says 9 (codes "header.response_expected boolean true")
@@ -168,7 +173,9 @@ unfolding rows head h t_nop t_say t_raw ended short
 body_of_1_0 = (refl, refl)
 
 -- In 1.2 it begins at the next multiple of 8, here of a Request of little order.
-body_of_1_2 : Row (71 ∷ 73 ∷ 79 ∷ 80 ∷ 1 ∷ 2 ∷ 1 ∷ 0 ∷ 44 ∷ 0 ∷ 0 ∷ 0 ∷ []) (1 ∷ 0 ∷ 0 ∷ 0 ∷ 3 ∷ 0 ∷ 0 ∷ 0 ∷ 0 ∷ 0 ∷ 0 ∷ 0 ∷ 1 ∷ 0 ∷ 0 ∷ 0 ∷ 65 ∷ 0 ∷ 0 ∷ 0 ∷ 4 ∷ 0 ∷ 0 ∷ 0 ∷ 112 ∷ 117 ∷ 116 ∷ 0 ∷ 0 ∷ 0 ∷ 0 ∷ 0 ∷ 0 ∷ 0 ∷ 0 ∷ 0 ∷ 0 ∷ 0 ∷ 0 ∷ 0 ∷ 0 ∷ 0 ∷ 248 ∷ 63 ∷ [])
+body_of_1_2 : Row (71 ∷ 73 ∷ 79 ∷ 80 ∷ 1 ∷ 2 ∷ 1 ∷ 0 ∷ 44 ∷ 0 ∷ 0 ∷ 0 ∷ [])
+    (1 ∷ 0 ∷ 0 ∷ 0 ∷ 3 ∷ 0 ∷ 0 ∷ 0 ∷ 0 ∷ 0 ∷ 0 ∷ 0 ∷ 1 ∷ 0 ∷ 0 ∷ 0 ∷ 65 ∷ 0 ∷ 0 ∷ 0 ∷ 4 ∷ 0 ∷ 0 ∷ 0
+    ∷ 112 ∷ 117 ∷ 116 ∷ 0 ∷ 0 ∷ 0 ∷ 0 ∷ 0 ∷ 0 ∷ 0 ∷ 0 ∷ 0 ∷ 0 ∷ 0 ∷ 0 ∷ 0 ∷ 0 ∷ 0 ∷ 248 ∷ 63 ∷ [])
     (says 4 (codes "header.request_id ulong 1")
     ∷ says 5 (codes "header.response_flags octet 3")
     ∷ says 6 (codes "header.reserved[0] octet 0")
@@ -194,7 +201,8 @@ unfolding rows head h t_nop t_say t_raw ended short
 reply = (refl, refl)
 
 -- which has none where it has two different ones.
-reply_of_two : Row (head 0 1) (0 ∷ 0 ∷ 0 ∷ 0 ∷ 0 ∷ 0 ∷ 0 ∷ 2 ∷ 0 ∷ 0 ∷ 0 ∷ 0 ∷ 0 ∷ 0 ∷ 0 ∷ 42 ∷ 9 ∷ [])
+reply_of_two : Row (head 0 1)
+    (0 ∷ 0 ∷ 0 ∷ 0 ∷ 0 ∷ 0 ∷ 0 ∷ 2 ∷ 0 ∷ 0 ∷ 0 ∷ 0 ∷ 0 ∷ 0 ∷ 0 ∷ 42 ∷ 9 ∷ [])
     (says 4 (codes "header.service_contexts count 0")
     ∷ says 8 (codes "header.request_id ulong 2")
     ∷ says 12 (codes "header.reply_status enum NO_EXCEPTION") ∷ [])
@@ -203,7 +211,9 @@ unfolding rows head h t_nop t_say t_raw ended short
 reply_of_two = (refl, refl)
 
 -- An exception has its members behind its repository id, at their alignment,
-raised : Row (head 0 1) (0 ∷ 0 ∷ 0 ∷ 0 ∷ 0 ∷ 0 ∷ 0 ∷ 1 ∷ 0 ∷ 0 ∷ 0 ∷ 1 ∷ 0 ∷ 0 ∷ 0 ∷ 13 ∷ 73 ∷ 68 ∷ 76 ∷ 58 ∷ 76 ∷ 97 ∷ 116 ∷ 101 ∷ 58 ∷ 49 ∷ 46 ∷ 48 ∷ 0 ∷ 0 ∷ 0 ∷ 3 ∷ [])
+raised : Row (head 0 1)
+    (0 ∷ 0 ∷ 0 ∷ 0 ∷ 0 ∷ 0 ∷ 0 ∷ 1 ∷ 0 ∷ 0 ∷ 0 ∷ 1 ∷ 0 ∷ 0 ∷ 0 ∷ 13 ∷ 73 ∷ 68 ∷ 76 ∷ 58 ∷ 76 ∷ 97
+    ∷ 116 ∷ 101 ∷ 58 ∷ 49 ∷ 46 ∷ 48 ∷ 0 ∷ 0 ∷ 0 ∷ 3 ∷ [])
     (says 4 (codes "header.service_contexts count 0")
     ∷ says 8 (codes "header.request_id ulong 1")
     ∷ says 12 (codes "header.reply_status enum USER_EXCEPTION")
@@ -213,7 +223,9 @@ unfolding rows head h t_nop t_say t_raw ended short
 raised = (refl, refl)
 
 -- and a rest where its id isn't known.
-raised_unknown : Row (head 0 1) (0 ∷ 0 ∷ 0 ∷ 0 ∷ 0 ∷ 0 ∷ 0 ∷ 1 ∷ 0 ∷ 0 ∷ 0 ∷ 1 ∷ 0 ∷ 0 ∷ 0 ∷ 13 ∷ 73 ∷ 68 ∷ 76 ∷ 58 ∷ 76 ∷ 111 ∷ 115 ∷ 116 ∷ 58 ∷ 49 ∷ 46 ∷ 48 ∷ 0 ∷ 0 ∷ 0 ∷ 3 ∷ [])
+raised_unknown : Row (head 0 1)
+    (0 ∷ 0 ∷ 0 ∷ 0 ∷ 0 ∷ 0 ∷ 0 ∷ 1 ∷ 0 ∷ 0 ∷ 0 ∷ 1 ∷ 0 ∷ 0 ∷ 0 ∷ 13 ∷ 73 ∷ 68 ∷ 76 ∷ 58 ∷ 76 ∷ 111
+    ∷ 115 ∷ 116 ∷ 58 ∷ 49 ∷ 46 ∷ 48 ∷ 0 ∷ 0 ∷ 0 ∷ 3 ∷ [])
     (says 4 (codes "header.service_contexts count 0")
     ∷ says 8 (codes "header.request_id ulong 1")
     ∷ says 12 (codes "header.reply_status enum USER_EXCEPTION")
@@ -223,7 +235,10 @@ unfolding rows head h t_nop t_say t_raw ended short
 raised_unknown = (refl, refl)
 
 -- a system exception
-system_exception : Row (head 0 1) (0 ∷ 0 ∷ 0 ∷ 0 ∷ 0 ∷ 0 ∷ 0 ∷ 1 ∷ 0 ∷ 0 ∷ 0 ∷ 2 ∷ 0 ∷ 0 ∷ 0 ∷ 30 ∷ 73 ∷ 68 ∷ 76 ∷ 58 ∷ 111 ∷ 109 ∷ 103 ∷ 46 ∷ 111 ∷ 114 ∷ 103 ∷ 47 ∷ 67 ∷ 79 ∷ 82 ∷ 66 ∷ 65 ∷ 47 ∷ 85 ∷ 78 ∷ 75 ∷ 78 ∷ 79 ∷ 87 ∷ 78 ∷ 58 ∷ 49 ∷ 46 ∷ 48 ∷ 0 ∷ 0 ∷ 0 ∷ 0 ∷ 0 ∷ 0 ∷ 0 ∷ 0 ∷ 0 ∷ 0 ∷ 1 ∷ [])
+system_exception : Row (head 0 1)
+    (0 ∷ 0 ∷ 0 ∷ 0 ∷ 0 ∷ 0 ∷ 0 ∷ 1 ∷ 0 ∷ 0 ∷ 0 ∷ 2 ∷ 0 ∷ 0 ∷ 0 ∷ 30 ∷ 73 ∷ 68 ∷ 76 ∷ 58 ∷ 111 ∷ 109
+    ∷ 103 ∷ 46 ∷ 111 ∷ 114 ∷ 103 ∷ 47 ∷ 67 ∷ 79 ∷ 82 ∷ 66 ∷ 65 ∷ 47 ∷ 85 ∷ 78 ∷ 75 ∷ 78 ∷ 79 ∷ 87
+    ∷ 78 ∷ 58 ∷ 49 ∷ 46 ∷ 48 ∷ 0 ∷ 0 ∷ 0 ∷ 0 ∷ 0 ∷ 0 ∷ 0 ∷ 0 ∷ 0 ∷ 0 ∷ 1 ∷ [])
     (says 4 (codes "header.service_contexts count 0")
     ∷ says 8 (codes "header.request_id ulong 1")
     ∷ says 12 (codes "header.reply_status enum SYSTEM_EXCEPTION")
@@ -251,7 +266,8 @@ unfolding rows head h t_nop t_say t_raw ended short
 no_status = (refl, refl)
 
 -- A LocateRequest by its profile, and one of no disposition.
-located : Row (head 2 3) (0 ∷ 0 ∷ 0 ∷ 1 ∷ 0 ∷ 1 ∷ 0 ∷ 0 ∷ 0 ∷ 0 ∷ 0 ∷ 9 ∷ 0 ∷ 0 ∷ 0 ∷ 2 ∷ 171 ∷ 205 ∷ [])
+located : Row (head 2 3)
+    (0 ∷ 0 ∷ 0 ∷ 1 ∷ 0 ∷ 1 ∷ 0 ∷ 0 ∷ 0 ∷ 0 ∷ 0 ∷ 9 ∷ 0 ∷ 0 ∷ 0 ∷ 2 ∷ 171 ∷ 205 ∷ [])
     (says 4 (codes "header.request_id ulong 1")
     ∷ says 6 (codes "header.target.switch short 1")
     ∷ says 12 (codes "header.target.profile.tag ulong 9")
@@ -302,10 +318,16 @@ record IsLast (test : Ty → Bool) (name : List ℕ) (k : ℕ) (T : Ty) : Type 0
   such : test (part_of T k) ≡ true
   none : behind test k T ≡ false
 
-last_strings : IfSome (header_type 0 0) (IsLast is_text (codes "operation") 4) × IfSome (header_type 1 0) (IsLast is_text (codes "operation") 5) × IfSome (header_type 2 0) (IsLast is_text (codes "operation") 4)
+last_strings : IfSome (header_type 0 0) (IsLast is_text (codes "operation") 4)
+    × IfSome (header_type 1 0) (IsLast is_text (codes "operation") 5)
+    × IfSome (header_type 2 0) (IsLast is_text (codes "operation") 4)
 unfolding rows behind any_below has_type
-last_strings = (record { named = refl; such = refl; none = refl }, record { named = refl; such = refl; none = refl }, record { named = refl; such = refl; none = refl })
+last_strings =
+    (record { named = refl; such = refl; none = refl }, record { named = refl; such = refl; none = refl }, record { named = refl; such = refl; none = refl })
 
-last_enums : IfSome (header_type 0 1) (IsLast is_enum (codes "reply_status") 2) × IfSome (header_type 1 1) (IsLast is_enum (codes "reply_status") 2) × IfSome (header_type 2 1) (IsLast is_enum (codes "reply_status") 1)
+last_enums : IfSome (header_type 0 1) (IsLast is_enum (codes "reply_status") 2)
+    × IfSome (header_type 1 1) (IsLast is_enum (codes "reply_status") 2)
+    × IfSome (header_type 2 1) (IsLast is_enum (codes "reply_status") 1)
 unfolding rows behind any_below has_type is_enum
-last_enums = (record { named = refl; such = refl; none = refl }, record { named = refl; such = refl; none = refl }, record { named = refl; such = refl; none = refl })
+last_enums =
+    (record { named = refl; such = refl; none = refl }, record { named = refl; such = refl; none = refl }, record { named = refl; such = refl; none = refl })

@@ -38,19 +38,23 @@ use Rattle.giop_message.proofs.Followings.{id_both, first_none, section_no_id}
 -- ---- the last of them
 
 -- The octets are some behind which the value goes on, and a last one.
-pub record LastOne (o : Order) (T : Ty) (at : ℕ) (root : Root) (s xs : List ℕ) (p : Progress) : Type 0 where
+pub record LastOne (o : Order) (T : Ty) (at : ℕ) (root : Root) (s xs : List ℕ)
+    (p : Progress) : Type 0 where
   pub front : List ℕ
   pub octet : ℕ
   pub all : xs ≡ front ++ octet ∷ []
   pub before : AreAnswered o T at root s front progress.More
   pub answer : Answers o T at root (s ++ front) octet p
 
-answered_more : (o : Order) (T : Ty) (at : ℕ) (root : Root) (s : List ℕ) (b : ℕ) (ys : List ℕ) → Answers o T at root s b progress.More →
-    AreAnswered o T at root (s ++ b ∷ []) ys progress.More → AreAnswered o T at root s (b ∷ ys) progress.More
+answered_more : (o : Order) (T : Ty) (at : ℕ) (root : Root) (s : List ℕ) (b : ℕ) (ys : List ℕ) →
+    Answers o T at root s b progress.More →
+    AreAnswered o T at root (s ++ b ∷ []) ys progress.More →
+    AreAnswered o T at root s (b ∷ ys) progress.More
 answered_more o T at root s b [] h k = h
 answered_more o T at root s b (y ∷ ys) h k = (h, k)
 
-pub last_one : (o : Order) (T : Ty) (at : ℕ) (root : Root) (s xs : List ℕ) (p : Progress) → 0 < length xs → AreAnswered o T at root s xs p →
+pub last_one : (o : Order) (T : Ty) (at : ℕ) (root : Root) (s xs : List ℕ) (p : Progress) →
+    0 < length xs → AreAnswered o T at root s xs p →
     LastOne o T at root s xs p
 last_one o T at root s [] p some h = absurd (omega arith)
 last_one o T at root s (b ∷ []) p some h =
@@ -86,14 +90,16 @@ module _ (w : Begun) where
   abbrev pub Last : List ℕ → List ℕ → Progress → Type 0
   Last octets xs p = LastOne O T (start w) R octets xs p
 
-  section_goes : (s octets : List ℕ) → message S header s ≡ comes w (reading w octets) → (xs : List ℕ) →
+  section_goes : (s octets : List ℕ) → message S header s ≡ comes w (reading w octets) →
+      (xs : List ℕ) →
       message S header (s ++ xs) ≡ comes w (reading w (octets ++ xs))
   section_goes s octets is [] = rw (append-nil s, append-nil octets) is
   section_goes s octets is (b ∷ xs) =
       rw (← append_assoc s (b ∷ []) xs, ← append_assoc octets (b ∷ []) xs)
       (section_goes (s ++ b ∷ []) (octets ++ b ∷ []) (goes_one w s octets is b) xs)
 
-  inside_run : (s octets : List ℕ) → Inside w s octets → (xs : List ℕ) → Answered octets xs → Inside w (s ++ xs) (octets ++ xs)
+  inside_run : (s octets : List ℕ) → Inside w s octets → (xs : List ℕ) → Answered octets xs →
+      Inside w (s ++ xs) (octets ++ xs)
   inside_run s octets i [] h = rw (append-nil s, append-nil octets) i
   inside_run s octets i (b ∷ []) h = inside_on w s octets i b h
   inside_run s octets i (b ∷ b' ∷ xs) h =
@@ -101,7 +107,8 @@ module _ (w : Begun) where
       (inside_run (s ++ b ∷ []) (octets ++ b ∷ []) (inside_on w s octets i b h.0) (b' ∷ xs) h.1)
 
   -- octets behind which it goes on have their lines alone
-  text_run : (s octets : List ℕ) → Inside w s octets → (xs : List ℕ) → Answered octets xs → (place : ℕ) →
+  text_run : (s octets : List ℕ) → Inside w s octets → (xs : List ℕ) → Answered octets xs →
+      (place : ℕ) →
       due_text S number place header s xs ≡ LinesOf octets xs
   text_run s octets i [] h place =
       whole.text_none S number place header s ∙ sym (readings.text_none number R O T (start w) octets)
@@ -114,7 +121,8 @@ module _ (w : Begun) where
 
 -- ---- what is told outside of the header
 
-told_before : (w : Begun) (s : List ℕ) (r : Read) → is_header w.section ≡ false → message w.S w.header s ≡ comes w r → ReadsAll r →
+told_before : (w : Begun) (s : List ℕ) (r : Read) → is_header w.section ≡ false →
+    message w.S w.header s ≡ comes w r → ReadsAll r →
     id_said (told_of (message w.S w.header s)) ≡ id_said w.before
 told_before w s r other is all =
     let more = through S header section nothing r in
@@ -123,7 +131,8 @@ told_before w s r other is all =
   where
     open w use {S, header, section, before}
 
-answer_all : (end : ℕ) (named : Bool) (p : Progress) (r : Read) → decoders.IsAnswer end named p r → ReadsAll r
+answer_all : (end : ℕ) (named : Bool) (p : Progress) (r : Read) → decoders.IsAnswer end named p r →
+    ReadsAll r
 answer_all end named progress.Done (Done lines at rest) answer = answer
 answer_all end named progress.More (Done lines at rest) answer = absurd answer
 answer_all end named progress.Named (Done lines at rest) answer = absurd answer
@@ -132,20 +141,25 @@ answer_all end named p r answer = tt
 
 -- ---- where it ends
 
-done_by : (S : Signatures) (header : List ℕ) (section : Section) (end : ℕ) (named : Bool) (n : ℕ) (r : Read) → decoders.IsAnswer end named progress.Done r → EndsAt n r →
-    (more : List Told) × (through S header section nothing r ≡ with_front more (after S header section (heard_of (is_header_root (root_of section)) r) n []))
+done_by : (S : Signatures) (header : List ℕ) (section : Section) (end : ℕ) (named : Bool) (n : ℕ)
+    (r : Read) → decoders.IsAnswer end named progress.Done r → EndsAt n r →
+    (more : List Told)
+    × (through S header section nothing r
+    ≡ with_front more (after S header section (heard_of (is_header_root (root_of section)) r) n []))
 unfolding passes
 done_by S header section end named n (Done lines at rest) answer e = (tells (root_of section) (may_call header section) nothing lines, rw (answer, e) refl)
 done_by S header section end named n r answer e = absurd answer
 
-fault_by : (S : Signatures) (header : List ℕ) (section : Section) (end : ℕ) (named : Bool) (kind : Kind) (r : Read) → decoders.IsAnswer end named (progress.Fault kind) r →
+fault_by : (S : Signatures) (header : List ℕ) (section : Section) (end : ℕ) (named : Bool)
+    (kind : Kind) (r : Read) → decoders.IsAnswer end named (progress.Fault kind) r →
     is_over (stage_of (through S header section nothing r)) ≡ true
 unfolding passes stage_of is_over
 fault_by S header section end named kind (Done lines at rest) answer = absurd answer
 fault_by S header section end named kind (Short lines at outer leaf) answer = absurd answer
 fault_by S header section end named kind (Fault lines at why U) answer = refl
 
-inside_goes : (w : Begun) (s octets : List ℕ) → Inside w s octets → is_over (stage_of (message w.S w.header s)) ≡ false
+inside_goes : (w : Begun) (s octets : List ℕ) → Inside w s octets →
+    is_over (stage_of (message w.S w.header s)) ≡ false
 unfolding passes stage_of is_over
 inside_goes w s octets i =
     ap (λ m. is_over (stage_of m)) i.is
@@ -153,7 +167,8 @@ inside_goes w s octets i =
     ∙ ap (λ r. is_over (stage_of (through w.S w.header w.section nothing r))) i.was_short)
 
 -- the octets before the last of those taken
-pub but_last : (octets front : List ℕ) (b n : ℕ) → n ≤ length octets → take n octets ≡ front ++ b ∷ [] → take (n - 1) octets ≡ front
+pub but_last : (octets front : List ℕ) (b n : ℕ) → n ≤ length octets →
+    take n octets ≡ front ++ b ∷ [] → take (n - 1) octets ≡ front
 but_last octets front b n within e =
     let l : length front ≡ n - 1 = omega (arith, ap length e, length-append front (b ∷ []), length-take-le n octets within) in
     let both : octets ≡ front ++ (b ∷ [] ++ drop n octets) =
@@ -176,7 +191,8 @@ module _ (w : Begun) (s octets : List ℕ) (i : Inside w s octets) where
   abbrev DueAt : List ℕ → ℕ → List ℕ
   DueAt fr b = lines_text number (R w) (decoders.due (O w) T (start w) (octets ++ fr) b)
 
-  last_octets : (xs fr : List ℕ) (b : ℕ) → xs ≡ fr ++ b ∷ [] → (octets ++ fr) ++ b ∷ [] ≡ octets ++ xs
+  last_octets : (xs fr : List ℕ) (b : ℕ) → xs ≡ fr ++ b ∷ [] →
+      (octets ++ fr) ++ b ∷ [] ≡ octets ++ xs
   last_octets xs fr b all = append_assoc octets fr (b ∷ []) ∙ ap (λ z. octets ++ z) (sym all)
 
   last_so_far : (xs fr : List ℕ) (b : ℕ) → xs ≡ fr ++ b ∷ [] → (s ++ fr) ++ b ∷ [] ≡ s ++ xs
@@ -186,7 +202,8 @@ module _ (w : Begun) (s octets : List ℕ) (i : Inside w s octets) where
   at_last fr h = inside_run w s octets i fr h
 
   -- what is written behind the lines of the last octet is written behind those of all
-  ends_in : (xs fr : List ℕ) (b place : ℕ) (more : List ℕ) → xs ≡ fr ++ b ∷ [] → Answered w octets fr →
+  ends_in : (xs fr : List ℕ) (b place : ℕ) (more : List ℕ) → xs ≡ fr ++ b ∷ [] →
+      Answered w octets fr →
       due_text S number (place + length fr) header (s ++ fr) (b ∷ []) ≡ DueAt fr b ++ more →
       due_text S number place header s xs ≡ Lines xs ++ more
   ends_in xs fr b place more all h one =
@@ -197,11 +214,13 @@ module _ (w : Begun) (s octets : List ℕ) (i : Inside w s octets) where
       ∙ ap (λ z. z ++ more) (sym (ap Lines all ∙ readings.text_both number (R w) (O w) T (start w) octets fr (b ∷ []))))))
 
   -- they go on
-  pub run_more : (xs : List ℕ) (place : ℕ) → Answered w octets xs → due_text S number place header s xs ≡ Lines xs
+  pub run_more : (xs : List ℕ) (place : ℕ) → Answered w octets xs →
+      due_text S number place header s xs ≡ Lines xs
   run_more xs place h = text_run w s octets i xs h place
 
   -- the last ends the section
-  pub run_done : (xs : List ℕ) (place : ℕ) → Last w octets xs progress.Done → due_text S number place header s xs ≡ Lines xs
+  pub run_done : (xs : List ℕ) (place : ℕ) → Last w octets xs progress.Done →
+      due_text S number place header s xs ≡ Lines xs
   run_done xs place l =
       ends_in xs l.front l.octet place [] l.all l.before
       (done_text w (s ++ l.front) (octets ++ l.front) (at_last l.front l.before) l.octet l.answer (place + length l.front))
@@ -212,14 +231,16 @@ module _ (w : Begun) (s octets : List ℕ) (i : Inside w s octets) where
   run_named_in xs l = named_in w (s ++ l.front) (octets ++ l.front) (at_last l.front l.before) l.octet l.answer
 
   pub run_named : (xs : List ℕ) (place : ℕ) → Last w octets xs progress.Named →
-      due_text S number place header s xs ≡ Lines xs ++ request_call number header (heard_of true (With xs))
+      due_text S number place header s xs
+      ≡ Lines xs ++ request_call number header (heard_of true (With xs))
   run_named xs place l =
       ends_in xs l.front l.octet place _ l.all l.before
       (named_text w (s ++ l.front) (octets ++ l.front) (at_last l.front l.before) l.octet l.answer (place + length l.front)
       ∙ ap (λ z. DueAt l.front l.octet ++ request_call number header (heard_of true (reading w z))) (last_octets xs l.front l.octet l.all))
 
   -- it breaks a rule
-  pub run_wrong : (xs : List ℕ) (place end : ℕ) (why : Kind) → end ≡ place + length xs → Last w octets xs (progress.Fault why) →
+  pub run_wrong : (xs : List ℕ) (place end : ℕ) (why : Kind) → end ≡ place + length xs →
+      Last w octets xs (progress.Fault why) →
       due_text S number place header s xs ≡ Lines xs ++ fault_line number (fault_word why) end
   run_wrong xs place end why e l =
       let n : (place + length l.front) + 1 ≡ end = omega (arith, e, ap length l.all, length-append l.front (l.octet ∷ [])) in
@@ -228,7 +249,8 @@ module _ (w : Begun) (s octets : List ℕ) (i : Inside w s octets) where
       ∙ ap (λ k. DueAt l.front l.octet ++ fault_line number (fault_word why) k) n)
 
   -- a put failed at one of them
-  pub run_broken : (xs : List ℕ) (place : ℕ) (a b : OutLog) → BreaksOff T (O w) (start w) number (R w) octets xs a b →
+  pub run_broken : (xs : List ℕ) (place : ℕ) (a b : OutLog) →
+      BreaksOff T (O w) (start w) number (R w) octets xs a b →
       WroteFront a b (due_text S number place header s xs)
   run_broken xs place a b broke =
       let fr = broke.front ++ broke.octet ∷ [] in
@@ -241,7 +263,8 @@ module _ (w : Begun) (s octets : List ℕ) (i : Inside w s octets) where
 
   -- ---- where the message stands behind them
 
-  last_answer : (xs : List ℕ) (p : Progress) → Last w octets xs p → (end : ℕ) × (named : Bool) × decoders.IsAnswer end named p (With xs)
+  last_answer : (xs : List ℕ) (p : Progress) → Last w octets xs p →
+      (end : ℕ) × (named : Bool) × decoders.IsAnswer end named p (With xs)
   last_answer xs p l =
       let end = start w + length ((octets ++ l.front) ++ l.octet ∷ []) in
       let named = is_named w (octets ++ l.front) l.octet in
@@ -252,7 +275,8 @@ module _ (w : Begun) (s octets : List ℕ) (i : Inside w s octets) where
   behind xs = section_goes w s octets i.is xs
 
   abbrev pub decodes : (C : Table) (xs : List ℕ) (d : Decoder) →
-      decoders.Reads C T (O w) (start w) number (R w) d (octets ++ xs) → Decodes C S number header (s ++ xs) section d
+      decoders.Reads C T (O w) (start w) number (R w) d (octets ++ xs) →
+      Decodes C S number header (s ++ xs) section d
   decodes C xs d reads = record {
     T = T;
     before = before;
@@ -272,8 +296,11 @@ module _ (w : Begun) (s octets : List ℕ) (i : Inside w s octets) where
       told_before w (s ++ xs) (With xs) other (behind xs) (answer_all a.0 a.1 p (With xs) a.2)
       ∙ sym (told_before w s (reading w octets) other i.is (rw i.was_short tt))
 
-  pub done_comes : (xs : List ℕ) → Last w octets xs progress.Done → (more : List Told) × (message S header (s ++ xs)
-      ≡ with_front more (after S header section (heard_of (is_header_root (R w)) (With xs)) (12 + length (s ++ xs)) []))
+  pub done_comes : (xs : List ℕ) → Last w octets xs progress.Done →
+      (more : List Told) × (message S header (s ++ xs)
+      ≡ with_front more
+      (after S header section (heard_of (is_header_root (R w)) (With xs))
+      (12 + length (s ++ xs)) []))
   done_comes xs l =
       let a = last_answer xs progress.Done l in
       let last = ends_here w (s ++ l.front) (octets ++ l.front) (at_last l.front l.before) l.octet in
@@ -282,7 +309,8 @@ module _ (w : Begun) (s octets : List ℕ) (i : Inside w s octets) where
       let g = done_by S header section a.0 a.1 (12 + length (s ++ xs)) (With xs) a.2 ends in
       (before ++ g.0, behind xs ∙ (ap (with_front before) g.1 ∙ front_twice before g.0 _))
 
-  pub fault_comes : (ys : List ℕ) (n : ℕ) (why : Kind) → n ≤ length ys → Last w octets (take n ys) (progress.Fault why) →
+  pub fault_comes : (ys : List ℕ) (n : ℕ) (why : Kind) → n ≤ length ys →
+      Last w octets (take n ys) (progress.Fault why) →
       FaultedAt S header s ys n
   fault_comes ys n why within l =
       let xs = take n ys in

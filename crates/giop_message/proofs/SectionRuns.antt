@@ -38,16 +38,20 @@ use Rattle.giop_message.proofs.Runs.{Last, LinesOf, last_one, run_more, run_done
 -- ---- what a go over a run wrote
 
 -- a put failed at octets of it
-pub run_front : (S : Signatures) (number place : ℕ) (header s octets : List ℕ) (n : ℕ) (a b : OutLog) →
-    WroteFront a b (due_text S number place header s (take n octets)) → WroteFront a b (due_text S number place header s octets)
+pub run_front : (S : Signatures) (number place : ℕ) (header s octets : List ℕ) (n : ℕ)
+    (a b : OutLog) →
+    WroteFront a b (due_text S number place header s (take n octets)) →
+    WroteFront a b (due_text S number place header s octets)
 run_front S number place header s octets n a b w =
     rw (
       ← take-append-drop n octets,
       text_both S number place header s (take n octets) (drop n octets),
     ) (front-append a b _ _ w)
 
-pub run_failed : {E : Type 0} (r : Result (ℕ × Bool) E) (S : Signatures) (number place : ℕ) (header s octets : List ℕ) (a b : OutLog) → IsErr r →
-    WroteFront a b (due_text S number place header s octets) → WritesRun r S number place header s octets a b
+pub run_failed : {E : Type 0} (r : Result (ℕ × Bool) E) (S : Signatures) (number place : ℕ)
+    (header s octets : List ℕ) (a b : OutLog) → IsErr r →
+    WroteFront a b (due_text S number place header s octets) →
+    WritesRun r S number place header s octets a b
 run_failed (Ok v) S number place header s octets a b e w = absurd (false≢true e)
 run_failed (Err v) S number place header s octets a b e w = w
 
@@ -72,8 +76,10 @@ pub record Standing : Type 0 where
   pub is : m.part ≡ parts.Typed section d
   pub fits : decoders.Fits C d
 
-abbrev pub standing : {C : Table} {listed : Listed} {number : ℕ} {header : List ℕ} {m : Struct_of} {s : List ℕ} {section : Section}
-    {d : Decoder} → Follows C listed number header m s → m.part ≡ parts.Typed section d → Fits C m → Standing
+abbrev pub standing : {C : Table} {listed : Listed} {number : ℕ} {header : List ℕ} {m : Struct_of}
+    {s : List ℕ} {section : Section}
+    {d : Decoder} → Follows C listed number header m s → m.part ≡ parts.Typed section d → Fits C m →
+    Standing
 standing {C} {m = m} f is fits =
     let e = subst (FitsPart C m.at) is fits in
     record { C = C; listed = _; number = _; header = _; m = m; s = _; follows = f; section = _; d = _; is = is; fits = e }
@@ -116,19 +122,23 @@ module _ (t : Standing) where
   abbrev pub ReadWith : List ℕ → Read
   ReadWith xs = reading begun (octets_of ++ xs)
 
-  kept_id : (xs : List ℕ) (p : Progress) → LastOf xs p → (inside : Bool) → is_header section ≡ inside →
+  kept_id : (xs : List ℕ) (p : Progress) → LastOf xs p → (inside : Bool) →
+      is_header section ≡ inside →
       m.id ≡ cond inside None (id_said (told_of (message S header (s ++ xs))))
   kept_id xs p l true e = follows.id ∙ rw (is, e) refl
   kept_id xs p l false e = follows.id ∙ rw (is, e) (sym (same_id begun s octets_of inside xs p l e))
 
   -- it goes on
-  section_on : (xs : List ℕ) (p : Progress) → LastOf xs p → (n : Struct_of) (d' : Decoder) → Moved m n (length xs) →
-      n.id ≡ m.id → n.part ≡ parts.Typed section d' → ReadsWith d' xs → Follows C listed number header n (s ++ xs)
+  section_on : (xs : List ℕ) (p : Progress) → LastOf xs p → (n : Struct_of) (d' : Decoder) →
+      Moved m n (length xs) →
+      n.id ≡ m.id → n.part ≡ parts.Typed section d' → ReadsWith d' xs →
+      Follows C listed number header n (s ++ xs)
   section_on xs p l n d' move id part reads =
       follows_on follows xs move (id ∙ rw part (kept_id xs p l (is_header section) refl))
       (subst (Stands C listed number header (s ++ xs)) (sym part) (decodes begun s octets_of inside C xs d' reads))
 
-  ended_id : (xs : List ℕ) → LastOf xs progress.Done → (d' : Decoder) → ReadsWith d' xs → (id : Option ℕ) (inside : Bool) →
+  ended_id : (xs : List ℕ) → LastOf xs progress.Done → (d' : Decoder) → ReadsWith d' xs →
+      (id : Option ℕ) (inside : Bool) →
       is_header section ≡ inside → id ≡ cond inside (heard_of true (ReadWith xs)).request_id m.id →
       id ≡ id_said (told_of (message S header (s ++ xs)))
   ended_id xs l d' reads id false e id_is = id_is ∙ kept_id xs progress.Done l false e
@@ -152,10 +162,13 @@ module _ (t : Standing) where
   pub record Took (octets : List ℕ) (n : ℕ) (d' : Decoder) (p : Progress) : Type 0 where
     pub within : n ≤ length octets
     pub some : 0 < n
-    pub takes : TakesRun C opened.T (order header) (start begun) number (root_of section) d' octets_of (take n octets) p
+    pub takes : TakesRun C opened.T (order header) (start begun) number
+        (root_of section) d' octets_of (take n octets) p
 
-  abbrev pub took : {d' : Decoder} {p q : Progress} (octets : List ℕ) (n : ℕ) → n ≤ length octets → 0 < n →
-      TakesRun C opened.T (order header) (start begun) number (root_of section) d' octets_of (take n octets) q → q ≡ p →
+  abbrev pub took : {d' : Decoder} {p q : Progress} (octets : List ℕ) (n : ℕ) → n ≤ length octets →
+      0 < n →
+      TakesRun C opened.T (order header) (start begun) number (root_of section) d' octets_of
+      (take n octets) q → q ≡ p →
       Took octets n d' p
   took octets n within some takes e = record {
     within = within;
@@ -178,19 +191,23 @@ module _ {t : Standing} {octets : List ℕ} {n : ℕ} {d' : Decoder} where
       let some : 0 < length (take n octets) = omega (arith, length-take-le n octets k.within, k.some) in
       last_one (order header) (opened t).T (start (begun t)) (root_of section) (octets_of t) (take n octets) p some k.takes.answers
 
-  moved : (p : Progress) → Took t octets n d' p → (m' : Struct_of) → Moved m m' n → Moved m m' (length (take n octets))
+  moved : (p : Progress) → Took t octets n d' p → (m' : Struct_of) → Moved m m' n →
+      Moved m m' (length (take n octets))
   moved p k m' move = rw (length-take-le n octets k.within) move
 
   -- ---- their text
 
-  pub text_more : Took t octets n d' progress.More → (place : ℕ) → Text t octets n place ≡ Said t octets n
+  pub text_more : Took t octets n d' progress.More → (place : ℕ) →
+      Text t octets n place ≡ Said t octets n
   text_more k place = run_more (begun t) s (octets_of t) (inside t) (take n octets) place k.takes.answers
 
-  pub text_done : Took t octets n d' progress.Done → (place : ℕ) → Text t octets n place ≡ Said t octets n
+  pub text_done : Took t octets n d' progress.Done → (place : ℕ) →
+      Text t octets n place ≡ Said t octets n
   text_done k place = run_done (begun t) s (octets_of t) (inside t) (take n octets) place (last progress.Done k)
 
   pub text_named : Took t octets n d' progress.Named → (place : ℕ) →
-      Text t octets n place ≡ Said t octets n ++ request_call m.number m.header (heard_of true (ReadWith t (take n octets)))
+      Text t octets n place ≡ Said t octets n
+      ++ request_call m.number m.header (heard_of true (ReadWith t (take n octets)))
   text_named k place =
       let heard = heard_of true (ReadWith t (take n octets)) in
       run_named (begun t) s (octets_of t) (inside t) (take n octets) place (last progress.Named k)
@@ -206,7 +223,8 @@ module _ {t : Standing} {octets : List ℕ} {n : ℕ} {d' : Decoder} where
       ∙ ap (λ x. Said t octets n ++ fault_line x (fault_word why) (place + n)) (sym follows.same_number)
 
   -- a put failed behind those lines
-  pub failed_behind : {p : Progress} {E : Type 0} (r : Result (ℕ × Bool) E) (place : ℕ) {a b c : OutLog} {x y : List ℕ} → IsErr r →
+  pub failed_behind : {p : Progress} {E : Type 0} (r : Result (ℕ × Bool) E) (place : ℕ)
+      {a b c : OutLog} {x y : List ℕ} → IsErr r →
       Took t octets n d' p → Text t octets n place ≡ x ++ y → Wrote a b x → WroteFront b c y →
       WritesRun r (S t) number place header s octets a c
   failed_behind {p} r place {a} {b} {c} {x} {y} failed k text wrote front =
@@ -216,19 +234,26 @@ module _ {t : Standing} {octets : List ℕ} {n : ℕ} {d' : Decoder} where
   -- ---- where the message stands behind them
 
   -- where it ends an operation it is a header's
-  pub minds_header : Took t octets n d' progress.Named → decoders.Minds roots.Header d' (ReadWith t (take n octets))
+  pub minds_header : Took t octets n d' progress.Named →
+      decoders.Minds roots.Header d' (ReadWith t (take n octets))
   minds_header k =
       let in_it = run_named_in (begun t) s (octets_of t) (inside t) (take n octets) (last progress.Named k) in
       subst (λ x. decoders.Minds (root_of x) d' (ReadWith t (take n octets))) in_it k.takes.minds
 
-  pub went_on : {p : Progress} → Took t octets n d' p → (decoders.IsFault p → ⊥) → (m' : Struct_of) → Moved m m' n → m'.id ≡ m.id →
+  pub went_on : {p : Progress} → Took t octets n d' p → (decoders.IsFault p → ⊥) →
+      (m' : Struct_of) → Moved m m' n → m'.id ≡ m.id →
       m'.part ≡ parts.Typed section d' → Follows C listed number header m' (s ++ (take n octets))
   went_on {p} k going m' move id part = section_on t (take n octets) p (last p k) m' d' (moved p k m' move) id part (k.takes.reads going)
 
-  pub went_done : Took t octets n d' progress.Done → (m1 m2 : Struct_of) → Moved m m1 n → m1.id ≡ m.id →
+  pub went_done : Took t octets n d' progress.Done → (m1 m2 : Struct_of) → Moved m m1 n →
+      m1.id ≡ m.id →
       Arrives C listed number header m1 m2 (s ++ (take n octets))
-      (after (S t) header section (heard_of (is_header_root (root_of section)) (ReadWith t (take n octets))) (12 + length (s ++ (take n octets))) []) →
-      Moved m m2 n → m2.id ≡ cond (is_header section) (heard_of true (ReadWith t (take n octets))).request_id m1.id →
+      (after (S t) header section
+      (heard_of (is_header_root (root_of section)) (ReadWith t (take n octets)))
+      (12 + length (s ++ (take n octets))) []) →
+      Moved m m2 n →
+      m2.id ≡ cond (is_header section)
+      (heard_of true (ReadWith t (take n octets))).request_id m1.id →
       in_header m2.part ≡ false → Follows C listed number header m2 (s ++ (take n octets))
   went_done k m1 m2 move_1 id_1 arrives move_2 id_2 past =
       let l = last progress.Done k in
@@ -238,5 +263,6 @@ module _ {t : Standing} {octets : List ℕ} {n : ℕ} {d' : Decoder} where
       let at = is_at follows (take n octets) (moved progress.Done k m1 move_1) in
       follows_on follows (take n octets) (moved progress.Done k m2 move_2) (rw past id) (arrives at g.0 g.1)
 
-  pub went_wrong : (why : Kind) → Took t octets n d' (progress.Fault why) → FaultedAt (S t) header s octets n
+  pub went_wrong : (why : Kind) → Took t octets n d' (progress.Fault why) →
+      FaultedAt (S t) header s octets n
   went_wrong why k = fault_comes (begun t) s (octets_of t) (inside t) octets n why k.within (last (progress.Fault why) k)

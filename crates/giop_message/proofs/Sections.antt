@@ -35,11 +35,14 @@ use Rattle.giop_message.proofs.StepLines.{NoEnds, one_of}
 use Rattle.giop_message.proofs.Parts.{Begun, start, is_named, Inside, Next, Added, heard_before, next_is, added_none, added_now, lines_due, text_here}
 use Rattle.giop_decode.specs.Holding.{IsAnswer, IsFault}
 
-pub fault_is : (number place end : ℕ) (named : Bool) (kind : Kind) (r : Read) → IsAnswer end named (progress.Fault kind) r → fault_text number place r ≡ fault_line number (fault_word kind) place
+pub fault_is : (number place end : ℕ) (named : Bool) (kind : Kind) (r : Read) →
+    IsAnswer end named (progress.Fault kind) r →
+    fault_text number place r ≡ fault_line number (fault_word kind) place
 fault_is number place end named kind (Fault lines at why T) answer = ap (λ k. fault_line number (fault_word k) place) (sym answer.0)
 fault_is number place end named kind r answer = absurd answer
 
-pub no_fault : (number place end : ℕ) (named : Bool) (p : Progress) (r : Read) → IsAnswer end named p r → (IsFault p → ⊥) → fault_text number place r ≡ []
+pub no_fault : (number place end : ℕ) (named : Bool) (p : Progress) (r : Read) →
+    IsAnswer end named p r → (IsFault p → ⊥) → fault_text number place r ≡ []
 no_fault number place end named p (Done lines at rest) answer none = refl
 no_fault number place end named p (Short lines at outer leaf) answer none = refl
 no_fault number place end named progress.More (Fault lines at why T) answer none = absurd answer
@@ -57,36 +60,44 @@ or_both : (a b : Bool) → (a || b) ≡ false → (a ≡ false) × (b ≡ false)
 or_both true b e = absurd cc
 or_both false b e = (refl, e)
 
-unnamed : (is : Bool) (lines : List Line) → names_operation true lines ≡ false → Each (λ l. ends_operation is l ≡ false) lines
+unnamed : (is : Bool) (lines : List Line) → names_operation true lines ≡ false →
+    Each (λ l. ends_operation is l ≡ false) lines
 unnamed is [] e = tt
 unnamed is (l ∷ ls) e =
     let b = or_both (ends_operation true l) (names_operation true ls) e in
     (and_false is (is_member (codes "operation") l.path && ends_text l.value) b.0, unnamed is ls b.1)
 
-one_call : (number place offset at id : ℕ) (name : List ℕ) → speech_line number (place + (at - offset)) (Called id name) ≡ call_line number id name
+one_call : (number place offset at id : ℕ) (name : List ℕ) →
+    speech_line number (place + (at - offset)) (Called id name) ≡ call_line number id name
 unfolding speech_line saying_of text_of
 one_call number place offset at id name = call_said number id name
 
-call_shown : (number place offset at id : ℕ) (name : List ℕ) (test : Bool) → told_text number place offset (if test then tell at (Called id name) ∷ [] else []) ≡ (if test then call_line number id name else [])
+call_shown : (number place offset at id : ℕ) (name : List ℕ) (test : Bool) →
+    told_text number place offset (if test then tell at (Called id name) ∷ [] else [])
+    ≡ (if test then call_line number id name else [])
 unfolding told_text tell
 call_shown number place offset at id name true = append-nil _ ∙ one_call number place offset at id name
 call_shown number place offset at id name false = refl
 
-called_is : (number place offset at : ℕ) (id : Option ℕ) (name : Option (List ℕ)) → told_text number place offset (call_of at id name) ≡ called_text number id name
+called_is : (number place offset at : ℕ) (id : Option ℕ) (name : Option (List ℕ)) →
+    told_text number place offset (call_of at id name) ≡ called_text number id name
 unfolding told_text call_of called_text
 called_is number place offset at None name = refl
 called_is number place offset at (Some id) None = refl
 called_is number place offset at (Some id) (Some name) = call_shown number place offset at id name (is_shown name)
 
 -- the call of the line that ends an operation
-call_by : (is : Bool) (number place offset : ℕ) (l : Line) (h : Heard) → ends_operation true l ≡ true →
-    told_text number place offset (calls is l h) ≡ (if is then called_text number h.request_id h.name else [])
+call_by : (is : Bool) (number place offset : ℕ) (l : Line) (h : Heard) →
+    ends_operation true l ≡ true →
+    told_text number place offset (calls is l h)
+    ≡ (if is then called_text number h.request_id h.name else [])
 unfolding calls told_text
 call_by true number place offset l h e = rw e (called_is number place offset l.at h.request_id h.name)
 call_by false number place offset l h e = refl
 
 -- with one line that names it
-named_line : (n : ℕ) (lines : List Line) → OneAt n lines → names_operation true lines ≡ true → (l : Line) × (lines ≡ l ∷ []) × (ends_operation true l ≡ true)
+named_line : (n : ℕ) (lines : List Line) → OneAt n lines → names_operation true lines ≡ true →
+    (l : Line) × (lines ≡ l ∷ []) × (ends_operation true l ≡ true)
 named_line n [] one e = absurd (false≢true e)
 named_line n (l ∷ []) one e = (l, refl, or_last (ends_operation true l) e)
   where
@@ -100,7 +111,9 @@ and_last true b e = e
 and_last false b e = absurd (false≢true e)
 
 -- where a line ends an operation, what is heard is what it leaves
-muted : (lines : List Line) (st : Read) (l : Line) → NoEnds st ⊎ (in_string st ≡ false) → lines_of st ≡ l ∷ [] → ends_operation true l ≡ true → heard_of true (Spine.with_front lines st) ≡ hear true (heard true nothing lines) l
+muted : (lines : List Line) (st : Read) (l : Line) → NoEnds st ⊎ (in_string st ≡ false) →
+    lines_of st ≡ l ∷ [] → ends_operation true l ≡ true →
+    heard_of true (Spine.with_front lines st) ≡ hear true (heard true nothing lines) l
 muted lines st l closed e ends =
     let mute : in_string (Spine.with_front lines st) ≡ false = front_inside lines st ∙ go closed in
     ap (λ quiet. hushed quiet (heard true nothing (lines_of (Spine.with_front lines st)))) mute
@@ -108,7 +121,9 @@ muted lines st l closed e ends =
   where
     go : NoEnds st ⊎ (in_string st ≡ false) → in_string st ≡ false
     go (inr f) = f
-    go (inl none) = absurd (false≢true (sym (subst (λ ls. Each (λ l. ends_text l.value ≡ false) ls) e none).0 ∙ and_last (is_member (codes "operation") l.path) (ends_text l.value) ends))
+    go (inl none) =
+        absurd (false≢true (sym (subst (λ ls. Each (λ l. ends_text l.value ≡ false) ls) e none).0
+        ∙ and_last (is_member (codes "operation") l.path) (ends_text l.value) ends))
 
 never : (lines : List Line) → Each (λ l. ends_operation false l ≡ false) lines
 never [] = tt
@@ -123,19 +138,24 @@ unfolding is_request
 request_kind header e = eqb-true (kind header) 0 e
 
 -- A line that names an operation, or none, stands below a header.
-unnamed_by : (header : List ℕ) (section : Section) (lines : List Line) → names_operation (is_header_root (root_of section)) lines ≡ false →
+unnamed_by : (header : List ℕ) (section : Section) (lines : List Line) →
+    names_operation (is_header_root (root_of section)) lines ≡ false →
     Each (λ l. ends_operation (may_call header section) l ≡ false) lines
 unnamed_by header sections.Header lines e = unnamed (is_request header) lines e
 unnamed_by header section lines e = never lines
 
-named_header : (section : Section) (lines : List Line) → names_operation (is_header_root (root_of section)) lines ≡ true → section ≡ sections.Header
+named_header : (section : Section) (lines : List Line) →
+    names_operation (is_header_root (root_of section)) lines ≡ true → section ≡ sections.Header
 named_header sections.Header lines e = refl
 named_header section lines e = absurd (false≢true (sym (none_named lines) ∙ e))
 
 -- the call of a step's line
-call_here : (number place offset : ℕ) (header : List ℕ) (section : Section) (before : List Line) (st : Read) (n : ℕ) → OneAt n (lines_of st) → NoEnds st ⊎ (in_string st ≡ false) →
+call_here : (number place offset : ℕ) (header : List ℕ) (section : Section) (before : List Line)
+    (st : Read) (n : ℕ) → OneAt n (lines_of st) → NoEnds st ⊎ (in_string st ≡ false) →
     names_operation (is_header_root (root_of section)) (lines_of st) ≡ true →
-    told_text number place offset (first_call (root_of section) (may_call header section) (heard (is_header_root (root_of section)) nothing before) (lines_of st))
+    told_text number place offset
+    (first_call (root_of section) (may_call header section)
+    (heard (is_header_root (root_of section)) nothing before) (lines_of st))
     ≡ request_call number header (heard_of true (Spine.with_front before st))
 unfolding request_call
 call_here number place offset header sections.Header before st n one closed named =
@@ -146,20 +166,25 @@ call_here number place offset header sections.Header before st n one closed name
     ∙ ap (λ h. if is_request header then called_text number h.request_id h.name else []) (sym (muted before st x.0 closed x.1 x.2)))
 call_here number place offset header section before st n one closed named = absurd (false≢true (sym (none_named (lines_of st)) ∙ named))
 
-done_is : (end : ℕ) (named : Bool) (st : Read) (lines : List Line) → decoders.IsAnswer end named progress.Done (Spine.with_front lines st) → done_test st ≡ true
+done_is : (end : ℕ) (named : Bool) (st : Read) (lines : List Line) →
+    decoders.IsAnswer end named progress.Done (Spine.with_front lines st) → done_test st ≡ true
 done_is end named (Done ls at rest) lines answer = refl
 done_is end named r lines answer = absurd answer
 
-none_faulted : (is : Bool) (end : ℕ) (named : Bool) (kind : Kind) (st : Read) (lines : List Line) → decoders.IsAnswer end named (progress.Fault kind) (Spine.with_front lines st) → CallsNone is st →
+none_faulted : (is : Bool) (end : ℕ) (named : Bool) (kind : Kind) (st : Read) (lines : List Line) →
+    decoders.IsAnswer end named (progress.Fault kind) (Spine.with_front lines st) →
+    CallsNone is st →
     Each (λ l. ends_operation is l ≡ false) (lines_of st)
 none_faulted is end named kind (Fault ls at why U) lines answer none = none
 none_faulted is end named kind r lines answer none = absurd answer
 
-more_unnamed : (end : ℕ) (named : Bool) (r : Read) → decoders.IsAnswer end named progress.More r → named ≡ false
+more_unnamed : (end : ℕ) (named : Bool) (r : Read) → decoders.IsAnswer end named progress.More r →
+    named ≡ false
 more_unnamed end named (Short lines at outer leaf) answer = answer
 more_unnamed end named r answer = absurd answer
 
-named_is : (end : ℕ) (named : Bool) (r : Read) → decoders.IsAnswer end named progress.Named r → named ≡ true
+named_is : (end : ℕ) (named : Bool) (r : Read) → decoders.IsAnswer end named progress.Named r →
+    named ≡ true
 named_is end named (Short lines at outer leaf) answer = answer
 named_is end named r answer = absurd answer
 
@@ -171,7 +196,8 @@ sound_by w s octets i found =
     (subst (Sound w.T (start w + length octets)) i.was_short reads).1
 
 -- the encapsulations that it stands in are of their types
-holds_by : (w : Begun) (s octets : List ℕ) (i : Inside w s octets) → w.section ≡ sections.Header → AllHold i.outer
+holds_by : (w : Begun) (s octets : List ℕ) (i : Inside w s octets) → w.section ≡ sections.Header →
+    AllHold i.outer
 holds_by w s octets i e = fits_hold i.outer w.T i.leaf (sound_by w s octets i (subst (λ x. IsFirst w.header x w.T w.before) e i.first).0)
 
 -- ---- an octet of a message
@@ -219,10 +245,12 @@ module _ (w : Begun) (s octets : List ℕ) (i : Inside w s octets) (b : ℕ) whe
   ends_by : done_test St ≡ true → Silences
   ends_by done = go section i.first
     where
-      go : (x : Section) → IsFirst header x T w.before → Each (λ l. ends_operation (may_call header x) l ≡ false) (lines_of St)
+      go : (x : Section) → IsFirst header x T w.before →
+          Each (λ l. ends_operation (may_call header x) l ≡ false) (lines_of St)
       go sections.Header first = of_header (is_request header) refl
         where
-          of_header : (is : Bool) → is_request header ≡ is → Each (λ l. ends_operation is l ≡ false) (lines_of St)
+          of_header : (is : Bool) → is_request header ≡ is →
+              Each (λ l. ends_operation is l ≡ false) (lines_of St)
           of_header false r = never (lines_of St)
           of_header true r =
               let found = subst (λ k. header_type (minor header) k ≡ Some T) (request_kind header r) first.0 in
@@ -274,7 +302,8 @@ module _ (w : Begun) (s octets : List ℕ) (i : Inside w s octets) (b : ℕ) whe
   pub named_in : Is progress.Named → section ≡ sections.Header
   named_in answer = named_header section _ (named_is End Names Behind answer)
 
-  pub named_text : Is progress.Named → (place : ℕ) → Due place ≡ Lines ++ request_call number header (heard_of true Behind)
+  pub named_text : Is progress.Named → (place : ℕ) →
+      Due place ≡ Lines ++ request_call number header (heard_of true Behind)
   named_text answer place =
       let now = added_now w s octets i b in
       let named = subst (λ ls. names_operation (is_header_root R) ls ≡ true) (lines_due w s octets i b) (named_is End Names Behind answer) in

@@ -66,11 +66,13 @@ module _ (n : ℕ) (path : List Seg) where
   bare : (r : Read) → lines_of r ≡ [] → OneSays r
   bare r e one = record { are = rw e tt; firm = inl (rw e tt) }
 
-  done_says : (v : Spine.Value) (at : ℕ) (rest : List ℕ) → OneSays (Done (line at path v ∷ []) at rest)
+  done_says : (v : Spine.Value) (at : ℕ) (rest : List ℕ) →
+      OneSays (Done (line at path v ∷ []) at rest)
   done_says v at rest one = record { are = (at_path path at v, tt); firm = inr (refl, refl) }
 
   -- a line that ends no string, and what comes behind it
-  front_says : (l : Line) (r : Read) → IsOf path l → ends_text l.value ≡ false → OneSays (with_front (l ∷ []) r)
+  front_says : (l : Line) (r : Read) → IsOf path l → ends_text l.value ≡ false →
+      OneSays (with_front (l ∷ []) r)
   front_says l r of no_end one =
       let alone = go (lines_of r) (rw lines_front at one) in
       record { are = rw (lines_front, alone) (of, tt); firm = inl (rw (lines_front, alone) (no_end, tt)) }
@@ -79,7 +81,8 @@ module _ (n : ℕ) (path : List Seg) where
       go [] h = refl
       go (x ∷ ls) h = absurd h
 
-  unless_says : (T : Ty) (why : Option Kind) (at : ℕ) (r : Read) → OneSays r → OneSays (unless T why at r)
+  unless_says : (T : Ty) (why : Option Kind) (at : ℕ) (r : Read) → OneSays r →
+      OneSays (unless T why at r)
   unless_says T None at r h = h
   unless_says T (Some kind) at r h = bare (Fault [] at kind T) refl
 
@@ -89,17 +92,20 @@ module _ (n : ℕ) (path : List Seg) where
       let v = Piece T offset (take (total - offset) xs) false in
       unless_says T (ends T (total - offset) xs) at (Done (line at path v ∷ []) at rest) (done_says v at rest)
 
-  full_says : (T : Ty) (total offset : ℕ) (next : ℕ → List ℕ → Read) (g : Grab) → OneSays (full_piece T path total offset next g)
+  full_says : (T : Ty) (total offset : ℕ) (next : ℕ → List ℕ → Read) (g : Grab) →
+      OneSays (full_piece T path total offset next g)
   full_says T total offset next (Waiting piece at) = bare _ refl
   full_says T total offset next (Got xs at rest) =
       front_says (line at path (Piece T offset xs true)) (next at rest) (at_path path at _) (more_no_end T offset xs)
 
-  content_says : (T : Ty) (total full offset at : ℕ) (s : List ℕ) → OneSays (content T path total full offset at s)
+  content_says : (T : Ty) (total full offset at : ℕ) (s : List ℕ) →
+      OneSays (content T path total full offset at s)
   content_says T total zero offset at s = last_says T total offset (block (total - offset + tail T) at s)
   content_says T total (suc full) offset at s = full_says T total offset (content T path total full (offset + 32)) (block 32 at s)
 
   -- what follows a number
-  after_says : (coding : Coding) (T : Ty) (k at : ℕ) (s : List ℕ) → OneSays (after coding path T k at s)
+  after_says : (coding : Coding) (T : Ty) (k at : ℕ) (s : List ℕ) →
+      OneSays (after coding path T k at s)
   after_says coding (Single scalar) k at s =
       unless_says (Single scalar) (wrong scalar k) at (Done (line at path (Spine.Number scalar k) ∷ []) at s) (done_says _ at s)
   after_says coding (Text bound) zero at s = done_says (Piece (Text bound) 0 [] false) at s
@@ -124,7 +130,8 @@ module _ (n : ℕ) (path : List Seg) where
   headed_says coding T (Got xs at rest) = after_says coding T (num coding.order xs) at rest
 
   -- the octet with a byte order
-  opening_says : (T : Ty) (origin k : ℕ) (g : Grab) → OneSays (opening path T (held path T) origin k g)
+  opening_says : (T : Ty) (origin k : ℕ) (g : Grab) →
+      OneSays (opening path T (held path T) origin k g)
   opening_says T origin k (Waiting none at) = bare _ refl
   opening_says T origin k (Got xs at rest) = go (order_of (get_or xs 0 0))
     where
@@ -140,12 +147,14 @@ module _ (n : ℕ) (path : List Seg) where
       next : ℕ → List ℕ → Read
       next = content T path total (full_pieces (total - (offset + 32))) (offset + 32)
 
-      go : (test : Bool) → OneSays (cond test (full_piece T path total offset next (block_step 32 at piece b))
+      go : (test : Bool) →
+          OneSays (cond test (full_piece T path total offset next (block_step 32 at piece b))
           (last_piece T path total offset (block_step (total - offset + tail T) at piece b)))
       go true = full_says T total offset next (block_step 32 at piece b)
       go false = last_says T total offset (block_step (total - offset + tail T) at piece b)
 
-pub leaf_says : (coding : Coding) (path : List Seg) (leaf : Leaf) (at b : ℕ) → Says path (leaf_step coding path leaf at b)
+pub leaf_says : (coding : Coding) (path : List Seg) (leaf : Leaf) (at b : ℕ) →
+    Says path (leaf_step coding path leaf at b)
 leaf_says coding path leaf at b =
     leaf_one (at + 1) path coding leaf at b (one_of (at + 1) (leaf_step coding path leaf at b) (step_now coding path [] leaf at b))
 
@@ -157,10 +166,12 @@ quiet_bare n (Short lines at outer leaf) k = k.0
 quiet_bare n (Fault lines at why S) k = absurd k
 
 -- lines, and then a reading that has none
-lines_alone : (n : ℕ) (lines : List Line) (r : Read) → Quiet n r → lines_of (with_front lines r) ≡ lines
+lines_alone : (n : ℕ) (lines : List Line) (r : Read) → Quiet n r →
+    lines_of (with_front lines r) ≡ lines
 lines_alone n lines r k = lines_front lines r ∙ (ap (λ ls. lines ++ ls) (quiet_bare n r k) ∙ append-nil lines)
 
-lines_followed : (n : ℕ) (r : Read) (next : ℕ → List ℕ → Read) → Now n r → Quiet n (next n []) → lines_of (followed r next) ≡ lines_of r
+lines_followed : (n : ℕ) (r : Read) (next : ℕ → List ℕ → Read) → Now n r → Quiet n (next n []) →
+    lines_of (followed r next) ≡ lines_of r
 lines_followed n (Done lines at rest) next h k = rw (h.1, h.2) (lines_alone n lines (next n []) k)
 lines_followed n r next h k = refl
 
@@ -168,22 +179,29 @@ lines_within : (place : Place) (r : Read) → lines_of (within place r) ≡ line
 lines_within place (Done lines at rest) = refl
 lines_within place r = refl
 
-lines_enclosed : (n : ℕ) (path : List Seg) (T : Ty) (inner : Coding) (end : ℕ) (r : Read) → Now n r → lines_of (enclosed path T inner end r []) ≡ lines_of r
+lines_enclosed : (n : ℕ) (path : List Seg) (T : Ty) (inner : Coding) (end : ℕ) (r : Read) →
+    Now n r → lines_of (enclosed path T inner end r []) ≡ lines_of r
 lines_enclosed n path T inner end (Done lines at rest) h =
     rw (h.1, h.2) (lines_alone n lines (rest_of path T (end - n) n []) (rest_quiet n path T (end - n)))
 lines_enclosed n path T inner end (Short lines at outer leaf) h = go (ltb at end)
   where
-    go : (test : Bool) → lines_of (cond test (Short lines at (Inside T inner end ∷ outer) leaf) (Fault lines at kinds.EncapShort (cut_off leaf))) ≡ lines
+    go : (test : Bool) →
+        lines_of
+        (cond test (Short lines at (Inside T inner end ∷ outer) leaf)
+        (Fault lines at kinds.EncapShort (cut_off leaf))) ≡ lines
     go true = refl
     go false = refl
 lines_enclosed n path T inner end (Fault lines at why S) h = refl
 
-lines_step : (coding : Coding) (path : List Seg) (outer : List Place) (leaf : Leaf) (at b : ℕ) → lines_of (step coding path outer leaf at b) ≡ lines_of (leaf_step (coding_in coding outer) (path_in path outer) leaf at b)
+lines_step : (coding : Coding) (path : List Seg) (outer : List Place) (leaf : Leaf) (at b : ℕ) →
+    lines_of (step coding path outer leaf at b)
+    ≡ lines_of (leaf_step (coding_in coding outer) (path_in path outer) leaf at b)
 lines_step coding path [] leaf at b = refl
 lines_step coding path (Part T i count ∷ outer) leaf at b =
     let inner = step coding (path ++ seg_of T i ∷ []) outer leaf at b in
     lines_followed (at + 1) (within (Part T i count) inner) (parts_from (part_at coding path T count) (count - suc i) (suc i))
-    (now_within (at + 1) (Part T i count) inner (step_now coding (path ++ seg_of T i ∷ []) outer leaf at b)) (parts_quiet coding path T count (at + 1) (count - suc i) (suc i))
+    (now_within (at + 1) (Part T i count) inner (step_now coding (path ++ seg_of T i ∷ []) outer leaf at b))
+    (parts_quiet coding path T count (at + 1) (count - suc i) (suc i))
     ∙ (lines_within (Part T i count) inner ∙ lines_step coding (path ++ seg_of T i ∷ []) outer leaf at b)
 lines_step coding path (Member T i ∷ outer) leaf at b =
     lines_within (Member T i) (step coding (path ++ seg_of T i ∷ []) outer leaf at b) ∙ lines_step coding (path ++ seg_of T i ∷ []) outer leaf at b
@@ -193,6 +211,8 @@ lines_step coding path (Inside T inner end ∷ outer) leaf at b =
     ∙ lines_step inner (path ++ Held ∷ []) outer leaf at b
 
 -- The lines of a step are of its innermost part.
-pub step_of : (coding : Coding) (path : List Seg) (outer : List Place) (leaf : Leaf) (at b : ℕ) → AreOf (path_in path outer) (step coding path outer leaf at b)
+pub step_of : (coding : Coding) (path : List Seg) (outer : List Place) (leaf : Leaf) (at b : ℕ) →
+    AreOf (path_in path outer) (step coding path outer leaf at b)
 step_of coding path outer leaf at b =
-    subst (λ ls. Each (IsOf (path_in path outer)) ls) (sym (lines_step coding path outer leaf at b)) (leaf_says (coding_in coding outer) (path_in path outer) leaf at b).are
+    subst (λ ls. Each (IsOf (path_in path outer)) ls) (sym (lines_step coding path outer leaf at b))
+    (leaf_says (coding_in coding outer) (path_in path outer) leaf at b).are

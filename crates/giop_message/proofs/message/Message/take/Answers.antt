@@ -25,7 +25,9 @@ returns-in_err-count-clause-writes g c number header s f =
     let octets = c.args.octets.now in
     let before = c.loop-taken.invariant in
     let now = rw (rest_from t octets) at (c.in_err-count.ensures.writes number header (s ++ take t octets) (before.follows number header s f)) in
-    let whole = ap (due_text S number c.args.place header s) (sym (take-append-drop t octets)) ∙ text_so_far S number c.args.place header s octets t (drop t octets) before.within in
+    let whole =
+    ap (due_text S number c.args.place header s) (sym (take-append-drop t octets))
+    ∙ text_so_far S number c.args.place header s octets t (drop t octets) before.within in
     rw (whole) (writes_failed _ _ _ _ c.from_residual.ensures.0 (wrote-front _ _ _ _ _ (before.text number header s f) now))
 
 pub returns-then-is_over-clause-writes : goal.returns-then-is_over-clause-writes
@@ -41,7 +43,12 @@ returns-then-is_over-clause-writes g c number header s f =
     let text = rw (rest_from t octets) at (c.in_ok-count.ensures.writes number header (s ++ take t octets) follows) in
     let went = rw (rest_from t octets, c.if-is_over.true) at (c.in_ok-count.ensures.went number header (s ++ take t octets) follows) in
     let over = faulted_behind S header s octets t n before.within went in
-    rw (text_ended S number c.args.place header s octets (t + n) over.here, take-add t n octets, text_so_far S number c.args.place header s octets t (take n (drop t octets)) before.within)
+    rw (
+      text_ended S number c.args.place header s octets (t + n) over.here,
+      take-add t n octets,
+      text_so_far S number c.args.place header s octets t
+          (take n (drop t octets)) before.within,
+    )
     (wrote-append _ _ _ _ _ (before.text number header s f) text)
 
 pub returns-then-is_over-clause-took : goal.returns-then-is_over-clause-took
@@ -50,7 +57,8 @@ returns-then-is_over-clause-took g c number header s f =
     let t = c.loop-taken.taken in
     let octets = c.args.octets.now in
     let before = c.loop-taken.invariant in
-    let went = rw (rest_from t octets, c.if-is_over.true) at (c.in_ok-count.ensures.went number header (s ++ take t octets) (before.follows number header s f)) in
+    let went =
+    rw (rest_from t octets, c.if-is_over.true) at (c.in_ok-count.ensures.went number header (s ++ take t octets) (before.follows number header s f)) in
     faulted_behind S header s octets t c.in_ok-count.count before.within went
 
 pub loop-taken-preserved : goal.loop-taken-preserved
@@ -68,7 +76,8 @@ loop-taken-preserved g c =
       fits = c.in_ok-count.ensures.fits c.if-is_over.false;
       at = omega (arith, c.in_ok-count.ensures.at, before.at);
       follows = λ number header s f.
-          let went = rw (rest_from t octets, c.if-is_over.false) at (c.in_ok-count.ensures.went number header (s ++ take t octets) (before.follows number header s f)) in
+          let went =
+          rw (rest_from t octets, c.if-is_over.false) at (c.in_ok-count.ensures.went number header (s ++ take t octets) (before.follows number header s f)) in
           rw (take-add t n octets, ← append_assoc s (take t octets) (take n (drop t octets))) went;
       text = λ number header s f.
           let text = rw (rest_from t octets) at (c.in_ok-count.ensures.writes number header (s ++ take t octets) (before.follows number header s f)) in

@@ -34,7 +34,8 @@ returns-in_err-call-in-Named-clause-writes g c number header s f =
     let ran = c.in_ok-taken-in-Typed.ensures in
     let k = took t c.args.octets.now c.in_ok-taken-in-Typed.taken ran.within (ran.some c.requires.some) (by_reads t ran.takes) c.in-Named.is in
     let called = c.in_err-call-in-Named.ensures (ReadWith t (take c.in_ok-taken-in-Typed.taken c.args.octets.now)) (minds_header k) in
-    failed_behind c.from_residual-in_err-call-in-Named.result c.args.place c.from_residual-in_err-call-in-Named.ensures.0 k (text_named k c.args.place) (by_reads t ran.writes) called
+    failed_behind c.from_residual-in_err-call-in-Named.result c.args.place c.from_residual-in_err-call-in-Named.ensures.0 k (text_named k c.args.place)
+    (by_reads t ran.writes) called
 
 pub returns-in_ok-call-in-Named-clause-writes : goal.returns-in_ok-call-in-Named-clause-writes
 returns-in_ok-call-in-Named-clause-writes g c number header s f =
@@ -75,7 +76,8 @@ returns-in_err-fault_line-in-Fault-clause-writes g c number header s f =
     let ran = c.in_ok-taken-in-Typed.ensures in
     let k = took t c.args.octets.now c.in_ok-taken-in-Typed.taken ran.within (ran.some c.requires.some) (by_reads t ran.takes) c.in-Fault.is in
     let told = rw c.fault_word.ensures at c.in_err-fault_line-in-Fault.ensures in
-    failed_behind c.from_residual-in_err-fault_line-in-Fault.result c.args.place c.from_residual-in_err-fault_line-in-Fault.ensures.0 k (text_wrong c.in-Fault.kind k c.args.place) (by_reads t ran.writes) told
+    failed_behind c.from_residual-in_err-fault_line-in-Fault.result c.args.place c.from_residual-in_err-fault_line-in-Fault.ensures.0 k
+    (text_wrong c.in-Fault.kind k c.args.place) (by_reads t ran.writes) told
 
 pub returns-in_ok-fault_line-in-Fault-clause-writes : goal.returns-in_ok-fault_line-in-Fault-clause-writes
 returns-in_ok-fault_line-in-Fault-clause-writes g c number header s f =

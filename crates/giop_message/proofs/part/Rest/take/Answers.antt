@@ -27,12 +27,14 @@ pub returns-clause-writes : goal.returns-clause-writes
 returns-clause-writes g c place offset at =
     let m = c.args.self.now in
     let octets = c.args.octets.now in
-    let full : length (m.held.items ++ octets) ≡ 32 = omega (arith, length-append m.held.items octets, c.if-octets-room.false, c.room.ensures, c.requires.room) in
+    let full : length (m.held.items ++ octets) ≡ 32 =
+    omega (arith, length-append m.held.items octets, c.if-octets-room.false, c.room.ensures, c.requires.room) in
     rw (full_told c.args.number place offset at m.offset (m.held.items ++ octets) full, ← c.as_slice.ensures.value) c.split_rest_line-written.ensures
 
 pub returns-clause-holds : goal.returns-clause-holds
 returns-clause-holds g c = on_any c.split_rest_line-written.result _ (λ at.
     let m = c.args.self.now in
     let octets = c.args.octets.now in
-    let full : length (m.held.items ++ octets) ≡ 32 = omega (arith, length-append m.held.items octets, c.if-octets-room.false, c.room.ensures, c.requires.room) in
+    let full : length (m.held.items ++ octets) ≡ 32 =
+    omega (arith, length-append m.held.items octets, c.if-octets-room.false, c.room.ensures, c.requires.room) in
     rw (c.clear.ensures) (full_stage at m.offset (m.held.items ++ octets) full))
