@@ -105,8 +105,7 @@ or_of a b c e = ap (λ (d : Bool). a || d) e
 any_both : (xs ys : List Told) → list_any is_wrong (xs ++ ys)
     ≡ (list_any is_wrong xs || list_any is_wrong ys)
 any_both [] ys = refl
-any_both (x ∷ xs) ys =
-    or_of (is_wrong x) (list_any is_wrong (xs ++ ys)) (list_any is_wrong xs || list_any is_wrong ys) (any_both xs ys)
+any_both (x ∷ xs) ys = or_of (is_wrong x) (list_any is_wrong (xs ++ ys)) (list_any is_wrong xs || list_any is_wrong ys) (any_both xs ys)
     ∙ or_more (is_wrong x) (list_any is_wrong xs) (list_any is_wrong ys)
   where
     or_more : (a b c : Bool) → (a || (b || c)) ≡ ((a || b) || c)

@@ -31,10 +31,7 @@ closes_say Over = inr (inl refl)
 -- a close that ends has no more of the rest
 ends_only : (stage : Stage) → Sayings (close stage) ≡ End ∷ [] →
     Sayings (close stage) ≡ Rest ∷ End ∷ [] → ⊥
-ends_only stage e f = clash (rw e at f)
-  where
-    clash : End ∷ [] ≡ Rest ∷ End ∷ [] → ⊥
-    clash e = absurd cc
+ends_only stage e f = absurd cc
 
 pub is_closing : (S : Signatures) → IsClosing (reading_by S)
 unfolding reading_by saying_of close

@@ -129,14 +129,6 @@ has_some header few = go (kind header) few
     go (suc zero) h = refl
     go (suc (suc k)) h = absurd (omega arith)
 
-has_request : (header : List ℕ) → kind header ≡ 0 → has_body header ≡ true
-unfolding has_body
-has_request header e = rw e refl
-
-has_reply : (header : List ℕ) → kind header ≡ 1 → has_body header ≡ true
-unfolding has_body
-has_reply header e = rw e refl
-
 pub has_none : (header : List ℕ) → (kind header ≡ 0 → ⊥) → (kind header ≡ 1 → ⊥) →
     has_body header ≡ false
 unfolding has_body
@@ -144,13 +136,13 @@ has_none header f g = rw (ne_eqb (kind header) 0 f, ne_eqb (kind header) 1 g) re
 
 pub request_wants : (S : Signatures) (header : List ℕ) (h : Heard) → kind header ≡ 0 →
     wanted_after S header sections.Header h ≡ request_body S h.name
-unfolding body_of is_request
-request_wants S header h e = rw (has_request header e, e) refl
+unfolding has_body body_of is_request
+request_wants S header h e = rw e refl
 
 pub reply_wants : (S : Signatures) (header : List ℕ) (h : Heard) → kind header ≡ 1 →
     wanted_after S header sections.Header h ≡ reply_body S h.request_id h.status
-unfolding body_of is_request
-reply_wants S header h e = rw (has_reply header e, e) refl
+unfolding has_body body_of is_request
+reply_wants S header h e = rw e refl
 
 pub others_want : (S : Signatures) (header : List ℕ) (h : Heard) → (kind header ≡ 0 → ⊥) →
     (kind header ≡ 1 → ⊥) → wanted_after S header sections.Header h ≡ Untyped

@@ -8,14 +8,12 @@ use Rattle.giop_message.proofs.message.Message.take.Goals as goal
 
 pub loop-taken-init : goal.loop-taken-init
 loop-taken-init g c =
-    let C = c.args.catalogue.now in
-    let listed = c.args.requests.now in
     record {
       within = omega arith;
       fits = c.requires.fits;
       at = omega arith;
-      follows = λ number header s f. subst (Follows C listed number header c.args.self.now) (sym (append-nil s)) f;
-      text = λ number header s f. rw (text_none (said_by C listed) number c.args.place header s) (wrote-nil _);
+      follows = λ number header s f. rw append-nil f;
+      text = λ number header s f. rw (text_none _ number c.args.place header s) (wrote-nil _);
     }
 
 pub returns-in_err-count-clause-writes : goal.returns-in_err-count-clause-writes
@@ -32,9 +30,7 @@ returns-in_err-count-clause-writes g c number header s f =
 
 pub returns-then-is_over-clause-writes : goal.returns-then-is_over-clause-writes
 returns-then-is_over-clause-writes g c number header s f =
-    let C = c.args.catalogue.now in
-    let listed = c.args.requests.now in
-    let S = said_by C listed in
+    let S = said_by c.args.catalogue.now c.args.requests.now in
     let t = c.loop-taken.taken in
     let n = c.in_ok-count.count in
     let octets = c.args.octets.now in
@@ -43,12 +39,8 @@ returns-then-is_over-clause-writes g c number header s f =
     let text = rw (rest_from t octets) at (c.in_ok-count.ensures.writes number header (s ++ take t octets) follows) in
     let went = rw (rest_from t octets, c.if-is_over.true) at (c.in_ok-count.ensures.went number header (s ++ take t octets) follows) in
     let over = faulted_behind S header s octets t n before.within went in
-    rw (
-      text_ended S number c.args.place header s octets (t + n) over.here,
-      take-add t n octets,
-      text_so_far S number c.args.place header s octets t
-          (take n (drop t octets)) before.within,
-    )
+    let so_far = text_so_far S number c.args.place header s octets t (take n (drop t octets)) before.within in
+    rw (text_ended S number c.args.place header s octets (t + n) over.here, take-add t n octets, so_far)
     (wrote-append _ _ _ _ _ (before.text number header s f) text)
 
 pub returns-then-is_over-clause-took : goal.returns-then-is_over-clause-took
@@ -63,9 +55,7 @@ returns-then-is_over-clause-took g c number header s f =
 
 pub loop-taken-preserved : goal.loop-taken-preserved
 loop-taken-preserved g c =
-    let C = c.args.catalogue.now in
-    let listed = c.args.requests.now in
-    let S = said_by C listed in
+    let S = said_by c.args.catalogue.now c.args.requests.now in
     let t = c.loop-taken.taken in
     let n = c.in_ok-count.count in
     let octets = c.args.octets.now in
@@ -87,14 +77,8 @@ loop-taken-preserved g c =
 
 pub returns-clause-writes : goal.returns-clause-writes
 returns-clause-writes g c number header s f =
-    let octets = c.args.octets.now in
-    let t = c.loop-taken.taken in
-    let whole : take t octets ≡ octets = take_all t octets c.loop-taken-test.false in
-    rw (whole) at (c.loop-taken.invariant.text number header s f)
+    rw (take_all c.loop-taken.taken c.args.octets.now c.loop-taken-test.false) at (c.loop-taken.invariant.text number header s f)
 
 pub returns-clause-took : goal.returns-clause-took
 returns-clause-took g c number header s f =
-    let octets = c.args.octets.now in
-    let t = c.loop-taken.taken in
-    let whole : take t octets ≡ octets = take_all t octets c.loop-taken-test.false in
-    rw (whole) at (c.loop-taken.invariant.follows number header s f)
+    rw (take_all c.loop-taken.taken c.args.octets.now c.loop-taken-test.false) at (c.loop-taken.invariant.follows number header s f)
