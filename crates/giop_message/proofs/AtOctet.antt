@@ -164,8 +164,7 @@ each_remark number place n (t ∷ ts) =
     rw e (ap (λ z. saying_line (place + ((t.at - 12) - n)) number (saying_of t.speech) (text_of t.speech) ++ z) (each_remark number place n ts))
 
 pub text_is : (S : Signatures) (number place : ℕ) (header s more : List ℕ) →
-    due_text S number place header s more
-    ≡ remarks_text number place (length s)
+    due_text S number place header s more ≡ remarks_text number place (length s)
     (drop (length ((reading_by S).reads header s)) ((reading_by S).reads header (s ++ more)))
 unfolding due_text told_text due reading_by
 text_is S number place header s more =

@@ -136,8 +136,7 @@ module _ (S : Signatures) (header : List ℕ) where
   unfolding padded
   padded_silent t silent n = go (cases_lt 0 (padding n 8))
     where
-      go : (0 < padding n 8) ⊎ (padding n 8 ≤ 0) →
-          Silent n
+      go : (0 < padding n 8) ⊎ (padding n 8 ≤ 0) → Silent n
           (if nat_lt 0 (padding n 8) then Comes [] (n + 0) (In_padding t)
           else body S header t (n + padding n 8) (drop (padding n 8) []))
       go (inl h) = rw (lt-ltb 0 (padding n 8) h) (refl, add-zero n)
@@ -170,8 +169,7 @@ step_prompt S header at (In_typed section k outer leaf) b =
     (step_none (may_call header section) (plain (order header)) [] outer leaf at b)
 step_prompt S header at (In_padding t) b = go (nat_lt 1 (padding at 8))
   where
-    go : (test : Bool) →
-        Prompt (at + 1)
+    go : (test : Bool) → Prompt (at + 1)
         (if test then Comes [] (at + 1) (In_padding t) else body S header t (at + 1) [])
     go true = ((tt, inl refl), inl refl)
     go false = silent_prompt (at + 1) (body S header t (at + 1) []) (body_silent S header t (at + 1))
@@ -229,8 +227,7 @@ one_more S header n (Comes told at stage) b (inl h) = go (message_step S header 
     go (Comes more at' stage') k = (more, refl, rw (← h) k.0)
 one_more S header n (Comes told at stage) b (inr h) = ([], rw h refl, (tt, inl refl))
 
-pub told_begins : (S : Signatures) (header xs more : List ℕ) →
-    (later : List Told)
+pub told_begins : (S : Signatures) (header xs more : List ℕ) → (later : List Told)
     × (told_of (message S header (xs ++ more)) ≡ told_of (message S header xs) ++ later)
     × Behind (12 + length xs) later
 told_begins S header xs [] = ([], ap (λ s. told_of (message S header s)) (append-nil xs) ∙ sym (append-nil (told_of (message S header xs))), tt)

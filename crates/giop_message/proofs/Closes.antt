@@ -53,8 +53,7 @@ other a b h = ((h, tt), (tt, tt))
 
 -- one line and those of a close, which are of other kinds
 one_apart : (a : Saying) (sayings : List Saying) → AtClose sayings → a ≢ Fault → a ≢ End →
-    a ≢ Rest →
-    AreApart (a ∷ sayings)
+    a ≢ Rest → AreApart (a ∷ sayings)
 one_apart a sayings (inl e) f g h = rw e (other a Fault f)
 one_apart a sayings (inr (inl e)) f g h = rw e (other a End g)
 one_apart a sayings (inr (inr e)) f g h = rw e ((h, (g, tt)), (((λ k. cc), tt), (tt, tt)))
@@ -71,8 +70,7 @@ call_apart sayings (inr (inr e)) =
     rw e (((λ k. cc), ((λ k. cc), ((λ k. cc), tt))), one_apart Call (Rest ∷ End ∷ []) (inr (inr refl)) (λ k. cc) (λ k. cc) (λ k. cc))
 
 turn_apart : (sayings : List Saying) (stage : Stage) → InTurn sayings → Leaves sayings stage →
-    AtClose (Sayings (close stage)) →
-    AreApart (sayings ++ Sayings (close stage))
+    AtClose (Sayings (close stage)) → AreApart (sayings ++ Sayings (close stage))
 turn_apart sayings stage (inl e) h closed = rw e (close_apart (Sayings (close stage)) closed)
 turn_apart sayings stage (inr (inl e)) h closed =
     rw e (one_apart Value (Sayings (close stage)) closed (λ k. cc) (λ k. cc) (λ k. cc))
@@ -84,8 +82,7 @@ turn_apart sayings stage (inr (inr (inr (inr (inl e))))) h closed =
 turn_apart sayings stage (inr (inr (inr (inr (inr e))))) h closed =
     rw (leaves_end sayings stage h (inr (ap (list_any is_fault) e)), e) (((λ k. cc), ((λ k. cc), tt)), other Fault End (λ k. cc))
 
-octet_apart : (S : Signatures) (header xs : List ℕ) (x : ℕ) →
-    AreApart
+octet_apart : (S : Signatures) (header xs : List ℕ) (x : ℕ) → AreApart
     (map (λ r. r.saying) (said.due (reading_by S) header xs x)
     ++ map (λ l. l.0) ((reading_by S).closes header (xs ++ x ∷ [])))
 unfolding reading_by

@@ -40,8 +40,7 @@ due_behind S header s more =
     subst (Behind (12 + length s)) (sym (ap (drop (length (told_of (message S header s)))) g.1 ∙ drop-append_seam (told_of (message S header s)) g.0)) g.2
 
 pub text_both : (S : Signatures) (number place : ℕ) (header s xs ys : List ℕ) →
-    due_text S number place header s (xs ++ ys)
-    ≡ due_text S number place header s xs
+    due_text S number place header s (xs ++ ys) ≡ due_text S number place header s xs
     ++ due_text S number (place + length xs) header (s ++ xs) ys
 unfolding due_text told_text
 text_both S number place header s xs ys =
@@ -87,8 +86,7 @@ text_over S number place header s more e =
 -- ---- the octets so far, and more of them
 
 pub text_so_far : (S : Signatures) (number place : ℕ) (header s octets : List ℕ) (i : ℕ)
-    (more : List ℕ) → i ≤ length octets →
-    due_text S number place header s (take i octets ++ more)
+    (more : List ℕ) → i ≤ length octets → due_text S number place header s (take i octets ++ more)
     ≡ due_text S number place header s (take i octets)
     ++ due_text S number (place + i) header (s ++ take i octets) more
 text_so_far S number place header s octets i more h =

@@ -85,8 +85,7 @@ module _ (S : Signatures) (header : List ℕ) where
   unfolding padded is_over
   padded_tallies t tallies at s = go (nat_lt (length s) (padding at 8))
     where
-      go : (test : Bool) →
-          Tallies (if test then Comes [] (at + length s) (In_padding t)
+      go : (test : Bool) → Tallies (if test then Comes [] (at + length s) (In_padding t)
           else body S header t (at + padding at 8) (drop (padding at 8) s))
       go true = refl
       go false = tallies (at + padding at 8) (drop (padding at 8) s)

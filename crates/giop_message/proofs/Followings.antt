@@ -76,8 +76,7 @@ section_over {C} {S} {number} {header} {s} {section} {d} e =
     ∙ standing_over S header section C d e.reads.lines _ d.leaf))
 
 pub follows_goes : {C : Table} {listed : Listed} {number : ℕ} {header : List ℕ} {m : Struct_of}
-    {s : List ℕ} →
-    Follows C listed number header m s →
+    {s : List ℕ} → Follows C listed number header m s →
     is_over (stage_of (message (said_by C listed) header s)) ≡ false
 unfolding is_over stage_of
 follows_goes {C} {listed} {number} {header} {m} {s} f = go m.part f.stands
@@ -180,8 +179,7 @@ hear_id h at path (Piece (Text bound) offset octets true) = sym (first_none h.re
 hear_id h at path (Piece (Text bound) offset octets false) = sym (first_none h.request_id)
 hear_id h at path v = sym (first_none h.request_id)
 
-lines_heard : (is : Bool) (h : Heard) (lines : List Line) →
-    (heard true h lines).request_id
+lines_heard : (is : Bool) (h : Heard) (lines : List Line) → (heard true h lines).request_id
     ≡ first_id h.request_id (id_said (tells roots.Header is h lines))
 unfolding tells id_said
 lines_heard is h [] = sym (first_none h.request_id)
@@ -208,8 +206,7 @@ module _ {C : Table} {S : Signatures} {number : ℕ} {header s : List ℕ} {sect
   abbrev pub in_mind : Read
   in_mind = read (plain (order header)) [] e.T (12 + length e.front) e.octets
 
-  header_told : section ≡ sections.Header →
-      told_of (message S header s)
+  header_told : section ≡ sections.Header → told_of (message S header s)
       ≡ tells (root_of section) (may_call header section) nothing e.reads.lines
   header_told in_it =
       let first = subst (λ x. IsFirst header x e.T e.before) in_it e.first in
@@ -254,8 +251,7 @@ pub record Moved (m n : Struct_of) (count : ℕ) : Type 0 where
   pub at : n.at ≡ m.at + count
 
 pub at_more : {number : ℕ} {header : List ℕ} {m n : Struct_of} {s : List ℕ} (more : List ℕ) →
-    IsAt number header m s →
-    Moved m n (length more) → IsAt number header n (s ++ more)
+    IsAt number header m s → Moved m n (length more) → IsAt number header n (s ++ more)
 at_more {s = s} more is move = record {
   same_number = move.number ∙ is.same_number;
   same_header = move.header ∙ is.same_header;
@@ -267,8 +263,7 @@ module _ {C : Table} {listed : Listed} {number : ℕ} {header : List ℕ} {m : S
   pub is_at : {n : Struct_of} → Moved m n (length more) → IsAt number header n (s ++ more)
   is_at move = at_more more (record { same_number = f.same_number; same_header = f.same_header; at = f.at }) move
 
-  pub follows_on : {n : Struct_of} → Moved m n (length more) →
-      n.id ≡ cond (in_header n.part) None
+  pub follows_on : {n : Struct_of} → Moved m n (length more) → n.id ≡ cond (in_header n.part) None
       (id_said (told_of (message (said_by C listed) header (s ++ more)))) →
       Stands C listed number header (s ++ more) n.part →
       Follows C listed number header n (s ++ more)
@@ -285,8 +280,7 @@ module _ {C : Table} {listed : Listed} {number : ℕ} {header : List ℕ} {m : S
 pub same_fields : {C : Table} {listed : Listed} {number : ℕ} {header : List ℕ} {m n : Struct_of}
     {s : List ℕ} →
     Follows C listed number header m s → n.number ≡ m.number → n.header ≡ m.header → n.id ≡ m.id →
-    n.at ≡ m.at →
-    n.part ≡ m.part → Follows C listed number header n s
+    n.at ≡ m.at → n.part ≡ m.part → Follows C listed number header n s
 same_fields f same_number same_header id at part = record {
   same_number = same_number ∙ f.same_number;
   same_header = same_header ∙ f.same_header;

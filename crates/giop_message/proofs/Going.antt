@@ -61,8 +61,7 @@ module _ (section : Section) (is : Bool) (next : Heard → ℕ → List ℕ → 
   R = root_of section
 
   pub passes_front : (h : Heard) (front : List Line) (r : Read) →
-      passes section is next h (Spine.with_front front r)
-      ≡ with_front (tells R is h front)
+      passes section is next h (Spine.with_front front r) ≡ with_front (tells R is h front)
       (passes section is next (heard (is_header_root R) h front) r)
   unfolding passes with_front
   passes_front h front (Done lines at s) =
@@ -213,8 +212,7 @@ module _ (S : Signatures) (header : List ℕ) (P : (ℕ → List ℕ → Message
   unfolding after_header
   header_has h = go (has_body header) (minor header == 2)
     where
-      go : (has is_2 : Bool) →
-          P (λ at s. if has
+      go : (has is_2 : Bool) → P (λ at s. if has
           then (if is_2 then padded S header (body_of S header h) at s
           else body S header (body_of S header h) at s) else rest at s)
       go true true = pads (body_of S header h) (body_has (body_of S header h))

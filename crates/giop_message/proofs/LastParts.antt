@@ -117,8 +117,7 @@ module _ (coding : Coding) (is : Bool) (n : ℕ) (names : ℕ → List ℕ) (par
 
   in_part : (i : ℕ) (leaf : Leaf) → FitsIn (parts i) [] leaf → i < suc n →
       done_test (step coding [] (Part (Struct (suc n) names parts) i (suc n) ∷ []) leaf at b)
-      ≡ true →
-      NoCalls (Part (Struct (suc n) names parts) i (suc n) ∷ []) leaf
+      ≡ true → NoCalls (Part (Struct (suc n) names parts) i (suc n) ∷ []) leaf
   in_part i leaf fits below done = go (cases_lt (suc i) (suc n))
     where
       go : (suc i < suc n) ⊎ (suc n ≤ suc i) →

@@ -60,8 +60,7 @@ tells_leave root is h [] stage = (λ e. absurd cc, λ e. absurd (false≢true e)
 tells_leave root is h (l ∷ ls) stage = (λ e. absurd cc, λ e. absurd (false≢true (sym (tells_faultless root is h (l ∷ ls)) ∙ e)))
 
 front_settles : (n : ℕ) (front : List Told) (m : Message) →
-    ((stage : Stage) → Leaves (Sayings front) stage) →
-    Silent n m → Settles (with_front front m)
+    ((stage : Stage) → Leaves (Sayings front) stage) → Silent n m → Settles (with_front front m)
 unfolding with_front
 front_settles n front (Comes told at stage) h k = rw (k.0, append-nil front) (h stage)
 

@@ -31,7 +31,6 @@ pub is_named : (C : Table) (listed : Listed) → IsNamed (message_reading C list
 is_named C listed = named.is_named (said_by C listed) (named.has_ids C listed)
 
 pub follows_goes : (C : Table) (listed : Listed) (number : ℕ) (header : List ℕ) (m : MessageValue)
-    (s : List ℕ) →
-    Follows C listed number header m s →
+    (s : List ℕ) → Follows C listed number header m s →
     is_over (stage_of (message (said_by C listed) header s)) ≡ false
 follows_goes C listed number header m s f = followings.follows_goes f

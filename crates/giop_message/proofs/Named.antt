@@ -82,8 +82,7 @@ module _ (o : Order) (n : ℕ) (of : ℕ → List ℕ) (parts : ℕ → Ty)
   next : ℕ → List ℕ → Read
   next = parts_from (part_at (plain o) [] (Struct (suc n) of parts) (suc n)) n 1
 
-  first_part : (xs : List ℕ) → read (plain o) [] (Struct (suc n) of parts) 12 xs
-      ≡ followed
+  first_part : (xs : List ℕ) → read (plain o) [] (Struct (suc n) of parts) 12 xs ≡ followed
       (within (Part (Struct (suc n) of parts) 0 (suc n))
       (read (plain o) (Name (of 0) ∷ []) (Single (Plain prims.ULong)) 12 xs)) next
   unfolding next
@@ -104,8 +103,7 @@ module _ (o : Order) (n : ℕ) (of : ℕ → List ℕ) (parts : ℕ → Ty)
 
   module _ (is_req : Bool) (onward : Heard → ℕ → List ℕ → Message)
       (silent : (h : Heard) → Silent 16 (onward h 16 [])) where
-    told_few : (xs : List ℕ) → length xs < 4 →
-        told_of (passes sections.Header is_req onward nothing
+    told_few : (xs : List ℕ) → length xs < 4 → told_of (passes sections.Header is_req onward nothing
         (read (plain o) [] (Struct (suc n) of parts) 12 xs)) ≡ []
     unfolding number block padding passes tells told_of
     told_few [] h = ap (λ r. told_of (passes sections.Header is_req onward nothing r)) (first_part [])
@@ -114,10 +112,8 @@ module _ (o : Order) (n : ℕ) (of : ℕ → List ℕ) (parts : ℕ → Ty)
     told_few (a ∷ b ∷ c ∷ []) h = ap (λ r. told_of (passes sections.Header is_req onward nothing r)) (first_part (a ∷ b ∷ c ∷ []))
     told_few (a ∷ b ∷ c ∷ d ∷ xs) h = absurd (omega arith)
 
-    told_four : (a b c d : ℕ) →
-        told_of (passes sections.Header is_req onward nothing
-        (read (plain o) [] (Struct (suc n) of parts) 12 (a ∷ b ∷ c ∷ d ∷ [])))
-        ≡ tell 16
+    told_four : (a b c d : ℕ) → told_of (passes sections.Header is_req onward nothing
+        (read (plain o) [] (Struct (suc n) of parts) 12 (a ∷ b ∷ c ∷ d ∷ []))) ≡ tell 16
         (Said roots.Header (Name (of 0) ∷ [])
         (Number (Plain prims.ULong) (num o (a ∷ b ∷ c ∷ d ∷ [])))) ∷ []
     unfolding id_line

@@ -48,8 +48,7 @@ wrongs (Fault lines at why T) = tell at (Wrong why) ∷ []
 
 -- ---- the text
 
-text_both : (number place offset : ℕ) (xs ys : List Told) →
-    told_text number place offset (xs ++ ys)
+text_both : (number place offset : ℕ) (xs ys : List Told) → told_text number place offset (xs ++ ys)
     ≡ told_text number place offset xs ++ told_text number place offset ys
 unfolding told_text
 text_both number place offset xs ys = flat_map-append (λ t. speech_line number (place + (t.at - offset)) t.speech) xs ys
@@ -66,8 +65,7 @@ unfolding told_text speech_line saying_of tell
 said_text number place offset at root l = append-nil _ ∙ said_is_line number l.at root l.path l.value
 
 tells_text : (number place offset n : ℕ) (root : Root) (is : Bool) (h : Heard) (lines : List Line) →
-    OneAt n lines →
-    told_text number place offset (tells root is h lines)
+    OneAt n lines → told_text number place offset (tells root is h lines)
     ≡ lines_text number root lines ++ told_text number place offset (first_call root is h lines)
 unfolding tells lines_text
 tells_text number place offset n root is h [] one = refl
@@ -96,8 +94,7 @@ no_first root is h (l ∷ ls) each = rw each.0 refl
 
 -- A fault stands where nothing is called, so its text may come before that of a call.
 swapped : (number place n : ℕ) (root : Root) (is : Bool) (h : Heard) (st : Read) → Now (n + 1) st →
-    CallsNone is st →
-    lines_text number root (lines_of st)
+    CallsNone is st → lines_text number root (lines_of st)
     ++ (told_text number place n (first_call root is h (lines_of st))
     ++ fault_text number (place + 1) st)
     ≡ (lines_text number root (lines_of st) ++ fault_text number (place + 1) st)

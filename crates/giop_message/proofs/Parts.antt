@@ -79,8 +79,7 @@ now_all n r now = tt
 
 -- what is told of a section, of which nothing follows without an octet
 pub passed_tells : (S : Signatures) (header : List ℕ) (section : Section) (h : Heard) (r : Read) →
-    ReadsAll r →
-    told_of (through S header section h r)
+    ReadsAll r → told_of (through S header section h r)
     ≡ tells (root_of section) (may_call header section) h (lines_of r) ++ wrongs r
 unfolding passes told_of
 passed_tells S header section h (Done lines at rest) all =
@@ -116,8 +115,7 @@ offset_is n r q lines e now = subst (EndsAt n) (sym e) tt
 
 -- what a reading that goes on has begun and not ended, at this offset
 short_by : (n end : ℕ) (named : Bool) (r st : Read) (lines : List Line) →
-    r ≡ Spine.with_front lines st → Now n st →
-    decoders.IsAnswer end named progress.More r →
+    r ≡ Spine.with_front lines st → Now n st → decoders.IsAnswer end named progress.More r →
     (ls : List Line) × (outer : List Place) × (leaf : Leaf) × (r ≡ Short ls n outer leaf)
 short_by n end named r (Done ls at rest) lines e now answer = absurd (subst (decoders.IsAnswer end named progress.More) e answer)
 short_by n end named r (Short ls at outer leaf) lines e now answer =

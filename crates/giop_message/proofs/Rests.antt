@@ -32,8 +32,7 @@ comes_more S header s b told at stage e = message_goes S header s b ∙ ap (λ m
 
 pub comes_due : (S : Signatures) (header s : List ℕ) (b : ℕ) (told : List Told) (at : ℕ)
     (stage : Stage) (m : Message) → message S header s ≡ Comes told at stage →
-    message_step S header at stage b ≡ m →
-    due S header s (b ∷ []) ≡ told_of m
+    message_step S header at stage b ≡ m → due S header s (b ∷ []) ≡ told_of m
 unfolding told_of
 comes_due S header s b told at stage m e f =
     due_is S header s (b ∷ []) told (Comes told at stage) m e (comes_more S header s b told at stage e ∙ ap (with_front told) f) refl
@@ -106,8 +105,7 @@ module _ {C : Table} {listed : Listed} {number : ℕ} {header : List ℕ} {m : S
   same_id none = id_kept f (b ∷ []) (none_said _ none) (rw is refl)
 
   pub padding_follows : (1 < padding Here 8) → {n : Struct_of} → Moved m n 1 → n.id ≡ m.id →
-      n.part ≡ m.part →
-      Follows C listed number header n further
+      n.part ≡ m.part → Follows C listed number header n further
   padding_follows h move id part =
       let comes = one_comes (Comes [] (Here + 1) (In_padding T)) (padding_on S header Here b T h) in
       let at = comes_next padded.0 [] (Here + 1) (12 + length further) (In_padding T) (next_at s b) in

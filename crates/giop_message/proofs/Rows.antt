@@ -161,8 +161,7 @@ rest_of_32 = (refl, refl)
 body_of_1_0 : Row (head 0 0)
     (0 ∷ 0 ∷ 0 ∷ 0 ∷ 0 ∷ 0 ∷ 0 ∷ 7 ∷ 1 ∷ 0 ∷ 0 ∷ 0 ∷ 0 ∷ 0 ∷ 0 ∷ 2 ∷ 107 ∷ 49 ∷ 0 ∷ 0 ∷ 0 ∷ 0 ∷ 0
     ∷ 4 ∷ 115 ∷ 101 ∷ 116 ∷ 0 ∷ 0 ∷ 0 ∷ 0 ∷ 0 ∷ 255 ∷ 255 ∷ 255 ∷ 251 ∷ [])
-    (says 4 (codes "header.service_contexts count 0")
-    ∷ says 8 (codes "header.request_id ulong 7")
+    (says 4 (codes "header.service_contexts count 0") ∷ says 8 (codes "header.request_id ulong 7")
     ∷ says 9 (codes "header.response_expected boolean true")
     ∷ says 18 (codes "header.object_key octets @0 6b31")
     ∷ says 28 (codes "header.operation string @0 \"set\"")
@@ -176,12 +175,9 @@ body_of_1_0 = (refl, refl)
 body_of_1_2 : Row (71 ∷ 73 ∷ 79 ∷ 80 ∷ 1 ∷ 2 ∷ 1 ∷ 0 ∷ 44 ∷ 0 ∷ 0 ∷ 0 ∷ [])
     (1 ∷ 0 ∷ 0 ∷ 0 ∷ 3 ∷ 0 ∷ 0 ∷ 0 ∷ 0 ∷ 0 ∷ 0 ∷ 0 ∷ 1 ∷ 0 ∷ 0 ∷ 0 ∷ 65 ∷ 0 ∷ 0 ∷ 0 ∷ 4 ∷ 0 ∷ 0 ∷ 0
     ∷ 112 ∷ 117 ∷ 116 ∷ 0 ∷ 0 ∷ 0 ∷ 0 ∷ 0 ∷ 0 ∷ 0 ∷ 0 ∷ 0 ∷ 0 ∷ 0 ∷ 0 ∷ 0 ∷ 0 ∷ 0 ∷ 248 ∷ 63 ∷ [])
-    (says 4 (codes "header.request_id ulong 1")
-    ∷ says 5 (codes "header.response_flags octet 3")
-    ∷ says 6 (codes "header.reserved[0] octet 0")
-    ∷ says 7 (codes "header.reserved[1] octet 0")
-    ∷ says 8 (codes "header.reserved[2] octet 0")
-    ∷ says 10 (codes "header.target.switch short 0")
+    (says 4 (codes "header.request_id ulong 1") ∷ says 5 (codes "header.response_flags octet 3")
+    ∷ says 6 (codes "header.reserved[0] octet 0") ∷ says 7 (codes "header.reserved[1] octet 0")
+    ∷ says 8 (codes "header.reserved[2] octet 0") ∷ says 10 (codes "header.target.switch short 0")
     ∷ says 17 (codes "header.target.object_key octets @0 41")
     ∷ says 28 (codes "header.operation string @0 \"put\"")
     ∷ record { at = 28; saying = Call; text = codes "call 1 put" }
@@ -192,19 +188,16 @@ body_of_1_2 = (refl, refl)
 
 -- A Reply has the results of the operation that the request list has for its id,
 reply : Row (head 0 1) (0 ∷ 0 ∷ 0 ∷ 0 ∷ 0 ∷ 0 ∷ 0 ∷ 1 ∷ 0 ∷ 0 ∷ 0 ∷ 0 ∷ 0 ∷ 0 ∷ 0 ∷ 42 ∷ 9 ∷ [])
-    (says 4 (codes "header.service_contexts count 0")
-    ∷ says 8 (codes "header.request_id ulong 1")
+    (says 4 (codes "header.service_contexts count 0") ∷ says 8 (codes "header.request_id ulong 1")
     ∷ says 12 (codes "header.reply_status enum NO_EXCEPTION")
-    ∷ says 16 (codes "body.return long 42")
-    ∷ says 17 (codes "body.b octet 9") ∷ []) ended
+    ∷ says 16 (codes "body.return long 42") ∷ says 17 (codes "body.b octet 9") ∷ []) ended
 unfolding rows head h t_nop t_say t_raw ended short
 reply = (refl, refl)
 
 -- which has none where it has two different ones.
 reply_of_two : Row (head 0 1)
     (0 ∷ 0 ∷ 0 ∷ 0 ∷ 0 ∷ 0 ∷ 0 ∷ 2 ∷ 0 ∷ 0 ∷ 0 ∷ 0 ∷ 0 ∷ 0 ∷ 0 ∷ 42 ∷ 9 ∷ [])
-    (says 4 (codes "header.service_contexts count 0")
-    ∷ says 8 (codes "header.request_id ulong 2")
+    (says 4 (codes "header.service_contexts count 0") ∷ says 8 (codes "header.request_id ulong 2")
     ∷ says 12 (codes "header.reply_status enum NO_EXCEPTION") ∷ [])
     ((Rest, codes "rest @0 0000002a09") ∷ ended)
 unfolding rows head h t_nop t_say t_raw ended short
@@ -214,8 +207,7 @@ reply_of_two = (refl, refl)
 raised : Row (head 0 1)
     (0 ∷ 0 ∷ 0 ∷ 0 ∷ 0 ∷ 0 ∷ 0 ∷ 1 ∷ 0 ∷ 0 ∷ 0 ∷ 1 ∷ 0 ∷ 0 ∷ 0 ∷ 13 ∷ 73 ∷ 68 ∷ 76 ∷ 58 ∷ 76 ∷ 97
     ∷ 116 ∷ 101 ∷ 58 ∷ 49 ∷ 46 ∷ 48 ∷ 0 ∷ 0 ∷ 0 ∷ 3 ∷ [])
-    (says 4 (codes "header.service_contexts count 0")
-    ∷ says 8 (codes "header.request_id ulong 1")
+    (says 4 (codes "header.service_contexts count 0") ∷ says 8 (codes "header.request_id ulong 1")
     ∷ says 12 (codes "header.reply_status enum USER_EXCEPTION")
     ∷ says 29 (codes "exception string @0 \"IDL:Late:1.0\"")
     ∷ says 32 (codes "body.by ushort 3") ∷ []) ended
@@ -226,8 +218,7 @@ raised = (refl, refl)
 raised_unknown : Row (head 0 1)
     (0 ∷ 0 ∷ 0 ∷ 0 ∷ 0 ∷ 0 ∷ 0 ∷ 1 ∷ 0 ∷ 0 ∷ 0 ∷ 1 ∷ 0 ∷ 0 ∷ 0 ∷ 13 ∷ 73 ∷ 68 ∷ 76 ∷ 58 ∷ 76 ∷ 111
     ∷ 115 ∷ 116 ∷ 58 ∷ 49 ∷ 46 ∷ 48 ∷ 0 ∷ 0 ∷ 0 ∷ 3 ∷ [])
-    (says 4 (codes "header.service_contexts count 0")
-    ∷ says 8 (codes "header.request_id ulong 1")
+    (says 4 (codes "header.service_contexts count 0") ∷ says 8 (codes "header.request_id ulong 1")
     ∷ says 12 (codes "header.reply_status enum USER_EXCEPTION")
     ∷ says 29 (codes "exception string @0 \"IDL:Lost:1.0\"") ∷ [])
     ((Rest, codes "rest @0 000003") ∷ ended)
@@ -239,8 +230,7 @@ system_exception : Row (head 0 1)
     (0 ∷ 0 ∷ 0 ∷ 0 ∷ 0 ∷ 0 ∷ 0 ∷ 1 ∷ 0 ∷ 0 ∷ 0 ∷ 2 ∷ 0 ∷ 0 ∷ 0 ∷ 30 ∷ 73 ∷ 68 ∷ 76 ∷ 58 ∷ 111 ∷ 109
     ∷ 103 ∷ 46 ∷ 111 ∷ 114 ∷ 103 ∷ 47 ∷ 67 ∷ 79 ∷ 82 ∷ 66 ∷ 65 ∷ 47 ∷ 85 ∷ 78 ∷ 75 ∷ 78 ∷ 79 ∷ 87
     ∷ 78 ∷ 58 ∷ 49 ∷ 46 ∷ 48 ∷ 0 ∷ 0 ∷ 0 ∷ 0 ∷ 0 ∷ 0 ∷ 0 ∷ 0 ∷ 0 ∷ 0 ∷ 1 ∷ [])
-    (says 4 (codes "header.service_contexts count 0")
-    ∷ says 8 (codes "header.request_id ulong 1")
+    (says 4 (codes "header.service_contexts count 0") ∷ says 8 (codes "header.request_id ulong 1")
     ∷ says 12 (codes "header.reply_status enum SYSTEM_EXCEPTION")
     ∷ says 46 (codes "body.exception_id string @0 \"IDL:omg.org/CORBA/UNKNOWN:1.0\"")
     ∷ says 52 (codes "body.minor ulong 0")
@@ -252,15 +242,13 @@ system_exception = (refl, refl)
 addressing : Row (head 2 1) (0 ∷ 0 ∷ 0 ∷ 1 ∷ 0 ∷ 0 ∷ 0 ∷ 5 ∷ 0 ∷ 0 ∷ 0 ∷ 0 ∷ 0 ∷ 2 ∷ [])
     (says 4 (codes "header.request_id ulong 1")
     ∷ says 8 (codes "header.reply_status enum NEEDS_ADDRESSING_MODE")
-    ∷ says 12 (codes "header.service_contexts count 0")
-    ∷ says 14 (codes "body short 2") ∷ []) ended
+    ∷ says 12 (codes "header.service_contexts count 0") ∷ says 14 (codes "body short 2") ∷ []) ended
 unfolding rows head h t_nop t_say t_raw ended short
 addressing = (refl, refl)
 
 -- a status without a name
 no_status : Row (head 0 1) (0 ∷ 0 ∷ 0 ∷ 0 ∷ 0 ∷ 0 ∷ 0 ∷ 1 ∷ 0 ∷ 0 ∷ 0 ∷ 4 ∷ [])
-    (says 4 (codes "header.service_contexts count 0")
-    ∷ says 8 (codes "header.request_id ulong 1")
+    (says 4 (codes "header.service_contexts count 0") ∷ says 8 (codes "header.request_id ulong 1")
     ∷ record { at = 12; saying = Fault; text = codes "enum" } ∷ []) ended
 unfolding rows head h t_nop t_say t_raw ended short
 no_status = (refl, refl)
@@ -268,8 +256,7 @@ no_status = (refl, refl)
 -- A LocateRequest by its profile, and one of no disposition.
 located : Row (head 2 3)
     (0 ∷ 0 ∷ 0 ∷ 1 ∷ 0 ∷ 1 ∷ 0 ∷ 0 ∷ 0 ∷ 0 ∷ 0 ∷ 9 ∷ 0 ∷ 0 ∷ 0 ∷ 2 ∷ 171 ∷ 205 ∷ [])
-    (says 4 (codes "header.request_id ulong 1")
-    ∷ says 6 (codes "header.target.switch short 1")
+    (says 4 (codes "header.request_id ulong 1") ∷ says 6 (codes "header.target.switch short 1")
     ∷ says 12 (codes "header.target.profile.tag ulong 9")
     ∷ says 18 (codes "header.target.profile.profile_data octets @0 abcd") ∷ []) ended
 unfolding rows head h t_nop t_say t_raw ended short

@@ -47,15 +47,13 @@ pub record LastOne (o : Order) (T : Ty) (at : ℕ) (root : Root) (s xs : List �
   pub answer : Answers o T at root (s ++ front) octet p
 
 answered_more : (o : Order) (T : Ty) (at : ℕ) (root : Root) (s : List ℕ) (b : ℕ) (ys : List ℕ) →
-    Answers o T at root s b progress.More →
-    AreAnswered o T at root (s ++ b ∷ []) ys progress.More →
+    Answers o T at root s b progress.More → AreAnswered o T at root (s ++ b ∷ []) ys progress.More →
     AreAnswered o T at root s (b ∷ ys) progress.More
 answered_more o T at root s b [] h k = h
 answered_more o T at root s b (y ∷ ys) h k = (h, k)
 
 pub last_one : (o : Order) (T : Ty) (at : ℕ) (root : Root) (s xs : List ℕ) (p : Progress) →
-    0 < length xs → AreAnswered o T at root s xs p →
-    LastOne o T at root s xs p
+    0 < length xs → AreAnswered o T at root s xs p → LastOne o T at root s xs p
 last_one o T at root s [] p some h = absurd (omega arith)
 last_one o T at root s (b ∷ []) p some h =
     record { front = []; octet = b; all = refl; before = refl; answer = subst (λ z. Answers o T at root z b p) (sym (append-nil s)) h }
@@ -91,8 +89,7 @@ module _ (w : Begun) where
   Last octets xs p = LastOne O T (start w) R octets xs p
 
   section_goes : (s octets : List ℕ) → message S header s ≡ comes w (reading w octets) →
-      (xs : List ℕ) →
-      message S header (s ++ xs) ≡ comes w (reading w (octets ++ xs))
+      (xs : List ℕ) → message S header (s ++ xs) ≡ comes w (reading w (octets ++ xs))
   section_goes s octets is [] = rw (append-nil s, append-nil octets) is
   section_goes s octets is (b ∷ xs) =
       rw (← append_assoc s (b ∷ []) xs, ← append_assoc octets (b ∷ []) xs)
@@ -108,8 +105,7 @@ module _ (w : Begun) where
 
   -- octets behind which it goes on have their lines alone
   text_run : (s octets : List ℕ) → Inside w s octets → (xs : List ℕ) → Answered octets xs →
-      (place : ℕ) →
-      due_text S number place header s xs ≡ LinesOf octets xs
+      (place : ℕ) → due_text S number place header s xs ≡ LinesOf octets xs
   text_run s octets i [] h place =
       whole.text_none S number place header s ∙ sym (readings.text_none number R O T (start w) octets)
   text_run s octets i (b ∷ []) h place = more_text w s octets i b h place
@@ -142,8 +138,7 @@ answer_all end named p r answer = tt
 -- ---- where it ends
 
 done_by : (S : Signatures) (header : List ℕ) (section : Section) (end : ℕ) (named : Bool) (n : ℕ)
-    (r : Read) → decoders.IsAnswer end named progress.Done r → EndsAt n r →
-    (more : List Told)
+    (r : Read) → decoders.IsAnswer end named progress.Done r → EndsAt n r → (more : List Told)
     × (through S header section nothing r
     ≡ with_front more (after S header section (heard_of (is_header_root (root_of section)) r) n []))
 unfolding passes
@@ -297,8 +292,7 @@ module _ (w : Begun) (s octets : List ℕ) (i : Inside w s octets) where
       ∙ sym (told_before w s (reading w octets) other i.is (rw i.was_short tt))
 
   pub done_comes : (xs : List ℕ) → Last w octets xs progress.Done →
-      (more : List Told) × (message S header (s ++ xs)
-      ≡ with_front more
+      (more : List Told) × (message S header (s ++ xs) ≡ with_front more
       (after S header section (heard_of (is_header_root (R w)) (With xs))
       (12 + length (s ++ xs)) []))
   done_comes xs l =
@@ -310,8 +304,7 @@ module _ (w : Begun) (s octets : List ℕ) (i : Inside w s octets) where
       (before ++ g.0, behind xs ∙ (ap (with_front before) g.1 ∙ front_twice before g.0 _))
 
   pub fault_comes : (ys : List ℕ) (n : ℕ) (why : Kind) → n ≤ length ys →
-      Last w octets (take n ys) (progress.Fault why) →
-      FaultedAt S header s ys n
+      Last w octets (take n ys) (progress.Fault why) → FaultedAt S header s ys n
   fault_comes ys n why within l =
       let xs = take n ys in
       let a = last_answer xs (progress.Fault why) l in

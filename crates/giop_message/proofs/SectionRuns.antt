@@ -39,8 +39,7 @@ use Rattle.giop_message.proofs.Runs.{Last, LinesOf, last_one, run_more, run_done
 
 -- a put failed at octets of it
 pub run_front : (S : Signatures) (number place : ℕ) (header s octets : List ℕ) (n : ℕ)
-    (a b : OutLog) →
-    WroteFront a b (due_text S number place header s (take n octets)) →
+    (a b : OutLog) → WroteFront a b (due_text S number place header s (take n octets)) →
     WroteFront a b (due_text S number place header s octets)
 run_front S number place header s octets n a b w =
     rw (
@@ -130,8 +129,7 @@ module _ (t : Standing) where
 
   -- it goes on
   section_on : (xs : List ℕ) (p : Progress) → LastOf xs p → (n : Struct_of) (d' : Decoder) →
-      Moved m n (length xs) →
-      n.id ≡ m.id → n.part ≡ parts.Typed section d' → ReadsWith d' xs →
+      Moved m n (length xs) → n.id ≡ m.id → n.part ≡ parts.Typed section d' → ReadsWith d' xs →
       Follows C listed number header n (s ++ xs)
   section_on xs p l n d' move id part reads =
       follows_on follows xs move (id ∙ rw part (kept_id xs p l (is_header section) refl))
@@ -166,10 +164,8 @@ module _ (t : Standing) where
         (root_of section) d' octets_of (take n octets) p
 
   abbrev pub took : {d' : Decoder} {p q : Progress} (octets : List ℕ) (n : ℕ) → n ≤ length octets →
-      0 < n →
-      TakesRun C opened.T (order header) (start begun) number (root_of section) d' octets_of
-      (take n octets) q → q ≡ p →
-      Took octets n d' p
+      0 < n → TakesRun C opened.T (order header) (start begun) number (root_of section) d' octets_of
+      (take n octets) q → q ≡ p → Took octets n d' p
   took octets n within some takes e = record {
     within = within;
     some = some;
@@ -246,13 +242,10 @@ module _ {t : Standing} {octets : List ℕ} {n : ℕ} {d' : Decoder} where
   went_on {p} k going m' move id part = section_on t (take n octets) p (last p k) m' d' (moved p k m' move) id part (k.takes.reads going)
 
   pub went_done : Took t octets n d' progress.Done → (m1 m2 : Struct_of) → Moved m m1 n →
-      m1.id ≡ m.id →
-      Arrives C listed number header m1 m2 (s ++ (take n octets))
+      m1.id ≡ m.id → Arrives C listed number header m1 m2 (s ++ (take n octets))
       (after (S t) header section
       (heard_of (is_header_root (root_of section)) (ReadWith t (take n octets)))
-      (12 + length (s ++ (take n octets))) []) →
-      Moved m m2 n →
-      m2.id ≡ cond (is_header section)
+      (12 + length (s ++ (take n octets))) []) → Moved m m2 n → m2.id ≡ cond (is_header section)
       (heard_of true (ReadWith t (take n octets))).request_id m1.id →
       in_header m2.part ≡ false → Follows C listed number header m2 (s ++ (take n octets))
   went_done k m1 m2 move_1 id_1 arrives move_2 id_2 past =

@@ -88,8 +88,7 @@ called_is number place offset at (Some id) (Some name) = call_shown number place
 
 -- the call of the line that ends an operation
 call_by : (is : Bool) (number place offset : ℕ) (l : Line) (h : Heard) →
-    ends_operation true l ≡ true →
-    told_text number place offset (calls is l h)
+    ends_operation true l ≡ true → told_text number place offset (calls is l h)
     ≡ (if is then called_text number h.request_id h.name else [])
 unfolding calls told_text
 call_by true number place offset l h e = rw e (called_is number place offset l.at h.request_id h.name)
@@ -153,8 +152,7 @@ named_header section lines e = absurd (false≢true (sym (none_named lines) ∙ 
 call_here : (number place offset : ℕ) (header : List ℕ) (section : Section) (before : List Line)
     (st : Read) (n : ℕ) → OneAt n (lines_of st) → NoEnds st ⊎ (in_string st ≡ false) →
     names_operation (is_header_root (root_of section)) (lines_of st) ≡ true →
-    told_text number place offset
-    (first_call (root_of section) (may_call header section)
+    told_text number place offset (first_call (root_of section) (may_call header section)
     (heard (is_header_root (root_of section)) nothing before) (lines_of st))
     ≡ request_call number header (heard_of true (Spine.with_front before st))
 unfolding request_call
@@ -173,8 +171,7 @@ done_is end named r lines answer = absurd answer
 
 none_faulted : (is : Bool) (end : ℕ) (named : Bool) (kind : Kind) (st : Read) (lines : List Line) →
     decoders.IsAnswer end named (progress.Fault kind) (Spine.with_front lines st) →
-    CallsNone is st →
-    Each (λ l. ends_operation is l ≡ false) (lines_of st)
+    CallsNone is st → Each (λ l. ends_operation is l ≡ false) (lines_of st)
 none_faulted is end named kind (Fault ls at why U) lines answer none = none
 none_faulted is end named kind r lines answer none = absurd answer
 

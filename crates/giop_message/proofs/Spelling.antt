@@ -16,8 +16,7 @@ joined_both [] ys = refl
 joined_both (x ∷ xs) ys = ap (λ z. x ++ z) (joined_both xs ys) ∙ sym (append_assoc x (joined xs) (joined ys))
 
 -- a text of these pieces, as a line
-said_joined : (number : ℕ) (xs : List (List ℕ)) →
-    said_line number (joined xs)
+said_joined : (number : ℕ) (xs : List (List ℕ)) → said_line number (joined xs)
     ≡ joined (codes "m" ∷ decimal number ∷ codes " " ∷ (xs ++ codes "\n" ∷ []))
 unfolding said_line
 said_joined number xs = ap (λ z. codes "m" ++ (decimal number ++ (codes " " ++ z))) (sym (joined_both xs (codes "\n" ∷ [])))

@@ -37,9 +37,7 @@ none_rests S header e = rw e refl
 
 -- or in the header
 pub header_first : (S : Signatures) (header : List ℕ) (T : Ty) →
-    S.header (minor header) (kind header) ≡ Some T →
-    message S header []
-    ≡ with_front []
+    S.header (minor header) (kind header) ≡ Some T → message S header [] ≡ with_front []
     (through S header sections.Header nothing (read (plain (order header)) [] T 12 []))
 unfolding message of_header
 header_first S header T e = rw (e, front_none) refl
@@ -65,8 +63,7 @@ front_pads before n b = front_comes before n (In_padding b)
 
 -- a section that ends with no octet behind it: in front of what follows there is padding, or there is none
 by_tests : (S : Signatures) (header : List ℕ) (h : Heard) (n : ℕ) (has two some : Bool) →
-    nat_lt 0 (padding n 8) ≡ some →
-    (if has then
+    nat_lt 0 (padding n 8) ≡ some → (if has then
     (if two then padded S header (body_of S header h) n []
     else body S header (body_of S header h) n []) else rest n [])
     ≡ (if has && (two && some) then Comes [] n

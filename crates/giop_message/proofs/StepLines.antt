@@ -185,9 +185,7 @@ lines_enclosed n path T inner end (Done lines at rest) h =
     rw (h.1, h.2) (lines_alone n lines (rest_of path T (end - n) n []) (rest_quiet n path T (end - n)))
 lines_enclosed n path T inner end (Short lines at outer leaf) h = go (ltb at end)
   where
-    go : (test : Bool) →
-        lines_of
-        (cond test (Short lines at (Inside T inner end ∷ outer) leaf)
+    go : (test : Bool) → lines_of (cond test (Short lines at (Inside T inner end ∷ outer) leaf)
         (Fault lines at kinds.EncapShort (cut_off leaf))) ≡ lines
     go true = refl
     go false = refl

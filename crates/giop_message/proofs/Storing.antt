@@ -135,14 +135,11 @@ same_own e m at octet id = rw (octet, at, id) refl
 
 -- the part that stands in what is read of the octets
 pub goes_on : (C : Table) (m : Message) (fixed frames octets : List ℕ) (at octet : ℕ)
-    (r : Option Part)
-    → Fits C m → Stored m fixed frames
+    (r : Option Part) → Fits C m → Stored m fixed frames
     → ((n : ℕ) (rest : List ℕ) → n < 2 ^ 64 → drop 1 fixed ≡ eight n ++ rest → at ≡ n)
-    → ((n : ℕ) (rest : List ℕ) → drop 0 fixed ≡ n ∷ rest → octet ≡ n)
-    → octets ≡ drop 16 fixed
+    → ((n : ℕ) (rest : List ℕ) → drop 0 fixed ≡ n ∷ rest → octet ≡ n) → octets ≡ drop 16 fixed
     → ((p : Part) → FitsPart C at p → part_octet p ≡ octet → PartStored p octets frames
-    → IsSomeAnd r (λ q. GoesOn C p q))
-    → IsSomeAnd r (λ q. GoesOn C m.part q)
+    → IsSomeAnd r (λ q. GoesOn C p q)) → IsSomeAnd r (λ q. GoesOn C m.part q)
 goes_on C m fixed frames octets at octet r fits stored at_read octet_read octets_read again =
     let fields = own_fields m fixed stored.own in
     let at_is : at ≡ m.at = at_read m.at _ stored.own.at fields.at in
