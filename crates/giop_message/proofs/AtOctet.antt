@@ -1,5 +1,5 @@
--- What a message writes and answers at one octet, and at its close, is what its reading says.
-use Rattle.std.proofs.Common.{◌≡◌, ℕ, suc, ◌+◌, ◌-◌, ◌≤◌, Bool, true, false, List, [], ◌∷◌, ◌++◌, length, map, drop, refl, sym, ap, ◌∙◌, arith}
+-- What a message writes and answers of octets, and at its close, is what its reading says.
+use Rattle.std.proofs.Common.{◌≡◌, ℕ, suc, ◌+◌, ◌-◌, ◌≤◌, Bool, true, false, List, [], ◌∷◌, ◌++◌, length, map, drop, refl, sym, ap, ◌∙◌, arith, flat_map}
 use Rattle.std.specs.Prelude.{◌||◌, ◌==◌, if◌then◌else◌}
 use Rattle.std.specs.List.{filter, list_any, AllByRecursion as Each}
 use Rattle.std.proofs.Math.Seq.{drop-append_seam}
@@ -11,18 +11,21 @@ use Rattle.giop_message.specs.Text.{saying_line, said_text}
 use Rattle.giop_message.specs.Signatures.{Signatures}
 use Rattle.giop_message.specs.Messages.{Speech, Said, Called, Left, Wrong, Incomplete, Ends, Told, may_lack, Stage, In_typed, In_padding, In_rest, Over, message, told_of, stage_of, close}
 use Rattle.giop_message.specs.MessageReading.{saying_of, text_of, remark_of, closing_of, reading_by, is_over, is_wrong}
-use Rattle.giop_message.specs.Holding.{speech_line, told_text, due, due_text, is_short}
+use Rattle.giop_message.specs.Holding.{speech_line, told_text, due, due_text, is_short, closing_text, remarks_text, closes_text}
 use Rattle.giop_message.proofs.Going.{message_goes}
 use Rattle.giop_message.proofs.Causal.{ToldAt, map_both, stands, one_more, ordered}
 use Rattle.giop_message.proofs.Faults.{over_where_faulted}
+use Rattle.std.proofs.lemmas.List.{drop-map, length-map}
 
 -- ---- what is told of an octet, and what is said at it
 
-none_before : (n : ℕ) (told : List Told) → Each (λ t. t.at ≤ 12 + n) told → filter (λ r. r.at == suc n) (map remark_of told) ≡ []
+none_before : (n : ℕ) (told : List Told) → Each (λ t. t.at ≤ 12 + n) told →
+    filter (λ r. r.at == suc n) (map remark_of told) ≡ []
 none_before n [] h = refl
 none_before n (t ∷ ts) h = rw (ne_eqb (t.at - 12) (suc n) (λ e. omega (arith, h.0))) (none_before n ts h.1)
 
-all_here : (n : ℕ) (told : List Told) → ToldAt ((12 + n) + 1) told → filter (λ r. r.at == suc n) (map remark_of told) ≡ map remark_of told
+all_here : (n : ℕ) (told : List Told) → ToldAt ((12 + n) + 1) told →
+    filter (λ r. r.at == suc n) (map remark_of told) ≡ map remark_of told
 all_here n [] h = refl
 all_here n (t ∷ ts) h =
     let e : t.at - 12 ≡ suc n = omega (arith, h.0) in
@@ -30,7 +33,8 @@ all_here n (t ∷ ts) h =
 
 -- What is told of one octet more: where it stands, and that the reading says it.
 record One (S : Signatures) (header xs : List ℕ) (x : ℕ) : Type 0 where
-  told : told_of (message S header (xs ++ x ∷ [])) ≡ told_of (message S header xs) ++ due S header xs (x ∷ [])
+  told : told_of (message S header (xs ++ x ∷ []))
+      ≡ told_of (message S header xs) ++ due S header xs (x ∷ [])
   here : ToldAt ((12 + length xs) + 1) (due S header xs (x ∷ []))
   said : said.due (reading_by S) header xs x ≡ map remark_of (due S header xs (x ∷ []))
 
@@ -55,10 +59,12 @@ one_octet S header xs x =
     }
 
 -- what is said of one octet more
-pub due_said_is : (S : Signatures) (header xs : List ℕ) (x : ℕ) → said.due (reading_by S) header xs x ≡ map remark_of (due S header xs (x ∷ []))
+pub due_said_is : (S : Signatures) (header xs : List ℕ) (x : ℕ) →
+    said.due (reading_by S) header xs x ≡ map remark_of (due S header xs (x ∷ []))
 due_said_is S header xs x = (one_octet S header xs x).said
 
-told_here : (number place offset : ℕ) (told : List Told) → ToldAt (offset + 1) told → told_text number place offset told ≡ said_text (suc place) number (map remark_of told)
+told_here : (number place offset : ℕ) (told : List Told) → ToldAt (offset + 1) told →
+    told_text number place offset told ≡ said_text (suc place) number (map remark_of told)
 unfolding told_text said_text speech_line
 told_here number place offset [] h = refl
 told_here number place offset (t ∷ ts) h =
@@ -66,7 +72,9 @@ told_here number place offset (t ∷ ts) h =
     rw e (ap (λ (z : List ℕ). saying_line (suc place) number (saying_of t.speech) (text_of t.speech) ++ z) (told_here number place offset ts h.1))
 
 -- The text of an octet is that of what is said at it.
-pub octet_text : (S : Signatures) (number place : ℕ) (header xs : List ℕ) (x : ℕ) → due_text S number place header xs (x ∷ []) ≡ said_text (suc place) number (said.due (reading_by S) header xs x)
+pub octet_text : (S : Signatures) (number place : ℕ) (header xs : List ℕ) (x : ℕ) →
+    due_text S number place header xs (x ∷ [])
+    ≡ said_text (suc place) number (said.due (reading_by S) header xs x)
 unfolding due_text
 octet_text S number place header xs x =
     let one = one_octet S header xs x in
@@ -86,23 +94,28 @@ wrong_is t = go t.speech
     go Incomplete = refl
     go Ends = refl
 
-wrongs_are : (told : List Told) → list_any is_wrong told ≡ list_any (λ r. is_fault r.saying) (map remark_of told)
+wrongs_are : (told : List Told) → list_any is_wrong told
+    ≡ list_any (λ r. is_fault r.saying) (map remark_of told)
 wrongs_are [] = refl
 wrongs_are (t ∷ ts) = rw (wrong_is t, wrongs_are ts) refl
 
 or_of : (a b c : Bool) → (b ≡ c) → (a || b) ≡ (a || c)
 or_of a b c e = ap (λ (d : Bool). a || d) e
 
-any_both : (xs ys : List Told) → list_any is_wrong (xs ++ ys) ≡ (list_any is_wrong xs || list_any is_wrong ys)
+any_both : (xs ys : List Told) → list_any is_wrong (xs ++ ys)
+    ≡ (list_any is_wrong xs || list_any is_wrong ys)
 any_both [] ys = refl
-any_both (x ∷ xs) ys = or_of (is_wrong x) (list_any is_wrong (xs ++ ys)) (list_any is_wrong xs || list_any is_wrong ys) (any_both xs ys) ∙ or_more (is_wrong x) (list_any is_wrong xs) (list_any is_wrong ys)
+any_both (x ∷ xs) ys = or_of (is_wrong x) (list_any is_wrong (xs ++ ys)) (list_any is_wrong xs || list_any is_wrong ys) (any_both xs ys)
+    ∙ or_more (is_wrong x) (list_any is_wrong xs) (list_any is_wrong ys)
   where
     or_more : (a b c : Bool) → (a || (b || c)) ≡ ((a || b) || c)
     or_more true b c = refl
     or_more false b c = refl
 
 over_more : (S : Signatures) (header xs : List ℕ) (x : ℕ) →
-    is_over (stage_of (message S header (xs ++ x ∷ []))) ≡ (is_over (stage_of (message S header xs)) || list_any (λ r. is_fault r.saying) (said.due (reading_by S) header xs x))
+    is_over (stage_of (message S header (xs ++ x ∷ [])))
+    ≡ (is_over (stage_of (message S header xs)) || list_any (λ r. is_fault r.saying)
+    (said.due (reading_by S) header xs x))
 over_more S header xs x =
     let one = one_octet S header xs x in
     let old = told_of (message S header xs) in
@@ -112,24 +125,63 @@ over_more S header xs x =
     ∙ rw (over_where_faulted S header xs, one.said, wrongs_are (due S header xs (x ∷ []))) refl))
 
 -- A message that isn't over is so behind an octet exactly where a fault is said at it.
-pub octet_over : (S : Signatures) (header xs : List ℕ) (x : ℕ) → is_over (stage_of (message S header xs)) ≡ false →
-    is_over (stage_of (message S header (xs ++ x ∷ []))) ≡ list_any (λ r. is_fault r.saying) (said.due (reading_by S) header xs x)
+pub octet_over : (S : Signatures) (header xs : List ℕ) (x : ℕ) →
+    is_over (stage_of (message S header xs)) ≡ false →
+    is_over (stage_of (message S header (xs ++ x ∷ [])))
+    ≡ list_any (λ r. is_fault r.saying) (said.due (reading_by S) header xs x)
 octet_over S header xs x h = over_more S header xs x ∙ rw h refl
 
 -- ---- a close
 
 -- A close says a fault where it is short.
-pub close_short : (S : Signatures) (header xs : List ℕ) → is_short (close (stage_of (message S header xs))) ≡ list_any (λ l. is_fault l.0) ((reading_by S).closes header xs)
+pub close_short : (S : Signatures) (header xs : List ℕ) →
+    is_short (close (stage_of (message S header xs)))
+    ≡ list_any (λ l. is_fault l.0) ((reading_by S).closes header xs)
 unfolding reading_by is_short saying_of close
 close_short S header xs = go (stage_of (message S header xs))
   where
-    lack : (test : Bool) → is_short (if test then Ends ∷ [] else Incomplete ∷ []) ≡ list_any (λ l. is_fault l.0) (map closing_of (if test then Ends ∷ [] else Incomplete ∷ []))
+    lack : (test : Bool) → is_short (if test then Ends ∷ [] else Incomplete ∷ [])
+        ≡ list_any (λ l. is_fault l.0)
+        (map closing_of (if test then Ends ∷ [] else Incomplete ∷ []))
     lack true = refl
     lack false = refl
 
-    go : (stage : Stage) → is_short (close stage) ≡ list_any (λ l. is_fault l.0) (map closing_of (close stage))
+    go : (stage : Stage) → is_short (close stage)
+        ≡ list_any (λ l. is_fault l.0) (map closing_of (close stage))
     go (In_typed section h outer leaf) = refl
     go (In_padding t) = lack (may_lack t)
     go (In_rest offset []) = refl
     go (In_rest offset (x ∷ held)) = refl
     go Over = refl
+
+each_remark : (number place n : ℕ) (told : List Told) →
+    flat_map (λ t. speech_line number (place + (t.at - (12 + n))) t.speech) told
+    ≡ remarks_text number place n (map remark_of told)
+unfolding speech_line remarks_text
+each_remark number place n [] = refl
+each_remark number place n (t ∷ ts) =
+    let e : t.at - (12 + n) ≡ (t.at - 12) - n = omega arith in
+    rw e (ap (λ z. saying_line (place + ((t.at - 12) - n)) number (saying_of t.speech) (text_of t.speech) ++ z) (each_remark number place n ts))
+
+pub text_is : (S : Signatures) (number place : ℕ) (header s more : List ℕ) →
+    due_text S number place header s more ≡ remarks_text number place (length s)
+    (drop (length ((reading_by S).reads header s)) ((reading_by S).reads header (s ++ more)))
+unfolding due_text told_text due reading_by
+text_is S number place header s more =
+    each_remark number place (length s) (drop (length (told_of (message S header s))) (told_of (message S header (s ++ more))))
+    ∙ ap (remarks_text number place (length s))
+    (sym (ap (λ n. drop n (map remark_of (told_of (message S header (s ++ more))))) (length-map (told_of (message S header s)) remark_of)
+    ∙ drop-map remark_of (length (told_of (message S header s))) (told_of (message S header (s ++ more)))))
+
+each_close : (number place : ℕ) (speeches : List Speech) →
+    flat_map (speech_line number place) speeches
+    ≡ closes_text number place (map closing_of speeches)
+unfolding speech_line closes_text
+each_close number place [] = refl
+each_close number place (s ∷ ss) = ap (λ z. saying_line place number (saying_of s) (text_of s) ++ z) (each_close number place ss)
+
+pub close_is : (S : Signatures) (number place : ℕ) (header s : List ℕ) →
+    closing_text number place (close (stage_of (message S header s)))
+    ≡ closes_text number place ((reading_by S).closes header s)
+unfolding closing_text reading_by
+close_is S number place header s = each_close number place (close (stage_of (message S header s)))

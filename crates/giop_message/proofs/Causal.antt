@@ -21,7 +21,8 @@ use Rattle.giop_message.specs.Signatures.{Signatures}
 use Rattle.giop_message.specs.Messages.{Said, Called, Left, Wrong, Told, tell, is_shown, call_of, calls, tells, BodyType, Stage, In_typed, In_padding, In_rest, Over, Message, Comes, with_front, passes, rest_in, rest, body, padded, message, told_of, root_of, may_call, after, through}
 use Rattle.giop_message.specs.Steps.{rest_step, message_step, advance}
 use Rattle.giop_message.specs.MessageReading.{saying_of, remark_of, reading_by}
-use Rattle.giop_message.proofs.CutOff.{CallsNone, one_faulted, step_none}
+use Rattle.giop_message.proofs.LastParts.{CallsNone, step_none}
+use Rattle.giop_message.proofs.StepLines.{one_faulted}
 use Rattle.giop_message.proofs.Going.{front_none, body_has, after_has, message_has, message_goes}
 
 abbrev pub ToldAt : ℕ → List Told → Type 0
@@ -42,7 +43,8 @@ Prompt n (Comes told at stage) = Turn n told × ((at ≡ n) ⊎ (stage ≡ Over)
 silent_prompt : (n : ℕ) (m : Message) → Silent n m → Prompt n m
 silent_prompt n (Comes told at stage) h = rw h.0 ((tt, inl refl), inl h.1)
 
-prompt_front : (n : ℕ) (front : List Told) (m : Message) → Turn n front → Silent n m → Prompt n (with_front front m)
+prompt_front : (n : ℕ) (front : List Told) (m : Message) → Turn n front → Silent n m →
+    Prompt n (with_front front m)
 unfolding with_front
 prompt_front n front (Comes told at stage) h k = rw (k.0, append-nil front) (h, inl k.1)
 
@@ -60,7 +62,8 @@ call_is n (Some id) (Some name) = go (is_shown name)
     go true = inr (id, name, refl)
     go false = inl refl
 
-call_by : (n : ℕ) (test : Bool) (ts : List Told) → MayCall n ts → MayCall n (if test then ts else [])
+call_by : (n : ℕ) (test : Bool) (ts : List Told) → MayCall n ts →
+    MayCall n (if test then ts else [])
 call_by n true ts h = h
 call_by n false ts h = inl refl
 
@@ -68,20 +71,24 @@ pub calls_is : (is : Bool) (l : Line) (h : Heard) → MayCall l.at (calls is l h
 unfolding calls
 calls_is is l h = call_by l.at (ends_operation is l) (call_of l.at h.request_id h.name) (call_is l.at h.request_id h.name)
 
-value_turn : (n : ℕ) (root : Root) (path : List Seg) (v : Valued) (more : List Told) → MayCall n more → Turn n ((tell n (Said root path v) ∷ more) ++ [])
+value_turn : (n : ℕ) (root : Root) (path : List Seg) (v : Valued) (more : List Told) →
+    MayCall n more → Turn n ((tell n (Said root path v) ∷ more) ++ [])
 unfolding tell saying_of
 value_turn n root path v more (inl e) = rw e ((refl, tt), inr (inl refl))
 value_turn n root path v more (inr f) = rw f.2 ((refl, (refl, tt)), inr (inr (inl refl)))
 
-tells_turn : (root : Root) (is : Bool) (n : ℕ) (h : Heard) (lines : List Line) → OneAt n lines → Turn n (tells root is h lines)
+tells_turn : (root : Root) (is : Bool) (n : ℕ) (h : Heard) (lines : List Line) → OneAt n lines →
+    Turn n (tells root is h lines)
 unfolding tells
 tells_turn root is n h [] e = (tt, inl refl)
 tells_turn root is n h (l ∷ []) e =
     let now = hear (is_header_root root) h l in
-    subst (λ m. Turn m ((tell l.at (Said root l.path l.value) ∷ calls is l now) ++ [])) e (value_turn l.at root l.path l.value (calls is l now) (calls_is is l now))
+    subst (λ m. Turn m ((tell l.at (Said root l.path l.value) ∷ calls is l now) ++ [])) e
+    (value_turn l.at root l.path l.value (calls is l now) (calls_is is l now))
 tells_turn root is n h (l ∷ l' ∷ ls) e = absurd e
 
-module _ (section : Section) (is : Bool) (next : Heard → ℕ → List ℕ → Message) (n : ℕ) (silent : (k : Heard) → Silent n (next k n [])) where
+module _ (section : Section) (is : Bool) (next : Heard → ℕ → List ℕ → Message) (n : ℕ)
+    (silent : (k : Heard) → Silent n (next k n [])) where
   abbrev R : Root
   R = root_of section
 
@@ -92,14 +99,16 @@ module _ (section : Section) (is : Bool) (next : Heard → ℕ → List ℕ → 
   passes_silent k (Fault lines at why T) h = absurd h
 
   -- a fault, and the value that its octet completes
-  faulted_turn : (k : Heard) (lines : List Line) (at : ℕ) (why : Kind) → at ≡ n → OneAt n lines → Each (λ l. ends_operation is l ≡ false) lines →
+  faulted_turn : (k : Heard) (lines : List Line) (at : ℕ) (why : Kind) → at ≡ n → OneAt n lines →
+      Each (λ l. ends_operation is l ≡ false) lines →
       Turn n (tells R is k lines ++ tell at (Wrong why) ∷ [])
   unfolding tell tells calls saying_of
   faulted_turn k [] at why e one none = ((e, tt), inr (inr (inr (inr (inl refl)))))
   faulted_turn k (l ∷ []) at why e one none = rw none.0 ((one, (e, tt)), inr (inr (inr (inr (inr refl)))))
   faulted_turn k (l ∷ l' ∷ ls) at why e one none = absurd one
 
-  passes_prompt : (k : Heard) (r : Read) → Now n r → CallsNone is r → Prompt n (passes section is next k r)
+  passes_prompt : (k : Heard) (r : Read) → Now n r → CallsNone is r →
+      Prompt n (passes section is next k r)
   unfolding passes tell tells saying_of
   passes_prompt k (Done lines at s) h none =
       let now = heard (is_header_root R) k lines in
@@ -116,7 +125,8 @@ abbrev IsSilent : (ℕ → List ℕ → Message) → Type 0
 IsSilent reader = (n : ℕ) → Silent n (reader n [])
 
 module _ (S : Signatures) (header : List ℕ) where
-  reads_silent : (section : Section) (T : Ty) → ((h : Heard) → IsSilent (after S header section h)) →
+  reads_silent : (section : Section) (T : Ty) →
+      ((h : Heard) → IsSilent (after S header section h)) →
       IsSilent (λ at s. through S header section nothing (read (plain (order header)) [] T at s))
   reads_silent section T silent n =
       passes_silent section (may_call header section) (after S header section) n (λ k. silent k n) nothing (read (plain (order header)) [] T n [])
@@ -126,26 +136,32 @@ module _ (S : Signatures) (header : List ℕ) where
   unfolding padded
   padded_silent t silent n = go (cases_lt 0 (padding n 8))
     where
-      go : (0 < padding n 8) ⊎ (padding n 8 ≤ 0) → Silent n (if nat_lt 0 (padding n 8) then Comes [] (n + 0) (In_padding t) else body S header t (n + padding n 8) (drop (padding n 8) []))
+      go : (0 < padding n 8) ⊎ (padding n 8 ≤ 0) → Silent n
+          (if nat_lt 0 (padding n 8) then Comes [] (n + 0) (In_padding t)
+          else body S header t (n + padding n 8) (drop (padding n 8) []))
       go (inl h) = rw (lt-ltb 0 (padding n 8) h) (refl, add-zero n)
       go (inr h) = let e : padding n 8 ≡ 0 = omega arith in rw (e, add-zero n) (silent n)
 
   pub body_silent : (t : BodyType) (n : ℕ) → Silent n (body S header t n [])
   body_silent t = body_has S header IsSilent rest_silent reads_silent padded_silent t
 
-  pub after_silent : (section : Section) (k : Heard) (n : ℕ) → Silent n (after S header section k n [])
+  pub after_silent : (section : Section) (k : Heard) (n : ℕ) →
+      Silent n (after S header section k n [])
   after_silent section k = after_has S header IsSilent rest_silent reads_silent padded_silent section k
 
   pub message_silent : Silent 12 (message S header [])
   unfolding message
   message_silent = message_has S header IsSilent rest_silent reads_silent padded_silent 12
 
-rest_by : (offset : ℕ) (held : List ℕ) (n : ℕ) (test : Bool) → Prompt n (if test then Comes (tell n (Left offset held) ∷ []) n (In_rest (offset + 32) []) else Comes [] n (In_rest offset held))
+rest_by : (offset : ℕ) (held : List ℕ) (n : ℕ) (test : Bool) →
+    Prompt n (if test then Comes (tell n (Left offset held) ∷ []) n (In_rest (offset + 32) [])
+    else Comes [] n (In_rest offset held))
 unfolding tell saying_of
 rest_by offset held n true = (((refl, tt), inr (inr (inr (inl refl)))), inl refl)
 rest_by offset held n false = ((tt, inl refl), inl refl)
 
-pub step_prompt : (S : Signatures) (header : List ℕ) (at : ℕ) (stage : Stage) (b : ℕ) → Prompt (at + 1) (message_step S header at stage b)
+pub step_prompt : (S : Signatures) (header : List ℕ) (at : ℕ) (stage : Stage) (b : ℕ) →
+    Prompt (at + 1) (message_step S header at stage b)
 unfolding message_step rest_step
 step_prompt S header at (In_typed section k outer leaf) b =
     passes_prompt section (may_call header section) (after S header section) (at + 1) (λ k. after_silent S header section k (at + 1)) k
@@ -153,7 +169,8 @@ step_prompt S header at (In_typed section k outer leaf) b =
     (step_none (may_call header section) (plain (order header)) [] outer leaf at b)
 step_prompt S header at (In_padding t) b = go (nat_lt 1 (padding at 8))
   where
-    go : (test : Bool) → Prompt (at + 1) (if test then Comes [] (at + 1) (In_padding t) else body S header t (at + 1) [])
+    go : (test : Bool) → Prompt (at + 1)
+        (if test then Comes [] (at + 1) (In_padding t) else body S header t (at + 1) [])
     go true = ((tt, inl refl), inl refl)
     go false = silent_prompt (at + 1) (body S header t (at + 1) []) (body_silent S header t (at + 1))
 step_prompt S header at (In_rest offset held) b = rest_by offset (held ++ b ∷ []) (at + 1) (length (held ++ b ∷ []) == 32)
@@ -163,7 +180,8 @@ step_prompt S header at Over b = ((tt, inl refl), inr refl)
 abbrev pub Stands : ℕ → Message → Type 0
 Stands n (Comes told at stage) = (at ≡ n) ⊎ (stage ≡ Over)
 
-stands_more : (S : Signatures) (header : List ℕ) (n : ℕ) (m : Message) (b : ℕ) → Stands n m → Stands (n + 1) (advance S header m b)
+stands_more : (S : Signatures) (header : List ℕ) (n : ℕ) (m : Message) (b : ℕ) → Stands n m →
+    Stands (n + 1) (advance S header m b)
 unfolding advance with_front message_step
 stands_more S header n (Comes told at stage) b (inl h) = go (message_step S header at stage b) (step_prompt S header at stage b)
   where
@@ -172,7 +190,8 @@ stands_more S header n (Comes told at stage) b (inl h) = go (message_step S head
 stands_more S header n (Comes told at stage) b (inr h) = rw h (inr refl)
 
 -- Induction that adds at the end.
-grown : {A : Type 0} (P : List A → Type 0) → ((xs : List A) (x : A) → P xs → P (xs ++ x ∷ [])) → (done more : List A) → P done → P (done ++ more)
+grown : {A : Type 0} (P : List A → Type 0) → ((xs : List A) (x : A) → P xs → P (xs ++ x ∷ [])) →
+    (done more : List A) → P done → P (done ++ more)
 grown P more_of done [] h = rw append-nil h
 grown P more_of done (x ∷ xs) h = subst P (append_assoc done (x ∷ []) xs) (grown P more_of (done ++ x ∷ []) xs (more_of done x h))
 
@@ -182,7 +201,8 @@ stands S header xs = grown (λ xs. Stands (12 + length xs) (message S header xs)
     none : (m : Message) → Silent 12 m → Stands 12 m
     none (Comes told at stage) h = inl h.1
 
-    more : (xs : List ℕ) (b : ℕ) → Stands (12 + length xs) (message S header xs) → Stands (12 + length (xs ++ b ∷ [])) (message S header (xs ++ b ∷ []))
+    more : (xs : List ℕ) (b : ℕ) → Stands (12 + length xs) (message S header xs) →
+        Stands (12 + length (xs ++ b ∷ [])) (message S header (xs ++ b ∷ []))
     more xs b h = rw (message_goes S header xs b, length_one_more xs b, ← add_assoc) (stands_more S header (12 + length xs) (message S header xs) b h)
 
 -- lines behind so many octets
@@ -197,15 +217,19 @@ behind_less : (n m : ℕ) (told : List Told) → n ≤ m → Behind m told → B
 behind_less n m [] h k = tt
 behind_less n m (t ∷ ts) h k = (omega (arith, k.0), behind_less n m ts h k.1)
 
-pub one_more : (S : Signatures) (header : List ℕ) (n : ℕ) (m : Message) (b : ℕ) → Stands n m → (more : List Told) × (told_of (advance S header m b) ≡ told_of m ++ more) × Turn (n + 1) more
+pub one_more : (S : Signatures) (header : List ℕ) (n : ℕ) (m : Message) (b : ℕ) → Stands n m →
+    (more : List Told) × (told_of (advance S header m b) ≡ told_of m ++ more) × Turn (n + 1) more
 unfolding advance with_front message_step told_of
 one_more S header n (Comes told at stage) b (inl h) = go (message_step S header at stage b) (step_prompt S header at stage b)
   where
-    go : (m : Message) → Prompt (at + 1) m → (more : List Told) × (told_of (with_front told m) ≡ told ++ more) × Turn (n + 1) more
+    go : (m : Message) → Prompt (at + 1) m →
+        (more : List Told) × (told_of (with_front told m) ≡ told ++ more) × Turn (n + 1) more
     go (Comes more at' stage') k = (more, refl, rw (← h) k.0)
 one_more S header n (Comes told at stage) b (inr h) = ([], rw h refl, (tt, inl refl))
 
-pub told_begins : (S : Signatures) (header xs more : List ℕ) → (later : List Told) × (told_of (message S header (xs ++ more)) ≡ told_of (message S header xs) ++ later) × Behind (12 + length xs) later
+pub told_begins : (S : Signatures) (header xs more : List ℕ) → (later : List Told)
+    × (told_of (message S header (xs ++ more)) ≡ told_of (message S header xs) ++ later)
+    × Behind (12 + length xs) later
 told_begins S header xs [] = ([], ap (λ s. told_of (message S header s)) (append-nil xs) ∙ sym (append-nil (told_of (message S header xs))), tt)
 told_begins S header xs (b ∷ more) =
     let one = one_more S header (12 + length xs) (message S header xs) b (stands S header xs) in
@@ -213,14 +237,16 @@ told_begins S header xs (b ∷ more) =
       one.0 ++ all.0,
       ap (λ s. told_of (message S header s)) (sym (append_assoc xs (b ∷ []) more))
           ∙ (all.1 ∙ (ap (λ ts. ts ++ all.0) (ap told_of (message_goes S header xs b) ∙ one.1) ∙ append_assoc (told_of (message S header xs)) one.0 all.0)),
-      each_append (λ t. 12 + length xs < t.at) one.0 all.0 (behind_at (12 + length xs) one.0 one.2.0) (behind_less (12 + length xs) (12 + length (xs ++ b ∷ [])) all.0 (omega (arith, length_one_more xs b)) all.2),
+      each_append (λ t. 12 + length xs < t.at) one.0 all.0 (behind_at (12 + length xs) one.0 one.2.0)
+          (behind_less (12 + length xs) (12 + length (xs ++ b ∷ [])) all.0 (omega (arith, length_one_more xs b)) all.2),
     )
 
 pub map_both : {A B : Type 0} (f : A → B) (xs ys : List A) → map f (xs ++ ys) ≡ map f xs ++ map f ys
 map_both f [] ys = refl
 map_both {A} {B} f (x ∷ xs) ys = ap (λ (zs : List B). f x ∷ zs) (map_both f xs ys)
 
-later_none : (n k : ℕ) (told : List Told) → Behind (12 + n) told → k ≤ n → filter (λ r. r.at == k) (map remark_of told) ≡ []
+later_none : (n k : ℕ) (told : List Told) → Behind (12 + n) told → k ≤ n →
+    filter (λ r. r.at == k) (map remark_of told) ≡ []
 later_none n k [] h below = refl
 later_none n k (t ∷ ts) h below = rw (ne_eqb (t.at - 12) k (λ e. omega (arith, h.0))) (later_none n k ts h.1 below)
 
@@ -253,7 +279,8 @@ module _ (k : ℕ) where
       ∙ (ap (map (λ r. r.saying)) (filter-append At_k (map remark_of xs) (map remark_of ys))
       ∙ map_both (λ r. r.saying) (filter At_k (map remark_of xs)) (filter At_k (map remark_of ys)))
 
-  sayings_here : (n : ℕ) (ts : List Told) → ToldAt n ts → n - 12 ≡ k → Sayings ts ≡ map (λ t. saying_of t.speech) ts
+  sayings_here : (n : ℕ) (ts : List Told) → ToldAt n ts → n - 12 ≡ k →
+      Sayings ts ≡ map (λ t. saying_of t.speech) ts
   sayings_here n [] h e = refl
   sayings_here n (t ∷ ts) h e = rw (h.0, eq-eqb (n - 12) k e) (ap (λ cs. saying_of t.speech ∷ cs) (sayings_here n ts h.1 e))
 
@@ -273,7 +300,8 @@ module _ (k : ℕ) where
   here_up_to n [] h = tt
   here_up_to n (t ∷ ts) h = (omega (arith, h.0), here_up_to n ts h.1)
 
-  turn_of : (n : ℕ) (old more : List Told) → Each (λ t. t.at ≤ 12 + n) old → InTurn (Sayings old) → Turn ((12 + n) + 1) more → InTurn (Sayings (old ++ more))
+  turn_of : (n : ℕ) (old more : List Told) → Each (λ t. t.at ≤ 12 + n) old → InTurn (Sayings old) →
+      Turn ((12 + n) + 1) more → InTurn (Sayings (old ++ more))
   turn_of n old more bound old_turn turn = same (cases_lt (n + 1) k) (cases_lt k (n + 1))
     where
       go : (n + 1 ≡ k) ⊎ (n + 1 ≢ k) → InTurn (Sayings (old ++ more))
@@ -291,7 +319,8 @@ module _ (k : ℕ) where
     abbrev Ordered : List ℕ → Type 0
     Ordered xs = Each (λ t. t.at ≤ 12 + length xs) (told_of (message S header xs)) × InTurn (Sayings (told_of (message S header xs)))
 
-    ordered_none : (m : Message) → Silent 12 m → Each (λ t. t.at ≤ 12) (told_of m) × InTurn (Sayings (told_of m))
+    ordered_none : (m : Message) → Silent 12 m →
+        Each (λ t. t.at ≤ 12) (told_of m) × InTurn (Sayings (told_of m))
     unfolding told_of
     ordered_none (Comes told at stage) h = rw h.0 (tt, inl refl)
 
@@ -301,7 +330,8 @@ module _ (k : ℕ) where
         let old = told_of (message S header xs) in
         let e : told_of (message S header (xs ++ b ∷ [])) ≡ old ++ one.0 = ap told_of (message_goes S header xs b) ∙ one.1 in
         rw (e, length_one_more xs b, ← add_assoc) (
-          each_append (λ t. t.at ≤ (12 + length xs) + 1) old one.0 (up_to (12 + length xs) ((12 + length xs) + 1) old (omega arith) h.0) (here_up_to ((12 + length xs) + 1) one.0 one.2.0),
+          each_append (λ t. t.at ≤ (12 + length xs) + 1) old one.0 (up_to (12 + length xs) ((12 + length xs) + 1) old (omega arith) h.0)
+              (here_up_to ((12 + length xs) + 1) one.0 one.2.0),
           turn_of (length xs) old one.0 h.0 h.1 one.2,
         )
 

@@ -13,7 +13,8 @@ use Rattle.giop_message.proofs.Going.{stays, message_resumes}
 use Rattle.giop_message.proofs.Causal.{Behind, told_begins}
 use Rattle.giop_message.proofs.Followings.{told_more}
 
-due_both : (S : Signatures) (header s xs ys : List ℕ) → due S header s (xs ++ ys) ≡ due S header s xs ++ due S header (s ++ xs) ys
+due_both : (S : Signatures) (header s xs ys : List ℕ) →
+    due S header s (xs ++ ys) ≡ due S header s xs ++ due S header (s ++ xs) ys
 unfolding due
 due_both S header s xs ys =
     let front = told_of (message S header s) in
@@ -23,20 +24,24 @@ due_both S header s xs ys =
     ap (drop (length front)) e ∙ drop-append_seam front (due S header s xs ++ due S header (s ++ xs) ys)
 
 -- the places of lines that come behind an offset
-moved : (number place offset more : ℕ) (told : List Told) → Behind (offset + more) told → told_text number place offset told ≡ told_text number (place + more) (offset + more) told
+moved : (number place offset more : ℕ) (told : List Told) → Behind (offset + more) told →
+    told_text number place offset told ≡ told_text number (place + more) (offset + more) told
 unfolding told_text
 moved number place offset more [] behind = refl
 moved number place offset more (t ∷ ts) behind =
     let e : place + (t.at - offset) ≡ (place + more) + (t.at - (offset + more)) = omega (arith, behind.0) in
     rw e (ap (λ z. speech_line number ((place + more) + (t.at - (offset + more))) t.speech ++ z) (moved number place offset more ts behind.1))
 
-due_behind : (S : Signatures) (header s more : List ℕ) → Behind (12 + length s) (due S header s more)
+due_behind : (S : Signatures) (header s more : List ℕ) →
+    Behind (12 + length s) (due S header s more)
 unfolding due
 due_behind S header s more =
     let g = told_begins S header s more in
     subst (Behind (12 + length s)) (sym (ap (drop (length (told_of (message S header s)))) g.1 ∙ drop-append_seam (told_of (message S header s)) g.0)) g.2
 
-pub text_both : (S : Signatures) (number place : ℕ) (header s xs ys : List ℕ) → due_text S number place header s (xs ++ ys) ≡ due_text S number place header s xs ++ due_text S number (place + length xs) header (s ++ xs) ys
+pub text_both : (S : Signatures) (number place : ℕ) (header s xs ys : List ℕ) →
+    due_text S number place header s (xs ++ ys) ≡ due_text S number place header s xs
+    ++ due_text S number (place + length xs) header (s ++ xs) ys
 unfolding due_text told_text
 text_both S number place header s xs ys =
     let n = 12 + length s in
@@ -47,45 +52,55 @@ text_both S number place header s xs ys =
     (moved number place n (length xs) (due S header (s ++ xs) ys) (subst (λ k. Behind k (due S header (s ++ xs) ys)) e (due_behind S header (s ++ xs) ys))
     ∙ ap (λ k. told_text number (place + length xs) k (due S header (s ++ xs) ys)) (sym e)))
 
-pub text_none : (S : Signatures) (number place : ℕ) (header s : List ℕ) → due_text S number place header s [] ≡ []
+pub text_none : (S : Signatures) (number place : ℕ) (header s : List ℕ) →
+    due_text S number place header s [] ≡ []
 unfolding due_text told_text due
-text_none S number place header s = rw (append-nil s) (ap (flat_map (λ t. speech_line number (place + (t.at - (12 + length s))) t.speech)) (drop_all_of (told_of (message S header s))))
+text_none S number place header s =
+    rw (append-nil s) (ap (flat_map (λ t. speech_line number (place + (t.at - (12 + length s))) t.speech)) (drop_all_of (told_of (message S header s))))
   where
     drop_all_of : (told : List Told) → drop (length told) told ≡ []
     drop_all_of told = ap (drop (length told)) (sym (append-nil told)) ∙ drop-append_seam told []
 
 -- behind a fault nothing is told
-over_goes : (S : Signatures) (header : List ℕ) (told : List Told) (at : ℕ) (t : List ℕ) → goes_on S header (Comes told at Over) t ≡ Comes told at Over
+over_goes : (S : Signatures) (header : List ℕ) (told : List Told) (at : ℕ) (t : List ℕ) →
+    goes_on S header (Comes told at Over) t ≡ Comes told at Over
 over_goes S header told at [] = refl
 over_goes S header told at (b ∷ t) = ap (λ m. goes_on S header m t) (sym (stays S header told at b)) ∙ over_goes S header told at t
 
-over_same : (S : Signatures) (header t : List ℕ) (m : Message) → is_over (stage_of m) ≡ true → told_of (goes_on S header m t) ≡ told_of m
+over_same : (S : Signatures) (header t : List ℕ) (m : Message) → is_over (stage_of m) ≡ true →
+    told_of (goes_on S header m t) ≡ told_of m
 unfolding is_over stage_of
 over_same S header t (Comes told at Over) e = ap told_of (over_goes S header told at t)
 over_same S header t (Comes told at (Messages.In_typed section h outer leaf)) e = absurd cc
 over_same S header t (Comes told at (Messages.In_padding b)) e = absurd cc
 over_same S header t (Comes told at (Messages.In_rest offset held)) e = absurd cc
 
-pub text_over : (S : Signatures) (number place : ℕ) (header s more : List ℕ) → is_over (stage_of (message S header s)) ≡ true → due_text S number place header s more ≡ []
+pub text_over : (S : Signatures) (number place : ℕ) (header s more : List ℕ) →
+    is_over (stage_of (message S header s)) ≡ true → due_text S number place header s more ≡ []
 unfolding due_text told_text due
 text_over S number place header s more e =
-    let same : told_of (message S header (s ++ more)) ≡ told_of (message S header s) ++ [] = ap told_of (message_resumes S header s more) ∙ (over_same S header more (message S header s) e ∙ sym (append-nil (told_of (message S header s)))) in
+    let same : told_of (message S header (s ++ more)) ≡ told_of (message S header s) ++ [] =
+    ap told_of (message_resumes S header s more) ∙ (over_same S header more (message S header s) e ∙ sym (append-nil (told_of (message S header s)))) in
     rw (same, drop-append_seam (told_of (message S header s)) []) refl
 
 -- ---- the octets so far, and more of them
 
-pub text_so_far : (S : Signatures) (number place : ℕ) (header s octets : List ℕ) (i : ℕ) (more : List ℕ) → i ≤ length octets →
-    due_text S number place header s (take i octets ++ more) ≡ due_text S number place header s (take i octets) ++ due_text S number (place + i) header (s ++ take i octets) more
+pub text_so_far : (S : Signatures) (number place : ℕ) (header s octets : List ℕ) (i : ℕ)
+    (more : List ℕ) → i ≤ length octets → due_text S number place header s (take i octets ++ more)
+    ≡ due_text S number place header s (take i octets)
+    ++ due_text S number (place + i) header (s ++ take i octets) more
 text_so_far S number place header s octets i more h =
     text_both S number place header s (take i octets) more
     ∙ ap (λ k. due_text S number place header s (take i octets) ++ due_text S number (place + k) header (s ++ take i octets) more) (length-take-le i octets h)
 
 -- all of it, where the message is over
-pub text_ended : (S : Signatures) (number place : ℕ) (header s octets : List ℕ) (n : ℕ) → is_over (stage_of (message S header (s ++ take n octets))) ≡ true →
+pub text_ended : (S : Signatures) (number place : ℕ) (header s octets : List ℕ) (n : ℕ) →
+    is_over (stage_of (message S header (s ++ take n octets))) ≡ true →
     due_text S number place header s octets ≡ due_text S number place header s (take n octets)
 text_ended S number place header s octets n e =
     ap (due_text S number place header s) (sym (take-append-drop n octets)) ∙ (text_both S number place header s (take n octets) (drop n octets)
-    ∙ (ap (λ z. due_text S number place header s (take n octets) ++ z) (text_over S number (place + length (take n octets)) header (s ++ take n octets) (drop n octets) e) ∙ append-nil _))
+    ∙ (ap (λ z. due_text S number place header s (take n octets) ++ z)
+    (text_over S number (place + length (take n octets)) header (s ++ take n octets) (drop n octets) e) ∙ append-nil _))
 
 -- ---- a fault behind octets that have none
 

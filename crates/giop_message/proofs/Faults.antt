@@ -23,7 +23,8 @@ step_by : (a b c d : Bool) → (a || b) ≡ false → (b ≡ false → c ≡ d) 
 step_by true b c d h f = absurd cc
 step_by false b c d h f = f h
 
-any_append : (xs ys : List Told) → list_any is_wrong xs ≡ false → list_any is_wrong (xs ++ ys) ≡ list_any is_wrong ys
+any_append : (xs ys : List Told) → list_any is_wrong xs ≡ false →
+    list_any is_wrong (xs ++ ys) ≡ list_any is_wrong ys
 any_append [] ys h = refl
 any_append (x ∷ xs) ys h = step_by (is_wrong x) (list_any is_wrong xs) (list_any is_wrong (xs ++ ys)) (list_any is_wrong ys) h (any_append xs ys)
 
@@ -32,18 +33,21 @@ unfolding is_wrong saying_of tell
 none_call n told (inl e) = rw e refl
 none_call n told (inr f) = rw f.2 refl
 
-none_told : (root : Root) (is : Bool) (h : Heard) (lines : List Line) → list_any is_wrong (tells root is h lines) ≡ false
+none_told : (root : Root) (is : Bool) (h : Heard) (lines : List Line) →
+    list_any is_wrong (tells root is h lines) ≡ false
 unfolding tells is_wrong saying_of tell
 none_told root is h [] = refl
 none_told root is h (l ∷ ls) =
     let now = hear (is_header_root root) h l in
     any_append (calls is l now) (tells root is now ls) (none_call l.at (calls is l now) (calls_is is l now)) ∙ none_told root is now ls
 
-front_tallies : (front : List Told) (m : Message) → list_any is_wrong front ≡ false → Tallies m → Tallies (with_front front m)
+front_tallies : (front : List Told) (m : Message) → list_any is_wrong front ≡ false → Tallies m →
+    Tallies (with_front front m)
 unfolding with_front
 front_tallies front (Comes told at stage) h k = k ∙ sym (any_append front told h)
 
-module _ (section : Section) (is : Bool) (next : Heard → ℕ → List ℕ → Message) (tallies : (k : Heard) (at : ℕ) (s : List ℕ) → Tallies (next k at s)) where
+module _ (section : Section) (is : Bool) (next : Heard → ℕ → List ℕ → Message)
+    (tallies : (k : Heard) (at : ℕ) (s : List ℕ) → Tallies (next k at s)) where
   abbrev R : Root
   R = root_of section
 
@@ -59,7 +63,9 @@ module _ (section : Section) (is : Bool) (next : Heard → ℕ → List ℕ → 
 rest_tallies : (full offset at : ℕ) (s : List ℕ) → Tallies (rest_in full offset at s)
 unfolding rest_in is_over is_wrong saying_of tell
 rest_tallies zero offset at s = refl
-rest_tallies (suc full) offset at s = front_tallies (tell (at + 32) (Left offset (take 32 s)) ∷ []) (rest_in full (offset + 32) (at + 32) (drop 32 s)) refl (rest_tallies full (offset + 32) (at + 32) (drop 32 s))
+rest_tallies (suc full) offset at s =
+    front_tallies (tell (at + 32) (Left offset (take 32 s)) ∷ []) (rest_in full (offset + 32) (at + 32) (drop 32 s)) refl
+    (rest_tallies full (offset + 32) (at + 32) (drop 32 s))
 
 -- what a reader comes to tallies
 abbrev AllTally : (ℕ → List ℕ → Message) → Type 0
@@ -79,7 +85,8 @@ module _ (S : Signatures) (header : List ℕ) where
   unfolding padded is_over
   padded_tallies t tallies at s = go (nat_lt (length s) (padding at 8))
     where
-      go : (test : Bool) → Tallies (if test then Comes [] (at + length s) (In_padding t) else body S header t (at + padding at 8) (drop (padding at 8) s))
+      go : (test : Bool) → Tallies (if test then Comes [] (at + length s) (In_padding t)
+          else body S header t (at + padding at 8) (drop (padding at 8) s))
       go true = refl
       go false = tallies (at + padding at 8) (drop (padding at 8) s)
 
@@ -93,6 +100,7 @@ over_of : (m : Message) → Tallies m → is_over (stage_of m) ≡ list_any is_w
 unfolding stage_of told_of
 over_of (Comes told at stage) h = h
 
-pub over_where_faulted : (S : Signatures) (header s : List ℕ) → is_over (stage_of (message S header s)) ≡ list_any is_wrong (told_of (message S header s))
+pub over_where_faulted : (S : Signatures) (header s : List ℕ) →
+    is_over (stage_of (message S header s)) ≡ list_any is_wrong (told_of (message S header s))
 unfolding message
 over_where_faulted S header s = over_of (message S header s) (message_tallies S header 12 s)

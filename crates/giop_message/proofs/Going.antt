@@ -24,7 +24,8 @@ use Rattle.giop_message.specs.Steps.{rest_step, message_step, advance, goes_on}
 abbrev pub Goes : Signatures → List ℕ → (ℕ → List ℕ → Message) → Type 0
 Goes S header reader = (at : ℕ) (s : List ℕ) (b : ℕ) → reader at (s ++ b ∷ []) ≡ advance S header (reader at s) b
 
-pub front_twice : (front mid : List Told) (m : Message) → with_front front (with_front mid m) ≡ with_front (front ++ mid) m
+pub front_twice : (front mid : List Told) (m : Message) →
+    with_front front (with_front mid m) ≡ with_front (front ++ mid) m
 unfolding with_front
 front_twice front mid (Comes told at stage) = ap (λ ls. Comes ls at stage) (sym (append_assoc front mid told))
 
@@ -32,31 +33,36 @@ pub front_none : (m : Message) → with_front [] m ≡ m
 unfolding with_front
 front_none (Comes told at stage) = refl
 
-pub front_advance : (S : Signatures) (header : List ℕ) (front : List Told) (m : Message) (b : ℕ) → with_front front (advance S header m b) ≡ advance S header (with_front front m) b
+pub front_advance : (S : Signatures) (header : List ℕ) (front : List Told) (m : Message) (b : ℕ) →
+    with_front front (advance S header m b) ≡ advance S header (with_front front m) b
 unfolding with_front advance
 front_advance S header front (Comes told at stage) b = front_twice front told (message_step S header at stage b)
 
-pub stays : (S : Signatures) (header : List ℕ) (told : List Told) (at b : ℕ) → Comes told at Over ≡ advance S header (Comes told at Over) b
+pub stays : (S : Signatures) (header : List ℕ) (told : List Told) (at b : ℕ) →
+    Comes told at Over ≡ advance S header (Comes told at Over) b
 unfolding with_front advance message_step
 stays S header told at b = ap (λ ls. Comes ls at Over) (sym (append-nil told))
 
 -- ---- telling in two parts
 
-pub tells_append : (root : Root) (is : Bool) (h : Heard) (xs ys : List Line) → tells root is h (xs ++ ys) ≡ tells root is h xs ++ tells root is (heard (is_header_root root) h xs) ys
+pub tells_append : (root : Root) (is : Bool) (h : Heard) (xs ys : List Line) →
+    tells root is h (xs ++ ys) ≡ tells root is h xs
+    ++ tells root is (heard (is_header_root root) h xs) ys
 unfolding tells
 tells_append root is h [] ys = refl
 tells_append root is h (x ∷ xs) ys =
     let now = hear (is_header_root root) h x in
     let first = tell x.at (Said root x.path x.value) ∷ calls is x now in
-    ap (λ ls. first ++ ls) (tells_append root is now xs ys) ∙ sym (append_assoc first (tells root is now xs) (tells root is (heard (is_header_root root) now xs) ys))
+    ap (λ ls. first ++ ls) (tells_append root is now xs ys)
+    ∙ sym (append_assoc first (tells root is now xs) (tells root is (heard (is_header_root root) now xs) ys))
 
 module _ (section : Section) (is : Bool) (next : Heard → ℕ → List ℕ → Message) where
   abbrev R : Root
   R = root_of section
 
   pub passes_front : (h : Heard) (front : List Line) (r : Read) →
-      passes section is next h (Spine.with_front front r)
-      ≡ with_front (tells R is h front) (passes section is next (heard (is_header_root R) h front) r)
+      passes section is next h (Spine.with_front front r) ≡ with_front (tells R is h front)
+      (passes section is next (heard (is_header_root R) h front) r)
   unfolding passes with_front
   passes_front h front (Done lines at s) =
       let now = heard (is_header_root R) h front in
@@ -72,7 +78,8 @@ module _ (section : Section) (is : Bool) (next : Heard → ℕ → List ℕ → 
 -- a section goes on as its reading does, where what follows it goes on
 pub through_goes : (S : Signatures) (header : List ℕ) (section : Section) →
     ((h : Heard) → Goes S header (after S header section h)) → (h : Heard) (r : Read) (b : ℕ) →
-    through S header section h (decoder.advance (plain (order header)) [] r b) ≡ advance S header (through S header section h r) b
+    through S header section h (decoder.advance (plain (order header)) [] r b)
+    ≡ advance S header (through S header section h r) b
 unfolding passes with_front advance message_step
 through_goes S header section goes h (Done lines at s) b =
     let R = root_of section in
@@ -86,15 +93,18 @@ through_goes S header section goes h (Fault lines at why T) b =
 
 -- ---- the rest
 
-pub rest_step_full : (offset : ℕ) (held : List ℕ) (at : ℕ) → length held ≡ 32 → rest_step offset held at ≡ Comes (tell at (Left offset held) ∷ []) at (In_rest (offset + 32) [])
+pub rest_step_full : (offset : ℕ) (held : List ℕ) (at : ℕ) → length held ≡ 32 →
+    rest_step offset held at ≡ Comes (tell at (Left offset held) ∷ []) at (In_rest (offset + 32) [])
 unfolding rest_step
 rest_step_full offset held at e = rw eq-eqb refl
 
-pub rest_step_more : (offset : ℕ) (held : List ℕ) (at : ℕ) → length held < 32 → rest_step offset held at ≡ Comes [] at (In_rest offset held)
+pub rest_step_more : (offset : ℕ) (held : List ℕ) (at : ℕ) → length held < 32 →
+    rest_step offset held at ≡ Comes [] at (In_rest offset held)
 unfolding rest_step
 rest_step_more offset held at h = rw (ne_eqb (length held) 32 (λ e. omega arith)) refl
 
-rest_in_goes : (S : Signatures) (header : List ℕ) (full more offset at : ℕ) (s : List ℕ) (b : ℕ) → full ≡ length s / 32 → more ≡ (length s + 1) / 32 →
+rest_in_goes : (S : Signatures) (header : List ℕ) (full more offset at : ℕ) (s : List ℕ) (b : ℕ) →
+    full ≡ length s / 32 → more ≡ (length s + 1) / 32 →
     rest_in more offset at (s ++ b ∷ []) ≡ advance S header (rest_in full offset at s) b
 unfolding rest_in advance message_step with_front
 rest_in_goes S header zero zero offset at s b e f =
@@ -110,7 +120,8 @@ rest_in_goes S header (suc full) (suc more) offset at s b e f =
     let l : 32 ≤ length s = omega arith in
     let front = tell (at + 32) (Left offset (take 32 s)) ∷ [] in
     rw (take-append-le 32 s (b ∷ []) l, drop-append-le 32 s (b ∷ []) l)
-    (ap (with_front front) (rest_in_goes S header full more (offset + 32) (at + 32) (drop 32 s) b (omega (arith, length-drop 32 s)) (omega (arith, length-drop 32 s)))
+    (ap (with_front front)
+    (rest_in_goes S header full more (offset + 32) (at + 32) (drop 32 s) b (omega (arith, length-drop 32 s)) (omega (arith, length-drop 32 s)))
     ∙ front_advance S header front (rest_in full (offset + 32) (at + 32) (drop 32 s)) b)
 
 pub rest_goes : (S : Signatures) (header : List ℕ) → Goes S header rest
@@ -119,11 +130,14 @@ rest_goes S header at s b = rest_in_goes S header (length s / 32) (length (s ++ 
 
 -- ---- the padding
 
-padded_waits : (S : Signatures) (header : List ℕ) (t : BodyType) (at : ℕ) (s : List ℕ) → length s < padding at 8 → padded S header t at s ≡ Comes [] (at + length s) (In_padding t)
+padded_waits : (S : Signatures) (header : List ℕ) (t : BodyType) (at : ℕ) (s : List ℕ) →
+    length s < padding at 8 → padded S header t at s ≡ Comes [] (at + length s) (In_padding t)
 unfolding padded
 padded_waits S header t at s h = rw lt-ltb refl
 
-padded_begins : (S : Signatures) (header : List ℕ) (t : BodyType) (at : ℕ) (s : List ℕ) → padding at 8 ≤ length s → padded S header t at s ≡ body S header t (at + padding at 8) (drop (padding at 8) s)
+padded_begins : (S : Signatures) (header : List ℕ) (t : BodyType) (at : ℕ) (s : List ℕ) →
+    padding at 8 ≤ length s → padded S header t at s
+    ≡ body S header t (at + padding at 8) (drop (padding at 8) s)
 unfolding padded
 padded_begins S header t at s h = rw le-ltb refl
 
@@ -133,21 +147,27 @@ unfolding padding
 pad_less at k h = omega arith
 
 module _ (S : Signatures) (header : List ℕ) (t : BodyType) (at b : ℕ) (s : List ℕ) where
-  padding_waits : 1 < padding (at + length s) 8 → Comes [] (at + length (s ++ b ∷ [])) (In_padding t) ≡ advance S header (Comes [] (at + length s) (In_padding t)) b
+  padding_waits : 1 < padding (at + length s) 8 →
+      Comes [] (at + length (s ++ b ∷ [])) (In_padding t)
+      ≡ advance S header (Comes [] (at + length s) (In_padding t)) b
   unfolding advance message_step
   padding_waits m = rw (lt-ltb 1 (padding (at + length s) 8) m, front_none, length_one_more, add_assoc) refl
 
   padding_begins : padding at 8 ≡ length (s ++ b ∷ []) → padding (at + length s) 8 ≤ 1 →
-      body S header t (at + padding at 8) (drop (padding at 8) (s ++ b ∷ [])) ≡ advance S header (Comes [] (at + length s) (In_padding t)) b
+      body S header t (at + padding at 8) (drop (padding at 8) (s ++ b ∷ []))
+      ≡ advance S header (Comes [] (at + length s) (In_padding t)) b
   unfolding advance message_step
   padding_begins l m =
       let n : at + padding at 8 ≡ (at + length s) + 1 = omega (arith, length_one_more s b) in
       rw (le-ltb 1 (padding (at + length s) 8) m, front_none, drop_all (padding at 8) (s ++ b ∷ []) (le_of_eq (sym l)), n) refl
 
-padded_goes : (S : Signatures) (header : List ℕ) (t : BodyType) → Goes S header (body S header t) → Goes S header (padded S header t)
+padded_goes : (S : Signatures) (header : List ℕ) (t : BodyType) → Goes S header (body S header t) →
+    Goes S header (padded S header t)
 padded_goes S header t goes at s b = go (cases_lt (length s) (padding at 8)) (cases_lt (length s + 1) (padding at 8))
   where
-    go : (length s < padding at 8) ⊎ (padding at 8 ≤ length s) → (length s + 1 < padding at 8) ⊎ (padding at 8 ≤ length s + 1) → padded S header t at (s ++ b ∷ []) ≡ advance S header (padded S header t at s) b
+    go : (length s < padding at 8) ⊎ (padding at 8 ≤ length s) →
+        (length s + 1 < padding at 8) ⊎ (padding at 8 ≤ length s + 1) →
+        padded S header t at (s ++ b ∷ []) ≡ advance S header (padded S header t at s) b
     go (inl h) (inl k) =
         let l : length (s ++ b ∷ []) < padding at 8 = rw length_one_more k in
         let m : 1 < padding (at + length s) 8 = omega (arith, pad_less at (length s) h) in
@@ -192,7 +212,9 @@ module _ (S : Signatures) (header : List ℕ) (P : (ℕ → List ℕ → Message
   unfolding after_header
   header_has h = go (has_body header) (minor header == 2)
     where
-      go : (has is_2 : Bool) → P (λ at s. if has then (if is_2 then padded S header (body_of S header h) at s else body S header (body_of S header h) at s) else rest at s)
+      go : (has is_2 : Bool) → P (λ at s. if has
+          then (if is_2 then padded S header (body_of S header h) at s
+          else body S header (body_of S header h) at s) else rest at s)
       go true true = pads (body_of S header h) (body_has (body_of S header h))
       go true false = body_has (body_of S header h)
       go false is_2 = rests
@@ -210,23 +232,27 @@ module _ (S : Signatures) (header : List ℕ) (P : (ℕ → List ℕ → Message
   pub message_has : P (of_header S header (S.header (minor header) (kind header)))
   message_has = message_by (S.header (minor header) (kind header))
 
-reads_go : (S : Signatures) (header : List ℕ) (section : Section) (T : Ty) → ((h : Heard) → Goes S header (after S header section h)) →
+reads_go : (S : Signatures) (header : List ℕ) (section : Section) (T : Ty) →
+    ((h : Heard) → Goes S header (after S header section h)) →
     Goes S header (λ at s. through S header section nothing (read (plain (order header)) [] T at s))
 reads_go S header section T goes at s b =
     ap (through S header section nothing) (read_goes (plain (order header)) [] T at s b)
     ∙ through_goes S header section goes nothing (read (plain (order header)) [] T at s) b
 
-pub after_goes : (S : Signatures) (header : List ℕ) (section : Section) (h : Heard) → Goes S header (after S header section h)
+pub after_goes : (S : Signatures) (header : List ℕ) (section : Section) (h : Heard) →
+    Goes S header (after S header section h)
 after_goes S header = after_has S header (Goes S header) (rest_goes S header) (reads_go S header) (padded_goes S header)
 
 -- One octet more is one step.
-pub message_goes : (S : Signatures) (header s : List ℕ) (b : ℕ) → message S header (s ++ b ∷ []) ≡ advance S header (message S header s) b
+pub message_goes : (S : Signatures) (header s : List ℕ) (b : ℕ) →
+    message S header (s ++ b ∷ []) ≡ advance S header (message S header s) b
 unfolding message
 message_goes S header s b =
     message_has S header (Goes S header) (rest_goes S header) (reads_go S header) (padded_goes S header) 12 s b
 
 -- and so are many
-pub message_resumes : (S : Signatures) (header s t : List ℕ) → message S header (s ++ t) ≡ goes_on S header (message S header s) t
+pub message_resumes : (S : Signatures) (header s t : List ℕ) →
+    message S header (s ++ t) ≡ goes_on S header (message S header s) t
 message_resumes S header s [] = ap (message S header) (append-nil s)
 message_resumes S header s (b ∷ t) =
     ap (message S header) (sym (append_assoc s (b ∷ []) t))

@@ -1,4 +1,5 @@
--- The last part of a Request's header is no operation, so a header never ends with one.
+-- What ends no operation: the last part of a Request's header, which is none, so a header never ends with one; and what is said
+-- at the octet of a fault.
 use Rattle.std.proofs.Common.{◌≡◌, ℕ, zero, suc, ◌+◌, ◌-◌, ◌<◌, ◌≤◌, ◌⊎◌, inl, inr, Bool, true, false, List, [], ◌∷◌, ◌++◌, length, Option, Some, None, refl, sym, ap, subst, ◌∙◌, append-nil, arith}
 use Rattle.std.specs.Prelude.{◌&&◌, codes, IfSome}
 use Rattle.std.specs.List.{AllByRecursion as Each}
@@ -13,13 +14,13 @@ use Rattle.giop_sig.specs.Builtin.{builtin_types, builtin_table}
 use Rattle.giop_sig.specs.Headers.{header_type, header_number, IsTable, IsCall, IsRaised}
 use Rattle.giop_sig.proofs.Builtins.{builtin_are, builtin_fit, header_built_in}
 use Rattle.giop_decode.specs.Spine
-use Rattle.giop_decode.specs.Spine.{Coding, Seg, Name, Switch, Held, Line, Place, Part, Member, Inside, Leaf, Head, Opening, Content, Read, Done, Short, Fault, lines_of, with_front}
+use Rattle.giop_decode.specs.Spine.{Coding, Seg, Name, Switch, Held, Line, Place, Part, Member, Inside, Leaf, Head, Opening, Content, Read, Done, Short, Fault, lines_of, with_front, followed, within}
 use Rattle.giop_decode.specs.Reading.{parts_from}
-use Rattle.giop_decode.specs.Steps.{Now, part_at, path_in, seg_of, seg_in, step, resumed}
+use Rattle.giop_decode.specs.Steps.{Now, part_at, path_in, seg_of, seg_in, step, resumed, Quiet, leaf_step}
 use Rattle.giop_decode.specs.Fits.{FitsIn}
 use Rattle.giop_decode.specs.Heard.{is_member, ends_operation, ends_text}
-use Rattle.giop_decode.proofs.ReadingLaws.{step_now, next_part, switch_member}
-use Rattle.giop_message.proofs.Saying.{IsOf, step_of}
+use Rattle.giop_decode.proofs.ReadingLaws.{step_now, next_part, switch_member, now_within, parts_quiet}
+use Rattle.giop_message.proofs.StepLines.{IsOf, step_of, Firm, leaf_says}
 
 -- a struct whose last part has another name
 abbrev pub EndsOtherwise : Ty → Type 0
@@ -60,7 +61,8 @@ header_fit minor kind T e = subst (λ found. IfSome found (IsFit 24)) e (number_
 -- ---- no operation at the end
 
 -- a path of several steps is no member of the root
-pub deep_member : (name : List ℕ) (a b : Seg) (path : List Seg) (outer : List Place) → is_member name (path_in (a ∷ b ∷ path) outer) ≡ false
+pub deep_member : (name : List ℕ) (a b : Seg) (path : List Seg) (outer : List Place) →
+    is_member name (path_in (a ∷ b ∷ path) outer) ≡ false
 deep_member name (Name x) b path [] = refl
 deep_member name (Spine.Index x) b path [] = refl
 deep_member name (Switch tag) b path [] = refl
@@ -71,53 +73,66 @@ both_false : (a b c : Bool) → b ≡ false → (a && (b && c)) ≡ false
 both_false true b c e = rw e refl
 both_false false b c e = refl
 
-no_end : (is : Bool) (path : List Seg) (l : Line) → IsOf path l → is_member (codes "operation") path ≡ false → ends_operation is l ≡ false
+no_end : (is : Bool) (path : List Seg) (l : Line) → IsOf path l →
+    is_member (codes "operation") path ≡ false → ends_operation is l ≡ false
 no_end is path l of e = both_false is (is_member (codes "operation") l.path) (ends_text l.value) (go of.stands)
   where
-    go : (l.path ≡ path) ⊎ ((tag : Option (List ℕ)) × (l.path ≡ path ++ Switch tag ∷ [])) → is_member (codes "operation") l.path ≡ false
+    go : (l.path ≡ path) ⊎ ((tag : Option (List ℕ)) × (l.path ≡ path ++ Switch tag ∷ [])) →
+        is_member (codes "operation") l.path ≡ false
     go (inl same) = rw same e
     go (inr same) = rw same.1 (switch_member (codes "operation") path same.0)
 
-pub no_ends : (is : Bool) (path : List Seg) (lines : List Line) → Each (IsOf path) lines → is_member (codes "operation") path ≡ false → Each (λ l. ends_operation is l ≡ false) lines
+pub no_ends : (is : Bool) (path : List Seg) (lines : List Line) → Each (IsOf path) lines →
+    is_member (codes "operation") path ≡ false → Each (λ l. ends_operation is l ≡ false) lines
 no_ends is path [] each e = tt
 no_ends is path (l ∷ ls) each e = (no_end is path l each.0 e, no_ends is path ls each.1 e)
 
 -- a reading that is done
 abbrev pub done_test : Read → Bool
 done_test (Done lines at rest) = true
-done_test (Short lines at outer leaf) = false
-done_test (Fault lines at why T) = false
+done_test r = false
 
-short_front : (front : List Line) (r : Read) (at : ℕ) (outer : List Place) (leaf : Leaf) → with_front [] r ≡ Short [] at outer leaf → done_test (with_front front r) ≡ false
+short_front : (front : List Line) (r : Read) (at : ℕ) (outer : List Place) (leaf : Leaf) →
+    with_front [] r ≡ Short [] at outer leaf → done_test (with_front front r) ≡ false
 short_front front (Done lines at rest) at' outer leaf e = absurd (false≢true (sym (ap done_test e)))
-short_front front (Short lines at outer leaf) at' outer' leaf' e = refl
-short_front front (Fault lines at why T) at' outer' leaf' e = refl
+short_front front r at' outer' leaf' e = refl
 
 -- a struct goes on behind a part that isn't its last
-goes_on : (coding : Coding) (d n : ℕ) (names : ℕ → List ℕ) (parts : ℕ → Ty) (i at : ℕ) (inner : Read) → IsFit (suc d) (Struct (suc n) names parts) → suc i < suc n → Now at inner →
+goes_on : (coding : Coding) (d n : ℕ) (names : ℕ → List ℕ) (parts : ℕ → Ty) (i at : ℕ)
+    (inner : Read) → IsFit (suc d) (Struct (suc n) names parts) → suc i < suc n → Now at inner →
     done_test (resumed coding [] (Part (Struct (suc n) names parts) i (suc n)) inner) ≡ false
 goes_on coding d n names parts i at (Short lines at' outer leaf) fit below now = refl
 goes_on coding d n names parts i at (Fault lines at' why T) fit below now = refl
 goes_on coding d n names parts i at (Done lines at' rest) fit below now =
     let T = Struct (suc n) names parts in
-    rw (now.1, now.2) (short_front lines (parts_from (part_at coding [] T (suc n)) (suc n - suc i) (suc i) at []) at _ _ (next_part coding [] d T i (suc n) at fit refl below))
+    rw (now.1, now.2)
+    (short_front lines (parts_from (part_at coding [] T (suc n)) (suc n - suc i) (suc i) at []) at _ _ (next_part coding [] d T i (suc n) at fit refl below))
 
 -- in the last part, or in one whose end goes on to the next
-module _ (coding : Coding) (is : Bool) (n : ℕ) (names : ℕ → List ℕ) (parts : ℕ → Ty) (fit : IsFit 24 (Struct (suc n) names parts)) (other : bytes_eq (codes "operation") (names n) ≡ false) (at b : ℕ) where
+module _ (coding : Coding) (is : Bool) (n : ℕ) (names : ℕ → List ℕ) (parts : ℕ → Ty)
+    (fit : IsFit 24 (Struct (suc n) names parts))
+    (other : bytes_eq (codes "operation") (names n) ≡ false) (at b : ℕ) where
   abbrev NoCalls : List Place → Leaf → Type 0
   NoCalls outer leaf = Each (λ l. ends_operation is l ≡ false) (lines_of (step coding [] outer leaf at b))
 
-  in_part : (i : ℕ) (leaf : Leaf) → FitsIn (parts i) [] leaf → i < suc n → done_test (step coding [] (Part (Struct (suc n) names parts) i (suc n) ∷ []) leaf at b) ≡ true →
-      NoCalls (Part (Struct (suc n) names parts) i (suc n) ∷ []) leaf
+  in_part : (i : ℕ) (leaf : Leaf) → FitsIn (parts i) [] leaf → i < suc n →
+      done_test (step coding [] (Part (Struct (suc n) names parts) i (suc n) ∷ []) leaf at b)
+      ≡ true → NoCalls (Part (Struct (suc n) names parts) i (suc n) ∷ []) leaf
   in_part i leaf fits below done = go (cases_lt (suc i) (suc n))
     where
-      go : (suc i < suc n) ⊎ (suc n ≤ suc i) → NoCalls (Part (Struct (suc n) names parts) i (suc n) ∷ []) leaf
-      go (inl more) = absurd (false≢true (sym (goes_on coding 23 n names parts i (at + 1) (step coding (Name (names i) ∷ []) [] leaf at b) fit more (step_now coding (Name (names i) ∷ []) [] leaf at b)) ∙ done))
+      go : (suc i < suc n) ⊎ (suc n ≤ suc i) →
+          NoCalls (Part (Struct (suc n) names parts) i (suc n) ∷ []) leaf
+      go (inl more) =
+          absurd (false≢true
+          (sym (goes_on coding 23 n names parts i (at + 1) (step coding (Name (names i) ∷ []) [] leaf at b) fit more
+          (step_now coding (Name (names i) ∷ []) [] leaf at b)) ∙ done))
       go (inr last) =
           let e : i ≡ n = omega (arith, below) in
-          no_ends is (Name (names i) ∷ []) _ (step_of coding [] (Part (Struct (suc n) names parts) i (suc n) ∷ []) leaf at b) (ap (λ k. bytes_eq (codes "operation") (names k)) e ∙ other)
+          no_ends is (Name (names i) ∷ []) _ (step_of coding [] (Part (Struct (suc n) names parts) i (suc n) ∷ []) leaf at b)
+          (ap (λ k. bytes_eq (codes "operation") (names k)) e ∙ other)
 
-  in_struct : (outer : List Place) (leaf : Leaf) → FitsIn (Struct (suc n) names parts) outer leaf → done_test (step coding [] outer leaf at b) ≡ true → NoCalls outer leaf
+  in_struct : (outer : List Place) (leaf : Leaf) → FitsIn (Struct (suc n) names parts) outer leaf →
+      done_test (step coding [] outer leaf at b) ≡ true → NoCalls outer leaf
   in_struct [] (Head U carry) fits done = absurd fits.kind
   in_struct [] (Opening U n) fits done = absurd fits.kind
   in_struct [] (Content U total offset piece) fits done = absurd fits.kind
@@ -132,7 +147,81 @@ module _ (coding : Coding) (is : Bool) (n : ℕ) (names : ℕ → List ℕ) (par
       (deep_member (codes "operation") (seg_of U i) (seg_in place) [] outer)
 
 -- What ends a header that ends otherwise calls nothing.
-pub last_no_call : (coding : Coding) (is : Bool) (T : Ty) (outer : List Place) (leaf : Leaf) (at b : ℕ) → EndsOtherwise T → IsFit 24 T → FitsIn T outer leaf →
-    done_test (step coding [] outer leaf at b) ≡ true → Each (λ l. ends_operation is l ≡ false) (lines_of (step coding [] outer leaf at b))
+pub last_no_call : (coding : Coding) (is : Bool) (T : Ty) (outer : List Place) (leaf : Leaf)
+    (at b : ℕ) → EndsOtherwise T → IsFit 24 T → FitsIn T outer leaf →
+    done_test (step coding [] outer leaf at b) ≡ true →
+    Each (λ l. ends_operation is l ≡ false) (lines_of (step coding [] outer leaf at b))
 last_no_call coding is T outer leaf at b (n, names, parts, same, other) fit fits done =
     in_struct coding is n names parts (subst (IsFit 24) same fit) other at b outer leaf (subst (λ U. FitsIn U outer leaf) same fits) done
+
+-- of a reading that is faulted no line ends an operation
+abbrev pub CallsNone : Bool → Read → Type 0
+CallsNone is (Done lines at rest) = Unit {0}
+CallsNone is (Short lines at outer leaf) = Unit {0}
+CallsNone is (Fault lines at why T) = Each (λ l. ends_operation is l ≡ false) lines
+
+-- where no line does, whatever has come of it
+each_none : (is : Bool) (r : Read) → Each (λ l. ends_operation is l ≡ false) (lines_of r) →
+    CallsNone is r
+each_none is (Done lines at rest) h = tt
+each_none is (Short lines at outer leaf) h = tt
+each_none is (Fault lines at why T) h = h
+
+and_false : (a b c : Bool) → c ≡ false → (a && (b && c)) ≡ false
+and_false true true c e = e
+and_false true false c e = refl
+and_false false b c e = refl
+
+ends_none : (is : Bool) (lines : List Line) → Each (λ l. ends_text l.value ≡ false) lines →
+    Each (λ l. ends_operation is l ≡ false) lines
+ends_none is [] h = tt
+ends_none is (l ∷ ls) h = (and_false is (is_member (codes "operation") l.path) (ends_text l.value) h.0, ends_none is ls h.1)
+
+firm_none : (is : Bool) (r : Read) → Firm r → CallsNone is r
+firm_none is (Done lines at rest) h = tt
+firm_none is (Short lines at outer leaf) h = tt
+firm_none is (Fault lines at why T) (inl h) = ends_none is lines h
+firm_none is (Fault lines at why T) (inr h) = absurd (false≢true (sym h.1))
+
+-- ---- what stands around it
+
+followed_none : (is : Bool) (n : ℕ) (r : Read) (next : ℕ → List ℕ → Read) → Now n r →
+    Quiet n (next n []) → CallsNone is r → CallsNone is (followed r next)
+followed_none is n (Done lines at rest) next now quiet h = rw (now.1, now.2) (behind (next n []) quiet)
+  where
+    behind : (q : Read) → Quiet n q → CallsNone is (Spine.with_front lines q)
+    behind (Done ls at rest) k = tt
+    behind (Short ls at outer leaf) k = tt
+    behind (Fault ls at why S) k = absurd k
+followed_none is n (Short lines at outer leaf) next now quiet h = tt
+followed_none is n (Fault lines at why T) next now quiet h = h
+
+within_none : (is : Bool) (place : Place) (r : Read) → CallsNone is r →
+    CallsNone is (within place r)
+within_none is place (Done lines at rest) h = h
+within_none is place r h = h
+
+-- what stands in an encapsulation is no member of the root
+held_member : (name : List ℕ) (path : List Seg) (outer : List Place) →
+    is_member name (path_in (path ++ Held ∷ []) outer) ≡ false
+held_member name [] [] = refl
+held_member name [] (place ∷ outer) = deep_member name Held (seg_in place) [] outer
+held_member name (a ∷ []) outer = deep_member name a Held [] outer
+held_member name (a ∷ b ∷ path) outer = deep_member name a b (path ++ Held ∷ []) outer
+
+-- An octet that ends an encapsulation too soon may say what it completes, which is no operation.
+pub step_none : (is : Bool) (coding : Coding) (path : List Seg) (outer : List Place) (leaf : Leaf)
+    (at b : ℕ) → CallsNone is (step coding path outer leaf at b)
+step_none is coding path [] leaf at b = firm_none is (leaf_step coding path leaf at b) (leaf_says coding path leaf at b).firm
+step_none is coding path (Part T i count ∷ outer) leaf at b =
+    let inner = step coding (path ++ seg_of T i ∷ []) outer leaf at b in
+    followed_none is (at + 1) (within (Part T i count) inner) (parts_from (part_at coding path T count) (count - suc i) (suc i))
+    (now_within (at + 1) (Part T i count) inner (step_now coding (path ++ seg_of T i ∷ []) outer leaf at b))
+    (parts_quiet coding path T count (at + 1) (count - suc i) (suc i))
+    (within_none is (Part T i count) inner (step_none is coding (path ++ seg_of T i ∷ []) outer leaf at b))
+step_none is coding path (Member T i ∷ outer) leaf at b =
+    within_none is (Member T i) (step coding (path ++ seg_of T i ∷ []) outer leaf at b) (step_none is coding (path ++ seg_of T i ∷ []) outer leaf at b)
+step_none is coding path (Inside T inner end ∷ outer) leaf at b =
+    let r = step coding path (Inside T inner end ∷ outer) leaf at b in
+    each_none is r (no_ends is (path_in (path ++ Held ∷ []) outer) (lines_of r) (step_of coding path (Inside T inner end ∷ outer) leaf at b)
+    (held_member (codes "operation") path outer))

@@ -38,14 +38,17 @@ silent_settles : (n : ℕ) (m : Message) → Silent n m → Settles m
 silent_settles n (Comes told at stage) h = rw h.0 (λ e. absurd cc, λ e. absurd (false≢true e))
 
 -- lines of a typed part are no faults
-tells_faultless : (root : Root) (is : Bool) (h : Heard) (lines : List Line) → list_any is_fault (Sayings (tells root is h lines)) ≡ false
+tells_faultless : (root : Root) (is : Bool) (h : Heard) (lines : List Line) →
+    list_any is_fault (Sayings (tells root is h lines)) ≡ false
 unfolding tells tell saying_of
 tells_faultless root is h [] = refl
 tells_faultless root is h (l ∷ ls) =
     let now = hear (is_header_root root) h l in
     behind (calls is l now) (tells root is now ls) (calls_is is l now) (tells_faultless root is now ls)
   where
-    behind : (called told : List Told) → MayCall l.at called → list_any is_fault (Sayings told) ≡ false → list_any is_fault (Sayings (called ++ told)) ≡ false
+    behind : (called told : List Told) → MayCall l.at called →
+        list_any is_fault (Sayings told) ≡ false →
+        list_any is_fault (Sayings (called ++ told)) ≡ false
     behind called told (inl e) h = rw e h
     behind called told (inr f) h = rw f.2 h
 
@@ -56,12 +59,13 @@ unfolding tells tell saying_of
 tells_leave root is h [] stage = (λ e. absurd cc, λ e. absurd (false≢true e))
 tells_leave root is h (l ∷ ls) stage = (λ e. absurd cc, λ e. absurd (false≢true (sym (tells_faultless root is h (l ∷ ls)) ∙ e)))
 
-front_settles : (n : ℕ) (front : List Told) (m : Message) → ((stage : Stage) → Leaves (Sayings front) stage) →
-    Silent n m → Settles (with_front front m)
+front_settles : (n : ℕ) (front : List Told) (m : Message) →
+    ((stage : Stage) → Leaves (Sayings front) stage) → Silent n m → Settles (with_front front m)
 unfolding with_front
 front_settles n front (Comes told at stage) h k = rw (k.0, append-nil front) (h stage)
 
-module _ (section : Section) (is : Bool) (next : Heard → ℕ → List ℕ → Message) (n : ℕ) (silent : (k : Heard) → Silent n (next k n [])) where
+module _ (section : Section) (is : Bool) (next : Heard → ℕ → List ℕ → Message) (n : ℕ)
+    (silent : (k : Heard) → Silent n (next k n [])) where
   abbrev R : Root
   R = root_of section
 
@@ -75,7 +79,8 @@ module _ (section : Section) (is : Bool) (next : Heard → ℕ → List ℕ → 
   passes_settles k (Faulted (l ∷ ls) at why T) h = (λ e. absurd cc, λ e. refl)
 
 rest_settles : (offset : ℕ) (held : List ℕ) (n : ℕ) (test : Bool) →
-    Settles (if test then Comes (tell n (Left offset held) ∷ []) n (In_rest (offset + 32) []) else Comes [] n (In_rest offset held))
+    Settles (if test then Comes (tell n (Left offset held) ∷ []) n (In_rest (offset + 32) [])
+    else Comes [] n (In_rest offset held))
 unfolding tell saying_of
 rest_settles offset held n true = (λ e. (offset + 32, refl), λ e. absurd (false≢true e))
 rest_settles offset held n false = (λ e. absurd cc, λ e. absurd (false≢true e))
@@ -97,12 +102,14 @@ step_settles S header at Over b = (λ e. absurd cc, λ e. absurd (false≢true e
 
 -- what an octet says, and where it leaves the message
 advance_settles : (S : Signatures) (header : List ℕ) (m : Message) (b : ℕ) →
-    Leaves (Sayings (drop (length (told_of m)) (told_of (advance S header m b)))) (stage_of (advance S header m b))
+    Leaves (Sayings (drop (length (told_of m)) (told_of (advance S header m b))))
+    (stage_of (advance S header m b))
 unfolding advance with_front told_of stage_of
 advance_settles S header (Comes told at stage) b = go (message_step S header at stage b) (step_settles S header at stage b)
   where
     go : (m : Message) → Settles m →
-        Leaves (Sayings (drop (length told) (told_of (with_front told m)))) (stage_of (with_front told m))
+        Leaves (Sayings (drop (length told) (told_of (with_front told m))))
+        (stage_of (with_front told m))
     go (Comes more at' stage') h = rw (drop-append_seam told more) h
 
 speaks : (told : List Told) → map (λ r. r.saying) (map remark_of told) ≡ Sayings told
@@ -110,7 +117,8 @@ speaks [] = refl
 speaks (t ∷ ts) = ap (λ ss. saying_of t.speech ∷ ss) (speaks ts)
 
 pub octet_leaves : (S : Signatures) (header xs : List ℕ) (x : ℕ) →
-    Leaves (map (λ r. r.saying) (said.due (reading_by S) header xs x)) (stage_of (message S header (xs ++ x ∷ [])))
+    Leaves (map (λ r. r.saying) (said.due (reading_by S) header xs x))
+    (stage_of (message S header (xs ++ x ∷ [])))
 unfolding due
 octet_leaves S header xs x =
     rw (due_said_is S header xs x, speaks (due S header xs (x ∷ [])), message_goes S header xs x) (advance_settles S header (message S header xs) x)

@@ -26,6 +26,7 @@ use Rattle.giop_message.specs.Signatures.{Signatures, Listed, said_by}
 use Rattle.giop_message.specs.Messages.{Said, Incomplete, Ends, Told, tell, calls, tells, may_lack, Stage, In_typed, In_padding, In_rest, Over, Message, Comes, with_front, passes, rest_in, rest, is_request, after_header, of_header, message, told_of, stage_of, close}
 use Rattle.giop_message.specs.MessageReading.{saying_of, remark_of, closing_of, reading_by, HasIds, id_in, first_id, id_said}
 use Rattle.giop_message.proofs.Going.{passes_front}
+use Rattle.giop_message.proofs.Octets.{told_front, told_silent}
 use Rattle.giop_message.proofs.Causal.{Silent, passes_silent, after_silent, told_begins}
 
 -- ---- the close
@@ -34,7 +35,9 @@ pub is_ending : (S : Signatures) → IsEnding (reading_by S)
 unfolding reading_by saying_of close
 is_ending S = record { ends = λ header xs. go (stage_of (message S header xs)) }
   where
-    lack : (test : Bool) → list_any (λ l. is_last l.0) (map closing_of (if test then Ends ∷ [] else Incomplete ∷ [])) ≡ true
+    lack : (test : Bool) →
+        list_any (λ l. is_last l.0) (map closing_of (if test then Ends ∷ [] else Incomplete ∷ []))
+        ≡ true
     lack true = refl
     lack false = refl
 
@@ -47,14 +50,6 @@ is_ending S = record { ends = λ header xs. go (stage_of (message S header xs)) 
 
 -- ---- an unsigned long at the front
 
-told_front : (front : List Told) (m : Message) → told_of (with_front front m) ≡ front ++ told_of m
-unfolding told_of with_front
-told_front front (Comes told at stage) = refl
-
-told_silent : (m : Message) → Silent 16 m → told_of m ≡ []
-unfolding told_of
-told_silent (Comes told at stage) h = h.0
-
 ulong : Ty
 ulong = Single (Plain prims.ULong)
 
@@ -64,31 +59,40 @@ no_operation true true = refl
 no_operation true false = refl
 no_operation false path_is = refl
 
-number_no_operation : (is : Bool) (path : List Seg) (n : ℕ) → ends_operation is (line 16 path (Number (Plain prims.ULong) n)) ≡ false
+number_no_operation : (is : Bool) (path : List Seg) (n : ℕ) →
+    ends_operation is (line 16 path (Number (Plain prims.ULong) n)) ≡ false
 number_no_operation is path n = no_operation is (is_member (codes "operation") path)
 
-tells_id : (is : Bool) (path : List Seg) (n : ℕ) → tells roots.Header is nothing (line 16 path (Number (Plain prims.ULong) n) ∷ []) ≡ tell 16 (Said roots.Header path (Number (Plain prims.ULong) n)) ∷ []
+tells_id : (is : Bool) (path : List Seg) (n : ℕ) →
+    tells roots.Header is nothing (line 16 path (Number (Plain prims.ULong) n) ∷ [])
+    ≡ tell 16 (Said roots.Header path (Number (Plain prims.ULong) n)) ∷ []
 unfolding tells calls
 tells_id is path n = rw (number_no_operation is path n) refl
 
 module _ (o : Order) (path : List Seg) where
-  read_four : (a b c d : ℕ) → read (plain o) path (Single (Plain prims.ULong)) 12 (a ∷ b ∷ c ∷ d ∷ []) ≡ Done (line 16 path (Number (Plain prims.ULong) (num o (a ∷ b ∷ c ∷ d ∷ []))) ∷ []) 16 []
+  read_four : (a b c d : ℕ) →
+      read (plain o) path (Single (Plain prims.ULong)) 12 (a ∷ b ∷ c ∷ d ∷ [])
+      ≡ Done (line 16 path (Number (Plain prims.ULong) (num o (a ∷ b ∷ c ∷ d ∷ []))) ∷ []) 16 []
   unfolding number block padding
   read_four a b c d = refl
 
 -- the first part, where it is an unsigned long
-module _ (o : Order) (n : ℕ) (of : ℕ → List ℕ) (parts : ℕ → Ty) (is : parts 0 ≡ Single (Plain prims.ULong)) where
+module _ (o : Order) (n : ℕ) (of : ℕ → List ℕ) (parts : ℕ → Ty)
+    (is : parts 0 ≡ Single (Plain prims.ULong)) where
   next : ℕ → List ℕ → Read
   next = parts_from (part_at (plain o) [] (Struct (suc n) of parts) (suc n)) n 1
 
-  first_part : (xs : List ℕ) → read (plain o) [] (Struct (suc n) of parts) 12 xs ≡ followed (within (Part (Struct (suc n) of parts) 0 (suc n)) (read (plain o) (Name (of 0) ∷ []) (Single (Plain prims.ULong)) 12 xs)) next
+  first_part : (xs : List ℕ) → read (plain o) [] (Struct (suc n) of parts) 12 xs ≡ followed
+      (within (Part (Struct (suc n) of parts) 0 (suc n))
+      (read (plain o) (Name (of 0) ∷ []) (Single (Plain prims.ULong)) 12 xs)) next
   unfolding next
   first_part xs = ap (λ P. followed (within (Part (Struct (suc n) of parts) 0 (suc n)) (read (plain o) (Name (of 0) ∷ []) P 12 xs)) next) is
 
   id_line : List ℕ → Line
   id_line xs = line 16 (Name (of 0) ∷ []) (Number (Plain prims.ULong) (num o xs))
 
-  first_four : (a b c d : ℕ) → read (plain o) [] (Struct (suc n) of parts) 12 (a ∷ b ∷ c ∷ d ∷ []) ≡ spine.with_front (id_line (a ∷ b ∷ c ∷ d ∷ []) ∷ []) (next 16 [])
+  first_four : (a b c d : ℕ) → read (plain o) [] (Struct (suc n) of parts) 12 (a ∷ b ∷ c ∷ d ∷ [])
+      ≡ spine.with_front (id_line (a ∷ b ∷ c ∷ d ∷ []) ∷ []) (next 16 [])
   unfolding id_line
   first_four a b c d =
       first_part (a ∷ b ∷ c ∷ d ∷ []) ∙ ap (λ r. followed (within (Part (Struct (suc n) of parts) 0 (suc n)) r) next) (read_four o (Name (of 0) ∷ []) a b c d)
@@ -97,8 +101,10 @@ module _ (o : Order) (n : ℕ) (of : ℕ → List ℕ) (parts : ℕ → Ty) (is 
   unfolding next
   next_quiet = quiet_parts 16 (part_at (plain o) [] (Struct (suc n) of parts) (suc n)) (part_quiet (plain o) [] (Struct (suc n) of parts) (suc n) 16) n 1
 
-  module _ (is_req : Bool) (onward : Heard → ℕ → List ℕ → Message) (silent : (h : Heard) → Silent 16 (onward h 16 [])) where
-    told_few : (xs : List ℕ) → length xs < 4 → told_of (passes sections.Header is_req onward nothing (read (plain o) [] (Struct (suc n) of parts) 12 xs)) ≡ []
+  module _ (is_req : Bool) (onward : Heard → ℕ → List ℕ → Message)
+      (silent : (h : Heard) → Silent 16 (onward h 16 [])) where
+    told_few : (xs : List ℕ) → length xs < 4 → told_of (passes sections.Header is_req onward nothing
+        (read (plain o) [] (Struct (suc n) of parts) 12 xs)) ≡ []
     unfolding number block padding passes tells told_of
     told_few [] h = ap (λ r. told_of (passes sections.Header is_req onward nothing r)) (first_part [])
     told_few (a ∷ []) h = ap (λ r. told_of (passes sections.Header is_req onward nothing r)) (first_part (a ∷ []))
@@ -106,15 +112,19 @@ module _ (o : Order) (n : ℕ) (of : ℕ → List ℕ) (parts : ℕ → Ty) (is 
     told_few (a ∷ b ∷ c ∷ []) h = ap (λ r. told_of (passes sections.Header is_req onward nothing r)) (first_part (a ∷ b ∷ c ∷ []))
     told_few (a ∷ b ∷ c ∷ d ∷ xs) h = absurd (omega arith)
 
-    told_four : (a b c d : ℕ) → told_of (passes sections.Header is_req onward nothing (read (plain o) [] (Struct (suc n) of parts) 12 (a ∷ b ∷ c ∷ d ∷ [])))
-        ≡ tell 16 (Said roots.Header (Name (of 0) ∷ []) (Number (Plain prims.ULong) (num o (a ∷ b ∷ c ∷ d ∷ [])))) ∷ []
+    told_four : (a b c d : ℕ) → told_of (passes sections.Header is_req onward nothing
+        (read (plain o) [] (Struct (suc n) of parts) 12 (a ∷ b ∷ c ∷ d ∷ []))) ≡ tell 16
+        (Said roots.Header (Name (of 0) ∷ [])
+        (Number (Plain prims.ULong) (num o (a ∷ b ∷ c ∷ d ∷ [])))) ∷ []
     unfolding id_line
     told_four a b c d =
         let l = id_line (a ∷ b ∷ c ∷ d ∷ []) in
         ap (λ r. told_of (passes sections.Header is_req onward nothing r)) (first_four a b c d)
         ∙ (ap told_of (passes_front sections.Header is_req onward nothing (l ∷ []) (next 16 []))
         ∙ (told_front (tells roots.Header is_req nothing (l ∷ [])) (passes sections.Header is_req onward (heard true nothing (l ∷ [])) (next 16 []))
-        ∙ (ap (λ ts. tells roots.Header is_req nothing (l ∷ []) ++ ts) (told_silent (passes sections.Header is_req onward (heard true nothing (l ∷ [])) (next 16 [])) (passes_silent sections.Header is_req onward 16 silent (heard true nothing (l ∷ [])) (next 16 []) next_quiet))
+        ∙ (ap (λ ts. tells roots.Header is_req nothing (l ∷ []) ++ ts)
+        (told_silent 16 (passes sections.Header is_req onward (heard true nothing (l ∷ [])) (next 16 []))
+        (passes_silent sections.Header is_req onward 16 silent (heard true nothing (l ∷ [])) (next 16 []) next_quiet))
         ∙ (append-nil (tells roots.Header is_req nothing (l ∷ [])) ∙ tells_id is_req (Name (of 0) ∷ []) (num o (a ∷ b ∷ c ∷ d ∷ []))))))
 
 -- of a header that begins with its request id
@@ -122,13 +132,15 @@ module _ (S : Signatures) (header : List ℕ) where
   id_told : List ℕ → List Told
   id_told xs = tell 16 (Said roots.Header (Name (codes "request_id") ∷ []) (Number (Plain prims.ULong) (num (order header) xs))) ∷ []
 
-  few_by : (T : Ty) → BeginsWithId T → (xs : List ℕ) → length xs < 4 → told_of (of_header S header (Some T) 12 xs) ≡ []
+  few_by : (T : Ty) → BeginsWithId T → (xs : List ℕ) → length xs < 4 →
+      told_of (of_header S header (Some T) 12 xs) ≡ []
   unfolding of_header
   few_by T (n, of, parts, is, name_is, long) xs h =
       ap (λ U. told_of (of_header S header (Some U) 12 xs)) is
       ∙ told_few (order header) n of parts long (is_request header) (after_header S header) (λ h. after_silent S header sections.Header h 16) xs h
 
-  four_by : (T : Ty) → BeginsWithId T → (a b c d : ℕ) → told_of (of_header S header (Some T) 12 (a ∷ b ∷ c ∷ d ∷ [])) ≡ id_told (a ∷ b ∷ c ∷ d ∷ [])
+  four_by : (T : Ty) → BeginsWithId T → (a b c d : ℕ) →
+      told_of (of_header S header (Some T) 12 (a ∷ b ∷ c ∷ d ∷ [])) ≡ id_told (a ∷ b ∷ c ∷ d ∷ [])
   unfolding of_header id_told
   four_by T (n, of, parts, is, name_is, long) a b c d =
       ap (λ U. told_of (of_header S header (Some U) 12 (a ∷ b ∷ c ∷ d ∷ []))) is
@@ -148,7 +160,8 @@ module _ (S : Signatures) (header : List ℕ) where
   are_values : List Told → Type 0
   are_values ts = Each (λ r. r.saying ≡ Value) (map remark_of ts)
 
-  named_by : (found : Option Ty) → IfSome found BeginsWithId → (xs : List ℕ) → length xs ≤ 4 → are_values (told_of (of_header S header found 12 xs))
+  named_by : (found : Option Ty) → IfSome found BeginsWithId → (xs : List ℕ) → length xs ≤ 4 →
+      are_values (told_of (of_header S header found 12 xs))
   unfolding are_values saying_of tell id_told
   named_by None begins xs h = rw (rest_few xs h) tt
   named_by (Some T) begins [] h = rw (few_by T begins [] (omega arith)) tt
@@ -159,7 +172,8 @@ module _ (S : Signatures) (header : List ℕ) where
   named_by (Some T) begins (a ∷ b ∷ c ∷ d ∷ e ∷ xs) h = absurd (omega arith)
 
   id_four : (T : Ty) → BeginsWithId T → (a b c d : ℕ) (later : List Told) →
-      id_said (told_of (of_header S header (Some T) 12 (a ∷ b ∷ c ∷ d ∷ [])) ++ later) ≡ Some (num (order header) (a ∷ b ∷ c ∷ d ∷ []))
+      id_said (told_of (of_header S header (Some T) 12 (a ∷ b ∷ c ∷ d ∷ [])) ++ later)
+      ≡ Some (num (order header) (a ∷ b ∷ c ∷ d ∷ []))
   unfolding id_said id_in first_id tell id_told
   id_four T begins a b c d later = rw (four_by T begins a b c d) refl
 
@@ -168,8 +182,10 @@ unfolding reading_by message are_values
 is_named S ids = record { named = λ header xs by few. named_by S header (S.header (minor header) (kind header)) (ids.begins header by) xs few }
 
 -- The id that the header says is the number of the first four octets.
-pub id_is_said : (S : Signatures) (header : List ℕ) (T : Ty) → S.header (minor header) (kind header) ≡ Some T → BeginsWithId T → (a b c d : ℕ) (xs : List ℕ) →
-    id_said (told_of (message S header (a ∷ b ∷ c ∷ d ∷ xs))) ≡ Some (num (order header) (a ∷ b ∷ c ∷ d ∷ []))
+pub id_is_said : (S : Signatures) (header : List ℕ) (T : Ty) →
+    S.header (minor header) (kind header) ≡ Some T → BeginsWithId T → (a b c d : ℕ) (xs : List ℕ) →
+    id_said (told_of (message S header (a ∷ b ∷ c ∷ d ∷ xs)))
+    ≡ Some (num (order header) (a ∷ b ∷ c ∷ d ∷ []))
 unfolding message
 id_is_said S header T found begins a b c d xs =
     let g = told_begins S header (a ∷ b ∷ c ∷ d ∷ []) xs in
@@ -177,7 +193,9 @@ id_is_said S header T found begins a b c d xs =
 
 -- ---- the catalogue's headers
 
-first_by : (two more fragmented seven cancel : Bool) → ((two && more && fragmented) || (two && seven) || cancel) ≡ true → (two ≡ true) ⊎ (cancel ≡ true)
+first_by : (two more fragmented seven cancel : Bool) →
+    ((two && more && fragmented) || (two && seven) || cancel) ≡ true →
+    (two ≡ true) ⊎ (cancel ≡ true)
 first_by true more fragmented seven cancel e = inl refl
 first_by false more fragmented seven cancel e = inr e
 
@@ -185,11 +203,13 @@ goes_first : (header : List ℕ) → has_name header ≡ true → IdStandsFirst 
 unfolding is_opener is_fragment is_cancel
 goes_first header by = go (first_by (minor header == 2) (has_more header) (may_be_fragmented header) (kind header == 7) (kind header == 2) by)
   where
-    go : ((minor header == 2) ≡ true) ⊎ ((kind header == 2) ≡ true) → IdStandsFirst (minor header) (kind header)
+    go : ((minor header == 2) ≡ true) ⊎ ((kind header == 2) ≡ true) →
+        IdStandsFirst (minor header) (kind header)
     go (inl e) = inl (eqb-true (minor header) 2 e)
     go (inr e) = inr (eqb-true (kind header) 2 e)
 
-pub begins_with_id : (header : List ℕ) → has_name header ≡ true → IfSome (header_type (minor header) (kind header)) BeginsWithId
+pub begins_with_id : (header : List ℕ) → has_name header ≡ true →
+    IfSome (header_type (minor header) (kind header)) BeginsWithId
 begins_with_id header by = id_first (minor header) (kind header) (goes_first header by)
 
 pub has_ids : (C : Table) (listed : Listed) → HasIds (said_by C listed)

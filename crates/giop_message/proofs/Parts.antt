@@ -4,7 +4,7 @@ use Rattle.std.proofs.Math.Seq.{drop-append_seam}
 use Rattle.giop_print.specs.declared.path.Root.{Root}
 use Rattle.giop_decode.specs.declared.progress.Progress.TheVariants as progress
 use Rattle.giop_decode.specs.Spine
-use Rattle.giop_decode.specs.Spine.{plain, Line, Place, Leaf, Read, Done, Short, Fault, lines_of}
+use Rattle.giop_decode.specs.Spine.{Coding, plain, Line, Place, Leaf, Read, Done, Short, Fault, lines_of}
 use Rattle.giop_decode.specs.Reading.{read}
 use Rattle.giop_decode.specs.Steps as decoder
 use Rattle.giop_decode.specs.Steps.{Now}
@@ -17,28 +17,54 @@ use Rattle.giop_sig.specs.Types.{Ty}
 use Rattle.giop_message.specs.declared.part.Section.{Section}
 use Rattle.giop_message.specs.Headers.{order}
 use Rattle.giop_message.specs.Signatures.{Signatures}
-use Rattle.giop_message.specs.Messages.{Told, tells, with_front, passes, message, told_of, root_of, may_call, after, through}
+use Rattle.giop_message.specs.Messages.{Told, tells, Message, with_front, passes, message, told_of, root_of, may_call, after, through}
 use Rattle.giop_message.specs.Steps.{advance}
 use Rattle.giop_message.specs.Holding.{told_text, due, due_text, IsFirst}
 use Rattle.giop_message.specs.Moves.{fault_text}
 use Rattle.giop_message.proofs.Going.{front_twice, front_advance, passes_front, through_goes, after_goes, message_goes}
 use Rattle.giop_message.proofs.Causal.{after_silent}
-use Rattle.giop_message.proofs.CutOff.{CallsNone, step_none}
+use Rattle.giop_message.proofs.LastParts.{CallsNone, step_none}
 use Rattle.giop_message.proofs.Octets.{told_front, told_silent, due_is, wrongs, first_call, step_text}
 
--- Where a message stands in a section that goes on: the lines before it, the octets before it and its own, and what their
--- reading has begun and not ended.
-pub record Inside (S : Signatures) (header s : List ℕ) (section : Section) (T : Ty) (before : List Told) (front octets : List ℕ)
-    : Type 0 where
-  pub since : s ≡ front ++ octets
-  pub is : message S header s ≡ with_front before
-      (through S header section nothing (read (plain (order header)) [] T (12 + length front) octets))
-  pub first : IsFirst header section T before
-  pub lines : List Line
-  pub outer : List Place
-  pub leaf : Leaf
-  pub was_short : read (plain (order header)) [] T (12 + length front) octets
-      ≡ Short lines ((12 + length front) + length octets) outer leaf
+-- A section that a message has begun: the message's number and header, the section and its type, and the lines and the
+-- octets in front of it.
+pub record Begun : Type 0 where
+  pub S : Signatures
+  pub number : ℕ
+  pub header : List ℕ
+  pub section : Section
+  pub T : Ty
+  pub before : List Told
+  pub front : List ℕ
+
+module _ (w : Begun) where
+  open w use {S, header, section, T, before, front}
+
+  -- the offset at which it begins
+  abbrev pub start : ℕ
+  start = 12 + length front
+
+  -- the reading of its octets
+  abbrev pub reading : List ℕ → Read
+  reading octets = read (plain (order header)) [] T start octets
+
+  -- whether an octet behind some ends an operation
+  abbrev pub is_named : List ℕ → ℕ → Bool
+  is_named octets b = names_operation (is_header_root (root_of section)) (decoders.due (order header) T start octets b)
+
+  -- what a message comes to, by that
+  abbrev pub comes : Read → Message
+  comes r = with_front before (through S header section nothing r)
+
+  -- Where a message stands in it behind its first octets, and it goes on: what their reading has begun and not ended.
+  pub record Inside (s octets : List ℕ) : Type 0 where
+    pub since : s ≡ front ++ octets
+    pub is : message S header s ≡ comes (reading octets)
+    pub first : IsFirst header section T before
+    pub lines : List Line
+    pub outer : List Place
+    pub leaf : Leaf
+    pub was_short : reading octets ≡ Short lines (start + length octets) outer leaf
 
 -- ---- a section that has come to something
 
@@ -49,44 +75,47 @@ ReadsAll r = Unit {0}
 
 pub now_all : (n : ℕ) (st : Read) → Now n st → ReadsAll st
 now_all n (Done lines at rest) now = now.2
-now_all n (Short lines at outer leaf) now = tt
-now_all n (Fault lines at why T) now = tt
+now_all n r now = tt
 
 -- what is told of a section, of which nothing follows without an octet
-pub passed_tells : (S : Signatures) (header : List ℕ) (section : Section) (h : Heard) (r : Read) → ReadsAll r →
-    told_of (through S header section h r) ≡ tells (root_of section) (may_call header section) h (lines_of r) ++ wrongs r
+pub passed_tells : (S : Signatures) (header : List ℕ) (section : Section) (h : Heard) (r : Read) →
+    ReadsAll r → told_of (through S header section h r)
+    ≡ tells (root_of section) (may_call header section) h (lines_of r) ++ wrongs r
 unfolding passes told_of
 passed_tells S header section h (Done lines at rest) all =
     let R = root_of section in
     let told = tells R (may_call header section) h lines in
     let next = after S header section (heard (is_header_root R) h lines) in
-    rw (all) (told_front told (next at []) ∙ ap (λ ts. told ++ ts) (told_silent at (next at []) (after_silent S header section (heard (is_header_root R) h lines) at)))
+    rw (all)
+    (told_front told (next at []) ∙ ap (λ ts. told ++ ts) (told_silent at (next at []) (after_silent S header section (heard (is_header_root R) h lines) at)))
 passed_tells S header section h (Short lines at outer leaf) all = sym (append-nil (tells (root_of section) (may_call header section) h lines))
 passed_tells S header section h (Fault lines at why T) all = refl
 
-short_told : (S : Signatures) (header : List ℕ) (section : Section) (before : List Told) (lines : List Line) (at : ℕ) (outer : List Place) (leaf : Leaf) →
-    told_of (with_front before (through S header section nothing (Short lines at outer leaf))) ≡ before ++ tells (root_of section) (may_call header section) nothing lines
+short_told : (S : Signatures) (header : List ℕ) (section : Section) (before : List Told)
+    (lines : List Line) (at : ℕ) (outer : List Place) (leaf : Leaf) →
+    told_of (with_front before (through S header section nothing (Short lines at outer leaf)))
+    ≡ before ++ tells (root_of section) (may_call header section) nothing lines
 unfolding passes with_front told_of
 short_told S header section before lines at outer leaf = refl
 
-fault_front : (number place : ℕ) (front : List Line) (r : Read) → fault_text number place (Spine.with_front front r) ≡ fault_text number place r
+fault_front : (number place : ℕ) (front : List Line) (r : Read) →
+    fault_text number place (Spine.with_front front r) ≡ fault_text number place r
 fault_front number place front (Done lines at rest) = refl
-fault_front number place front (Short lines at outer leaf) = refl
-fault_front number place front (Fault lines at why T) = refl
+fault_front number place front r = refl
 
 -- a reading that is done, at this offset
 abbrev pub EndsAt : ℕ → Read → Type 0
 EndsAt n (Done lines at rest) = at ≡ n
 EndsAt n r = Unit {0}
 
-offset_is : (n : ℕ) (r st : Read) (lines : List Line) → r ≡ Spine.with_front lines st → Now n st → EndsAt n r
+offset_is : (n : ℕ) (r st : Read) (lines : List Line) → r ≡ Spine.with_front lines st → Now n st →
+    EndsAt n r
 offset_is n r (Done ls at rest) lines e now = subst (EndsAt n) (sym e) now.1
-offset_is n r (Short ls at outer leaf) lines e now = subst (EndsAt n) (sym e) tt
-offset_is n r (Fault ls at why U) lines e now = subst (EndsAt n) (sym e) tt
+offset_is n r q lines e now = subst (EndsAt n) (sym e) tt
 
 -- what a reading that goes on has begun and not ended, at this offset
-short_by : (n end : ℕ) (named : Bool) (r st : Read) (lines : List Line) → r ≡ Spine.with_front lines st → Now n st →
-    decoders.IsAnswer end named progress.More r →
+short_by : (n end : ℕ) (named : Bool) (r st : Read) (lines : List Line) →
+    r ≡ Spine.with_front lines st → Now n st → decoders.IsAnswer end named progress.More r →
     (ls : List Line) × (outer : List Place) × (leaf : Leaf) × (r ≡ Short ls n outer leaf)
 short_by n end named r (Done ls at rest) lines e now answer = absurd (subst (decoders.IsAnswer end named progress.More) e answer)
 short_by n end named r (Short ls at outer leaf) lines e now answer =
@@ -95,63 +124,66 @@ short_by n end named r (Fault ls at why U) lines e now answer = absurd (subst (d
 
 -- ---- an octet of it
 
-pub goes_one : (S : Signatures) (header s : List ℕ) (section : Section) (T : Ty) (before : List Told) (front octets : List ℕ) →
-    message S header s ≡ with_front before (through S header section nothing (read (plain (order header)) [] T (12 + length front) octets)) →
-    (b : ℕ) →
-    message S header (s ++ b ∷ []) ≡ with_front before (through S header section nothing (read (plain (order header)) [] T (12 + length front) (octets ++ b ∷ [])))
-goes_one S header s section T before front octets is b =
-    let r = read (plain (order header)) [] T (12 + length front) octets in
+pub goes_one : (w : Begun) (s octets : List ℕ) →
+    message w.S w.header s ≡ comes w (reading w octets) →
+    (b : ℕ) → message w.S w.header (s ++ b ∷ []) ≡ comes w (reading w (octets ++ b ∷ []))
+goes_one w s octets is b =
+    let r = reading w octets in
     message_goes S header s b ∙ (ap (λ m. advance S header m b) is
-    ∙ (sym (front_advance S header before (through S header section nothing r) b)
-    ∙ ap (with_front before) (sym (through_goes S header section (after_goes S header section) nothing r b)
-    ∙ ap (through S header section nothing) (sym (read_goes (plain (order header)) [] T (12 + length front) octets b)))))
+    ∙ (sym (front_advance S header w.before (through S header section nothing r) b)
+    ∙ ap (with_front w.before) (sym (through_goes S header section (after_goes S header section) nothing r b)
+    ∙ ap (through S header section nothing) (sym (read_goes (plain (order header)) [] w.T (start w) octets b)))))
+  where
+    open w use {S, header, section}
 
-module _ (S : Signatures) (number : ℕ) (header s : List ℕ) (section : Section) (T : Ty) (before : List Told) (front octets : List ℕ)
-    (i : Inside S header s section T before front octets) (b : ℕ) where
+module _ (w : Begun) (s octets : List ℕ) (i : Inside w s octets) (b : ℕ) where
+  open w use {S, number, header, section, T, before, front}
+
   abbrev R : Root
   R = root_of section
 
   abbrev Is : Bool
   Is = may_call header section
 
-  -- where the section begins, and where it stands
-  abbrev A : ℕ
-  A = 12 + length front
+  abbrev coding : Coding
+  coding = plain (order header)
 
+  -- where the section stands
   abbrev Here : ℕ
-  Here = A + length octets
+  Here = start w + length octets
 
   abbrev pub Next : Read
-  Next = read (plain (order header)) [] T A (octets ++ b ∷ [])
+  Next = reading w (octets ++ b ∷ [])
 
   abbrev pub Added : Read
-  Added = decoder.step (plain (order header)) [] i.outer i.leaf Here b
+  Added = decoder.step coding [] i.outer i.leaf Here b
 
   abbrev pub heard_before : Heard
   heard_before = heard (is_header_root R) nothing i.lines
 
   pub next_is : Next ≡ Spine.with_front i.lines Added
-  next_is = read_goes (plain (order header)) [] T A octets b ∙ ap (λ r. decoder.advance (plain (order header)) [] r b) i.was_short
+  next_is = read_goes coding [] T (start w) octets b ∙ ap (λ r. decoder.advance coding [] r b) i.was_short
 
   pub added_now : Now (Here + 1) Added
-  added_now = step_now (plain (order header)) [] i.outer i.leaf Here b
+  added_now = step_now coding [] i.outer i.leaf Here b
 
   pub added_none : CallsNone Is Added
-  added_none = step_none Is (plain (order header)) [] i.outer i.leaf Here b
+  added_none = step_none Is coding [] i.outer i.leaf Here b
 
-  pub lines_due : decoders.due (order header) T A octets b ≡ lines_of Added
+  pub lines_due : decoders.due (order header) T (start w) octets b ≡ lines_of Added
   lines_due = rw (i.was_short, next_is, lines_front i.lines Added) (drop-append_seam i.lines (lines_of Added))
 
-  pub goes_more : message S header (s ++ b ∷ []) ≡ with_front before (through S header section nothing Next)
-  goes_more = goes_one S header s section T before front octets i.is b
+  pub goes_more : message S header (s ++ b ∷ []) ≡ comes w Next
+  goes_more = goes_one w s octets i.is b
 
   due_here : due S header s (b ∷ []) ≡ tells R Is heard_before (lines_of Added) ++ wrongs Added
   due_here =
-      due_is S header s (b ∷ []) (before ++ tells R Is nothing i.lines) (with_front before (through S header section nothing (Short i.lines Here i.outer i.leaf))) (through S header section heard_before Added)
-      (i.is ∙ ap (λ r. with_front before (through S header section nothing r)) i.was_short)
-      (goes_more ∙ (ap (λ r. with_front before (through S header section nothing r)) next_is
-      ∙ (ap (with_front before) (passes_front section Is (after S header section) nothing i.lines Added)
-      ∙ front_twice before (tells R Is nothing i.lines) (through S header section heard_before Added))))
+      let told = tells R Is nothing i.lines in
+      let more = through S header section heard_before Added in
+      due_is S header s (b ∷ []) (before ++ told) (comes w (Short i.lines Here i.outer i.leaf)) more
+      (i.is ∙ ap (comes w) i.was_short)
+      (goes_more ∙ (ap (comes w) next_is
+      ∙ (ap (with_front before) (passes_front section Is (after S header section) nothing i.lines Added) ∙ front_twice before told more)))
       (short_told S header section before i.lines Here i.outer i.leaf)
       ∙ passed_tells S header section heard_before Added (now_all (Here + 1) Added added_now)
 
@@ -160,7 +192,8 @@ module _ (S : Signatures) (number : ℕ) (header s : List ℕ) (section : Sectio
 
   -- the text of the octet: its line or its fault, and its call
   pub text_here : (place : ℕ) → due_text S number place header s (b ∷ []) ≡
-      (lines_text number R (decoders.due (order header) T A octets b) ++ fault_text number (place + 1) Next)
+      (lines_text number R (decoders.due (order header) T (start w) octets b)
+      ++ fault_text number (place + 1) Next)
       ++ told_text number place (12 + length s) (first_call R Is heard_before (lines_of Added))
   unfolding due_text
   text_here place =
@@ -170,12 +203,11 @@ module _ (S : Signatures) (number : ℕ) (header s : List ℕ) (section : Sectio
       ∙ rw (lines_due, next_is, fault_front number (place + 1) i.lines Added) refl)
 
   -- where it goes on
-  pub inside_on : Answers (order header) T A R octets b progress.More → Inside S header (s ++ b ∷ []) section T before front (octets ++ b ∷ [])
+  pub inside_on : Answers (order header) T (start w) R octets b progress.More →
+      Inside w (s ++ b ∷ []) (octets ++ b ∷ [])
   inside_on answer =
-      let end = A + length (octets ++ b ∷ []) in
-      let named = names_operation (is_header_root R) (decoders.due (order header) T A octets b) in
-      let g = short_by (Here + 1) end named Next Added i.lines next_is added_now answer in
-      let n : Here + 1 ≡ A + length (octets ++ b ∷ []) = omega (arith, length_one_more octets b) in
+      let g = short_by (Here + 1) (start w + length (octets ++ b ∷ [])) (is_named w octets b) Next Added i.lines next_is added_now answer in
+      let n : Here + 1 ≡ start w + length (octets ++ b ∷ []) = omega (arith, length_one_more octets b) in
       record {
         since = ap (λ xs. xs ++ b ∷ []) i.since ∙ append_assoc front octets (b ∷ []);
         is = goes_more;
@@ -189,5 +221,5 @@ module _ (S : Signatures) (number : ℕ) (header s : List ℕ) (section : Sectio
   -- where it ends
   pub ends_here : EndsAt (12 + length (s ++ b ∷ [])) Next
   ends_here =
-      let e' : Here + 1 ≡ 12 + length (s ++ b ∷ []) = omega (arith, here_is, length_one_more s b) in
-      subst (λ n. EndsAt n Next) e' (offset_is _ Next Added i.lines next_is added_now)
+      let e : Here + 1 ≡ 12 + length (s ++ b ∷ []) = omega (arith, here_is, length_one_more s b) in
+      subst (λ n. EndsAt n Next) e (offset_is _ Next Added i.lines next_is added_now)

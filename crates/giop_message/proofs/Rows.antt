@@ -112,201 +112,166 @@ short : List (Saying × List ℕ)
 short = (Fault, codes "short") ∷ []
 
 -- what the octets of a message say, and what its close adds
-record Row (header s : List ℕ) (reads : List Remark) (closes : List (Saying × List ℕ)) : Type 0 where
-  reads_are : r.reads header s ≡ reads
-  closes_are : r.closes header s ≡ closes
+abbrev Row : List ℕ → List ℕ → List Remark → List (Saying × List ℕ) → Type 0
+Row header s reads closes = (r.reads header s ≡ reads) × (r.closes header s ≡ closes)
 
--- A Request without parameters: its message ends at the header's end, within the padding, and at its end; then a rest behind it.
-no_body : Row (head 2 0) (h (codes "nop"))
-    t_nop
-    ended
-unfolding rows head h t_nop t_say t_raw ended short
-no_body = record { reads_are = refl; closes_are = refl }
+-- A Request without parameters: its message ends at the header's end, within the padding, and at its end; then a rest of two
+-- octets behind it.
+record NoBody (octets : List ℕ) : Type 0 where
+  at_header : Row (head 2 0) octets t_nop ended
+  within : Row (head 2 0) (octets ++ 0 ∷ 0 ∷ []) t_nop ended
+  padded : Row (head 2 0) (octets ++ 0 ∷ 0 ∷ 0 ∷ 0 ∷ []) t_nop ended
+  rest : Row (head 2 0) (octets ++ 0 ∷ 0 ∷ 0 ∷ 0 ∷ 171 ∷ 205 ∷ []) t_nop
+      ((Rest, codes "rest @0 abcd") ∷ ended)
 
-no_body_within : Row (head 2 0) (h (codes "nop") ++ 0 ∷ 0 ∷ [])
-    t_nop
-    ended
+no_body : NoBody (h (codes "nop"))
 unfolding rows head h t_nop t_say t_raw ended short
-no_body_within = record { reads_are = refl; closes_are = refl }
-
-no_body_padded : Row (head 2 0) (h (codes "nop") ++ 0 ∷ 0 ∷ 0 ∷ 0 ∷ [])
-    t_nop
-    ended
-unfolding rows head h t_nop t_say t_raw ended short
-no_body_padded = record { reads_are = refl; closes_are = refl }
-
--- two octets behind it
-no_body_rest : Row (head 2 0) (h (codes "nop") ++ 0 ∷ 0 ∷ 0 ∷ 0 ∷ 171 ∷ 205 ∷ [])
-    t_nop
-    ((Rest, codes "rest @0 abcd") ∷ ended)
-unfolding rows head h t_nop t_say t_raw ended short
-no_body_rest = record { reads_are = refl; closes_are = refl }
+no_body = record { at_header = (refl, refl); within = (refl, refl); padded = (refl, refl); rest = (refl, refl) }
 
 -- A body that is missing is short: at the header's end, within the padding, and at its end.
-missing_body : Row (head 2 0) (h (codes "say"))
-    t_say
-    short
-unfolding rows head h t_nop t_say t_raw ended short
-missing_body = record { reads_are = refl; closes_are = refl }
+record MissingBody (octets : List ℕ) : Type 0 where
+  at_header : Row (head 2 0) octets t_say short
+  within : Row (head 2 0) (octets ++ 0 ∷ 0 ∷ []) t_say short
+  padded : Row (head 2 0) (octets ++ 0 ∷ 0 ∷ 0 ∷ 0 ∷ []) t_say short
 
-missing_within : Row (head 2 0) (h (codes "say") ++ 0 ∷ 0 ∷ [])
-    t_say
-    short
+missing_body : MissingBody (h (codes "say"))
 unfolding rows head h t_nop t_say t_raw ended short
-missing_within = record { reads_are = refl; closes_are = refl }
-
-missing_padded : Row (head 2 0) (h (codes "say") ++ 0 ∷ 0 ∷ 0 ∷ 0 ∷ [])
-    t_say
-    short
-unfolding rows head h t_nop t_say t_raw ended short
-missing_padded = record { reads_are = refl; closes_are = refl }
+missing_body = record { at_header = (refl, refl); within = (refl, refl); padded = (refl, refl) }
 
 -- a string of 6 octets, of which 4 have come
-cut_string : Row (head 2 0) (h (codes "say") ++ 0 ∷ 0 ∷ 0 ∷ 0 ∷ 0 ∷ 0 ∷ 0 ∷ 6 ∷ 97 ∷ 98 ∷ 99 ∷ 100 ∷ [])
-    t_say
-    short
+cut_string : Row (head 2 0)
+    (h (codes "say") ++ 0 ∷ 0 ∷ 0 ∷ 0 ∷ 0 ∷ 0 ∷ 0 ∷ 6 ∷ 97 ∷ 98 ∷ 99 ∷ 100 ∷ []) t_say short
 unfolding rows head h t_nop t_say t_raw ended short
-cut_string = record { reads_are = refl; closes_are = refl }
+cut_string = (refl, refl)
 
 -- a string's wrong end, behind which nothing is read
 wrong_end : Row (head 2 0) (h (codes "say") ++ 0 ∷ 0 ∷ 0 ∷ 0 ∷ 0 ∷ 0 ∷ 0 ∷ 2 ∷ 97 ∷ 98 ∷ 9 ∷ 9 ∷ [])
-    (t_say ++ record { at = 42; saying = Fault; text = codes "string-end" } ∷ [])
-    ended
+    (t_say ++ record { at = 42; saying = Fault; text = codes "string-end" } ∷ []) ended
 unfolding rows head h t_nop t_say t_raw ended short
-wrong_end = record { reads_are = refl; closes_are = refl }
+wrong_end = (refl, refl)
 
 -- a rest of 32 octets behind an empty octet sequence
 rest_of_32 : Row (head 2 0) (h (codes "raw") ++ 0 ∷ 0 ∷ 0 ∷ 0 ∷ 0 ∷ 0 ∷ 0 ∷ 0 ∷ replicate 32 17)
-    (t_raw ++ says 40 (codes "body.o octets @0") ∷ record { at = 72; saying = Rest; text = codes "rest @0 1111111111111111111111111111111111111111111111111111111111111111" } ∷ [])
-    ended
+    (t_raw ++ says 40 (codes "body.o octets @0") ∷ record
+    { at = 72; saying = Rest; text = codes "rest @0 1111111111111111111111111111111111111111111111111111111111111111" } ∷ []) ended
 unfolding rows head h t_nop t_say t_raw ended short
-rest_of_32 = record { reads_are = refl; closes_are = refl }
+rest_of_32 = (refl, refl)
 
 -- In 1.0 a body follows its header at once, here at the offset 44.
-body_of_1_0 : Row (head 0 0) (0 ∷ 0 ∷ 0 ∷ 0 ∷ 0 ∷ 0 ∷ 0 ∷ 7 ∷ 1 ∷ 0 ∷ 0 ∷ 0 ∷ 0 ∷ 0 ∷ 0 ∷ 2 ∷ 107 ∷ 49 ∷ 0 ∷ 0 ∷ 0 ∷ 0 ∷ 0 ∷ 4 ∷ 115 ∷ 101 ∷ 116 ∷ 0 ∷ 0 ∷ 0 ∷ 0 ∷ 0 ∷ 255 ∷ 255 ∷ 255 ∷ 251 ∷ [])
-    (says 4 (codes "header.service_contexts count 0")
-    ∷ says 8 (codes "header.request_id ulong 7")
+body_of_1_0 : Row (head 0 0)
+    (0 ∷ 0 ∷ 0 ∷ 0 ∷ 0 ∷ 0 ∷ 0 ∷ 7 ∷ 1 ∷ 0 ∷ 0 ∷ 0 ∷ 0 ∷ 0 ∷ 0 ∷ 2 ∷ 107 ∷ 49 ∷ 0 ∷ 0 ∷ 0 ∷ 0 ∷ 0
+    ∷ 4 ∷ 115 ∷ 101 ∷ 116 ∷ 0 ∷ 0 ∷ 0 ∷ 0 ∷ 0 ∷ 255 ∷ 255 ∷ 255 ∷ 251 ∷ [])
+    (says 4 (codes "header.service_contexts count 0") ∷ says 8 (codes "header.request_id ulong 7")
     ∷ says 9 (codes "header.response_expected boolean true")
     ∷ says 18 (codes "header.object_key octets @0 6b31")
     ∷ says 28 (codes "header.operation string @0 \"set\"")
     ∷ record { at = 28; saying = Call; text = codes "call 7 set" }
     ∷ says 32 (codes "header.requesting_principal octets @0")
-    ∷ says 36 (codes "body.v long -5") ∷ [])
-    ended
+    ∷ says 36 (codes "body.v long -5") ∷ []) ended
 unfolding rows head h t_nop t_say t_raw ended short
-body_of_1_0 = record { reads_are = refl; closes_are = refl }
+body_of_1_0 = (refl, refl)
 
 -- In 1.2 it begins at the next multiple of 8, here of a Request of little order.
-body_of_1_2 : Row (71 ∷ 73 ∷ 79 ∷ 80 ∷ 1 ∷ 2 ∷ 1 ∷ 0 ∷ 44 ∷ 0 ∷ 0 ∷ 0 ∷ []) (1 ∷ 0 ∷ 0 ∷ 0 ∷ 3 ∷ 0 ∷ 0 ∷ 0 ∷ 0 ∷ 0 ∷ 0 ∷ 0 ∷ 1 ∷ 0 ∷ 0 ∷ 0 ∷ 65 ∷ 0 ∷ 0 ∷ 0 ∷ 4 ∷ 0 ∷ 0 ∷ 0 ∷ 112 ∷ 117 ∷ 116 ∷ 0 ∷ 0 ∷ 0 ∷ 0 ∷ 0 ∷ 0 ∷ 0 ∷ 0 ∷ 0 ∷ 0 ∷ 0 ∷ 0 ∷ 0 ∷ 0 ∷ 0 ∷ 248 ∷ 63 ∷ [])
-    (says 4 (codes "header.request_id ulong 1")
-    ∷ says 5 (codes "header.response_flags octet 3")
-    ∷ says 6 (codes "header.reserved[0] octet 0")
-    ∷ says 7 (codes "header.reserved[1] octet 0")
-    ∷ says 8 (codes "header.reserved[2] octet 0")
-    ∷ says 10 (codes "header.target.switch short 0")
+body_of_1_2 : Row (71 ∷ 73 ∷ 79 ∷ 80 ∷ 1 ∷ 2 ∷ 1 ∷ 0 ∷ 44 ∷ 0 ∷ 0 ∷ 0 ∷ [])
+    (1 ∷ 0 ∷ 0 ∷ 0 ∷ 3 ∷ 0 ∷ 0 ∷ 0 ∷ 0 ∷ 0 ∷ 0 ∷ 0 ∷ 1 ∷ 0 ∷ 0 ∷ 0 ∷ 65 ∷ 0 ∷ 0 ∷ 0 ∷ 4 ∷ 0 ∷ 0 ∷ 0
+    ∷ 112 ∷ 117 ∷ 116 ∷ 0 ∷ 0 ∷ 0 ∷ 0 ∷ 0 ∷ 0 ∷ 0 ∷ 0 ∷ 0 ∷ 0 ∷ 0 ∷ 0 ∷ 0 ∷ 0 ∷ 0 ∷ 248 ∷ 63 ∷ [])
+    (says 4 (codes "header.request_id ulong 1") ∷ says 5 (codes "header.response_flags octet 3")
+    ∷ says 6 (codes "header.reserved[0] octet 0") ∷ says 7 (codes "header.reserved[1] octet 0")
+    ∷ says 8 (codes "header.reserved[2] octet 0") ∷ says 10 (codes "header.target.switch short 0")
     ∷ says 17 (codes "header.target.object_key octets @0 41")
     ∷ says 28 (codes "header.operation string @0 \"put\"")
     ∷ record { at = 28; saying = Call; text = codes "call 1 put" }
     ∷ says 32 (codes "header.service_contexts count 0")
-    ∷ says 44 (codes "body.d double 3ff8000000000000") ∷ [])
-    ended
+    ∷ says 44 (codes "body.d double 3ff8000000000000") ∷ []) ended
 unfolding rows head h t_nop t_say t_raw ended short
-body_of_1_2 = record { reads_are = refl; closes_are = refl }
+body_of_1_2 = (refl, refl)
 
 -- A Reply has the results of the operation that the request list has for its id,
 reply : Row (head 0 1) (0 ∷ 0 ∷ 0 ∷ 0 ∷ 0 ∷ 0 ∷ 0 ∷ 1 ∷ 0 ∷ 0 ∷ 0 ∷ 0 ∷ 0 ∷ 0 ∷ 0 ∷ 42 ∷ 9 ∷ [])
-    (says 4 (codes "header.service_contexts count 0")
-    ∷ says 8 (codes "header.request_id ulong 1")
+    (says 4 (codes "header.service_contexts count 0") ∷ says 8 (codes "header.request_id ulong 1")
     ∷ says 12 (codes "header.reply_status enum NO_EXCEPTION")
-    ∷ says 16 (codes "body.return long 42")
-    ∷ says 17 (codes "body.b octet 9") ∷ [])
-    ended
+    ∷ says 16 (codes "body.return long 42") ∷ says 17 (codes "body.b octet 9") ∷ []) ended
 unfolding rows head h t_nop t_say t_raw ended short
-reply = record { reads_are = refl; closes_are = refl }
+reply = (refl, refl)
 
 -- which has none where it has two different ones.
-reply_of_two : Row (head 0 1) (0 ∷ 0 ∷ 0 ∷ 0 ∷ 0 ∷ 0 ∷ 0 ∷ 2 ∷ 0 ∷ 0 ∷ 0 ∷ 0 ∷ 0 ∷ 0 ∷ 0 ∷ 42 ∷ 9 ∷ [])
-    (says 4 (codes "header.service_contexts count 0")
-    ∷ says 8 (codes "header.request_id ulong 2")
+reply_of_two : Row (head 0 1)
+    (0 ∷ 0 ∷ 0 ∷ 0 ∷ 0 ∷ 0 ∷ 0 ∷ 2 ∷ 0 ∷ 0 ∷ 0 ∷ 0 ∷ 0 ∷ 0 ∷ 0 ∷ 42 ∷ 9 ∷ [])
+    (says 4 (codes "header.service_contexts count 0") ∷ says 8 (codes "header.request_id ulong 2")
     ∷ says 12 (codes "header.reply_status enum NO_EXCEPTION") ∷ [])
     ((Rest, codes "rest @0 0000002a09") ∷ ended)
 unfolding rows head h t_nop t_say t_raw ended short
-reply_of_two = record { reads_are = refl; closes_are = refl }
+reply_of_two = (refl, refl)
 
 -- An exception has its members behind its repository id, at their alignment,
-raised : Row (head 0 1) (0 ∷ 0 ∷ 0 ∷ 0 ∷ 0 ∷ 0 ∷ 0 ∷ 1 ∷ 0 ∷ 0 ∷ 0 ∷ 1 ∷ 0 ∷ 0 ∷ 0 ∷ 13 ∷ 73 ∷ 68 ∷ 76 ∷ 58 ∷ 76 ∷ 97 ∷ 116 ∷ 101 ∷ 58 ∷ 49 ∷ 46 ∷ 48 ∷ 0 ∷ 0 ∷ 0 ∷ 3 ∷ [])
-    (says 4 (codes "header.service_contexts count 0")
-    ∷ says 8 (codes "header.request_id ulong 1")
+raised : Row (head 0 1)
+    (0 ∷ 0 ∷ 0 ∷ 0 ∷ 0 ∷ 0 ∷ 0 ∷ 1 ∷ 0 ∷ 0 ∷ 0 ∷ 1 ∷ 0 ∷ 0 ∷ 0 ∷ 13 ∷ 73 ∷ 68 ∷ 76 ∷ 58 ∷ 76 ∷ 97
+    ∷ 116 ∷ 101 ∷ 58 ∷ 49 ∷ 46 ∷ 48 ∷ 0 ∷ 0 ∷ 0 ∷ 3 ∷ [])
+    (says 4 (codes "header.service_contexts count 0") ∷ says 8 (codes "header.request_id ulong 1")
     ∷ says 12 (codes "header.reply_status enum USER_EXCEPTION")
     ∷ says 29 (codes "exception string @0 \"IDL:Late:1.0\"")
-    ∷ says 32 (codes "body.by ushort 3") ∷ [])
-    ended
+    ∷ says 32 (codes "body.by ushort 3") ∷ []) ended
 unfolding rows head h t_nop t_say t_raw ended short
-raised = record { reads_are = refl; closes_are = refl }
+raised = (refl, refl)
 
 -- and a rest where its id isn't known.
-raised_unknown : Row (head 0 1) (0 ∷ 0 ∷ 0 ∷ 0 ∷ 0 ∷ 0 ∷ 0 ∷ 1 ∷ 0 ∷ 0 ∷ 0 ∷ 1 ∷ 0 ∷ 0 ∷ 0 ∷ 13 ∷ 73 ∷ 68 ∷ 76 ∷ 58 ∷ 76 ∷ 111 ∷ 115 ∷ 116 ∷ 58 ∷ 49 ∷ 46 ∷ 48 ∷ 0 ∷ 0 ∷ 0 ∷ 3 ∷ [])
-    (says 4 (codes "header.service_contexts count 0")
-    ∷ says 8 (codes "header.request_id ulong 1")
+raised_unknown : Row (head 0 1)
+    (0 ∷ 0 ∷ 0 ∷ 0 ∷ 0 ∷ 0 ∷ 0 ∷ 1 ∷ 0 ∷ 0 ∷ 0 ∷ 1 ∷ 0 ∷ 0 ∷ 0 ∷ 13 ∷ 73 ∷ 68 ∷ 76 ∷ 58 ∷ 76 ∷ 111
+    ∷ 115 ∷ 116 ∷ 58 ∷ 49 ∷ 46 ∷ 48 ∷ 0 ∷ 0 ∷ 0 ∷ 3 ∷ [])
+    (says 4 (codes "header.service_contexts count 0") ∷ says 8 (codes "header.request_id ulong 1")
     ∷ says 12 (codes "header.reply_status enum USER_EXCEPTION")
     ∷ says 29 (codes "exception string @0 \"IDL:Lost:1.0\"") ∷ [])
     ((Rest, codes "rest @0 000003") ∷ ended)
 unfolding rows head h t_nop t_say t_raw ended short
-raised_unknown = record { reads_are = refl; closes_are = refl }
+raised_unknown = (refl, refl)
 
 -- a system exception
-system_exception : Row (head 0 1) (0 ∷ 0 ∷ 0 ∷ 0 ∷ 0 ∷ 0 ∷ 0 ∷ 1 ∷ 0 ∷ 0 ∷ 0 ∷ 2 ∷ 0 ∷ 0 ∷ 0 ∷ 30 ∷ 73 ∷ 68 ∷ 76 ∷ 58 ∷ 111 ∷ 109 ∷ 103 ∷ 46 ∷ 111 ∷ 114 ∷ 103 ∷ 47 ∷ 67 ∷ 79 ∷ 82 ∷ 66 ∷ 65 ∷ 47 ∷ 85 ∷ 78 ∷ 75 ∷ 78 ∷ 79 ∷ 87 ∷ 78 ∷ 58 ∷ 49 ∷ 46 ∷ 48 ∷ 0 ∷ 0 ∷ 0 ∷ 0 ∷ 0 ∷ 0 ∷ 0 ∷ 0 ∷ 0 ∷ 0 ∷ 1 ∷ [])
-    (says 4 (codes "header.service_contexts count 0")
-    ∷ says 8 (codes "header.request_id ulong 1")
+system_exception : Row (head 0 1)
+    (0 ∷ 0 ∷ 0 ∷ 0 ∷ 0 ∷ 0 ∷ 0 ∷ 1 ∷ 0 ∷ 0 ∷ 0 ∷ 2 ∷ 0 ∷ 0 ∷ 0 ∷ 30 ∷ 73 ∷ 68 ∷ 76 ∷ 58 ∷ 111 ∷ 109
+    ∷ 103 ∷ 46 ∷ 111 ∷ 114 ∷ 103 ∷ 47 ∷ 67 ∷ 79 ∷ 82 ∷ 66 ∷ 65 ∷ 47 ∷ 85 ∷ 78 ∷ 75 ∷ 78 ∷ 79 ∷ 87
+    ∷ 78 ∷ 58 ∷ 49 ∷ 46 ∷ 48 ∷ 0 ∷ 0 ∷ 0 ∷ 0 ∷ 0 ∷ 0 ∷ 0 ∷ 0 ∷ 0 ∷ 0 ∷ 1 ∷ [])
+    (says 4 (codes "header.service_contexts count 0") ∷ says 8 (codes "header.request_id ulong 1")
     ∷ says 12 (codes "header.reply_status enum SYSTEM_EXCEPTION")
     ∷ says 46 (codes "body.exception_id string @0 \"IDL:omg.org/CORBA/UNKNOWN:1.0\"")
     ∷ says 52 (codes "body.minor ulong 0")
-    ∷ says 56 (codes "body.completed enum COMPLETED_NO") ∷ [])
-    ended
+    ∷ says 56 (codes "body.completed enum COMPLETED_NO") ∷ []) ended
 unfolding rows head h t_nop t_say t_raw ended short
-system_exception = record { reads_are = refl; closes_are = refl }
+system_exception = (refl, refl)
 
 -- an addressing disposition, at the end of a header that needs no padding
 addressing : Row (head 2 1) (0 ∷ 0 ∷ 0 ∷ 1 ∷ 0 ∷ 0 ∷ 0 ∷ 5 ∷ 0 ∷ 0 ∷ 0 ∷ 0 ∷ 0 ∷ 2 ∷ [])
     (says 4 (codes "header.request_id ulong 1")
     ∷ says 8 (codes "header.reply_status enum NEEDS_ADDRESSING_MODE")
-    ∷ says 12 (codes "header.service_contexts count 0")
-    ∷ says 14 (codes "body short 2") ∷ [])
-    ended
+    ∷ says 12 (codes "header.service_contexts count 0") ∷ says 14 (codes "body short 2") ∷ []) ended
 unfolding rows head h t_nop t_say t_raw ended short
-addressing = record { reads_are = refl; closes_are = refl }
+addressing = (refl, refl)
 
 -- a status without a name
 no_status : Row (head 0 1) (0 ∷ 0 ∷ 0 ∷ 0 ∷ 0 ∷ 0 ∷ 0 ∷ 1 ∷ 0 ∷ 0 ∷ 0 ∷ 4 ∷ [])
-    (says 4 (codes "header.service_contexts count 0")
-    ∷ says 8 (codes "header.request_id ulong 1")
-    ∷ record { at = 12; saying = Fault; text = codes "enum" } ∷ [])
-    ended
+    (says 4 (codes "header.service_contexts count 0") ∷ says 8 (codes "header.request_id ulong 1")
+    ∷ record { at = 12; saying = Fault; text = codes "enum" } ∷ []) ended
 unfolding rows head h t_nop t_say t_raw ended short
-no_status = record { reads_are = refl; closes_are = refl }
+no_status = (refl, refl)
 
 -- A LocateRequest by its profile, and one of no disposition.
-located : Row (head 2 3) (0 ∷ 0 ∷ 0 ∷ 1 ∷ 0 ∷ 1 ∷ 0 ∷ 0 ∷ 0 ∷ 0 ∷ 0 ∷ 9 ∷ 0 ∷ 0 ∷ 0 ∷ 2 ∷ 171 ∷ 205 ∷ [])
-    (says 4 (codes "header.request_id ulong 1")
-    ∷ says 6 (codes "header.target.switch short 1")
+located : Row (head 2 3)
+    (0 ∷ 0 ∷ 0 ∷ 1 ∷ 0 ∷ 1 ∷ 0 ∷ 0 ∷ 0 ∷ 0 ∷ 0 ∷ 9 ∷ 0 ∷ 0 ∷ 0 ∷ 2 ∷ 171 ∷ 205 ∷ [])
+    (says 4 (codes "header.request_id ulong 1") ∷ says 6 (codes "header.target.switch short 1")
     ∷ says 12 (codes "header.target.profile.tag ulong 9")
-    ∷ says 18 (codes "header.target.profile.profile_data octets @0 abcd") ∷ [])
-    ended
+    ∷ says 18 (codes "header.target.profile.profile_data octets @0 abcd") ∷ []) ended
 unfolding rows head h t_nop t_say t_raw ended short
-located = record { reads_are = refl; closes_are = refl }
+located = (refl, refl)
 
 not_located : Row (head 2 3) (0 ∷ 0 ∷ 0 ∷ 1 ∷ 0 ∷ 3 ∷ [])
     (says 4 (codes "header.request_id ulong 1")
-    ∷ record { at = 6; saying = Fault; text = codes "disposition" } ∷ [])
-    ended
+    ∷ record { at = 6; saying = Fault; text = codes "disposition" } ∷ []) ended
 unfolding rows head h t_nop t_say t_raw ended short
-not_located = record { reads_are = refl; closes_are = refl }
+not_located = (refl, refl)
 
 -- a message without a header type
-no_header : Row (head 0 5) [] []
-    ended
+no_header : Row (head 0 5) [] [] ended
 unfolding rows head h t_nop t_say t_raw ended short
-no_header = record { reads_are = refl; closes_are = refl }
+no_header = (refl, refl)
 
 -- ---- the operation is the last string of a Request's header, and the status the only enum of a Reply's
 
@@ -340,10 +305,16 @@ record IsLast (test : Ty → Bool) (name : List ℕ) (k : ℕ) (T : Ty) : Type 0
   such : test (part_of T k) ≡ true
   none : behind test k T ≡ false
 
-last_strings : IfSome (header_type 0 0) (IsLast is_text (codes "operation") 4) × IfSome (header_type 1 0) (IsLast is_text (codes "operation") 5) × IfSome (header_type 2 0) (IsLast is_text (codes "operation") 4)
+last_strings : IfSome (header_type 0 0) (IsLast is_text (codes "operation") 4)
+    × IfSome (header_type 1 0) (IsLast is_text (codes "operation") 5)
+    × IfSome (header_type 2 0) (IsLast is_text (codes "operation") 4)
 unfolding rows behind any_below has_type
-last_strings = (record { named = refl; such = refl; none = refl }, record { named = refl; such = refl; none = refl }, record { named = refl; such = refl; none = refl })
+last_strings =
+    (record { named = refl; such = refl; none = refl }, record { named = refl; such = refl; none = refl }, record { named = refl; such = refl; none = refl })
 
-last_enums : IfSome (header_type 0 1) (IsLast is_enum (codes "reply_status") 2) × IfSome (header_type 1 1) (IsLast is_enum (codes "reply_status") 2) × IfSome (header_type 2 1) (IsLast is_enum (codes "reply_status") 1)
+last_enums : IfSome (header_type 0 1) (IsLast is_enum (codes "reply_status") 2)
+    × IfSome (header_type 1 1) (IsLast is_enum (codes "reply_status") 2)
+    × IfSome (header_type 2 1) (IsLast is_enum (codes "reply_status") 1)
 unfolding rows behind any_below has_type is_enum
-last_enums = (record { named = refl; such = refl; none = refl }, record { named = refl; such = refl; none = refl }, record { named = refl; such = refl; none = refl })
+last_enums =
+    (record { named = refl; such = refl; none = refl }, record { named = refl; such = refl; none = refl }, record { named = refl; such = refl; none = refl })

@@ -1,4 +1,4 @@
--- One octet of a section that goes on: its text, with its call.
+-- One octet of a section that goes on: its text, with its fault or its call.
 use Rattle.std.proofs.Common.{◌≡◌, ℕ, ◌+◌, ◌-◌, Bool, true, false, List, [], ◌∷◌, ◌++◌, length, ◌⊎◌, inl, inr, Option, Some, None, refl, sym, ap, subst, ◌∙◌, append-nil, append_assoc}
 use Rattle.std.specs.Prelude.{◌&&◌, ◌||◌, codes, IfSome, if◌then◌else◌}
 use Rattle.std.specs.List.{AllByRecursion as Each}
@@ -6,14 +6,13 @@ use Rattle.std.proofs.lemmas.Bool.{false≢true, eqb-true}
 use Rattle.giop_print.specs.Lines.{call_line, fault_line}
 use Rattle.giop_print.specs.declared.path.Root.{Root}
 use Rattle.giop_print.specs.declared.path.Root.TheVariants as roots
-use Rattle.giop_sig.specs.Types.{Ty}
 use Rattle.giop_sig.specs.Headers.{header_type}
 use Rattle.giop_decode.specs.declared.progress.Kind.{Kind}
 use Rattle.giop_decode.specs.declared.progress.Progress.{Progress}
 use Rattle.giop_decode.specs.declared.progress.Progress.TheVariants as progress
 use Rattle.giop_decode.specs.Spine
 use Rattle.giop_decode.specs.Spine.{plain, Line, Read, Done, Short, Fault, lines_of}
-use Rattle.giop_decode.specs.Fits.{Sound}
+use Rattle.giop_decode.specs.Fits.{FitsIn, Sound}
 use Rattle.giop_decode.specs.Steps.{OneAt}
 use Rattle.giop_decode.specs.Heard.{Heard, nothing, hear, heard, heard_of, hushed, in_string, ends_text, is_member, is_header_root, ends_operation, names_operation}
 use Rattle.giop_decode.specs.Holding as decoders
@@ -23,19 +22,33 @@ use Rattle.giop_decode.proofs.ReadingLaws.{front_inside, lines_front, heard-appe
 use Rattle.giop_message.specs.declared.part.Section.{Section}
 use Rattle.giop_message.specs.declared.part.Section.TheVariants as sections
 use Rattle.giop_message.specs.Headers.{minor, kind, order}
-use Rattle.giop_message.specs.Signatures.{Signatures}
-use Rattle.giop_message.specs.Messages.{Called, Told, tell, is_shown, call_of, calls, is_request, root_of, may_call}
+use Rattle.giop_message.specs.Messages.{Called, tell, is_shown, call_of, calls, is_request, root_of, may_call}
 use Rattle.giop_message.specs.MessageReading.{saying_of, text_of}
 use Rattle.giop_message.specs.Text.{fault_word}
-use Rattle.giop_message.specs.Holding.{speech_line, told_text, due_text}
+use Rattle.giop_message.specs.Holding.{speech_line, told_text, due_text, IsFirst}
 use Rattle.giop_message.specs.Moves.{fault_text, called_text, request_call}
-use Rattle.giop_message.proofs.Faulting.{fault_is, no_fault}
 use Rattle.giop_message.proofs.Spelling.{call_said}
-use Rattle.giop_message.proofs.CutOff.{CallsNone}
-use Rattle.giop_message.proofs.Operations.{AllHold, fits_hold, step_closed, NoEnds}
-use Rattle.giop_message.proofs.LastParts.{request_ends, header_fit, EndsOtherwise, done_test, last_no_call}
-use Rattle.giop_message.proofs.Octets.{first_call, no_first, one_of}
-use Rattle.giop_message.proofs.Parts.{Inside, Next, Added, heard_before, next_is, added_none, added_now, lines_due, text_here}
+use Rattle.giop_message.proofs.LastParts.{CallsNone, request_ends, header_fit, EndsOtherwise, done_test, last_no_call}
+use Rattle.giop_message.proofs.Operations.{AllHold, fits_hold, step_closed}
+use Rattle.giop_message.proofs.Octets.{first_call, no_first}
+use Rattle.giop_message.proofs.StepLines.{NoEnds, one_of}
+use Rattle.giop_message.proofs.Parts.{Begun, start, is_named, Inside, Next, Added, heard_before, next_is, added_none, added_now, lines_due, text_here}
+use Rattle.giop_decode.specs.Holding.{IsAnswer, IsFault}
+
+pub fault_is : (number place end : ℕ) (named : Bool) (kind : Kind) (r : Read) →
+    IsAnswer end named (progress.Fault kind) r →
+    fault_text number place r ≡ fault_line number (fault_word kind) place
+fault_is number place end named kind (Fault lines at why T) answer = ap (λ k. fault_line number (fault_word k) place) (sym answer.0)
+fault_is number place end named kind r answer = absurd answer
+
+pub no_fault : (number place end : ℕ) (named : Bool) (p : Progress) (r : Read) →
+    IsAnswer end named p r → (IsFault p → ⊥) → fault_text number place r ≡ []
+no_fault number place end named p (Done lines at rest) answer none = refl
+no_fault number place end named p (Short lines at outer leaf) answer none = refl
+no_fault number place end named progress.More (Fault lines at why T) answer none = absurd answer
+no_fault number place end named progress.Named (Fault lines at why T) answer none = absurd answer
+no_fault number place end named progress.Done (Fault lines at why T) answer none = absurd answer
+no_fault number place end named (progress.Fault kind) (Fault lines at why T) answer none = absurd (none tt)
 
 -- ---- calls
 
@@ -47,36 +60,43 @@ or_both : (a b : Bool) → (a || b) ≡ false → (a ≡ false) × (b ≡ false)
 or_both true b e = absurd cc
 or_both false b e = (refl, e)
 
-unnamed : (is : Bool) (lines : List Line) → names_operation true lines ≡ false → Each (λ l. ends_operation is l ≡ false) lines
+unnamed : (is : Bool) (lines : List Line) → names_operation true lines ≡ false →
+    Each (λ l. ends_operation is l ≡ false) lines
 unnamed is [] e = tt
 unnamed is (l ∷ ls) e =
     let b = or_both (ends_operation true l) (names_operation true ls) e in
     (and_false is (is_member (codes "operation") l.path && ends_text l.value) b.0, unnamed is ls b.1)
 
-one_call : (number place offset at id : ℕ) (name : List ℕ) → speech_line number (place + (at - offset)) (Called id name) ≡ call_line number id name
+one_call : (number place offset at id : ℕ) (name : List ℕ) →
+    speech_line number (place + (at - offset)) (Called id name) ≡ call_line number id name
 unfolding speech_line saying_of text_of
 one_call number place offset at id name = call_said number id name
 
-call_shown : (number place offset at id : ℕ) (name : List ℕ) (test : Bool) → told_text number place offset (if test then tell at (Called id name) ∷ [] else []) ≡ (if test then call_line number id name else [])
+call_shown : (number place offset at id : ℕ) (name : List ℕ) (test : Bool) →
+    told_text number place offset (if test then tell at (Called id name) ∷ [] else [])
+    ≡ (if test then call_line number id name else [])
 unfolding told_text tell
 call_shown number place offset at id name true = append-nil _ ∙ one_call number place offset at id name
 call_shown number place offset at id name false = refl
 
-called_is : (number place offset at : ℕ) (id : Option ℕ) (name : Option (List ℕ)) → told_text number place offset (call_of at id name) ≡ called_text number id name
+called_is : (number place offset at : ℕ) (id : Option ℕ) (name : Option (List ℕ)) →
+    told_text number place offset (call_of at id name) ≡ called_text number id name
 unfolding told_text call_of called_text
 called_is number place offset at None name = refl
 called_is number place offset at (Some id) None = refl
 called_is number place offset at (Some id) (Some name) = call_shown number place offset at id name (is_shown name)
 
 -- the call of the line that ends an operation
-call_by : (is : Bool) (number place offset : ℕ) (l : Line) (h : Heard) → ends_operation true l ≡ true →
-    told_text number place offset (calls is l h) ≡ (if is then called_text number h.request_id h.name else [])
+call_by : (is : Bool) (number place offset : ℕ) (l : Line) (h : Heard) →
+    ends_operation true l ≡ true → told_text number place offset (calls is l h)
+    ≡ (if is then called_text number h.request_id h.name else [])
 unfolding calls told_text
 call_by true number place offset l h e = rw e (called_is number place offset l.at h.request_id h.name)
 call_by false number place offset l h e = refl
 
 -- with one line that names it
-named_line : (n : ℕ) (lines : List Line) → OneAt n lines → names_operation true lines ≡ true → (l : Line) × (lines ≡ l ∷ []) × (ends_operation true l ≡ true)
+named_line : (n : ℕ) (lines : List Line) → OneAt n lines → names_operation true lines ≡ true →
+    (l : Line) × (lines ≡ l ∷ []) × (ends_operation true l ≡ true)
 named_line n [] one e = absurd (false≢true e)
 named_line n (l ∷ []) one e = (l, refl, or_last (ends_operation true l) e)
   where
@@ -90,7 +110,9 @@ and_last true b e = e
 and_last false b e = absurd (false≢true e)
 
 -- where a line ends an operation, what is heard is what it leaves
-muted : (lines : List Line) (st : Read) (l : Line) → NoEnds st ⊎ (in_string st ≡ false) → lines_of st ≡ l ∷ [] → ends_operation true l ≡ true → heard_of true (Spine.with_front lines st) ≡ hear true (heard true nothing lines) l
+muted : (lines : List Line) (st : Read) (l : Line) → NoEnds st ⊎ (in_string st ≡ false) →
+    lines_of st ≡ l ∷ [] → ends_operation true l ≡ true →
+    heard_of true (Spine.with_front lines st) ≡ hear true (heard true nothing lines) l
 muted lines st l closed e ends =
     let mute : in_string (Spine.with_front lines st) ≡ false = front_inside lines st ∙ go closed in
     ap (λ quiet. hushed quiet (heard true nothing (lines_of (Spine.with_front lines st)))) mute
@@ -98,7 +120,9 @@ muted lines st l closed e ends =
   where
     go : NoEnds st ⊎ (in_string st ≡ false) → in_string st ≡ false
     go (inr f) = f
-    go (inl none) = absurd (false≢true (sym (subst (λ ls. Each (λ l. ends_text l.value ≡ false) ls) e none).0 ∙ and_last (is_member (codes "operation") l.path) (ends_text l.value) ends))
+    go (inl none) =
+        absurd (false≢true (sym (subst (λ ls. Each (λ l. ends_text l.value ≡ false) ls) e none).0
+        ∙ and_last (is_member (codes "operation") l.path) (ends_text l.value) ends))
 
 never : (lines : List Line) → Each (λ l. ends_operation false l ≡ false) lines
 never [] = tt
@@ -113,21 +137,23 @@ unfolding is_request
 request_kind header e = eqb-true (kind header) 0 e
 
 -- A line that names an operation, or none, stands below a header.
-unnamed_by : (header : List ℕ) (section : Section) (lines : List Line) → names_operation (is_header_root (root_of section)) lines ≡ false →
+unnamed_by : (header : List ℕ) (section : Section) (lines : List Line) →
+    names_operation (is_header_root (root_of section)) lines ≡ false →
     Each (λ l. ends_operation (may_call header section) l ≡ false) lines
 unnamed_by header sections.Header lines e = unnamed (is_request header) lines e
-unnamed_by header sections.Exception lines e = never lines
-unnamed_by header sections.Body lines e = never lines
+unnamed_by header section lines e = never lines
 
-named_header : (section : Section) (lines : List Line) → names_operation (is_header_root (root_of section)) lines ≡ true → section ≡ sections.Header
+named_header : (section : Section) (lines : List Line) →
+    names_operation (is_header_root (root_of section)) lines ≡ true → section ≡ sections.Header
 named_header sections.Header lines e = refl
-named_header sections.Exception lines e = absurd (false≢true (sym (none_named lines) ∙ e))
-named_header sections.Body lines e = absurd (false≢true (sym (none_named lines) ∙ e))
+named_header section lines e = absurd (false≢true (sym (none_named lines) ∙ e))
 
 -- the call of a step's line
-call_here : (number place offset : ℕ) (header : List ℕ) (section : Section) (before : List Line) (st : Read) (n : ℕ) → OneAt n (lines_of st) → NoEnds st ⊎ (in_string st ≡ false) →
+call_here : (number place offset : ℕ) (header : List ℕ) (section : Section) (before : List Line)
+    (st : Read) (n : ℕ) → OneAt n (lines_of st) → NoEnds st ⊎ (in_string st ≡ false) →
     names_operation (is_header_root (root_of section)) (lines_of st) ≡ true →
-    told_text number place offset (first_call (root_of section) (may_call header section) (heard (is_header_root (root_of section)) nothing before) (lines_of st))
+    told_text number place offset (first_call (root_of section) (may_call header section)
+    (heard (is_header_root (root_of section)) nothing before) (lines_of st))
     ≡ request_call number header (heard_of true (Spine.with_front before st))
 unfolding request_call
 call_here number place offset header sections.Header before st n one closed named =
@@ -136,145 +162,149 @@ call_here number place offset header sections.Header before st n one closed name
     ap (λ ls. told_text number place offset (first_call roots.Header (is_request header) (heard true nothing before) ls)) x.1
     ∙ (call_by (is_request header) number place offset x.0 now x.2
     ∙ ap (λ h. if is_request header then called_text number h.request_id h.name else []) (sym (muted before st x.0 closed x.1 x.2)))
-call_here number place offset header sections.Exception before st n one closed named = absurd (false≢true (sym (none_named (lines_of st)) ∙ named))
-call_here number place offset header sections.Body before st n one closed named = absurd (false≢true (sym (none_named (lines_of st)) ∙ named))
+call_here number place offset header section before st n one closed named = absurd (false≢true (sym (none_named (lines_of st)) ∙ named))
 
-done_is : (end : ℕ) (named : Bool) (st : Read) (lines : List Line) → decoders.IsAnswer end named progress.Done (Spine.with_front lines st) → done_test st ≡ true
+done_is : (end : ℕ) (named : Bool) (st : Read) (lines : List Line) →
+    decoders.IsAnswer end named progress.Done (Spine.with_front lines st) → done_test st ≡ true
 done_is end named (Done ls at rest) lines answer = refl
-done_is end named (Short ls at outer leaf) lines answer = absurd answer
-done_is end named (Fault ls at why U) lines answer = absurd answer
+done_is end named r lines answer = absurd answer
 
-none_faulted : (is : Bool) (end : ℕ) (named : Bool) (kind : Kind) (st : Read) (lines : List Line) → decoders.IsAnswer end named (progress.Fault kind) (Spine.with_front lines st) → CallsNone is st →
-    Each (λ l. ends_operation is l ≡ false) (lines_of st)
+none_faulted : (is : Bool) (end : ℕ) (named : Bool) (kind : Kind) (st : Read) (lines : List Line) →
+    decoders.IsAnswer end named (progress.Fault kind) (Spine.with_front lines st) →
+    CallsNone is st → Each (λ l. ends_operation is l ≡ false) (lines_of st)
 none_faulted is end named kind (Fault ls at why U) lines answer none = none
-none_faulted is end named kind (Done ls at rest) lines answer none = absurd answer
-none_faulted is end named kind (Short ls at outer leaf) lines answer none = absurd answer
+none_faulted is end named kind r lines answer none = absurd answer
 
-more_unnamed : (end : ℕ) (named : Bool) (r : Read) → decoders.IsAnswer end named progress.More r → named ≡ false
+more_unnamed : (end : ℕ) (named : Bool) (r : Read) → decoders.IsAnswer end named progress.More r →
+    named ≡ false
 more_unnamed end named (Short lines at outer leaf) answer = answer
-more_unnamed end named (Done lines at rest) answer = absurd answer
-more_unnamed end named (Fault lines at why T) answer = absurd answer
+more_unnamed end named r answer = absurd answer
 
-named_is : (end : ℕ) (named : Bool) (r : Read) → decoders.IsAnswer end named progress.Named r → named ≡ true
+named_is : (end : ℕ) (named : Bool) (r : Read) → decoders.IsAnswer end named progress.Named r →
+    named ≡ true
 named_is end named (Short lines at outer leaf) answer = answer
-named_is end named (Done lines at rest) answer = absurd answer
-named_is end named (Fault lines at why T) answer = absurd answer
+named_is end named r answer = absurd answer
 
--- the last octet of a section ends no operation
-ends_by : (S : Signatures) (number : ℕ) (header s : List ℕ) (section : Section) (T : Ty) (before : List Told) (front octets : List ℕ)
-    (i : Inside S header s section T before front octets) (b : ℕ) →
-    done_test (Added S number header s section T before front octets i b) ≡ true →
-    Each (λ l. ends_operation (may_call header section) l ≡ false) (lines_of (Added S number header s section T before front octets i b))
-ends_by S number header s sections.Header T before front octets i b done = go (is_request header) refl
-  where
-    found : header_type (minor header) (kind header) ≡ Some T
-    found = i.first.0
+-- what a header that stands in this part has begun is of its types
+sound_by : (w : Begun) (s octets : List ℕ) (i : Inside w s octets) →
+    header_type (minor w.header) (kind w.header) ≡ Some w.T → FitsIn w.T i.outer i.leaf
+sound_by w s octets i found =
+    let reads = read_keeps 24 (plain (order w.header)) [] w.T (header_fit (minor w.header) (kind w.header) w.T found) (start w) octets in
+    (subst (Sound w.T (start w + length octets)) i.was_short reads).1
 
-    go : (is : Bool) → is_request header ≡ is → Each (λ l. ends_operation is l ≡ false) (lines_of (Added S number header s sections.Header T before front octets i b))
-    go false r = never (lines_of (Added S number header s sections.Header T before front octets i b))
-    go true r =
-        let zero_kind : kind header ≡ 0 = request_kind header r in
-        let ends : EndsOtherwise T = subst (λ o. IfSome o EndsOtherwise) (subst (λ k. header_type (minor header) k ≡ Some T) zero_kind found) (request_ends (minor header)) in
-        let sound = (subst (Sound T ((12 + length front) + length octets)) i.was_short
-        (read_keeps 24 (plain (order header)) [] T (header_fit (minor header) (kind header) T found) (12 + length front) octets)).1 in
-        last_no_call (plain (order header)) true T _ _ _ b ends (header_fit (minor header) (kind header) T found) sound done
-ends_by S number header s sections.Exception T before front octets i b done = never (lines_of (Added S number header s sections.Exception T before front octets i b))
-ends_by S number header s sections.Body T before front octets i b done = never (lines_of (Added S number header s sections.Body T before front octets i b))
-
--- the encapsulations that a header stands in are of their types
-holds_by : (S : Signatures) (header s : List ℕ) (section : Section) (T : Ty) (before : List Told) (front octets : List ℕ)
-    (i : Inside S header s section T before front octets) → section ≡ sections.Header → AllHold i.outer
-holds_by S header s sections.Header T before front octets i e =
-    let fit = header_fit (minor header) (kind header) T i.first.0 in
-    let sound = (subst (Sound T ((12 + length front) + length octets)) i.was_short (read_keeps 24 (plain (order header)) [] T fit (12 + length front) octets)).1 in
-    fits_hold i.outer T i.leaf sound
-holds_by S header s sections.Exception T before front octets i e = absurd cc
-holds_by S header s sections.Body T before front octets i e = absurd cc
+-- the encapsulations that it stands in are of their types
+holds_by : (w : Begun) (s octets : List ℕ) (i : Inside w s octets) → w.section ≡ sections.Header →
+    AllHold i.outer
+holds_by w s octets i e = fits_hold i.outer w.T i.leaf (sound_by w s octets i (subst (λ x. IsFirst w.header x w.T w.before) e i.first).0)
 
 -- ---- an octet of a message
 
--- a text of three parts, by its last two
-joined_text : (text lines fault call f c : List ℕ) → text ≡ (lines ++ fault) ++ call → fault ≡ f → call ≡ c → text ≡ lines ++ (f ++ c)
-joined_text text lines fault call f c e is_fault is_call = e ∙ (append_assoc lines fault call ∙ rw (is_fault, is_call) refl)
+module _ (w : Begun) (s octets : List ℕ) (i : Inside w s octets) (b : ℕ) where
+  open w use {S, number, header, section, T}
 
-module _ (S : Signatures) (number : ℕ) (header s : List ℕ) (section : Section) (T : Ty) (before : List Told) (front octets : List ℕ)
-    (i : Inside S header s section T before front octets) (b : ℕ) where
   abbrev R : Root
   R = root_of section
 
-  abbrev A : ℕ
-  A = 12 + length front
-
   abbrev Behind : Read
-  Behind = Next S number header s section T before front octets i b
+  Behind = Next w s octets i b
 
   abbrev St : Read
-  St = Added S number header s section T before front octets i b
+  St = Added w s octets i b
 
-  -- its lines, its call, and its whole text
+  -- its lines, its fault, its call, and its whole text
   abbrev Lines : List ℕ
-  Lines = lines_text number R (decoders.due (order header) T A octets b)
+  Lines = lines_text number R (decoders.due (order header) T (start w) octets b)
+
+  abbrev Wrongs : ℕ → List ℕ
+  Wrongs place = fault_text number (place + 1) Behind
 
   abbrev Call : ℕ → List ℕ
-  Call place = told_text number place (12 + length s) (first_call R (may_call header section) (heard_before S number header s section T before front octets i b) (lines_of St))
+  Call place =
+      told_text number place (12 + length s) (first_call R (may_call header section) (heard_before w s octets i b) (lines_of St))
 
   abbrev Due : ℕ → List ℕ
   Due place = due_text S number place header s (b ∷ [])
 
   abbrev End : ℕ
-  End = A + length (octets ++ b ∷ [])
+  End = start w + length (octets ++ b ∷ [])
 
   abbrev Names : Bool
-  Names = names_operation (is_header_root R) (decoders.due (order header) T A octets b)
+  Names = is_named w octets b
 
   abbrev Is : Progress → Type 0
-  Is p = Answers (order header) T A R octets b p
+  Is p = Answers (order header) T (start w) R octets b p
 
-  here : (place : ℕ) → Due place ≡ (Lines ++ fault_text number (place + 1) Behind) ++ Call place
-  here place = text_here S number header s section T before front octets i b place
+  -- no line of it ends an operation that may be called
+  abbrev Silences : Type 0
+  Silences = Each (λ l. ends_operation (may_call header section) l ≡ false) (lines_of St)
 
-  uncalled : (place : ℕ) → Each (λ l. ends_operation (may_call header section) l ≡ false) (lines_of St) → Call place ≡ []
+  -- the last octet of a section ends no operation
+  ends_by : done_test St ≡ true → Silences
+  ends_by done = go section i.first
+    where
+      go : (x : Section) → IsFirst header x T w.before →
+          Each (λ l. ends_operation (may_call header x) l ≡ false) (lines_of St)
+      go sections.Header first = of_header (is_request header) refl
+        where
+          of_header : (is : Bool) → is_request header ≡ is →
+              Each (λ l. ends_operation is l ≡ false) (lines_of St)
+          of_header false r = never (lines_of St)
+          of_header true r =
+              let found = subst (λ k. header_type (minor header) k ≡ Some T) (request_kind header r) first.0 in
+              let ends = subst (λ o. IfSome o EndsOtherwise) found (request_ends (minor header)) in
+              last_no_call (plain (order header)) true T _ _ _ b ends (header_fit (minor header) (kind header) T first.0)
+              (sound_by w s octets i first.0) done
+      go section first = never (lines_of St)
+
+  -- a text of three parts, by its last two
+  joined_text : (place : ℕ) (fault call : List ℕ) → Wrongs place ≡ fault → Call place ≡ call →
+      Due place ≡ Lines ++ (fault ++ call)
+  joined_text place fault call is_fault is_call =
+      text_here w s octets i b place ∙ (append_assoc Lines (Wrongs place) (Call place) ∙ rw (is_fault, is_call) refl)
+
+  uncalled : (place : ℕ) → Silences → Call place ≡ []
   unfolding told_text
   uncalled place each =
-      ap (told_text number place (12 + length s)) (no_first R (may_call header section) (heard_before S number header s section T before front octets i b) (lines_of St) each)
+      ap (told_text number place (12 + length s)) (no_first R (may_call header section) (heard_before w s octets i b) (lines_of St) each)
 
   -- any octet
-  pub any_text : (place : ℕ) → Due place ≡ Lines ++ (fault_text number (place + 1) Behind ++ Call place)
-  any_text place = here place ∙ append_assoc Lines (fault_text number (place + 1) Behind) (Call place)
+  pub any_text : (place : ℕ) → Due place ≡ Lines ++ (Wrongs place ++ Call place)
+  any_text place = joined_text place (Wrongs place) (Call place) refl refl
 
   -- one behind which the section goes on
   pub more_text : Is progress.More → (place : ℕ) → Due place ≡ Lines
   more_text answer place =
-      let none = subst (λ ls. names_operation (is_header_root R) ls ≡ false) (lines_due S number header s section T before front octets i b) (more_unnamed End Names Behind answer) in
-      joined_text (Due place) Lines (fault_text number (place + 1) Behind) (Call place) [] [] (here place) (no_fault number (place + 1) End Names progress.More Behind answer (λ fault. fault))
+      let none = subst (λ ls. names_operation (is_header_root R) ls ≡ false) (lines_due w s octets i b) (more_unnamed End Names Behind answer) in
+      joined_text place [] [] (no_fault number (place + 1) End Names progress.More Behind answer (λ fault. fault))
       (uncalled place (unnamed_by header section (lines_of St) none))
       ∙ append-nil Lines
 
   -- the last of the section
   pub done_text : Is progress.Done → (place : ℕ) → Due place ≡ Lines ++ []
   done_text answer place =
-      joined_text (Due place) Lines (fault_text number (place + 1) Behind) (Call place) [] [] (here place) (no_fault number (place + 1) End Names progress.Done Behind answer (λ fault. fault))
-      (uncalled place (ends_by S number header s section T before front octets i b
-      (done_is End Names St i.lines (subst (decoders.IsAnswer End Names progress.Done) (next_is S number header s section T before front octets i b) answer))))
+      let is = subst (decoders.IsAnswer End Names progress.Done) (next_is w s octets i b) answer in
+      joined_text place [] [] (no_fault number (place + 1) End Names progress.Done Behind answer (λ fault. fault))
+      (uncalled place (ends_by (done_is End Names St i.lines is)))
 
   -- one that breaks a rule
-  pub wrong_text : (why : Kind) → Is (progress.Fault why) → (place : ℕ) → Due place ≡ Lines ++ fault_line number (fault_word why) (place + 1)
+  pub wrong_text : (why : Kind) → Is (progress.Fault why) → (place : ℕ) →
+      Due place ≡ Lines ++ fault_line number (fault_word why) (place + 1)
   wrong_text why answer place =
-      let none = none_faulted (may_call header section) End Names why St i.lines (subst (decoders.IsAnswer End Names (progress.Fault why)) (next_is S number header s section T before front octets i b) answer) (added_none S number header s section T before front octets i b) in
-      joined_text (Due place) Lines (fault_text number (place + 1) Behind) (Call place) (fault_line number (fault_word why) (place + 1)) [] (here place) (fault_is number (place + 1) End Names why Behind answer)
-      (uncalled place none)
+      let is = subst (decoders.IsAnswer End Names (progress.Fault why)) (next_is w s octets i b) answer in
+      let none = none_faulted (may_call header section) End Names why St i.lines is (added_none w s octets i b) in
+      joined_text place _ [] (fault_is number (place + 1) End Names why Behind answer) (uncalled place none)
       ∙ ap (λ z. Lines ++ z) (append-nil _)
 
   -- one that ends an operation
   pub named_in : Is progress.Named → section ≡ sections.Header
   named_in answer = named_header section _ (named_is End Names Behind answer)
 
-  pub named_text : Is progress.Named → (place : ℕ) → Due place ≡ Lines ++ request_call number header (heard_of true Behind)
+  pub named_text : Is progress.Named → (place : ℕ) →
+      Due place ≡ Lines ++ request_call number header (heard_of true Behind)
   named_text answer place =
-      let now = added_now S number header s section T before front octets i b in
-      let named = subst (λ ls. names_operation (is_header_root R) ls ≡ true) (lines_due S number header s section T before front octets i b) (named_is End Names Behind answer) in
-      let closed = step_closed (plain (order header)) [] i.outer i.leaf _ b (holds_by S header s section T before front octets i (named_in answer)) in
-      joined_text (Due place) Lines (fault_text number (place + 1) Behind) (Call place) [] (request_call number header (heard_of true Behind)) (here place)
-      (no_fault number (place + 1) End Names progress.Named Behind answer (λ fault. fault))
+      let now = added_now w s octets i b in
+      let named = subst (λ ls. names_operation (is_header_root R) ls ≡ true) (lines_due w s octets i b) (named_is End Names Behind answer) in
+      let closed = step_closed (plain (order header)) [] i.outer i.leaf _ b (holds_by w s octets i (named_in answer)) in
+      joined_text place [] _ (no_fault number (place + 1) End Names progress.Named Behind answer (λ fault. fault))
       (call_here number place (12 + length s) header section i.lines St _ (one_of _ St now) closed named
-      ∙ ap (λ r. request_call number header (heard_of true r)) (sym (next_is S number header s section T before front octets i b)))
+      ∙ ap (λ r. request_call number header (heard_of true r)) (sym (next_is w s octets i b)))

@@ -16,7 +16,8 @@ joined_both [] ys = refl
 joined_both (x ∷ xs) ys = ap (λ z. x ++ z) (joined_both xs ys) ∙ sym (append_assoc x (joined xs) (joined ys))
 
 -- a text of these pieces, as a line
-said_joined : (number : ℕ) (xs : List (List ℕ)) → said_line number (joined xs) ≡ joined (codes "m" ∷ decimal number ∷ codes " " ∷ (xs ++ codes "\n" ∷ []))
+said_joined : (number : ℕ) (xs : List (List ℕ)) → said_line number (joined xs)
+    ≡ joined (codes "m" ∷ decimal number ∷ codes " " ∷ (xs ++ codes "\n" ∷ []))
 unfolding said_line
 said_joined number xs = ap (λ z. codes "m" ++ (decimal number ++ (codes " " ++ z))) (sym (joined_both xs (codes "\n" ∷ [])))
 
@@ -25,11 +26,13 @@ pub said_is_line : (number at : ℕ) (root : Root) (path : List Seg) (v : Value)
 unfolding text_of value_said
 said_is_line number at root path v = said_joined number (path_text root path ∷ value_words v)
 
-pub call_said : (number id : ℕ) (operation : List ℕ) → said_line number (call_text id operation) ≡ call_line number id operation
+pub call_said : (number id : ℕ) (operation : List ℕ) →
+    said_line number (call_text id operation) ≡ call_line number id operation
 unfolding call_text call_line
 call_said number id operation = said_joined number (codes "call " ∷ decimal id ∷ codes " " ∷ operation ∷ [])
 
-pub rest_said : (number offset : ℕ) (octets : List ℕ) → said_line number (rest_text offset octets) ≡ rest_line number offset octets
+pub rest_said : (number offset : ℕ) (octets : List ℕ) →
+    said_line number (rest_text offset octets) ≡ rest_line number offset octets
 unfolding rest_text rest_line
 rest_said number offset octets = said_joined number (codes "rest @" ∷ decimal offset ∷ codes " " ∷ hex octets ∷ [])
 

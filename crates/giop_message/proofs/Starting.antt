@@ -23,27 +23,22 @@ use Rattle.giop_message.proofs.Octets.{told_silent}
 pub fit_some : (T : Ty) → IsFit 24 T → IsEmptyStruct T → ⊥
 unfolding IsFit
 fit_some (Struct zero names parts) fit empty = absurd (omega (arith, fit.0))
-fit_some (Struct (suc count) names parts) fit empty = absurd empty
-fit_some (Single scalar) fit empty = absurd empty
-fit_some (Text bound) fit empty = absurd empty
-fit_some (Octets bound) fit empty = absurd empty
-fit_some (Union choice scalar select names cases) fit empty = absurd empty
-fit_some (Sequence bound T) fit empty = absurd empty
-fit_some (Encapsulation T) fit empty = absurd empty
-fit_some (Array count T) fit empty = absurd empty
+fit_some T fit empty = absurd empty
 
 -- before its first octet a message has no line
 pub none_told : (S : Signatures) (header : List ℕ) → told_of (message S header []) ≡ []
 none_told S header = told_silent 12 (message S header []) (message_silent S header)
 
 -- and without a header type it stands in the rest
-pub none_rests : (S : Signatures) (header : List ℕ) → S.header (minor header) (kind header) ≡ None → message S header [] ≡ Comes [] 12 (In_rest 0 [])
+pub none_rests : (S : Signatures) (header : List ℕ) → S.header (minor header) (kind header) ≡ None →
+    message S header [] ≡ Comes [] 12 (In_rest 0 [])
 unfolding message of_header rest rest_in
 none_rests S header e = rw e refl
 
 -- or in the header
-pub header_first : (S : Signatures) (header : List ℕ) (T : Ty) → S.header (minor header) (kind header) ≡ Some T →
-    message S header [] ≡ with_front [] (through S header sections.Header nothing (read (plain (order header)) [] T 12 []))
+pub header_first : (S : Signatures) (header : List ℕ) (T : Ty) →
+    S.header (minor header) (kind header) ≡ Some T → message S header [] ≡ with_front []
+    (through S header sections.Header nothing (read (plain (order header)) [] T 12 []))
 unfolding message of_header
 header_first S header T e = rw (e, front_none) refl
 
@@ -53,20 +48,27 @@ pub rest_is : (n : ℕ) → rest n [] ≡ Comes [] n (In_rest 0 [])
 unfolding rest rest_in
 rest_is n = rw add-zero refl
 
-front_comes : (before : List Told) (n : ℕ) (stage : Stage) → with_front before (Comes [] n stage) ≡ Comes before n stage
+front_comes : (before : List Told) (n : ℕ) (stage : Stage) →
+    with_front before (Comes [] n stage) ≡ Comes before n stage
 unfolding with_front
 front_comes before n stage = rw (append-nil before) refl
 
-pub front_rests : (before : List Told) (n : ℕ) → with_front before (rest n []) ≡ Comes before n (In_rest 0 [])
+pub front_rests : (before : List Told) (n : ℕ) →
+    with_front before (rest n []) ≡ Comes before n (In_rest 0 [])
 front_rests before n = ap (with_front before) (rest_is n) ∙ front_comes before n (In_rest 0 [])
 
-pub front_pads : (before : List Told) (n : ℕ) (b : BodyType) → with_front before (Comes [] n (In_padding b)) ≡ Comes before n (In_padding b)
+pub front_pads : (before : List Told) (n : ℕ) (b : BodyType) →
+    with_front before (Comes [] n (In_padding b)) ≡ Comes before n (In_padding b)
 front_pads before n b = front_comes before n (In_padding b)
 
 -- a section that ends with no octet behind it: in front of what follows there is padding, or there is none
-by_tests : (S : Signatures) (header : List ℕ) (h : Heard) (n : ℕ) (has two some : Bool) → nat_lt 0 (padding n 8) ≡ some →
-    (if has then (if two then padded S header (body_of S header h) n [] else body S header (body_of S header h) n []) else rest n [])
-    ≡ (if has && (two && some) then Comes [] n (In_padding (if has then body_of S header h else Untyped)) else body S header (if has then body_of S header h else Untyped) n [])
+by_tests : (S : Signatures) (header : List ℕ) (h : Heard) (n : ℕ) (has two some : Bool) →
+    nat_lt 0 (padding n 8) ≡ some → (if has then
+    (if two then padded S header (body_of S header h) n []
+    else body S header (body_of S header h) n []) else rest n [])
+    ≡ (if has && (two && some) then Comes [] n
+    (In_padding (if has then body_of S header h else Untyped))
+    else body S header (if has then body_of S header h else Untyped) n [])
 unfolding padded body
 by_tests S header h n false two some e = refl
 by_tests S header h n true false some e = refl
@@ -75,52 +77,43 @@ by_tests S header h n true true false e =
     let none : padding n 8 ≡ 0 = omega (arith, ltb-false 0 (padding n 8) e) in
     rw (none, add-zero) refl
 
-option_body : (S : Signatures) (header : List ℕ) (found : Option Ty) (n : ℕ) → option_typed (order header) found n [] ≡ body S header (type_if found) n []
+option_body : (S : Signatures) (header : List ℕ) (found : Option Ty) (n : ℕ) →
+    option_typed (order header) found n [] ≡ body S header (type_if found) n []
 unfolding option_typed body type_if
 option_body S header None n = refl
 option_body S header (Some T) n = refl
 
 follows_by : (S : Signatures) (header : List ℕ) (section : Section) (h : Heard) (n : ℕ) →
     after S header section h n []
-    ≡ (if is_padded header section n then Comes [] n (In_padding (wanted_after S header section h)) else body S header (wanted_after S header section h) n [])
+    ≡ (if is_padded header section n then Comes [] n (In_padding (wanted_after S header section h))
+    else body S header (wanted_after S header section h) n [])
 unfolding after_header after_exception body is_unaligned
 follows_by S header sections.Header h n = by_tests S header h n (has_body header) (minor header == 2) (nat_lt 0 (padding n 8)) refl
 follows_by S header sections.Exception h n = option_body S header (members_of S h.name) n
 follows_by S header sections.Body h n = refl
 
-pub left_padded : (S : Signatures) (header : List ℕ) (section : Section) (h : Heard) (n : ℕ) → is_padded header section n ≡ true →
+pub left_padded : (S : Signatures) (header : List ℕ) (section : Section) (h : Heard) (n : ℕ) →
+    is_padded header section n ≡ true →
     after S header section h n [] ≡ Comes [] n (In_padding (wanted_after S header section h))
 left_padded S header section h n e = follows_by S header section h n ∙ rw e refl
 
-pub left_bare : (S : Signatures) (header : List ℕ) (section : Section) (h : Heard) (n : ℕ) → is_padded header section n ≡ false →
+pub left_bare : (S : Signatures) (header : List ℕ) (section : Section) (h : Heard) (n : ℕ) →
+    is_padded header section n ≡ false →
     after S header section h n [] ≡ body S header (wanted_after S header section h) n []
 left_bare S header section h n e = follows_by S header section h n ∙ rw e refl
 
 -- the empty struct is done at once
-pub empty_rests : (o : Order) (T : Ty) (n : ℕ) → may_lack (Typed T) ≡ true → typed o T n [] ≡ rest n []
+pub empty_rests : (o : Order) (T : Ty) (n : ℕ) → may_lack (Typed T) ≡ true →
+    typed o T n [] ≡ rest n []
 unfolding typed passes tells may_lack
 empty_rests o (Struct zero names parts) n empty = front_none (rest n [])
-empty_rests o (Struct (suc count) names parts) n empty = absurd (false≢true empty)
-empty_rests o (Single scalar) n empty = absurd (false≢true empty)
-empty_rests o (Text bound) n empty = absurd (false≢true empty)
-empty_rests o (Octets bound) n empty = absurd (false≢true empty)
-empty_rests o (Union choice scalar select names cases) n empty = absurd (false≢true empty)
-empty_rests o (Sequence bound T) n empty = absurd (false≢true empty)
-empty_rests o (Encapsulation T) n empty = absurd (false≢true empty)
-empty_rests o (Array count T) n empty = absurd (false≢true empty)
+empty_rests o T n empty = absurd (false≢true empty)
 
 -- and no other type is
 pub some_not_empty : (T : Ty) → may_lack (Typed T) ≡ false → IsEmptyStruct T → ⊥
 unfolding may_lack
 some_not_empty (Struct zero names parts) e empty = false≢true (sym e)
-some_not_empty (Struct (suc count) names parts) e empty = empty
-some_not_empty (Single scalar) e empty = empty
-some_not_empty (Text bound) e empty = empty
-some_not_empty (Octets bound) e empty = empty
-some_not_empty (Union choice scalar select names cases) e empty = empty
-some_not_empty (Sequence bound T) e empty = empty
-some_not_empty (Encapsulation T) e empty = empty
-some_not_empty (Array count T) e empty = empty
+some_not_empty T e empty = empty
 
 -- ---- by the message type
 
@@ -133,25 +126,21 @@ has_some header few = go (kind header) few
     go (suc zero) h = refl
     go (suc (suc k)) h = absurd (omega arith)
 
-has_request : (header : List ℕ) → kind header ≡ 0 → has_body header ≡ true
-unfolding has_body
-has_request header e = rw e refl
-
-has_reply : (header : List ℕ) → kind header ≡ 1 → has_body header ≡ true
-unfolding has_body
-has_reply header e = rw e refl
-
-pub has_none : (header : List ℕ) → (kind header ≡ 0 → ⊥) → (kind header ≡ 1 → ⊥) → has_body header ≡ false
+pub has_none : (header : List ℕ) → (kind header ≡ 0 → ⊥) → (kind header ≡ 1 → ⊥) →
+    has_body header ≡ false
 unfolding has_body
 has_none header f g = rw (ne_eqb (kind header) 0 f, ne_eqb (kind header) 1 g) refl
 
-pub request_wants : (S : Signatures) (header : List ℕ) (h : Heard) → kind header ≡ 0 → wanted_after S header sections.Header h ≡ request_body S h.name
-unfolding body_of is_request
-request_wants S header h e = rw (has_request header e, e) refl
+pub request_wants : (S : Signatures) (header : List ℕ) (h : Heard) → kind header ≡ 0 →
+    wanted_after S header sections.Header h ≡ request_body S h.name
+unfolding has_body body_of is_request
+request_wants S header h e = rw e refl
 
-pub reply_wants : (S : Signatures) (header : List ℕ) (h : Heard) → kind header ≡ 1 → wanted_after S header sections.Header h ≡ reply_body S h.request_id h.status
-unfolding body_of is_request
-reply_wants S header h e = rw (has_reply header e, e) refl
+pub reply_wants : (S : Signatures) (header : List ℕ) (h : Heard) → kind header ≡ 1 →
+    wanted_after S header sections.Header h ≡ reply_body S h.request_id h.status
+unfolding has_body body_of is_request
+reply_wants S header h e = rw e refl
 
-pub others_want : (S : Signatures) (header : List ℕ) (h : Heard) → (kind header ≡ 0 → ⊥) → (kind header ≡ 1 → ⊥) → wanted_after S header sections.Header h ≡ Untyped
+pub others_want : (S : Signatures) (header : List ℕ) (h : Heard) → (kind header ≡ 0 → ⊥) →
+    (kind header ≡ 1 → ⊥) → wanted_after S header sections.Header h ≡ Untyped
 others_want S header h f g = rw (has_none header f g) refl

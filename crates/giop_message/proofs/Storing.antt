@@ -40,29 +40,23 @@ said wanteds.Exception octets e = ap (λ (xs : List ℕ). get_or xs 0 0) e.is
 pub nothing_again : (wanted : Wanted) (octets : List ℕ) → IsPaddingOf octets wanted
     → get_or octets 0 0 ≡ 0 → wanteds.Nothing ≡ wanted
 nothing_again wanteds.Nothing octets e first = refl
-nothing_again (wanteds.Type of) octets e first =
-    absurd (omega (arith, said (wanteds.Type of) octets e))
-nothing_again wanteds.Exception octets e first =
-    absurd (omega (arith, said wanteds.Exception octets e))
+nothing_again (wanteds.Type of) octets e first = absurd (omega (arith, said (wanteds.Type of) octets e))
+nothing_again wanteds.Exception octets e first = absurd (omega (arith, said wanteds.Exception octets e))
 
 pub type_again : (wanted : Wanted) (octets : List ℕ) (n : ℕ) → IsPaddingOf octets wanted
     → get_or octets 0 0 ≡ 1
     → ((m : ℕ) (rest : List ℕ) → m < 2 ^ 32 → drop 1 octets ≡ four m ++ rest → n ≡ m)
     → wanteds.Type (record { 0 = n }) ≡ wanted
 unfolding padding_octets
-type_again wanteds.Nothing octets n e first number =
-    absurd (omega (arith, said wanteds.Nothing octets e))
+type_again wanteds.Nothing octets n e first number = absurd (omega (arith, said wanteds.Nothing octets e))
 type_again (wanteds.Type of) octets n e first number =
     rw (number of.0 (replicate 203 0) e.range (ap (drop 1) e.is)) refl
-type_again wanteds.Exception octets n e first number =
-    absurd (omega (arith, said wanteds.Exception octets e))
+type_again wanteds.Exception octets n e first number = absurd (omega (arith, said wanteds.Exception octets e))
 
 pub exception_again : (wanted : Wanted) (octets : List ℕ) → IsPaddingOf octets wanted
     → get_or octets 0 0 ≢ 0 → get_or octets 0 0 ≢ 1 → wanteds.Exception ≡ wanted
-exception_again wanteds.Nothing octets e other another =
-    absurd (other (said wanteds.Nothing octets e))
-exception_again (wanteds.Type of) octets e other another =
-    absurd (another (said (wanteds.Type of) octets e))
+exception_again wanteds.Nothing octets e other another = absurd (other (said wanteds.Nothing octets e))
+exception_again (wanteds.Type of) octets e other another = absurd (another (said (wanteds.Type of) octets e))
 exception_again wanteds.Exception octets e other another = refl
 
 -- ---- a rest
@@ -70,13 +64,11 @@ exception_again wanteds.Exception octets e other another = refl
 pub rest_front : (octets : List ℕ) (r : Rest) → IsRestOf octets r
     → drop 0 octets ≡ eight r.offset ++ (held 32 r.held.items ++ replicate 167 0)
 unfolding rest_octets
-rest_front octets r e =
-    e.is ∙ append_assoc (eight r.offset) (held 32 r.held.items) (replicate 167 0)
+rest_front octets r e = e.is ∙ append_assoc (eight r.offset) (held 32 r.held.items) (replicate 167 0)
 
 pub rest_held : (octets : List ℕ) (r : Rest) → IsRestOf octets r
     → drop 8 octets ≡ held 32 r.held.items ++ replicate 167 0
-rest_held octets r e =
-    behind 0 8 octets (eight r.offset) _ (rest_front octets r e) (eight_long r.offset)
+rest_held octets r e = behind 0 8 octets (eight r.offset) _ (rest_front octets r e) (eight_long r.offset)
 
 pub same_octets : (q r : Rest) → IsSameRest q r → rest_octets q ≡ rest_octets r
 unfolding rest_octets
@@ -143,14 +135,11 @@ same_own e m at octet id = rw (octet, at, id) refl
 
 -- the part that stands in what is read of the octets
 pub goes_on : (C : Table) (m : Message) (fixed frames octets : List ℕ) (at octet : ℕ)
-    (r : Option Part)
-    → Fits C m → Stored m fixed frames
+    (r : Option Part) → Fits C m → Stored m fixed frames
     → ((n : ℕ) (rest : List ℕ) → n < 2 ^ 64 → drop 1 fixed ≡ eight n ++ rest → at ≡ n)
-    → ((n : ℕ) (rest : List ℕ) → drop 0 fixed ≡ n ∷ rest → octet ≡ n)
-    → octets ≡ drop 16 fixed
+    → ((n : ℕ) (rest : List ℕ) → drop 0 fixed ≡ n ∷ rest → octet ≡ n) → octets ≡ drop 16 fixed
     → ((p : Part) → FitsPart C at p → part_octet p ≡ octet → PartStored p octets frames
-    → IsSomeAnd r (λ q. GoesOn C p q))
-    → IsSomeAnd r (λ q. GoesOn C m.part q)
+    → IsSomeAnd r (λ q. GoesOn C p q)) → IsSomeAnd r (λ q. GoesOn C m.part q)
 goes_on C m fixed frames octets at octet r fits stored at_read octet_read octets_read again =
     let fields = own_fields m fixed stored.own in
     let at_is : at ≡ m.at = at_read m.at _ stored.own.at fields.at in
@@ -194,6 +183,5 @@ stands_on C listed number header s (parts.Typed section d) (parts.Typed other e)
       reads = on.1.reads _ _ _ _ _ _ is.reads;
     }
 stands_on C listed number header s (parts.Padding wanted) (parts.Padding other) on is = rw on is
-stands_on C listed number header s (parts.Rest r) (parts.Rest other) on is =
-    rw (on.offset, on.held) is
+stands_on C listed number header s (parts.Rest r) (parts.Rest other) on is = rw (on.offset, on.held) is
 stands_on C listed number header s p q on is = absurd on

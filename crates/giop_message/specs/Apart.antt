@@ -11,4 +11,5 @@ AreApart (s ∷ ss) = Each (λ t. s ≢ t) ss × AreApart ss
 -- No octet has two lines of one kind, with those of a close at it.
 pub record IsApart (R : Reading) : Type 0 where
   pub apart : (header xs : List ℕ) (x : ℕ) →
-      AreApart (map (λ r. r.saying) (due R header xs x) ++ map (λ l. l.0) (R.closes header (xs ++ x ∷ [])))
+      AreApart (map (λ r. r.saying) (due R header xs x)
+      ++ map (λ l. l.0) (R.closes header (xs ++ x ∷ [])))

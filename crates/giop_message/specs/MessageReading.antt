@@ -50,7 +50,8 @@ message_reading C listed = reading_by (said_by C listed)
 
 -- The headers of the messages that the stream knows by their request ids begin with them.
 pub record HasIds (S : Signatures) : Type 0 where
-  pub begins : (header : List ℕ) → has_name header ≡ true → IfSome (S.header (minor header) (kind header)) BeginsWithId
+  pub begins : (header : List ℕ) → has_name header ≡ true →
+      IfSome (S.header (minor header) (kind header)) BeginsWithId
 
 -- the request id that is said
 unfoldable pub id_in : Speech → Option ℕ

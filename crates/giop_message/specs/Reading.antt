@@ -29,7 +29,8 @@ is_last End = true
 
 -- More octets change nothing that was said of those before them.
 pub record IsCausal (R : Reading) : Type 0 where
-  pub earlier : (header xs more : List ℕ) (k : ℕ) → k ≤ length xs → filter (λ r. r.at == k) (R.reads header (xs ++ more)) ≡ filter (λ r. r.at == k) (R.reads header xs)
+  pub earlier : (header xs more : List ℕ) (k : ℕ) → k ≤ length xs →
+      filter (λ r. r.at == k) (R.reads header (xs ++ more)) ≡ filter (λ r. r.at == k) (R.reads header xs)
 
 -- A message that closes has ended, or is faulted.
 pub record IsEnding (R : Reading) : Type 0 where
@@ -39,7 +40,8 @@ pub record IsEnding (R : Reading) : Type 0 where
 
 -- Of the first four octets of a message that begins with its request id, nothing but values is said.
 pub record IsNamed (R : Reading) : Type 0 where
-  pub named : (header xs : List ℕ) → has_name header ≡ true → length xs ≤ 4 → Each (λ r. r.saying ≡ Value) (R.reads header xs)
+  pub named : (header xs : List ℕ) → has_name header ≡ true → length xs ≤ 4 →
+      Each (λ r. r.saying ≡ Value) (R.reads header xs)
 
 -- what is said at one octet: nothing, a value, a value and its call, a part of the rest, a fault, or a value and a fault
 abbrev pub InTurn : List Saying → Type 0
@@ -48,7 +50,8 @@ InTurn sayings =
     ⊎ (sayings ≡ Fault ∷ []) ⊎ (sayings ≡ Value ∷ Fault ∷ [])
 
 pub record IsOrdered (R : Reading) : Type 0 where
-  pub ordered : (header xs : List ℕ) (k : ℕ) → InTurn (map (λ r. r.saying) (filter (λ r. r.at == k) (R.reads header xs)))
+  pub ordered : (header xs : List ℕ) (k : ℕ) →
+      InTurn (map (λ r. r.saying) (filter (λ r. r.at == k) (R.reads header xs)))
 
 -- what one octet more lets be said
 abbrev pub due : Reading → List ℕ → List ℕ → ℕ → List Remark
@@ -70,9 +73,11 @@ AtClose sayings = (sayings ≡ Fault ∷ []) ⊎ (sayings ≡ End ∷ []) ⊎ (s
 -- octet ends a part of its rest has no rest left.
 pub record IsClosing (R : Reading) : Type 0 where
   pub closed : (header xs : List ℕ) → AtClose (map (λ l. l.0) (R.closes header xs))
-  pub over : (header xs : List ℕ) (x : ℕ) → list_any is_fault (map (λ r. r.saying) (due R header xs x)) ≡ true →
+  pub over : (header xs : List ℕ) (x : ℕ) →
+      list_any is_fault (map (λ r. r.saying) (due R header xs x)) ≡ true →
       map (λ l. l.0) (R.closes header (xs ++ x ∷ [])) ≡ End ∷ []
-  pub one_rest : (header xs : List ℕ) (x : ℕ) → map (λ r. r.saying) (due R header xs x) ≡ Rest ∷ [] → map (λ l. l.0) (R.closes header (xs ++ x ∷ [])) ≡ Rest ∷ End ∷ [] → ⊥
+  pub one_rest : (header xs : List ℕ) (x : ℕ) → map (λ r. r.saying) (due R header xs x) ≡ Rest ∷ [] →
+      map (λ l. l.0) (R.closes header (xs ++ x ∷ [])) ≡ Rest ∷ End ∷ [] → ⊥
 
 -- what is asked of a reading whose lines are written as they come
 pub record IsInTurn (R : Reading) : Type 0 where

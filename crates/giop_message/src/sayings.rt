@@ -16,14 +16,19 @@ ghost use Rattle.giop_message.specs.Holding.{Follows, due_text, is_short};
 pub fn saying_laws()
     // The text of an octet is that of what is said at it;
     ensures text { (C : Table) (listed : Listed) (number place : ℕ) (header s : List ℕ) (x : ℕ) →
-        due_text (said_by C listed) number place header s (x ∷ []) ≡ said_text (suc place) number (due (message_reading C listed) header s x) }
+        due_text (said_by C listed) number place header s (x ∷ [])
+        ≡ said_text (suc place) number (due (message_reading C listed) header s x) }
     // a message that isn't over is so behind the octet exactly where a fault is said at it.
-    ensures over { (C : Table) (listed : Listed) (header s : List ℕ) (x : ℕ) → is_over (stage_of (message (said_by C listed) header s)) ≡ false →
-        is_over (stage_of (message (said_by C listed) header (s ++ x ∷ []))) ≡ list_any (λ r. is_fault r.saying) (due (message_reading C listed) header s x) }
+    ensures over { (C : Table) (listed : Listed) (header s : List ℕ) (x : ℕ) →
+        is_over (stage_of (message (said_by C listed) header s)) ≡ false →
+        is_over (stage_of (message (said_by C listed) header (s ++ x ∷ [])))
+        ≡ list_any (λ r. is_fault r.saying) (due (message_reading C listed) header s x) }
     // What a message follows isn't over.
-    ensures going { (C : Table) (listed : Listed) (number : ℕ) (header : List ℕ) (m : Message) (s : List ℕ) → Follows C listed number header m s →
+    ensures going { (C : Table) (listed : Listed) (number : ℕ) (header : List ℕ) (m : Message)
+        (s : List ℕ) → Follows C listed number header m s →
         is_over (stage_of (message (said_by C listed) header s)) ≡ false }
     // A close is short exactly where it says a fault.
     ensures short { (C : Table) (listed : Listed) (header s : List ℕ) →
-        is_short (close (stage_of (message (said_by C listed) header s))) ≡ list_any (λ l. is_fault l.0) ((message_reading C listed).closes header s) }
+        is_short (close (stage_of (message (said_by C listed) header s)))
+        ≡ list_any (λ l. is_fault l.0) ((message_reading C listed).closes header s) }
 {}

@@ -1,5 +1,5 @@
 use Rattle.giop_message.specs.Signatures.{said_by}
-use Rattle.giop_message.proofs.Apart.{is_apart}
+use Rattle.giop_message.proofs.Closes.{is_apart}
 use Rattle.giop_message.proofs.laws.apart_laws.Goals as goal
 
 pub returns : goal.returns

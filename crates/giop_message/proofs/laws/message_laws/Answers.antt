@@ -4,7 +4,7 @@ use Rattle.giop_message.proofs.Faults.{over_where_faulted}
 use Rattle.giop_message.proofs.Causal.{is_causal, is_ordered}
 use Rattle.giop_message.proofs.Closes.{is_closing}
 use Rattle.giop_message.proofs.Named.{is_ending, is_named, id_is_said, has_ids}
-use Rattle.giop_message.proofs.Remarks.{text_is, close_is}
+use Rattle.giop_message.proofs.AtOctet.{text_is, close_is}
 use Rattle.giop_message.proofs.laws.message_laws.Goals as goal
 
 pub returns : goal.returns

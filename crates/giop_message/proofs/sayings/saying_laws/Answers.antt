@@ -7,6 +7,6 @@ pub returns : goal.returns
 returns c = record {
   text = λ C listed. octet_text (said_by C listed);
   over = λ C listed. octet_over (said_by C listed);
-  going = λ C listed number header m s f. follows_goes C listed number header m s f;
+  going = λ C listed number header m s f. follows_goes f;
   short = λ C listed. close_short (said_by C listed);
 }

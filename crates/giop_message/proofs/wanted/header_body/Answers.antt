@@ -20,4 +20,5 @@ returns-then-kind_of-eq1-clause-is c r minds =
 pub returns-clause-is : goal.returns-clause-is
 returns-clause-is c r minds =
     let S = said_by c.args.catalogue.now c.args.requests.now in
-    sym (others_want S c.args.header.now (heard_of true r) (λ e. c.if-kind_of-eq0.false (c.kind_of.ensures ∙ e)) (λ e. c.if-kind_of-eq1.false (c.kind_of-2.ensures ∙ e)))
+    sym (others_want S c.args.header.now (heard_of true r) (λ e. c.if-kind_of-eq0.false (c.kind_of.ensures ∙ e))
+    (λ e. c.if-kind_of-eq1.false (c.kind_of-2.ensures ∙ e)))

@@ -20,19 +20,16 @@ returns-then-is_short-clause-writes g c listed number header s f =
 
 pub returns-in_err-last_rest-clause-writes : goal.returns-in_err-last_rest-clause-writes
 returns-in_err-last_rest-clause-writes g c listed number header s f =
-    let C = c.args.catalogue.now in
-    let ended : is_short (close (stage_of (message (said_by C listed) header s))) ≡ false = sym (c.is_short.ensures listed number header s f) ∙ c.if-is_short.false in
-    rw (ended_text C listed number header c.args.self s f c.requires.fits c.args.place ended) (writes_err _ _ _ _ _ c.from_residual-in_err-last_rest.ensures.0 c.in_err-last_rest.ensures)
+    let ended = sym (c.is_short.ensures listed number header s f) ∙ c.if-is_short.false in
+    rw (ended_text f c.requires.fits c.args.place ended) (writes_err _ _ _ _ _ c.from_residual-in_err-last_rest.ensures.0 c.in_err-last_rest.ensures)
 
 pub returns-in_err-end_line-clause-writes : goal.returns-in_err-end_line-clause-writes
 returns-in_err-end_line-clause-writes g c listed number header s f =
-    let C = c.args.catalogue.now in
-    let ended : is_short (close (stage_of (message (said_by C listed) header s))) ≡ false = sym (c.is_short.ensures listed number header s f) ∙ c.if-is_short.false in
-    rw (ended_text C listed number header c.args.self s f c.requires.fits c.args.place ended)
+    let ended = sym (c.is_short.ensures listed number header s f) ∙ c.if-is_short.false in
+    rw (ended_text f c.requires.fits c.args.place ended)
     (writes_failed _ _ _ _ c.from_residual-in_err-end_line.ensures.0 (wrote-front _ _ _ _ _ c.in_ok-last_rest.ensures c.in_err-end_line.ensures))
 
 pub returns-clause-writes : goal.returns-clause-writes
 returns-clause-writes g c listed number header s f =
-    let C = c.args.catalogue.now in
-    let ended : is_short (close (stage_of (message (said_by C listed) header s))) ≡ false = sym (c.is_short.ensures listed number header s f) ∙ c.if-is_short.false in
-    rw (ended_text C listed number header c.args.self s f c.requires.fits c.args.place ended) (wrote-append _ _ _ _ _ c.in_ok-last_rest.ensures c.in_ok-end_line.ensures)
+    let ended = sym (c.is_short.ensures listed number header s f) ∙ c.if-is_short.false in
+    rw (ended_text f c.requires.fits c.args.place ended) (wrote-append _ _ _ _ _ c.in_ok-last_rest.ensures c.in_ok-end_line.ensures)

@@ -6,13 +6,11 @@ use Rattle.giop_message.proofs.message.Message.is_short.Goals as goal
 
 pub returns-in-Typed : goal.returns-in-Typed
 unfolding is_short
-returns-in-Typed c listed number header s f =
-    rw (section_short c.args.catalogue.now listed number header c.args.self.now s f c.requires _ _ c.in-Typed.is) refl
+returns-in-Typed c listed number header s f = rw (section_short f c.requires c.in-Typed.is) refl
 
 pub returns-in-Padding : goal.returns-in-Padding
 returns-in-Padding c listed number header s f =
-    rw (padding_stage c.args.catalogue.now listed number header c.args.self.now s f c.requires _ c.in-Padding.is, padding_short) (ap not c.may_lack.ensures)
+    rw (padding_stage f c.requires c.in-Padding.is, padding_short) (ap not c.may_lack.ensures)
 
 pub returns-in-Rest : goal.returns-in-Rest
-returns-in-Rest c listed number header s f =
-    rw (rest_stage c.args.catalogue.now listed number header c.args.self.now s f c.requires _ c.in-Rest.is, rest_short) refl
+returns-in-Rest c listed number header s f = rw (rest_stage f c.requires c.in-Rest.is, rest_short) refl

@@ -26,4 +26,5 @@ returns-else-is_padded-clause-arrives c number header s section r ended at befor
     let none : is_padded header section (12 + length s) ≡ false = rw (← at.same_header, ← at.at, ← here.0) (sym c.is_padded.ensures ∙ c.if-is_padded.false) in
     let wants = rw (at.same_header, here.0) at (c.wanted_after-wanted.ensures.is r minds) in
     c.begin_body.ensures.arrives c.args.requests.now number header s (record { same_number = at.same_number; same_header = at.same_header; at = at.at }) before
-    (e ∙ (ap (with_front before) (left_bare S header section h (12 + length s) none) ∙ ap (λ b. with_front before (body S header b (12 + length s) [])) (sym wants)))
+    (e ∙ (ap (with_front before) (left_bare S header section h (12 + length s) none)
+    ∙ ap (λ b. with_front before (body S header b (12 + length s) [])) (sym wants)))

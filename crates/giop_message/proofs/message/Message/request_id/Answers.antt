@@ -4,7 +4,7 @@ use Rattle.giop_message.proofs.message.Message.request_id.Goals as goal
 
 pub returns-in-Typed : goal.returns-in-Typed
 returns-in-Typed c C listed number header s f =
-    let e = id_read C listed number header c.args.self.now s f _ _ c.in-Typed.is in
+    let e = id_read f c.in-Typed.is in
     c.id_behind.ensures e.0 e.1 ∙ e.2
 
 pub returns-in-Padding : goal.returns-in-Padding

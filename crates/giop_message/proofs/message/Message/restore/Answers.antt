@@ -1,18 +1,6 @@
 use Rattle.std.proofs.Common.{[], List, ℕ, Some, sym, ap, subst, ◌∙◌, append-nil, arith}
 use Rattle.giop_message.specs.Stored.{kept_id, PartStored, GoesOn}
-use Rattle.giop_message.proofs.Storing.{
-  there,
-  not_both,
-  behind_own,
-  of_own,
-  both,
-  own_fields,
-  same_own,
-  goes_on,
-  kept_again,
-  id_on,
-  stands_on,
-}
+use Rattle.giop_message.proofs.Storing.{there, not_both, behind_own, of_own, both, own_fields, same_own, goes_on, kept_again, id_on, stands_on}
 use Rattle.giop_message.proofs.message.Message.restore.Goals as goal
 
 pub returns-then-not-is_behind_header-clause-again : goal.returns-then-not-is_behind_header-clause-again

@@ -14,7 +14,8 @@ pub returns-clause-follows : goal.returns-clause-follows
 unfolding said_by
 returns-clause-follows c listed =
     let e = c.begin.ensures in
-    let found : header_type (minor c.args.header) (kind c.args.header) ≡ Some (tree c.args.catalogue.now c.in-Some.of.0) = rw (← c.minor_of.ensures, ← c.kind_of.ensures) (sym c.in-Some.ensures.tree) in
+    let found : header_type (minor c.args.header) (kind c.args.header) ≡ Some (tree c.args.catalogue.now c.in-Some.of.0) =
+    rw (← c.minor_of.ensures, ← c.kind_of.ensures) (sym c.in-Some.ensures.tree) in
     record {
       same_number = e.number;
       same_header = e.header;

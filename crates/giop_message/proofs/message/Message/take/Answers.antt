@@ -8,14 +8,12 @@ use Rattle.giop_message.proofs.message.Message.take.Goals as goal
 
 pub loop-taken-init : goal.loop-taken-init
 loop-taken-init g c =
-    let C = c.args.catalogue.now in
-    let listed = c.args.requests.now in
     record {
       within = omega arith;
       fits = c.requires.fits;
       at = omega arith;
-      follows = λ number header s f. subst (Follows C listed number header c.args.self.now) (sym (append-nil s)) f;
-      text = λ number header s f. rw (text_none (said_by C listed) number c.args.place header s) (wrote-nil _);
+      follows = λ number header s f. rw append-nil f;
+      text = λ number header s f. rw (text_none _ number c.args.place header s) (wrote-nil _);
     }
 
 pub returns-in_err-count-clause-writes : goal.returns-in_err-count-clause-writes
@@ -25,14 +23,14 @@ returns-in_err-count-clause-writes g c number header s f =
     let octets = c.args.octets.now in
     let before = c.loop-taken.invariant in
     let now = rw (rest_from t octets) at (c.in_err-count.ensures.writes number header (s ++ take t octets) (before.follows number header s f)) in
-    let whole = ap (due_text S number c.args.place header s) (sym (take-append-drop t octets)) ∙ text_so_far S number c.args.place header s octets t (drop t octets) before.within in
+    let whole =
+    ap (due_text S number c.args.place header s) (sym (take-append-drop t octets))
+    ∙ text_so_far S number c.args.place header s octets t (drop t octets) before.within in
     rw (whole) (writes_failed _ _ _ _ c.from_residual.ensures.0 (wrote-front _ _ _ _ _ (before.text number header s f) now))
 
 pub returns-then-is_over-clause-writes : goal.returns-then-is_over-clause-writes
 returns-then-is_over-clause-writes g c number header s f =
-    let C = c.args.catalogue.now in
-    let listed = c.args.requests.now in
-    let S = said_by C listed in
+    let S = said_by c.args.catalogue.now c.args.requests.now in
     let t = c.loop-taken.taken in
     let n = c.in_ok-count.count in
     let octets = c.args.octets.now in
@@ -41,7 +39,8 @@ returns-then-is_over-clause-writes g c number header s f =
     let text = rw (rest_from t octets) at (c.in_ok-count.ensures.writes number header (s ++ take t octets) follows) in
     let went = rw (rest_from t octets, c.if-is_over.true) at (c.in_ok-count.ensures.went number header (s ++ take t octets) follows) in
     let over = faulted_behind S header s octets t n before.within went in
-    rw (text_ended S number c.args.place header s octets (t + n) over.here, take-add t n octets, text_so_far S number c.args.place header s octets t (take n (drop t octets)) before.within)
+    let so_far = text_so_far S number c.args.place header s octets t (take n (drop t octets)) before.within in
+    rw (text_ended S number c.args.place header s octets (t + n) over.here, take-add t n octets, so_far)
     (wrote-append _ _ _ _ _ (before.text number header s f) text)
 
 pub returns-then-is_over-clause-took : goal.returns-then-is_over-clause-took
@@ -50,14 +49,13 @@ returns-then-is_over-clause-took g c number header s f =
     let t = c.loop-taken.taken in
     let octets = c.args.octets.now in
     let before = c.loop-taken.invariant in
-    let went = rw (rest_from t octets, c.if-is_over.true) at (c.in_ok-count.ensures.went number header (s ++ take t octets) (before.follows number header s f)) in
+    let went =
+    rw (rest_from t octets, c.if-is_over.true) at (c.in_ok-count.ensures.went number header (s ++ take t octets) (before.follows number header s f)) in
     faulted_behind S header s octets t c.in_ok-count.count before.within went
 
 pub loop-taken-preserved : goal.loop-taken-preserved
 loop-taken-preserved g c =
-    let C = c.args.catalogue.now in
-    let listed = c.args.requests.now in
-    let S = said_by C listed in
+    let S = said_by c.args.catalogue.now c.args.requests.now in
     let t = c.loop-taken.taken in
     let n = c.in_ok-count.count in
     let octets = c.args.octets.now in
@@ -68,7 +66,8 @@ loop-taken-preserved g c =
       fits = c.in_ok-count.ensures.fits c.if-is_over.false;
       at = omega (arith, c.in_ok-count.ensures.at, before.at);
       follows = λ number header s f.
-          let went = rw (rest_from t octets, c.if-is_over.false) at (c.in_ok-count.ensures.went number header (s ++ take t octets) (before.follows number header s f)) in
+          let went =
+          rw (rest_from t octets, c.if-is_over.false) at (c.in_ok-count.ensures.went number header (s ++ take t octets) (before.follows number header s f)) in
           rw (take-add t n octets, ← append_assoc s (take t octets) (take n (drop t octets))) went;
       text = λ number header s f.
           let text = rw (rest_from t octets) at (c.in_ok-count.ensures.writes number header (s ++ take t octets) (before.follows number header s f)) in
@@ -78,14 +77,8 @@ loop-taken-preserved g c =
 
 pub returns-clause-writes : goal.returns-clause-writes
 returns-clause-writes g c number header s f =
-    let octets = c.args.octets.now in
-    let t = c.loop-taken.taken in
-    let whole : take t octets ≡ octets = take_all t octets c.loop-taken-test.false in
-    rw (whole) at (c.loop-taken.invariant.text number header s f)
+    rw (take_all c.loop-taken.taken c.args.octets.now c.loop-taken-test.false) at (c.loop-taken.invariant.text number header s f)
 
 pub returns-clause-took : goal.returns-clause-took
 returns-clause-took g c number header s f =
-    let octets = c.args.octets.now in
-    let t = c.loop-taken.taken in
-    let whole : take t octets ≡ octets = take_all t octets c.loop-taken-test.false in
-    rw (whole) at (c.loop-taken.invariant.follows number header s f)
+    rw (take_all c.loop-taken.taken c.args.octets.now c.loop-taken-test.false) at (c.loop-taken.invariant.follows number header s f)

@@ -10,9 +10,14 @@ invariant-loop-taken g l =
       within : l.taken ≤ length l.octets;
       fits : Fits l.catalogue l.self;
       at : l.self.at ≡ l.initial.self.at + l.taken;
-      follows : (number : ℕ) (header s : List ℕ) → Follows l.catalogue l.requests number header l.initial.self s → Follows l.catalogue l.requests number header l.self (s ++ take l.taken l.octets);
-      text : (number : ℕ) (header s : List ℕ) → Follows l.catalogue l.requests number header l.initial.self s →
-          Wrote (g.O.Out.log l.initial.out) (g.O.Out.log l.out) (due_text (said_by l.catalogue l.requests) number l.place header s (take l.taken l.octets));
+      follows : (number : ℕ) (header s : List ℕ) →
+          Follows l.catalogue l.requests number header l.initial.self s →
+          Follows l.catalogue l.requests number header l.self (s ++ take l.taken l.octets);
+      text : (number : ℕ) (header s : List ℕ) →
+          Follows l.catalogue l.requests number header l.initial.self s →
+          Wrote (g.O.Out.log l.initial.out) (g.O.Out.log l.out)
+          (due_text (said_by l.catalogue l.requests) number l.place header s
+          (take l.taken l.octets));
     }
 
 abbrev pub decreases-loop-taken : goal.decreases-loop-taken

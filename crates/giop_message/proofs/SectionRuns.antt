@@ -1,0 +1,261 @@
+-- A message that follows a list, in a section whose decoder took a run of octets: what it wrote, and where the message
+-- stands behind them.
+use Rattle.std.proofs.Common.{◌≡◌, Result, Ok, Err, IsErr, ℕ, ◌+◌, ◌<◌, ◌≤◌, Bool, true, false, List, [], ◌∷◌, ◌++◌, length, take, drop, get_or, Option, None, refl, sym, ap, subst, ◌∙◌, arith}
+use Rattle.std.specs.Prelude.{cond}
+use Rattle.std.proofs.lemmas.List.{length-take-le, take-append-drop}
+use Rattle.std.proofs.lemmas.Bool.{false≢true}
+use Rattle.giop_cdr.specs.declared.order.Order.{Order}
+use Rattle.giop_print.proofs.Writing.{front-append, wrote-front}
+use Rattle.giop_print.specs.Lines.{fault_line}
+use Rattle.giop_print.specs.Output.{OutLog, Wrote, WroteFront}
+use Rattle.giop_print.specs.declared.path.Root.{Root}
+use Rattle.giop_print.specs.declared.path.Root.TheVariants as roots
+use Rattle.giop_sig.specs.Types.{Ty}
+use Rattle.giop_sig.specs.Table.{Table}
+use Rattle.giop_decode.specs.declared.decoder.Decoder.{Decoder}
+use Rattle.giop_decode.specs.declared.progress.Kind.{Kind}
+use Rattle.giop_decode.specs.declared.progress.Progress.{Progress}
+use Rattle.giop_decode.specs.declared.progress.Progress.TheVariants as progress
+use Rattle.giop_decode.specs.Spine.{Read}
+use Rattle.giop_decode.specs.Heard.{heard_of, is_header_root}
+use Rattle.giop_decode.specs.Holding as decoders
+use Rattle.giop_decode.specs.Runs.{TakesRun, BreaksOff}
+use Rattle.giop_message.specs.declared.message.Message.{Message as Struct_of}
+use Rattle.giop_message.specs.declared.part.Section.{Section}
+use Rattle.giop_message.specs.declared.part.Part.TheVariants as parts
+use Rattle.giop_message.specs.Headers.{order}
+use Rattle.giop_message.specs.Signatures.{Signatures, Listed, said_by}
+use Rattle.giop_message.specs.Messages.{message, told_of, root_of, after}
+use Rattle.giop_message.specs.MessageReading.{id_said}
+use Rattle.giop_message.specs.Text.{fault_word}
+use Rattle.giop_message.specs.Holding.{due_text, Decodes, Stands, FitsPart, Fits, is_header, in_header, Follows, FaultedAt}
+use Rattle.giop_message.specs.Moves.{request_call, Arrives, WritesRun}
+use Rattle.giop_message.proofs.Dues.{text_both}
+use Rattle.giop_message.proofs.Parts.{Begun, start, reading, Inside}
+use Rattle.giop_message.proofs.Followings.{header_only, id_heard, Moved, is_at, follows_on}
+use Rattle.giop_message.proofs.Runs.{Last, LinesOf, last_one, run_more, run_done, run_named_in, run_named, run_wrong, run_broken, decodes, same_id, done_comes, fault_comes}
+
+-- ---- what a go over a run wrote
+
+-- a put failed at octets of it
+pub run_front : (S : Signatures) (number place : ℕ) (header s octets : List ℕ) (n : ℕ)
+    (a b : OutLog) → WroteFront a b (due_text S number place header s (take n octets)) →
+    WroteFront a b (due_text S number place header s octets)
+run_front S number place header s octets n a b w =
+    rw (
+      ← take-append-drop n octets,
+      text_both S number place header s (take n octets) (drop n octets),
+    ) (front-append a b _ _ w)
+
+pub run_failed : {E : Type 0} (r : Result (ℕ × Bool) E) (S : Signatures) (number place : ℕ)
+    (header s octets : List ℕ) (a b : OutLog) → IsErr r →
+    WroteFront a b (due_text S number place header s octets) →
+    WritesRun r S number place header s octets a b
+run_failed (Ok v) S number place header s octets a b e w = absurd (false≢true e)
+run_failed (Err v) S number place header s octets a b e w = w
+
+-- the first of them
+pub first_alone : (octets : List ℕ) → 0 < length octets → take 1 octets ≡ get_or octets 0 0 ∷ []
+first_alone [] some = absurd (omega arith)
+first_alone (x ∷ xs) some = refl
+
+-- ---- a message that follows a list
+
+-- It stands in this section, which its decoder reads.
+pub record Standing : Type 0 where
+  pub C : Table
+  pub listed : Listed
+  pub number : ℕ
+  pub header : List ℕ
+  pub m : Struct_of
+  pub s : List ℕ
+  pub follows : Follows C listed number header m s
+  pub section : Section
+  pub d : Decoder
+  pub is : m.part ≡ parts.Typed section d
+  pub fits : decoders.Fits C d
+
+abbrev pub standing : {C : Table} {listed : Listed} {number : ℕ} {header : List ℕ} {m : Struct_of}
+    {s : List ℕ} {section : Section}
+    {d : Decoder} → Follows C listed number header m s → m.part ≡ parts.Typed section d → Fits C m →
+    Standing
+standing {C} {m = m} f is fits =
+    let e = subst (FitsPart C m.at) is fits in
+    record { C = C; listed = _; number = _; header = _; m = m; s = _; follows = f; section = _; d = _; is = is; fits = e }
+
+module _ (t : Standing) where
+  open t use {C, listed, number, header, m, s, follows, section, d, is}
+
+  abbrev S : Signatures
+  S = said_by C listed
+
+  abbrev opened : Decodes C S number header s section d
+  opened = subst (Stands C listed number header s) is follows.stands
+
+  abbrev octets_of : List ℕ
+  octets_of = opened.octets
+
+  abbrev begun : Begun
+  begun =
+      record { S = S; number = number; header = header; section = section; T = opened.T; before = opened.before; front = opened.front }
+
+  inside : Inside begun s octets_of
+  inside =
+      let goes_on = ap (λ leaf. decoders.standing_in C d leaf opened.reads.lines (start begun + length octets_of)) t.fits.goes_on in
+      record {
+        since = opened.since;
+        is = opened.is;
+        first = opened.first;
+        lines = opened.reads.lines;
+        outer = _;
+        leaf = _;
+        was_short = opened.reads.is ∙ goes_on;
+      }
+
+  abbrev LastOf : List ℕ → Progress → Type 0
+  LastOf xs p = Last begun octets_of xs p
+
+  abbrev ReadsWith : Decoder → List ℕ → Type 0
+  ReadsWith d' xs = decoders.Reads C opened.T (order header) (start begun) number (root_of section) d' (octets_of ++ xs)
+
+  abbrev pub ReadWith : List ℕ → Read
+  ReadWith xs = reading begun (octets_of ++ xs)
+
+  kept_id : (xs : List ℕ) (p : Progress) → LastOf xs p → (inside : Bool) →
+      is_header section ≡ inside →
+      m.id ≡ cond inside None (id_said (told_of (message S header (s ++ xs))))
+  kept_id xs p l true e = follows.id ∙ rw (is, e) refl
+  kept_id xs p l false e = follows.id ∙ rw (is, e) (sym (same_id begun s octets_of inside xs p l e))
+
+  -- it goes on
+  section_on : (xs : List ℕ) (p : Progress) → LastOf xs p → (n : Struct_of) (d' : Decoder) →
+      Moved m n (length xs) → n.id ≡ m.id → n.part ≡ parts.Typed section d' → ReadsWith d' xs →
+      Follows C listed number header n (s ++ xs)
+  section_on xs p l n d' move id part reads =
+      follows_on follows xs move (id ∙ rw part (kept_id xs p l (is_header section) refl))
+      (subst (Stands C listed number header (s ++ xs)) (sym part) (decodes begun s octets_of inside C xs d' reads))
+
+  ended_id : (xs : List ℕ) → LastOf xs progress.Done → (d' : Decoder) → ReadsWith d' xs →
+      (id : Option ℕ) (inside : Bool) →
+      is_header section ≡ inside → id ≡ cond inside (heard_of true (ReadWith xs)).request_id m.id →
+      id ≡ id_said (told_of (message S header (s ++ xs)))
+  ended_id xs l d' reads id false e id_is = id_is ∙ kept_id xs progress.Done l false e
+  ended_id xs l d' reads id true e id_is =
+      id_is ∙ id_heard (decodes begun s octets_of inside C xs d' reads) (header_only section e)
+
+  -- what holds of each reading of its decoder holds of this one
+  pub by_reads : {P : Ty → Order → ℕ → ℕ → Root → List ℕ → Type 0} →
+      ((T : Ty) (o : Order) (at number : ℕ) (root : Root) (xs : List ℕ) →
+      decoders.Reads C T o at number root d xs → P T o at number root xs) →
+      P opened.T (order header) (start begun) number (root_of section) octets_of
+  by_reads each = each opened.T (order header) (start begun) number (root_of section) octets_of opened.reads
+
+  -- a put failed at one of the octets
+  pub text_broken : (xs : List ℕ) (place : ℕ) (a b : OutLog) →
+      BreaksOff opened.T (order header) (start begun) number (root_of section) octets_of xs a b →
+      WroteFront a b (due_text S number place header s xs)
+  text_broken xs place a b broke = run_broken begun s octets_of inside xs place a b broke
+
+  -- What its decoder took of octets: so many, at the last of which it came to this.
+  pub record Took (octets : List ℕ) (n : ℕ) (d' : Decoder) (p : Progress) : Type 0 where
+    pub within : n ≤ length octets
+    pub some : 0 < n
+    pub takes : TakesRun C opened.T (order header) (start begun) number
+        (root_of section) d' octets_of (take n octets) p
+
+  abbrev pub took : {d' : Decoder} {p q : Progress} (octets : List ℕ) (n : ℕ) → n ≤ length octets →
+      0 < n → TakesRun C opened.T (order header) (start begun) number (root_of section) d' octets_of
+      (take n octets) q → q ≡ p → Took octets n d' p
+  took octets n within some takes e = record {
+    within = within;
+    some = some;
+    takes = subst (TakesRun C opened.T (order header) (start begun) number (root_of section) _ octets_of (take n octets)) e takes;
+  }
+
+-- their text, and their lines
+abbrev Text : Standing → List ℕ → ℕ → ℕ → List ℕ
+Text t octets n place = due_text (S t) t.number place t.header t.s (take n octets)
+
+abbrev Said : Standing → List ℕ → ℕ → List ℕ
+Said t octets n = LinesOf (begun t) (octets_of t) (take n octets)
+
+module _ {t : Standing} {octets : List ℕ} {n : ℕ} {d' : Decoder} where
+  open t use {C, listed, number, header, m, s, follows, section}
+
+  last : (p : Progress) → Took t octets n d' p → LastOf t (take n octets) p
+  last p k =
+      let some : 0 < length (take n octets) = omega (arith, length-take-le n octets k.within, k.some) in
+      last_one (order header) (opened t).T (start (begun t)) (root_of section) (octets_of t) (take n octets) p some k.takes.answers
+
+  moved : (p : Progress) → Took t octets n d' p → (m' : Struct_of) → Moved m m' n →
+      Moved m m' (length (take n octets))
+  moved p k m' move = rw (length-take-le n octets k.within) move
+
+  -- ---- their text
+
+  pub text_more : Took t octets n d' progress.More → (place : ℕ) →
+      Text t octets n place ≡ Said t octets n
+  text_more k place = run_more (begun t) s (octets_of t) (inside t) (take n octets) place k.takes.answers
+
+  pub text_done : Took t octets n d' progress.Done → (place : ℕ) →
+      Text t octets n place ≡ Said t octets n
+  text_done k place = run_done (begun t) s (octets_of t) (inside t) (take n octets) place (last progress.Done k)
+
+  pub text_named : Took t octets n d' progress.Named → (place : ℕ) →
+      Text t octets n place ≡ Said t octets n
+      ++ request_call m.number m.header (heard_of true (ReadWith t (take n octets)))
+  text_named k place =
+      let heard = heard_of true (ReadWith t (take n octets)) in
+      run_named (begun t) s (octets_of t) (inside t) (take n octets) place (last progress.Named k)
+      ∙ (ap (λ x. Said t octets n ++ request_call x header heard) (sym follows.same_number)
+      ∙ ap (λ x. Said t octets n ++ request_call m.number x heard) (sym follows.same_header))
+
+  pub text_wrong : (why : Kind) → Took t octets n d' (progress.Fault why) → (place : ℕ) →
+      Text t octets n place ≡ Said t octets n ++ fault_line m.number (fault_word why) (place + n)
+  text_wrong why k place =
+      let xs = take n octets in
+      let end : place + n ≡ place + length xs = omega (arith, length-take-le n octets k.within) in
+      run_wrong (begun t) s (octets_of t) (inside t) xs place (place + n) why end (last (progress.Fault why) k)
+      ∙ ap (λ x. Said t octets n ++ fault_line x (fault_word why) (place + n)) (sym follows.same_number)
+
+  -- a put failed behind those lines
+  pub failed_behind : {p : Progress} {E : Type 0} (r : Result (ℕ × Bool) E) (place : ℕ)
+      {a b c : OutLog} {x y : List ℕ} → IsErr r →
+      Took t octets n d' p → Text t octets n place ≡ x ++ y → Wrote a b x → WroteFront b c y →
+      WritesRun r (S t) number place header s octets a c
+  failed_behind {p} r place {a} {b} {c} {x} {y} failed k text wrote front =
+      run_failed r (S t) number place header s octets a c failed
+      (run_front (S t) number place header s octets n a c (rw text (wrote-front a b c x y wrote front)))
+
+  -- ---- where the message stands behind them
+
+  -- where it ends an operation it is a header's
+  pub minds_header : Took t octets n d' progress.Named →
+      decoders.Minds roots.Header d' (ReadWith t (take n octets))
+  minds_header k =
+      let in_it = run_named_in (begun t) s (octets_of t) (inside t) (take n octets) (last progress.Named k) in
+      subst (λ x. decoders.Minds (root_of x) d' (ReadWith t (take n octets))) in_it k.takes.minds
+
+  pub went_on : {p : Progress} → Took t octets n d' p → (decoders.IsFault p → ⊥) →
+      (m' : Struct_of) → Moved m m' n → m'.id ≡ m.id →
+      m'.part ≡ parts.Typed section d' → Follows C listed number header m' (s ++ (take n octets))
+  went_on {p} k going m' move id part = section_on t (take n octets) p (last p k) m' d' (moved p k m' move) id part (k.takes.reads going)
+
+  pub went_done : Took t octets n d' progress.Done → (m1 m2 : Struct_of) → Moved m m1 n →
+      m1.id ≡ m.id → Arrives C listed number header m1 m2 (s ++ (take n octets))
+      (after (S t) header section
+      (heard_of (is_header_root (root_of section)) (ReadWith t (take n octets)))
+      (12 + length (s ++ (take n octets))) []) → Moved m m2 n → m2.id ≡ cond (is_header section)
+      (heard_of true (ReadWith t (take n octets))).request_id m1.id →
+      in_header m2.part ≡ false → Follows C listed number header m2 (s ++ (take n octets))
+  went_done k m1 m2 move_1 id_1 arrives move_2 id_2 past =
+      let l = last progress.Done k in
+      let g = done_comes (begun t) s (octets_of t) (inside t) (take n octets) l in
+      let id_m = ap (cond (is_header section) (heard_of true (ReadWith t (take n octets))).request_id) id_1 in
+      let id = ended_id t (take n octets) l d' (k.takes.reads (λ fault. fault)) m2.id (is_header section) refl (id_2 ∙ id_m) in
+      let at = is_at follows (take n octets) (moved progress.Done k m1 move_1) in
+      follows_on follows (take n octets) (moved progress.Done k m2 move_2) (rw past id) (arrives at g.0 g.1)
+
+  pub went_wrong : (why : Kind) → Took t octets n d' (progress.Fault why) →
+      FaultedAt (S t) header s octets n
+  went_wrong why k = fault_comes (begun t) s (octets_of t) (inside t) octets n why k.within (last (progress.Fault why) k)
