@@ -7,7 +7,6 @@ pub mod Lines
 pub mod Text
 pub mod Stream
 pub mod State
-pub mod Machine
 pub mod Effects
 pub mod Keeping
 pub mod Performs

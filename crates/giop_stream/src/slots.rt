@@ -58,8 +58,7 @@ impl Slots {
     ghost use Rattle.giop_message.specs.MessageReading.{id_said};
     ghost use Rattle.giop_stream.specs.Keeping.{AreSlots, IsKept, Keeps, AreReady, IsBare, effect_to};
     ghost use Rattle.giop_stream.specs.Performs.{TakesEffect, one_if, never};
-    ghost use Rattle.giop_stream.specs.Machine.{left_open};
-    ghost use Rattle.giop_stream.specs.State.{Slot as Held};
+    ghost use Rattle.giop_stream.specs.State.{Slot as Held, left_open};
     ghost use Rattle.giop_stream.specs.Runs.{run_effect};
 
     /// No message.

@@ -7,8 +7,7 @@ use Rattle.giop_message.specs.Headers.{size, has_name, is_opener, is_fragment}
 use Rattle.giop_message.specs.Reading.{Reading}
 use Rattle.giop_stream.specs.Events.{Event, Open, Rising, changed, joined, Now, header_acts, octet_acts, id_acts, end_acts, acts}
 use Rattle.giop_stream.specs.Lines.{is_last_of, standing}
-use Rattle.giop_stream.specs.Machine.{utters_kept, taking, written}
-use Rattle.giop_stream.specs.Effects.{Tracked, Effect, lines_at, tracked_at, effects}
+use Rattle.giop_stream.specs.Effects.{Tracked, Effect, lines_at, tracked_at, effects, lines_for, kept_with, kept_after}
 use Rattle.giop_stream.specs.Step.{numbered}
 use Rattle.giop_stream.proofs.Told.Turns.{unnamed}
 
@@ -68,7 +67,7 @@ unfolding effects
 effects_agree R P c d [] l h k = record { lines = refl; live = l; known = h }
 effects_agree R P c d (e ∷ es) l h k =
     let now : lines_at R c.known e ≡ lines_at R d.known e = unfold lines_at in
-    ap (λ (o : Option (List ℕ)). standing (λ i. false) (utters_kept R e o)) (h e.whom.number k.0) in
+    ap (λ (o : Option (List ℕ)). standing (λ i. false) (lines_for R e o)) (h e.whom.number k.0) in
     let more = effects_agree R P (tracked_at R c e) (tracked_at R d e) es (live_then l) (known_then now) k.1 in
     record { lines = λ j. now j ++ more.lines j; live = more.live; known = more.known }
   where
@@ -77,7 +76,7 @@ effects_agree R P c d (e ∷ es) l h k =
 
     known_then : lines_at R c.known e ≡ lines_at R d.known e → (i : ℕ) → P i → (tracked_at R c e).known i ≡ (tracked_at R d e).known i
     known_then now i p =
-        unfold tracked_at written taking in λ j. if list_any (is_last_of i) (now j) then None else option_map (λ xs. xs ++ joined i (e ∷ [])) (h i p j)
+        unfold tracked_at kept_after kept_with in λ j. if list_any (is_last_of i) (now j) then None else option_map (λ xs. xs ++ joined i (e ∷ [])) (h i p j)
 
 -- ---- Among open messages, whose numbers rise, one is found by its number.
 

@@ -14,7 +14,7 @@ use Rattle.giop_stream.specs.Stream.{is_over, heads}
 use Rattle.giop_stream.specs.Effects.{with_octet}
 use Rattle.giop_stream.specs.Octet.{Octet, Behind, Ends, Held, Of}
 use Rattle.giop_stream.specs.State.{octets_of, is_open}
-use Rattle.giop_stream.specs.Machine.{now_written}
+use Rattle.giop_stream.proofs.Told.Together.{sorted_lines}
 use Rattle.giop_stream.proofs.Lists.{by_growth, each_weaker, all_by}
 use Rattle.giop_stream.proofs.Cuts.Cutting.{stopped_at, of_parts, settled_messages}
 use Rattle.giop_stream.proofs.Cuts.CutFrom.{settle}
@@ -142,7 +142,7 @@ complete_deal : (R : Reading) → IsCausal R → IsEnding R → (p p' : List ℕ
 complete_deal R causal ending p p' whole m len ec ev old pl fits low start known =
     let live = open_after p in
     let es = happens live m in
-    let ls = now_written R (octets_of R p) es in
+    let ls = sorted_lines R (octets_of R p) es in
     let here : Each (λ e. e.place ≡ suc (length p)) es =
     happens_each (λ e. e.place ≡ suc (length p)) live m (λ what. pl)
     (all_by (λ (o : Open). (what : Happening) → place m ≡ suc (length p)) (λ o what. pl) live) in

@@ -9,8 +9,7 @@ use Rattle.giop_stream.specs.Text.{truncated_line}
 use Rattle.giop_stream.specs.Stream.{is_inside}
 use Rattle.giop_stream.specs.Events.{Open, title, has_named, events, open_after, joined}
 use Rattle.giop_stream.specs.Stream.{is_over, unfinished}
-use Rattle.giop_stream.specs.State.{Kept, octets_of, is_open, slots_of}
-use Rattle.giop_stream.specs.Machine.{left_by, left_open}
+use Rattle.giop_stream.specs.State.{Kept, octets_of, is_open, slots_of, left_by, left_open}
 use Rattle.giop_stream.specs.Engine.{own_for, own_in, state_of}
 use Rattle.giop_stream.specs.Step.{left_own, left_over}
 use Rattle.giop_stream.proofs.Told.LastLines.{octets_known}

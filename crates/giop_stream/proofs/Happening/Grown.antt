@@ -11,10 +11,11 @@ use Rattle.giop_stream.specs.Events.{Event, opened, events, open_after, joined}
 use Rattle.giop_stream.specs.Lines.{Line, told, by_class, in_order, is_last_of, said, stop_line, lines}
 use Rattle.giop_stream.specs.Stream.{is_fault, fault_count, is_over}
 use Rattle.giop_stream.specs.State.{octets_of}
-use Rattle.giop_stream.specs.Machine.{taking, written, now_written}
+use Rattle.giop_stream.specs.Effects.{kept_with, kept_after}
+use Rattle.giop_stream.proofs.Told.Together.{sorted_lines}
 use Rattle.giop_stream.proofs.Lists.{any_append}
 use Rattle.giop_stream.proofs.Happening.Happenings.{opened_append}
-use Rattle.giop_stream.proofs.Told.Telling.{joined_append, heard, heard_each, told_heard, told_grows, in_order_grows, in_order_idle, standing_append, keeping, standing_utters}
+use Rattle.giop_stream.proofs.Told.Telling.{joined_append, heard, heard_each, told_heard, told_grows, in_order_grows, in_order_idle, standing_append, keeping, standing_all_lines}
 
 -- What the definitions say after these events, from what they say before.
 told_places : (R : Reading) → IsCausal R → (es : List Event) (n : ℕ) → Each (λ e. e.place ≤ n) es → Each (λ l. l.place ≤ n) (told R es [] es)
@@ -22,8 +23,8 @@ told_places R causal es n h = rw (told_heard R causal es [] es refl) (heard_each
 
 pub said_grows : (R : Reading) → IsCausal R → (p p' : List ℕ) (es : List Event) → length p' ≡ suc (length p)
     → events p' ≡ events p ++ es → Each (λ e. e.place ≤ length p) (events p) → Each (λ e. e.place ≡ suc (length p)) es
-    → said R p' ≡ said R p ++ now_written R (octets_of R p) es
-unfolding said now_written is_over octets_of keeping
+    → said R p' ≡ said R p ++ sorted_lines R (octets_of R p) es
+unfolding said sorted_lines is_over octets_of keeping
 said_grows R causal p p' es len ev old new =
     let none : ℕ → Bool = λ i. false in
     let before = told R (events p) [] (events p) in
@@ -38,7 +39,7 @@ said_grows R causal p p' es len ev old new =
       standing_append none (in_order (length p) before)
           (by_class more),
     )
-    (ap (λ (ls : List Line). said R p ++ ls) (standing_utters R (is_over R p) (events p) es))
+    (ap (λ (ls : List Line). said R p ++ ls) (standing_all_lines R (is_over R p) (events p) es))
 
 pub said_idle : (R : Reading) → IsCausal R → (p p' : List ℕ) → length p' ≡ suc (length p) → events p' ≡ events p
     → Each (λ e. e.place ≤ length p) (events p) → said R p' ≡ said R p
@@ -55,8 +56,8 @@ octets_by false true xs ys = refl
 octets_by false false xs ys = refl
 
 pub octets_grow : (R : Reading) (p p' : List ℕ) (es : List Event) (ls : List Line) → events p' ≡ events p ++ es
-    → said R p' ≡ said R p ++ ls → (i : ℕ) → octets_of R p' i ≡ written (taking (octets_of R p) es) ls i
-unfolding octets_of is_over written taking
+    → said R p' ≡ said R p ++ ls → (i : ℕ) → octets_of R p' i ≡ kept_after (kept_with (octets_of R p) es) ls i
+unfolding octets_of is_over kept_after kept_with
 octets_grow R p p' es ls ev sd i =
     rw (ev, sd, any_append (is_last_of i) (said R p) ls, joined_append i (events p) es)
     (octets_by (list_any (is_last_of i) (said R p)) (list_any (is_last_of i) ls) (joined i (events p)) (joined i es))

@@ -11,7 +11,8 @@ use Rattle.giop_stream.specs.Events.{Happening, Event, Open, place, happens, eve
 use Rattle.giop_stream.specs.Lines.{Line, is_last_of, lines}
 use Rattle.giop_stream.specs.Stream.{start_count}
 use Rattle.giop_stream.specs.State.{Kept, octets_of}
-use Rattle.giop_stream.specs.Machine.{taking, written, now_written}
+use Rattle.giop_stream.specs.Effects.{kept_with, kept_after}
+use Rattle.giop_stream.proofs.Told.Together.{sorted_lines}
 use Rattle.giop_stream.proofs.Lists.{each_append, each_weaker, all_by}
 use Rattle.giop_stream.proofs.Cuts.Cutting.{settle_stop, settled_messages}
 use Rattle.giop_stream.proofs.Cuts.CutFrom.{settle}
@@ -127,22 +128,22 @@ settled_if whole m Q h = go (nat_lt (length m.payload) (size m.header))
     go false = tt
 
 still_unknown : (K : Kept) (es : List Event) (ls : List Line) (i : ℕ) → K i ≡ Some [] → joined i es ≡ []
-    → list_any (is_last_of i) ls ≡ false → written (taking K es) ls i ≡ Some []
-unfolding written taking
+    → list_any (is_last_of i) ls ≡ false → kept_after (kept_with K es) ls i ≡ Some []
+unfolding kept_after kept_with
 still_unknown K es ls i h k j = rw (j, h, k) refl
 
 pub dealt_sound : (R : Reading) → IsCausal R → (p p' : List ℕ) (whole : List Message) (m : Message)
     → length p' ≡ suc (length p) → cut p' ≡ settle whole m → events p' ≡ events p ++ happens (open_after p) m
     → place m ≡ suc (length p) → m.number ≡ suc (length whole) → length m.header ≡ 12 → (cut p).stop ≡ None
     → length (messages (cut p)) ≤ suc (length whole) → (length m.payload ≤ 4 → Below m.number (open_after p))
-    → length (messages (cut p)) + start_count (now_written R (octets_of R p) (happens (open_after p) m)) ≡ suc (length whole)
+    → length (messages (cut p)) + start_count (sorted_lines R (octets_of R p) (happens (open_after p) m)) ≡ suc (length whole)
     → (length m.payload ≤ 4 → joined m.number (events p) ++ joined m.number (happens (open_after p) m) ≡ m.payload)
     → IsSound R p → IsSound R p'
 dealt_sound R causal p p' whole m len ec ev pl nm twelve st more low starts grows sound =
     let live = open_after p in
     let K = octets_of R p in
     let es = happens live m in
-    let ls = now_written R K es in
+    let ls = sorted_lines R K es in
     let all = suc (length whole) in
     let count : length (messages (cut p')) ≡ all = rw ec (settled_length whole m) in
     let here : Each (λ e. e.place ≡ suc (length p)) es =
@@ -188,8 +189,8 @@ dealt_sound R causal p p' whole m len ec ev pl nm twelve st more low starts grow
     }
   where
     now_each : (R : Reading) (P : ℕ → Type 0) (known : Kept) (es : List Event) → Each (λ e. P e.whom.number) es
-        → Each (λ l. P l.number) (now_written R known es)
-    now_each R P known es h = unfold now_written in written_each R P known es h
+        → Each (λ l. P l.number) (sorted_lines R known es)
+    now_each R P known es h = unfold sorted_lines in written_each R P known es h
 
 -- The octets of a message, as the definitions see one more of them.
 pub events_on : (whole : List Message) (m : Message) (x : ℕ) → length m.payload < size m.header

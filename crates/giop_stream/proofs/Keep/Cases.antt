@@ -9,8 +9,7 @@ use Rattle.giop_message.specs.Reading.{Reading}
 use Rattle.giop_stream.specs.Kinds.{may_be_cancelled, refused}
 use Rattle.giop_stream.specs.Events.{Happening, Begins, Takes, Opens, Continues, Cancelled, Imposed, Title, Event, Open, title, place, id, own, about, opener_of, goes_past, at_header, at_octet, most_open, same_order, at_id, now_of, header_acts, octet_acts, id_acts}
 use Rattle.giop_stream.specs.Lines.{Line, line, tells, standing}
-use Rattle.giop_stream.specs.Machine.{utters_kept}
-use Rattle.giop_stream.specs.Effects.{Tracked, lines_at, tracked_at, lines_of, effects, one_effect, no_effect, starts, goes_on}
+use Rattle.giop_stream.specs.Effects.{Tracked, lines_at, tracked_at, lines_of, effects, one_effect, no_effect, starts, goes_on, lines_for}
 use Rattle.giop_stream.proofs.Keep.Places.{tracked_stays, tracked_begins}
 
 -- ---- The effects of few events.
@@ -61,7 +60,7 @@ effects_nobody R c m what = effects_none R c
 -- ---- A header's last octet.
 
 began : (R : Reading) (m : Message) (xs : List ℕ) → lines_of R (record { place = place m; whom = title m; what = Begins }) (Some xs) ≡ starts m ∷ []
-unfolding lines_of utters_kept tells line standing
+unfolding lines_of lines_for tells line standing
 began R m xs = refl
 
 begins_first : (R : Reading) (c : Tracked) (m : Message) (xs : List ℕ) (es : List Event) → c.known m.number ≡ Some xs
@@ -108,7 +107,7 @@ fragment_unknown R c live m f e = rw (f, e) (effects_own R c m (Imposed NoOpen))
 
 went_on : (R : Reading) (m : Message) (o : Open) (xs : List ℕ)
     → lines_of R (record { place = place m; whom = title m; what = Continues o.opener.number }) (Some xs) ≡ goes_on m o ∷ []
-unfolding lines_of utters_kept tells line standing
+unfolding lines_of lines_for tells line standing
 went_on R m o xs = refl
 
 goes_first : (R : Reading) (c : Tracked) (m : Message) (o : Open) (xs : List ℕ) (es : List Event) → c.known m.number ≡ Some xs

@@ -17,8 +17,7 @@ use Rattle.giop_print.specs.Output.{OutLog}
 use Rattle.giop_stream.specs.Events.{Title, Open, Happening, Takes, Opens, Imposed, Cancelled, Closes, octet, changed, Rising}
 use Rattle.giop_stream.specs.Lines.{tells, standing}
 use Rattle.giop_stream.specs.State.{Slot, slots_of}
-use Rattle.giop_stream.specs.Machine.{utters_kept}
-use Rattle.giop_stream.specs.Effects.{Tracked, Effect, Part, part_of, tracked_at, lines_of, octets_then, one_effect, IsNotOpen}
+use Rattle.giop_stream.specs.Effects.{Tracked, Effect, Part, part_of, tracked_at, lines_of, octets_then, one_effect, IsNotOpen, lines_for}
 use Rattle.giop_stream.specs.Keeping.{IsKept, IsSlot, AreSlots, Keeps, event, effect_to}
 use Rattle.giop_stream.specs.Performs.{TakesEffect, PartTakesEffect, Says, one_if}
 use Rattle.giop_stream.proofs.Lists.{each_weaker, each_filter, filter_keeps}
@@ -52,8 +51,6 @@ pub record Alters (c : Tracked) (w : Title) (effect : Effect) (part : Part) : Ty
   pub live : effect.tracked.live ≡ c.live
   pub own : effect.tracked.known w.number ≡ part.octets
   pub others : (i : ℕ) → (i ≡ w.number → ⊥) → effect.tracked.known i ≡ c.known i
-
--- ---- A message begins, becomes open, and closes.
 
 -- ---- An open message goes.
 
@@ -205,7 +202,7 @@ module _ (C : Table) (l : Listed) where
 
   -- an event that says nothing and takes nothing
   opens_then : (at : ℕ) (w : Title) (i : ℕ) (o : Option (List ℕ)) → octets_then (message_reading C l) (event at w (Opens i)) o ≡ o
-  unfolding octets_then lines_of utters_kept tells standing octet
+  unfolding octets_then lines_of lines_for tells standing octet
   opens_then at w i None = refl
   opens_then at w i (Some xs) = ap Some (append-nil xs)
 
@@ -213,41 +210,6 @@ module _ (C : Table) (l : Listed) where
       → (tracked_at (message_reading C l) c (event at w (Opens i))).live ≡ c.live ++ record { id = i; opener = w } ∷ []
   unfolding tracked_at changed
   opened_live at c w i = refl
-
-  open_now : (s : Slots) (c : Tracked) (w : Title) (at number : ℕ) (header : List ℕ) (i : ℕ) → w.number ≡ number
-      → w.header ≡ header → Each (λ o. o.opener.number ≡ w.number → ⊥) c.live → IsKept C l s.own w (c.known w.number)
-      → AreSlots C l s.slots.items (slots_of c.known c.live)
-      → Keeps C l (record {
-        slots = record {
-          items = s.slots.items ++ record {
-            number = number;
-            header = header;
-            id = i;
-            message = s.own;
-          } ∷ [];
-        };
-        own = None;
-        payload = payload.Open (length s.slots.items);
-      })
-      (tracked_at (message_reading C l) c (event at w (Opens i))) (Some w)
-  open_now s c w at number header i n f apart kept slots =
-      let e = event at w (Opens i) in
-      let o : Open = record { id = i; opener = w } in
-      let known : (tracked_at (message_reading C l) c e).known w.number ≡ c.known w.number =
-      own_then (message_reading C l) c e ∙ opens_then at w i (c.known w.number) in
-      let same : Each (λ a. (tracked_at (message_reading C l) c e).known a.opener.number ≡ c.known a.opener.number) c.live =
-      each_weaker (λ a. a.opener.number ≡ w.number → ⊥)
-      (λ a. (tracked_at (message_reading C l) c e).known a.opener.number ≡ c.known a.opener.number)
-      (λ a j. others_then (message_reading C l) c e a.opener.number j) c.live apart in
-      let many : length s.slots.items ≡ length c.live = are_as_many C l s.slots.items (slots_of c.known c.live) slots ∙ slots_many c.known c.live in
-      record {
-        slots = rw (opened_live at c w i, slot_comes (tracked_at (message_reading C l) c e).known c.known c.live o same, known)
-            (push_slot C l s.slots.items (slots_of c.known c.live)
-            (record { number = number; header = header; id = i; message = s.own })
-            (record { open_as = o; octets = c.known w.number }) slots
-            (record { number = sym n; header = sym f; id = refl; message = kept }));
-        payload = (refl, (o, rw (opened_live at c w i, many) (get_last c.live o), refl));
-      }
 
   open_keeps : (s : Slots) (c : Tracked) (w : Title) (at number : ℕ) (header : List ℕ) (i : ℕ) → s.payload ≡ payload.Own
       → Keeps C l s c (Some w) → w.number ≡ number → w.header ≡ header
@@ -264,7 +226,25 @@ module _ (C : Table) (l : Listed) where
         payload = payload.Open (length s.slots.items);
       })
       (tracked_at (message_reading C l) c (event at w (Opens i))) (Some w)
-  open_keeps s c w at number header i e h n f = let p = own_parts s c w e h in open_now s c w at number header i n f p.0 p.1 h.slots
+  open_keeps s c w at number header i e h n f =
+      let own = own_parts s c w e h in
+      let ev = event at w (Opens i) in
+      let o : Open = record { id = i; opener = w } in
+      let known : (tracked_at (message_reading C l) c ev).known w.number ≡ c.known w.number =
+      own_then (message_reading C l) c ev ∙ opens_then at w i (c.known w.number) in
+      let same : Each (λ a. (tracked_at (message_reading C l) c ev).known a.opener.number ≡ c.known a.opener.number) c.live =
+      each_weaker (λ a. a.opener.number ≡ w.number → ⊥)
+      (λ a. (tracked_at (message_reading C l) c ev).known a.opener.number ≡ c.known a.opener.number)
+      (λ a j. others_then (message_reading C l) c ev a.opener.number j) c.live own.0 in
+      let many : length s.slots.items ≡ length c.live = are_as_many C l s.slots.items (slots_of c.known c.live) h.slots ∙ slots_many c.known c.live in
+      record {
+        slots = rw (opened_live at c w i, slot_comes (tracked_at (message_reading C l) c ev).known c.known c.live o same, known)
+            (push_slot C l s.slots.items (slots_of c.known c.live)
+            (record { number = number; header = header; id = i; message = s.own })
+            (record { open_as = o; octets = c.known w.number }) h.slots
+            (record { number = sym n; header = sym f; id = refl; message = own.1 }));
+        payload = (refl, (o, rw (opened_live at c w i, many) (get_last c.live o), refl));
+      }
 
   gone_live : (at : ℕ) (c : Tracked) (w : Title) (what : Happening) → IsGone what
       → (tracked_at (message_reading C l) c (event at w what)).live ≡ filter (λ o. not (o.opener.number == w.number)) c.live

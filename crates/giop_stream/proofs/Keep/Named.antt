@@ -13,9 +13,8 @@ use Rattle.giop_stream.specs.declared.current.Current.{Current}
 use Rattle.giop_stream.specs.Framing.{Message}
 use Rattle.giop_stream.specs.Events.{Open, Opens, Imposed, Cancelled, title, opener_of, at_id, most_open, same_order}
 use Rattle.giop_stream.specs.State.{slots_of}
-use Rattle.giop_stream.specs.Effects.{Tracked, Effect, effects, one_effect, no_effect, line_effect, lines_of, goes_on}
+use Rattle.giop_stream.specs.Effects.{Tracked, Effect, effects, one_effect, no_effect, line_effect, lines_of, goes_on, lines_for}
 use Rattle.giop_stream.specs.Lines.{Line, tells, standing}
-use Rattle.giop_stream.specs.Machine.{utters_kept}
 use Rattle.giop_stream.specs.Text.{line_text}
 use Rattle.giop_stream.specs.Stream.{fault_count}
 use Rattle.giop_cdr.specs.declared.order.Order.{Order}
@@ -77,7 +76,7 @@ room_is n e less = elim (cases_eq n most_open) [ inl same ↦ absurd (false≢tr
 
 module _ (C : Table) (l : Listed) where
   pub opens_lines : (c : Tracked) (m : Message) (at i : ℕ) → (one_effect (message_reading C l) c at (title m) (Opens i)).lines ≡ []
-  unfolding lines_of utters_kept tells standing
+  unfolding lines_of lines_for tells standing
   opens_lines c m at i = go (c.known m.number)
     where
       go : (o : Option (List ℕ)) → lines_of (message_reading C l) (event at (title m) (Opens i)) o ≡ []

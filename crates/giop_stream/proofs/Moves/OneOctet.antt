@@ -16,14 +16,14 @@ use Rattle.giop_stream.specs.Events.{Happening, Event, Open, place, happens, eve
 use Rattle.giop_stream.specs.Lines.{Line, said, stop_line, lines}
 use Rattle.giop_stream.specs.Stream.{start_count}
 use Rattle.giop_stream.specs.State.{Kept, octets_of}
-use Rattle.giop_stream.specs.Machine.{utters, now_written}
+use Rattle.giop_stream.proofs.Told.Together.{all_lines, sorted_lines}
 use Rattle.giop_stream.specs.Effects.{Tracked, effects, IsBegun, with_octet, stage}
 use Rattle.giop_stream.specs.Octet.{Octet, Behind, Ends, Held, Of, front_is, octet_in, octet_of, header_of, come_of}
 use Rattle.giop_stream.proofs.Lists.{all_by, each_weaker}
 use Rattle.giop_stream.proofs.Cuts.Cutting.{next, stopped_at, of_parts, parts_by, cut_grows, settle_stop, settled_messages, next_limit, next_payload, next_front, next_stopped}
 use Rattle.giop_stream.proofs.Cuts.CutFrom.{settle, header_case}
 use Rattle.giop_stream.proofs.Happening.Happenings.{happens_each}
-use Rattle.giop_stream.proofs.Told.Telling.{standing_each, utters_places}
+use Rattle.giop_stream.proofs.Told.Telling.{standing_each, all_lines_places}
 use Rattle.giop_stream.proofs.Happening.HappeningsKeep.{Below}
 use Rattle.giop_stream.proofs.Told.Ordering.{Ordered, Rises, Fine, ordered_stays, are_effects}
 use Rattle.giop_stream.proofs.Told.Turns.{happens_fine, not_past}
@@ -92,15 +92,15 @@ front_short front number at e = rw e refl
 
 -- ---- The lines of an effect, in their order.
 
-now_here : (R : Reading) (n : ℕ) (K : Kept) (es : List Event) → Ordered (utters R K es) → Each (λ e. e.place ≡ n) es
-    → Each (λ l. l.place ≡ n) (now_written R K es)
-unfolding now_written
+now_here : (R : Reading) (n : ℕ) (K : Kept) (es : List Event) → Ordered (all_lines R K es) → Each (λ e. e.place ≡ n) es
+    → Each (λ l. l.place ≡ n) (sorted_lines R K es)
+unfolding sorted_lines
 now_here R n K es h here =
-    rw (ordered_stays (utters R K es) h) (standing_each (λ l. l.place ≡ n) (λ i. false) (utters R K es) (utters_places R (λ k. k ≡ n) K es here))
+    rw (ordered_stays (all_lines R K es) h) (standing_each (λ l. l.place ≡ n) (λ i. false) (all_lines R K es) (all_lines_places R (λ k. k ≡ n) K es here))
 
-now_rises : (R : Reading) (K : Kept) (es : List Event) → Fine (utters R K es) → Rises (now_written R K es)
-unfolding now_written
-now_rises R K es h = rw (ordered_stays (utters R K es) h.ordered) h.rises
+now_rises : (R : Reading) (K : Kept) (es : List Event) → Fine (all_lines R K es) → Rises (sorted_lines R K es)
+unfolding sorted_lines
+now_rises R K es h = rw (ordered_stays (all_lines R K es) h.ordered) h.rises
 
 -- ---- The cases.
 
@@ -135,7 +135,7 @@ module _ (R : Reading) (causal : IsCausal R) (laws : IsInTurn R) (p : List ℕ) 
       → events (p ++ x ∷ []) ≡ events p ++ happens (open_after p) m → place m ≡ suc (length p) → m.number ≡ suc (length whole)
       → length m.header ≡ 12 → (cut p).stop ≡ None → length (messages (cut p)) ≤ suc (length whole)
       → (length m.payload ≤ 4 → Below m.number (open_after p))
-      → length (messages (cut p)) + start_count (now_written R (octets_of R p) (happens (open_after p) m)) ≡ suc
+      → length (messages (cut p)) + start_count (sorted_lines R (octets_of R p) (happens (open_after p) m)) ≡ suc
       (length whole) → length m.payload ≤ size m.header → (has_name m.header ≡ true → IsBegun (octets_of R p) m)
       → (length m.payload ≤ 4 → joined m.number (events p) ++ joined m.number (happens (open_after p) m) ≡ m.payload)
       → Adds R p (p ++ x ∷ []) (settle whole m) (effects R (stage R p) (happens (open_after p) m)).lines (effects R (stage R p) (happens (open_after p) m)).tracked
@@ -157,7 +157,7 @@ module _ (R : Reading) (causal : IsCausal R) (laws : IsInTurn R) (p : List ℕ) 
         lines = lines_free R p' st' ∙ (sd ∙ rw (lines_free R p st, p1.lines) refl);
         here = subst (Each (λ l. l.place ≡ suc (length p))) p1.lines (now_here R (suc (length p)) K es fine.ordered here);
         rises = subst Rises p1.lines (now_rises R K es fine);
-        stage = λ j. record { live = (open_grows p p' es ev ∙ p1.live) j; known = λ i. (octets_grow R p p' es (now_written R K es) ev sd i ∙ p1.known i) j };
+        stage = λ j. record { live = (open_grows p p' es ev ∙ p1.live) j; known = λ i. (octets_grow R p p' es (sorted_lines R K es) ev sd i ∙ p1.known i) j };
         sound = dealt_sound R causal p p' whole m len ec ev pl nm twelve st more low starts grows sound;
       }
 

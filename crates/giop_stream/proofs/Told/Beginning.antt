@@ -10,8 +10,7 @@ use Rattle.giop_message.specs.Reading.{Saying, Value, Reading, IsInTurn, due}
 use Rattle.giop_stream.specs.Events.{Takes, Title, Event, Open, goes_past, at_header, at_octet, happens, octet, joined}
 use Rattle.giop_stream.specs.Lines.{Line, Said, line, tells, is_last_of, standing}
 use Rattle.giop_stream.specs.State.{octets_of}
-use Rattle.giop_stream.specs.Machine.{utters_kept}
-use Rattle.giop_stream.specs.Effects.{lines_of, octets_then}
+use Rattle.giop_stream.specs.Effects.{lines_of, octets_then, lines_for}
 use Rattle.giop_stream.proofs.Lists.{each_filter}
 use Rattle.giop_stream.proofs.Cuts.Cutting.{of_parts}
 use Rattle.giop_stream.proofs.Cuts.CutFrom.{settle}
@@ -53,7 +52,7 @@ one_octet at w x = rw (eq-eqb w.number w.number refl) refl
 takes_last : (R : Reading) → IsInTurn R → (at : ℕ) (w : Title) (xs : List ℕ) (x : ℕ) → has_name w.header ≡ true
     → length xs < 4 → list_any (is_last_of w.number) (lines_of R (record { place = at; whom = w; what = Takes x }) (Some xs))
     ≡ false
-unfolding lines_of utters_kept tells
+unfolding lines_of lines_for tells
 takes_last R laws at w xs x name short =
     let e : Event = record { place = at; whom = w; what = Takes x } in
     rw (one_octet at w x)

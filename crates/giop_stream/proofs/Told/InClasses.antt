@@ -13,7 +13,8 @@ use Rattle.giop_stream.specs.Kinds.{may_be_cancelled, refused}
 use Rattle.giop_stream.specs.Events.{Happening, Begins, Takes, Opens, Continues, Cancelled, Imposed, Closes, Event, Open, own, about, id, opener_of, imposed, opens, most_open, same_order, continues, cancels, at_id, at_end, joined, now_of, header_acts, id_acts, end_acts, Now}
 use Rattle.giop_stream.specs.Lines.{line, tells}
 use Rattle.giop_stream.specs.State.{Kept}
-use Rattle.giop_stream.specs.Machine.{utters_kept, taking, utters}
+use Rattle.giop_stream.specs.Effects.{lines_for, kept_with}
+use Rattle.giop_stream.proofs.Told.Together.{all_lines}
 use Rattle.giop_stream.proofs.Told.Spans.{Spans, spans_none, spans_wider, spans_join, spans_one, said_spans, turn_spans, close_spans}
 
 -- ---- The lines of one happening.
@@ -53,26 +54,26 @@ tells_closes R closing e so_far all = said_spans 6 8 e (λ l. l.0) (λ l. l.1) (
 -- ---- The lines of events, whatever is kept.
 
 unfoldable pub Always : Reading → ℕ → ℕ → List Event → Type 0
-Always R lo hi es = (K : Kept) → Spans lo hi (utters R K es)
+Always R lo hi es = (K : Kept) → Spans lo hi (all_lines R K es)
 
-utters_join : (R : Reading) (K : Kept) (es fs : List Event) → (L : Kept) × (utters R K (es ++ fs) ≡ utters R K es ++ utters R L fs)
-unfolding utters
-utters_join R K [] fs = (K, refl)
-utters_join R K (e ∷ es) fs =
-    let more = utters_join R (taking K (e ∷ [])) es fs in
-    (more.0, rw more.1 (sym (append_assoc (utters_kept R e (K e.whom.number)) (utters R (taking K (e ∷ [])) es) (utters R more.0 fs))))
+all_lines_join : (R : Reading) (K : Kept) (es fs : List Event) → (L : Kept) × (all_lines R K (es ++ fs) ≡ all_lines R K es ++ all_lines R L fs)
+unfolding all_lines
+all_lines_join R K [] fs = (K, refl)
+all_lines_join R K (e ∷ es) fs =
+    let more = all_lines_join R (kept_with K (e ∷ [])) es fs in
+    (more.0, rw more.1 (sym (append_assoc (lines_for R e (K e.whom.number)) (all_lines R (kept_with K (e ∷ [])) es) (all_lines R more.0 fs))))
 
 -- events of lines whose classes rise, before others of such
-pub join_spans : (R : Reading) (K : Kept) (a b c d : ℕ) (es fs : List Event) → b < c → a ≤ c → b ≤ d → Spans a b (utters R K es) → Always R c d fs → Spans a d (utters R K (es ++ fs))
+pub join_spans : (R : Reading) (K : Kept) (a b c d : ℕ) (es fs : List Event) → b < c → a ≤ c → b ≤ d → Spans a b (all_lines R K es) → Always R c d fs → Spans a d (all_lines R K (es ++ fs))
 unfolding Always
-join_spans R K a b c d es fs h k i s t = let both = utters_join R K es fs in rw both.1 (spans_join a b c d (utters R K es) (utters R both.0 fs) h k i s (t both.0))
+join_spans R K a b c d es fs h k i s t = let both = all_lines_join R K es fs in rw both.1 (spans_join a b c d (all_lines R K es) (all_lines R both.0 fs) h k i s (t both.0))
 
 pub always_join : (R : Reading) (a b c d : ℕ) (es fs : List Event) → b < c → a ≤ c → b ≤ d → Always R a b es → Always R c d fs → Always R a d (es ++ fs)
 unfolding Always
 always_join R a b c d es fs h k i s t K = join_spans R K a b c d es fs h k i (s K) t
 
 pub always_none : (R : Reading) (lo hi : ℕ) → Always R lo hi []
-unfolding Always utters
+unfolding Always all_lines
 always_none R lo hi K = spans_none lo hi
 
 pub always_if : (R : Reading) (lo hi : ℕ) (b : Bool) (es fs : List Event) → Always R lo hi es → Always R lo hi fs → Always R lo hi (if b then es else fs)
@@ -81,16 +82,16 @@ always_if R lo hi false es fs h k = k
 
 always_wider : (R : Reading) (a b lo hi : ℕ) (es : List Event) → a ≤ lo → hi ≤ b → Always R lo hi es → Always R a b es
 unfolding Always
-always_wider R a b lo hi es h k s K = spans_wider a b lo hi (utters R K es) h k (s K)
+always_wider R a b lo hi es h k s K = spans_wider a b lo hi (all_lines R K es) h k (s K)
 
-kept_spans : (R : Reading) (lo hi : ℕ) (e : Event) (o : Option (List ℕ)) → Tells R lo hi e.what → Spans lo hi (utters_kept R e o)
-unfolding Tells utters_kept
+kept_spans : (R : Reading) (lo hi : ℕ) (e : Event) (o : Option (List ℕ)) → Tells R lo hi e.what → Spans lo hi (lines_for R e o)
+unfolding Tells lines_for
 kept_spans R lo hi e None h = spans_none lo hi
 kept_spans R lo hi e (Some xs) h = h e xs (xs ++ joined e.whom.number (e ∷ []))
 
 pub always_one : (R : Reading) (lo hi : ℕ) (e : Event) → Tells R lo hi e.what → Always R lo hi (e ∷ [])
-unfolding Always utters
-always_one R lo hi e h K = subst (Spans lo hi) (sym (append-nil (utters_kept R e (K e.whom.number)))) (kept_spans R lo hi e (K e.whom.number) h)
+unfolding Always all_lines
+always_one R lo hi e h K = subst (Spans lo hi) (sym (append-nil (lines_for R e (K e.whom.number)))) (kept_spans R lo hi e (K e.whom.number) h)
 
 pub always_own : (R : Reading) (lo hi : ℕ) (now : Now) (what : Happening) → Tells R lo hi what → Always R lo hi (own now what)
 unfolding own

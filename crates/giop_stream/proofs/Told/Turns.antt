@@ -8,11 +8,11 @@ use Rattle.std.proofs.lemmas.List.{append-nil, length_push}
 use Rattle.giop_message.specs.Headers.{has_more, size, is_fragment, is_opener, is_cancel, has_name}
 use Rattle.giop_stream.specs.Framing.{Message}
 use Rattle.giop_message.specs.Reading.{Saying, Value, Fault, Reading, due, IsInTurn}
-use Rattle.giop_stream.specs.Effects.{IsBegun}
+use Rattle.giop_stream.specs.Effects.{IsBegun, lines_for, kept_with}
 use Rattle.giop_stream.specs.Events.{Happening, Begins, Takes, Closes, Title, Event, Open, title, place, own, about, opener_of, goes_past, at_header, at_octet, at_id, at_end, happens, octet, joined, now_of, header_acts, octet_acts, id_acts, end_acts, acts, Now}
 use Rattle.giop_stream.specs.Lines.{Line, Said, line, tells, is_last_of, standing}
 use Rattle.giop_stream.specs.State.{Kept}
-use Rattle.giop_stream.specs.Machine.{utters_kept, taking, utters}
+use Rattle.giop_stream.proofs.Told.Together.{all_lines}
 use Rattle.giop_stream.proofs.Lists.{each_filter}
 use Rattle.giop_stream.proofs.Told.Ordering.{rank_of, Rises, Fine, fine_of}
 use Rattle.giop_stream.proofs.Told.Spans.{Spans, spans_none, said_rank, SayingsRise, rank_said, said_each, said_rises, said_spans, both_say, value_spans}
@@ -73,8 +73,8 @@ event at whom what = record { place = at; whom = whom; what = what }
 module _ (R : Reading) (laws : IsInTurn R) where
   pair_by : (at : ℕ) (whom : Title) (x : ℕ) (o : Option (List ℕ))
       → (let take = event at whom (Takes x) in let more = option_map (λ xs. xs ++ joined whom.number (take ∷ [])) o in
-      Fine (utters_kept R take o ++ utters_kept R (event at whom Closes) more))
-  unfolding utters_kept tells
+      Fine (lines_for R take o ++ lines_for R (event at whom Closes) more))
+  unfolding lines_for tells
   pair_by at whom x None = fine_none
   pair_by at whom x (Some xs) =
       let all = xs ++ x ∷ [] in
@@ -85,25 +85,25 @@ module _ (R : Reading) (laws : IsInTurn R) where
       (both_say _ _ (laws.ordered.ordered header all (suc (length xs))) (laws.closing.closed header all)
       (laws.closing.over header xs x) (laws.closing.one_rest header xs x)))
 
-  pair_fine_at : (K : Kept) (at : ℕ) (whom : Title) (x : ℕ) → Fine (utters R K (event at whom (Takes x) ∷ event at whom Closes ∷ []))
-  unfolding utters taking
+  pair_fine_at : (K : Kept) (at : ℕ) (whom : Title) (x : ℕ) → Fine (all_lines R K (event at whom (Takes x) ∷ event at whom Closes ∷ []))
+  unfolding all_lines kept_with
   pair_fine_at K at whom x = rw (append-nil) (pair_by at whom x (K whom.number))
 
-  takes_alone : (K : Kept) (at : ℕ) (whom : Title) (x : ℕ) → Fine (utters R K (event at whom (Takes x) ∷ []))
+  takes_alone : (K : Kept) (at : ℕ) (whom : Title) (x : ℕ) → Fine (all_lines R K (event at whom (Takes x) ∷ []))
   unfolding Always
   takes_alone K at whom x = fine_of _ (always_one R 1 7 (event at whom (Takes x)) (tells_takes R laws.ordered x) K).rises
 
   -- the octet of a message, and perhaps its close
   takes_then : (K : Kept) (now : Now) (x : ℕ) (b : Bool) (es : List Event) → (es ≡ []) ⊎ (es ≡ own now Closes)
-      → Fine (utters R K (own now (Takes x) ++ (if b then es else [])))
+      → Fine (all_lines R K (own now (Takes x) ++ (if b then es else [])))
   unfolding own
   takes_then K now x false es h = takes_alone K now.place now.whom x
   takes_then K now x true es (inl h) = rw h (takes_alone K now.place now.whom x)
   takes_then K now x true es (inr h) = rw h (pair_fine_at K now.place now.whom x)
 
   passes_then : (K : Kept) (now : Now) (o : Option Open) (x : ℕ) (b : Bool) (es : List Event)
-      → (es ≡ []) ⊎ (es ≡ about now o Closes) → Fine (utters R K (about now o (Takes x) ++ (if b then es else [])))
-  unfolding about utters
+      → (es ≡ []) ⊎ (es ≡ about now o Closes) → Fine (all_lines R K (about now o (Takes x) ++ (if b then es else [])))
+  unfolding about all_lines
   passes_then K now None x false es h = fine_none
   passes_then K now None x true es (inl h) = rw h fine_none
   passes_then K now None x true es (inr h) = rw h fine_none
@@ -113,8 +113,8 @@ module _ (R : Reading) (laws : IsInTurn R) where
 
   -- the first octets of a message that begins with its request id
   named_takes : (at : ℕ) (whom : Title) (x : ℕ) (o : Option (List ℕ)) → has_name whom.header ≡ true
-      → ((xs : List ℕ) → o ≡ Some xs → length xs < 4) → Spans 1 1 (utters_kept R (event at whom (Takes x)) o)
-  unfolding utters_kept tells
+      → ((xs : List ℕ) → o ≡ Some xs → length xs < 4) → Spans 1 1 (lines_for R (event at whom (Takes x)) o)
+  unfolding lines_for tells
   named_takes at whom x None k few = spans_none 1 1
   named_takes at whom x (Some xs) k few =
       let short = few xs refl in
@@ -185,13 +185,13 @@ module _ (R : Reading) (laws : IsInTurn R) (K : Kept) (live : List Open) (m : Me
   close = if length m.payload == size m.header then at_end live m else []
 
   abbrev IsFine : Type 0
-  IsFine = Fine (utters R K (happens live m))
+  IsFine = Fine (all_lines R K (happens live m))
 
   own_named : has_name m.header ≡ true → 0 < length m.payload → length m.payload ≤ 4 → IsBegun K m
-      → Spans 1 1 (utters R K (own (now_of m) (Takes x)))
-  unfolding own utters
+      → Spans 1 1 (all_lines R K (own (now_of m) (Takes x)))
+  unfolding own all_lines
   own_named k some short begun =
-      subst (Spans 1 1) (sym (append-nil (utters_kept R (event (place m) (title m) (Takes x)) (K m.number))))
+      subst (Spans 1 1) (sym (append-nil (lines_for R (event (place m) (title m) (Takes x)) (K m.number))))
       (named_takes R laws (place m) (title m) x (K m.number) k (λ xs e. let less = begun some short xs e in omega arith))
 
   -- an octet of a message that does not begin with its request id, or one behind it
@@ -213,7 +213,7 @@ module _ (R : Reading) (laws : IsInTurn R) (K : Kept) (live : List Open) (m : Me
       long : ends_short m ≡ false
       long = not_short m (elim h [ inl k ↦ inl k | inr k ↦ inr (omega arith) ])
 
-      go : (b : Bool) → is_fragment m.header ≡ b → Fine (utters R K (at_octet live m ++ close))
+      go : (b : Bool) → is_fragment m.header ≡ b → Fine (all_lines R K (at_octet live m ++ close))
       go false f = unfold octet_acts goes_past in
           rw (f) (takes_then R laws K (now_of m) x (length m.payload == size m.header) (at_end live m) (at_end_whose live m long f))
       go true f = unfold octet_acts goes_past in
@@ -231,7 +231,7 @@ module _ (R : Reading) (laws : IsInTurn R) (K : Kept) (live : List Open) (m : Me
       (fine_of _ (join_spans R K 1 1 3 8 (own (now_of m) (Takes x)) _ (omega arith) (omega arith) (omega arith)
       (own_named h some short begun) (always_later R laws.closing live m fits)).rises)
 
-  first_rises : (b : Bool) → ends_short m ≡ b → Rises (utters R K (at_header m ++ close))
+  first_rises : (b : Bool) → ends_short m ≡ b → Rises (all_lines R K (at_header m ++ close))
   unfolding Always
   first_rises true short =
       (always_join R 0 0 5 8 (at_header m) close (omega arith) (omega arith) (omega arith) (short_begins R m short)
@@ -247,7 +247,7 @@ module _ (R : Reading) (laws : IsInTurn R) (K : Kept) (live : List Open) (m : Me
       (fine_of _ (first_rises (ends_short m) refl))
 
   -- The lines of an octet are in order, and those that stand have no two of one class.
-  pub happens_fine : length m.payload ≤ size m.header → (has_name m.header ≡ true → IsBegun K m) → Fine (utters R K (happens live m))
+  pub happens_fine : length m.payload ≤ size m.header → (has_name m.header ≡ true → IsBegun K m) → Fine (all_lines R K (happens live m))
   happens_fine fits begun = elim (cases_eq (length m.payload) 0) [
     | inl none ↦ first_octet none
     | inr some ↦ elim (cases_lt 4 (length m.payload)) [

@@ -3,9 +3,8 @@
 use Rattle.std.proofs.Common.{◌≡◌, ℕ, List, refl, codes}
 use Rattle.giop_message.specs.Reading.{Reading}
 use Rattle.giop_stream.specs.Text.{lines_text}
-use Rattle.giop_stream.specs.State.{slots_of, is_open}
-use Rattle.giop_stream.specs.Machine.{kept, utters_kept, taking, written, left_open}
-use Rattle.giop_stream.specs.Effects.{lines_at, tracked_at, effects}
+use Rattle.giop_stream.specs.State.{slots_of, is_open, kept, left_open}
+use Rattle.giop_stream.specs.Effects.{lines_at, tracked_at, effects, lines_for, kept_with, kept_after}
 use Rattle.giop_stream.specs.Events.{own, about, header_acts, octet_acts, id_acts, end_acts, acts}
 use Rattle.giop_stream.specs.Octet.{octet_in}
 use Rattle.giop_stream.specs.Engine.{own_for, owner_for}
@@ -17,7 +16,7 @@ record Runs (R : Reading) (p lines end : List ℕ) : Type 0 where
   closing : finish (run_state R fresh p) ≡ end
 
 unfoldable pub runs : ℕ
-unfolding slots_of is_open kept utters_kept taking written left_open lines_at tracked_at effects octet_in own about header_acts octet_acts id_acts end_acts acts own_for owner_for fresh octet_at live_of tracked_of id_of other_of events_at stepped ended held_on step run run_state left_over is_cut_short final_totals finish
+unfolding slots_of is_open kept lines_for kept_with kept_after left_open lines_at tracked_at effects octet_in own about header_acts octet_acts id_acts end_acts acts own_for owner_for fresh octet_at live_of tracked_of id_of other_of events_at stepped ended held_on step run run_state left_over is_cut_short final_totals finish
 runs = 0
 
 interleaved_runs : Runs (small 0) interleaved
