@@ -2,6 +2,7 @@
 use Rattle.std.specs.Prelude.{Bool, true, ◌≡◌, ℕ, ◌<◌, ◌≤◌, false, List, [], ◌∷◌, ◌++◌, length, Option, Some, None, if◌then◌else◌, option_map}
 use Rattle.std.specs.List.{list_any, AllByRecursion as Each}
 use Rattle.giop_message.specs.Reading.{Reading}
+use Rattle.giop_stream.specs.Rules.{Rules}
 use Rattle.giop_stream.specs.Events.{Happening, Begins, Takes, Opens, Continues, Cancelled, Imposed, Closes, Title, Event, Open, place, octet, changed, joined, open_after}
 use Rattle.giop_stream.specs.Lines.{Line, Started, Goes_on, tells, is_last_of, standing}
 use Rattle.giop_stream.specs.Framing.{Message, with_payload}
@@ -76,8 +77,8 @@ abbrev pub then_part : Part → Part → Part
 then_part one more = record { octets = more.octets; lines = one.lines ++ more.lines }
 
 -- what there is to know of the messages of a stream
-unfoldable pub stage : Reading → List ℕ → Tracked
-stage R p = record { live = open_after p; known = octets_of R p }
+unfoldable pub stage : Rules → List ℕ → Tracked
+stage R p = record { live = open_after R.most p; known = octets_of R p }
 
 -- ---- What an event does to the slots.
 

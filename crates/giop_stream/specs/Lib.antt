@@ -1,4 +1,5 @@
 pub mod Headers
+pub mod Rules
 pub mod Framing
 pub mod Kinds
 pub mod Events

@@ -1,7 +1,7 @@
 -- What is kept of each message of a stream, and of its open ones, said from the whole of it (state).
 use Rattle.std.specs.Prelude.{ℕ, Bool, List, [], ◌∷◌, map, Option, Some, None, ◌==◌, if◌then◌else◌}
 use Rattle.std.specs.List.{list_any}
-use Rattle.giop_message.specs.Reading.{Reading}
+use Rattle.giop_stream.specs.Rules.{Rules}
 use Rattle.giop_stream.specs.Events.{Open, events, joined}
 use Rattle.giop_stream.specs.Stream.{is_over}
 
@@ -15,8 +15,8 @@ abbrev pub Kept : Type 0
 Kept = ℕ → Option (List ℕ)
 
 -- the joined octets of this message, unless it is over
-unfoldable pub octets_of : Reading → List ℕ → Kept
-octets_of R p i = if is_over R p i then None else Some (joined i (events p))
+unfoldable pub octets_of : Rules → List ℕ → Kept
+octets_of R p i = if is_over R p i then None else Some (joined i (events R.most p))
 
 unfoldable pub is_open : List Open → ℕ → Bool
 is_open live i = list_any (λ o. o.opener.number == i) live

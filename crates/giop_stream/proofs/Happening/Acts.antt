@@ -17,10 +17,10 @@ or_true : (b : Bool) → (b || true) ≡ true
 or_true true = refl
 or_true false = refl
 
-module _ (live : List Open) (now : Now) (i j : ℕ) (o q : Option Open) where
-  at_four : now.come ≡ 4 → (b : Bool) → has_name now.whom.header ≡ b → (b ≡ true → (i ≡ j) × (o ≡ q)) → acts live now i o ≡ acts live now j q
+module _ (most : ℕ) (live : List Open) (now : Now) (i j : ℕ) (o q : Option Open) where
+  at_four : now.come ≡ 4 → (b : Bool) → has_name now.whom.header ≡ b → (b ≡ true → (i ≡ j) × (o ≡ q)) → acts most live now i o ≡ acts most live now j q
   unfolding acts octet_acts id_acts end_acts
-  at_four four true e h = let same = h refl in λ k. acts live now (same.0 k) (same.1 k)
+  at_four four true e h = let same = h refl in λ k. acts most live now (same.0 k) (same.1 k)
   at_four four false e h = let none = unnamed now.whom.header e in rw (none.0, none.1, none.2) refl
 
   short_end : now.come < 4 → is_fragment now.whom.header ≡ true → (b : Bool) → (now.come == size now.whom.header) ≡ b
@@ -35,7 +35,7 @@ module _ (live : List Open) (now : Now) (i j : ℕ) (o q : Option Open) where
   unfolding octet_acts
   few_octets few = rw (le-ltb 4 now.come (omega (arith, few)), and_right (is_fragment now.whom.header) false refl) refl
 
-  elsewhere : (now.come ≡ 4 → ⊥) → (b : Bool) → is_fragment now.whom.header ≡ b → (b ≡ true → 4 < now.come → o ≡ q) → acts live now i o ≡ acts live now j q
+  elsewhere : (now.come ≡ 4 → ⊥) → (b : Bool) → is_fragment now.whom.header ≡ b → (b ≡ true → 4 < now.come → o ≡ q) → acts most live now i o ≡ acts most live now j q
   unfolding acts octet_acts end_acts
   elsewhere other false f h = rw (ne_eqb now.come 4 other, f) refl
   elsewhere other true f h = elim (cases_lt 4 now.come) [
@@ -48,7 +48,7 @@ module _ (live : List Open) (now : Now) (i j : ℕ) (o q : Option Open) where
   ]
 
   pub acts_agree : (now.come ≡ 4 → has_name now.whom.header ≡ true → (i ≡ j) × (o ≡ q))
-      → (4 < now.come → is_fragment now.whom.header ≡ true → o ≡ q) → acts live now i o ≡ acts live now j q
+      → (4 < now.come → is_fragment now.whom.header ≡ true → o ≡ q) → acts most live now i o ≡ acts most live now j q
   acts_agree h k = elim (cases_eq now.come 4) [
     | inl four ↦ at_four four (has_name now.whom.header) refl (λ named. h four named)
     | inr other ↦ elsewhere other (is_fragment now.whom.header) refl (λ f past. k past f)

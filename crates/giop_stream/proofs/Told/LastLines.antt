@@ -4,6 +4,7 @@ use Rattle.std.specs.Prelude.{◌==◌, if◌then◌else◌, ◌||◌, flat_map}
 use Rattle.std.specs.List.{filter, list_any, AllByRecursion as Each}
 use Rattle.std.proofs.lemmas.Bool.{or_cases, or_right, or_left, and_parts, eq-eqb, eqb-true}
 use Rattle.giop_message.specs.Reading.{Saying, Reading, IsEnding, is_last}
+use Rattle.giop_stream.specs.Rules.{Rules}
 use Rattle.giop_stream.specs.Events.{Happening, Begins, Takes, Opens, Continues, Cancelled, Imposed, Closes, Event, events, joined}
 use Rattle.giop_stream.specs.Lines.{Class, Start, Said_value, Said_call, Continuing, Cancelling, Imposing, Said_rest, Said_fault, Said_end, Stop, rank, Said, class_of, Line, line, tells, classes, by_class, is_last_of, standing, said}
 use Rattle.giop_stream.specs.Stream.{is_over}
@@ -170,20 +171,20 @@ all_end R ending K (e ∷ es) = (
       (λ d. ends_more R K e es d) es (all_end R ending (kept_with K (e ∷ [])) es),
 )
 
-pub is_over_grows : (R : Reading) (p p' : List ℕ) (ls : List Line) (i : ℕ) → said R p' ≡ said R p ++ ls
+pub is_over_grows : (R : Rules) (p p' : List ℕ) (ls : List Line) (i : ℕ) → said R p' ≡ said R p ++ ls
     → is_over R p' i ≡ (is_over R p i || list_any (is_last_of i) ls)
 unfolding is_over
 is_over_grows R p p' ls i sd = rw sd (any_append (is_last_of i) (said R p) ls)
 
-pub octets_known : (R : Reading) (p : List ℕ) (i : ℕ) → is_over R p i ≡ false → octets_of R p i ≡ Some (joined i (events p))
+pub octets_known : (R : Rules) (p : List ℕ) (i : ℕ) → is_over R p i ≡ false → octets_of R p i ≡ Some (joined i (events R.most p))
 unfolding octets_of
 octets_known R p i h = rw h refl
 
 unfoldable pub Dead : (ℕ → Bool) → Event → Type 0
 Dead over e = is_final e.what ≡ true → over e.whom.number ≡ true
 
-dead_by : (R : Reading) (p p' : List ℕ) (es : List Event) → said R p' ≡ said R p ++ sorted_lines R (octets_of R p) es
-    → (e : Event) → Ends R (octets_of R p) es e → Dead (is_over R p') e
+dead_by : (R : Rules) (p p' : List ℕ) (es : List Event) → said R p' ≡ said R p ++ sorted_lines R.reading (octets_of R p) es
+    → (e : Event) → Ends R.reading (octets_of R p) es e → Dead (is_over R p') e
 unfolding Ends Dead sorted_lines
 dead_by R p p' es sd e ends h = go (is_over R p i) refl
   where
@@ -193,11 +194,11 @@ dead_by R p p' es sd e ends h = go (is_over R p i) refl
     go : (b : Bool) → is_over R p i ≡ b → is_over R p' i ≡ true
     go true k = is_over_grows R p p' _ i sd ∙ or_left (is_over R p i) _ k
     go false k =
-        let uttered = ends h (joined i (events p)) (octets_known R p i k) in
+        let uttered = ends h (joined i (events R.most p)) (octets_known R p i k) in
         is_over_grows R p p' _ i sd ∙ or_right (is_over R p i) _
-        (last_stands i (λ j. false) (by_class (all_lines R (octets_of R p) es)) refl
-        (any_by_class (is_last_of i) (all_lines R (octets_of R p) es) uttered))
+        (last_stands i (λ j. false) (by_class (all_lines R.reading (octets_of R p) es)) refl
+        (any_by_class (is_last_of i) (all_lines R.reading (octets_of R p) es) uttered))
 
-pub dead : (R : Reading) → IsEnding R → (p p' : List ℕ) (es : List Event)
-    → said R p' ≡ said R p ++ sorted_lines R (octets_of R p) es → Each (Dead (is_over R p')) es
-dead R ending p p' es sd = each_weaker (Ends R (octets_of R p) es) (Dead (is_over R p')) (dead_by R p p' es sd) es (all_end R ending (octets_of R p) es)
+pub dead : (R : Rules) → IsEnding R.reading → (p p' : List ℕ) (es : List Event)
+    → said R p' ≡ said R p ++ sorted_lines R.reading (octets_of R p) es → Each (Dead (is_over R p')) es
+dead R ending p p' es sd = each_weaker (Ends R.reading (octets_of R p) es) (Dead (is_over R p')) (dead_by R p p' es sd) es (all_end R.reading ending (octets_of R p) es)

@@ -6,6 +6,7 @@ use Rattle.std.proofs.lemmas.Bool.{ne_eqb, eq-eqb}
 use Rattle.std.proofs.lemmas.List.Elements.{filter-append}
 use Rattle.giop_stream.specs.declared.fault.ImposedFault.{ImposedFault}
 use Rattle.giop_message.specs.Headers.{size, is_fragment}
+use Rattle.giop_stream.specs.Rules.{Rules}
 use Rattle.giop_stream.specs.Framing.{Message}
 use Rattle.giop_stream.specs.Kinds.{refused}
 use Rattle.giop_stream.specs.Events.{Happening, Begins, Takes, Opens, Continues, Cancelled, Imposed, Closes, Event, Open, title, place, id, own, about, opener_of, imposed, at_octet, at_id, at_end, happens, joined, now_of, header_acts, octet_acts, Now}
@@ -101,27 +102,27 @@ quiet_octet now other =
     (quiet_about now other (Takes now.octet) (calm_takes now.octet)) (quiet_own now (Takes now.octet) (calm_takes now.octet))
 
 -- what an octet does behind its first part
-later_part : List Open → Message → List Event
-later_part live m = (if length m.payload == 4 then at_id live m else []) ++ (if length m.payload == size m.header then at_end live m else [])
+later_part : (most : ℕ) → List Open → Message → List Event
+later_part most live m = (if length m.payload == 4 then at_id most live m else []) ++ (if length m.payload == size m.header then at_end live m else [])
 
-quiet_later : (live : List Open) (m : Message) → Each Quiet (later_part live m)
+quiet_later : (most : ℕ) (live : List Open) (m : Message) → Each Quiet (later_part most live m)
 unfolding later_part
-quiet_later live m =
-    of_later (Each Quiet) (record { none = tt; both = each_append Quiet }) live (now_of m) (id m) (opener_of live m) (record {
+quiet_later most live m =
+    of_later most (Each Quiet) (record { none = tt; both = each_append Quiet }) live (now_of m) (id m) (opener_of live m) (record {
       mine = λ what later. quiet_own (now_of m) what (calm what later);
       theirs = λ what later. quiet_about (now_of m) (opener_of live m) what (calm what later);
     })
 
-pub none_later : (R : Reading) (K : Kept) (live : List Open) (m : Message) → 0 < length m.payload → start_count (sorted_lines R K (happens live m)) ≡ 0
+pub none_later : (R : Rules) (K : Kept) (live : List Open) (m : Message) → 0 < length m.payload → start_count (sorted_lines R.reading K (happens R.most live m)) ≡ 0
 unfolding sorted_lines by_class happens later_part
 none_later R K live m h =
-    let es : List Event = at_octet live m ++ later_part live m in
-    let quiet : Each Quiet es = each_append Quiet (at_octet live m) (later_part live m) (quiet_octet (now_of m) (opener_of live m)) (quiet_later live m) in
-    let all : Each NoStart (all_lines R K es) = all_lines_none R K es quiet in
+    let es : List Event = at_octet live m ++ later_part R.most live m in
+    let quiet : Each Quiet es = each_append Quiet (at_octet live m) (later_part R.most live m) (quiet_octet (now_of m) (opener_of live m)) (quiet_later R.most live m) in
+    let all : Each NoStart (all_lines R.reading K es) = all_lines_none R.reading K es quiet in
     rw (ne_eqb (length m.payload) 0 (λ e. omega arith))
-    (none_count (standing (λ i. false) (flat_map (λ class. filter (has_class class) (all_lines R K es)) classes))
-    (standing_each NoStart (λ i. false) (flat_map (λ class. filter (has_class class) (all_lines R K es)) classes)
-    (classes_each NoStart (all_lines R K es) classes all)))
+    (none_count (standing (λ i. false) (flat_map (λ class. filter (has_class class) (all_lines R.reading K es)) classes))
+    (standing_each NoStart (λ i. false) (flat_map (λ class. filter (has_class class) (all_lines R.reading K es)) classes)
+    (classes_each NoStart (all_lines R.reading K es) classes all)))
 
 -- the start line comes before all others
 no_start_class : (ls : List Line) → Each NoStart ls → filter (has_class Start) ls ≡ []
@@ -168,18 +169,18 @@ first_of_all : (e : Event) (header : List ℕ) (more : List Line) → Each NoSta
 unfolding line
 first_of_all e header more h = start_first (record { place = e.place; number = e.whom.number; content = Started header }) header more refl h
 
-pub one_first : (R : Reading) (K : Kept) (live : List Open) (m : Message) (xs : List ℕ) → m.payload ≡ []
-    → K m.number ≡ Some xs → start_count (sorted_lines R K (happens live m)) ≡ 1
+pub one_first : (R : Rules) (K : Kept) (live : List Open) (m : Message) (xs : List ℕ) → m.payload ≡ []
+    → K m.number ≡ Some xs → start_count (sorted_lines R.reading K (happens R.most live m)) ≡ 1
 unfolding sorted_lines happens header_acts own later_part
 one_first R K live m xs pay known =
     let e : Event = record { place = place m; whom = title m; what = Begins } in
-    let rest : List Event = imposed (now_of m) (refused m.header) ++ later_part live m in
-    let more : List Line = all_lines R (kept_with K (e ∷ [])) rest in
+    let rest : List Event = imposed (now_of m) (refused m.header) ++ later_part R.most live m in
+    let more : List Line = all_lines R.reading (kept_with K (e ∷ [])) rest in
     let none : Each NoStart more =
-    all_lines_none R (kept_with K (e ∷ [])) rest (each_append Quiet (imposed (now_of m) (refused m.header)) (later_part live m)
-    (quiet_imposed (now_of m) (refused m.header)) (quiet_later live m)) in
+    all_lines_none R.reading (kept_with K (e ∷ [])) rest (each_append Quiet (imposed (now_of m) (refused m.header)) (later_part R.most live m)
+    (quiet_imposed (now_of m) (refused m.header)) (quiet_later R.most live m)) in
     let empty : length m.payload ≡ 0 = rw pay refl in
-    let said : all_lines R K (e ∷ rest) ≡ line e (Started m.header) ∷ more = begun R K m e xs rest refl refl known in
+    let said : all_lines R.reading K (e ∷ rest) ≡ line e (Started m.header) ∷ more = begun R.reading K m e xs rest refl refl known in
     let calm : Each NoStart (standing (λ i. false || is_last_of i (line e (Started m.header))) (by_class more)) =
     standing_each NoStart (λ i. false || is_last_of i (line e (Started m.header))) (by_class more) (by_class_each more none) in
     rw (eq-eqb (length m.payload) 0 empty, said, first_of_all e m.header more none)

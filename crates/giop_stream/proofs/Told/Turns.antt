@@ -6,6 +6,7 @@ use Rattle.std.specs.List.{AllByRecursion as Each}
 use Rattle.std.proofs.lemmas.Bool.{cases_lt, cases_eq, le-ltb, lt-ltb, eq-eqb, ne_eqb, and_parts, and_right}
 use Rattle.std.proofs.lemmas.List.{append-nil, length_push}
 use Rattle.giop_message.specs.Headers.{has_more, size, is_fragment, is_opener, is_cancel, has_name}
+use Rattle.giop_stream.specs.Rules.{Rules}
 use Rattle.giop_stream.specs.Framing.{Message}
 use Rattle.giop_message.specs.Reading.{Saying, Value, Fault, Reading, due, IsInTurn}
 use Rattle.giop_stream.specs.Effects.{IsBegun, lines_for, kept_with}
@@ -160,9 +161,9 @@ unnamed header h = go (is_opener header) (is_fragment header) (is_cancel header)
     go false false true h = absurd cc
     go false false false h = (refl, refl, refl)
 
-unnamed_id : (live : List Open) (m : Message) → has_name m.header ≡ false → at_id live m ≡ []
+unnamed_id : (most : ℕ) (live : List Open) (m : Message) → has_name m.header ≡ false → at_id most live m ≡ []
 unfolding id_acts
-unnamed_id live m h = let parts = unnamed m.header h in rw (id_acts, parts.0, parts.1, parts.2) refl
+unnamed_id most live m h = let parts = unnamed m.header h in rw (id_acts, parts.0, parts.1, parts.2) refl
 
 -- no message with an octet behind its request id is too short for one
 not_short : (m : Message) → (has_name m.header ≡ false) ⊎ (4 ≤ size m.header) → ends_short m ≡ false
@@ -176,7 +177,7 @@ short_begins R m short =
     let named : has_name m.header ≡ true = rw ((and_parts (nat_lt (size m.header) 4) (is_opener m.header || is_fragment m.header) short).1) refl in
     rw (named_accepted m.header named) (always_own R 0 0 (now_of m) Begins (tells_begins R))
 
-module _ (R : Reading) (laws : IsInTurn R) (K : Kept) (live : List Open) (m : Message) where
+module _ (R : Rules) (laws : IsInTurn R.reading) (K : Kept) (live : List Open) (m : Message) where
   abbrev x : ℕ
   x = (now_of m).octet
 
@@ -185,14 +186,14 @@ module _ (R : Reading) (laws : IsInTurn R) (K : Kept) (live : List Open) (m : Me
   close = if length m.payload == size m.header then at_end live m else []
 
   abbrev IsFine : Type 0
-  IsFine = Fine (all_lines R K (happens live m))
+  IsFine = Fine (all_lines R.reading K (happens R.most live m))
 
   own_named : has_name m.header ≡ true → 0 < length m.payload → length m.payload ≤ 4 → IsBegun K m
-      → Spans 1 1 (all_lines R K (own (now_of m) (Takes x)))
+      → Spans 1 1 (all_lines R.reading K (own (now_of m) (Takes x)))
   unfolding own all_lines
   own_named k some short begun =
-      subst (Spans 1 1) (sym (append-nil (lines_for R (event (place m) (title m) (Takes x)) (K m.number))))
-      (named_takes R laws (place m) (title m) x (K m.number) k (λ xs e. let less = begun some short xs e in omega arith))
+      subst (Spans 1 1) (sym (append-nil (lines_for R.reading (event (place m) (title m) (Takes x)) (K m.number))))
+      (named_takes R.reading laws (place m) (title m) x (K m.number) k (λ xs e. let less = begun some short xs e in omega arith))
 
   -- an octet of a message that does not begin with its request id, or one behind it
   plain_octet : 0 < length m.payload → (has_name m.header ≡ false) ⊎ (4 < length m.payload) → length m.payload ≤ size m.header → IsFine
@@ -200,9 +201,9 @@ module _ (R : Reading) (laws : IsInTurn R) (K : Kept) (live : List Open) (m : Me
   plain_octet some h fits =
       rw (happens, acts, ne_eqb (length m.payload) 0 (λ e. omega arith), second) (go (is_fragment m.header) refl)
     where
-      second : (if length m.payload == 4 then at_id live m else []) ≡ []
+      second : (if length m.payload == 4 then at_id R.most live m else []) ≡ []
       second = elim h [
-        | inl k ↦ rw (unnamed_id live m k) (both (length m.payload == 4))
+        | inl k ↦ rw (unnamed_id R.most live m k) (both (length m.payload == 4))
         | inr k ↦ rw (ne_eqb (length m.payload) 4 (λ e. omega arith)) refl
       ]
         where
@@ -213,13 +214,13 @@ module _ (R : Reading) (laws : IsInTurn R) (K : Kept) (live : List Open) (m : Me
       long : ends_short m ≡ false
       long = not_short m (elim h [ inl k ↦ inl k | inr k ↦ inr (omega arith) ])
 
-      go : (b : Bool) → is_fragment m.header ≡ b → Fine (all_lines R K (at_octet live m ++ close))
+      go : (b : Bool) → is_fragment m.header ≡ b → Fine (all_lines R.reading K (at_octet live m ++ close))
       go false f = unfold octet_acts goes_past in
-          rw (f) (takes_then R laws K (now_of m) x (length m.payload == size m.header) (at_end live m) (at_end_whose live m long f))
+          rw (f) (takes_then R.reading laws K (now_of m) x (length m.payload == size m.header) (at_end live m) (at_end_whose live m long f))
       go true f = unfold octet_acts goes_past in
           let past : 4 < length m.payload = elim h [ inl k ↦ absurd (let no = (unnamed m.header k).1 in cc) | inr k ↦ k ] in
           rw (f, lt-ltb 4 (length m.payload) past)
-          (passes_then R laws K (now_of m) (opener_of live m) x (length m.payload == size m.header) (at_end live m)
+          (passes_then R.reading laws K (now_of m) (opener_of live m) x (length m.payload == size m.header) (at_end live m)
           (at_end_past live m long f))
 
   -- an octet of a request id
@@ -228,17 +229,17 @@ module _ (R : Reading) (laws : IsInTurn R) (K : Kept) (live : List Open) (m : Me
   unfolding happens octet_acts goes_past
   named_octet some h short fits begun =
       rw (happens, acts, octet_acts, ne_eqb (length m.payload) 0 (λ e. omega arith), not_past m short)
-      (fine_of _ (join_spans R K 1 1 3 8 (own (now_of m) (Takes x)) _ (omega arith) (omega arith) (omega arith)
+      (fine_of _ (join_spans R.reading K 1 1 3 8 (own (now_of m) (Takes x)) _ (omega arith) (omega arith) (omega arith)
       (own_named h some short begun) (always_later R laws.closing live m fits)).rises)
 
-  first_rises : (b : Bool) → ends_short m ≡ b → Rises (all_lines R K (at_header m ++ close))
+  first_rises : (b : Bool) → ends_short m ≡ b → Rises (all_lines R.reading K (at_header m ++ close))
   unfolding Always
   first_rises true short =
-      (always_join R 0 0 5 8 (at_header m) close (omega arith) (omega arith) (omega arith) (short_begins R m short)
-      (always_if R 5 8 (length m.payload == size m.header) (at_end live m) [] (always_end R laws.closing live m) (always_none R 5 8)) K).rises
+      (always_join R.reading 0 0 5 8 (at_header m) close (omega arith) (omega arith) (omega arith) (short_begins R.reading m short)
+      (always_if R.reading 5 8 (length m.payload == size m.header) (at_end live m) [] (always_end R.reading laws.closing live m) (always_none R.reading 5 8)) K).rises
   first_rises false long =
-      (always_join R 0 5 6 8 (at_header m) close (omega arith) (omega arith) (omega arith) (always_header R (now_of m))
-      (always_if R 6 8 (length m.payload == size m.header) (at_end live m) [] (always_close R laws.closing live m long) (always_none R 6 8)) K).rises
+      (always_join R.reading 0 5 6 8 (at_header m) close (omega arith) (omega arith) (omega arith) (always_header R.reading (now_of m))
+      (always_if R.reading 6 8 (length m.payload == size m.header) (at_end live m) [] (always_close R.reading laws.closing live m long) (always_none R.reading 6 8)) K).rises
 
   first_octet : length m.payload ≡ 0 → IsFine
   unfolding happens
@@ -247,7 +248,7 @@ module _ (R : Reading) (laws : IsInTurn R) (K : Kept) (live : List Open) (m : Me
       (fine_of _ (first_rises (ends_short m) refl))
 
   -- The lines of an octet are in order, and those that stand have no two of one class.
-  pub happens_fine : length m.payload ≤ size m.header → (has_name m.header ≡ true → IsBegun K m) → Fine (all_lines R K (happens live m))
+  pub happens_fine : length m.payload ≤ size m.header → (has_name m.header ≡ true → IsBegun K m) → Fine (all_lines R.reading K (happens R.most live m))
   happens_fine fits begun = elim (cases_eq (length m.payload) 0) [
     | inl none ↦ first_octet none
     | inr some ↦ elim (cases_lt 4 (length m.payload)) [
