@@ -2,10 +2,10 @@
 use Rattle.std.proofs.Common.{◌≡◌, List, ℕ, [], ◌++◌, Option, Some, None, refl, append-nil, IsSome}
 use Rattle.std.proofs.Math.Seq.{drop-length}
 use Rattle.giop_print.specs.Output.{OutLog, Wrote}
-use Rattle.giop_message.specs.Reading.{Reading}
+use Rattle.giop_stream.specs.Rules.{Rules}
 use Rattle.giop_stream.specs.Framing.{cut, fault_of}
 use Rattle.giop_stream.specs.Stream.{text}
-use Rattle.giop_stream.specs.Holding.{added, status_of, reading_of}
+use Rattle.giop_stream.specs.Holding.{added, status_of, rules_of}
 use Rattle.giop_checkpoint.specs.declared.fault.StreamFault.{StreamFault}
 use Rattle.giop_stream.specs.declared.status.Status.TheVariants.{Running, Stopped}
 use Rattle.giop_stream.specs.Remembering.{EngineMemory}
@@ -14,19 +14,19 @@ use Rattle.giop_print.proofs.Writing.{wrote-nil}
 use Rattle.giop_run.specs.Running.{IsStopped}
 use Rattle.giop_run.specs.Turns.{IsRunning}
 
-pub added-nil : (R : Reading) (p : List ℕ) → added R p [] ≡ []
+pub added-nil : (R : Rules) (p : List ℕ) → added R p [] ≡ []
 unfolding added
 added-nil R p = rw append-nil (drop-length (text R p))
 
 -- what octets add to the text of a stream, and then others
-abbrev pub AddsUp : Reading → Type 0
+abbrev pub AddsUp : Rules → Type 0
 AddsUp R = (p s t : List ℕ) → added R p (s ++ t) ≡ added R p s ++ added R (p ++ s) t
 
-pub adds_up : (e : EngineMemory) → AddsUp (reading_of e)
-adds_up e p s t = added_both e.table e.listed p s t
+pub adds_up : (e : EngineMemory) → AddsUp (rules_of e)
+adds_up e p s t = added_both e.table e.listed e.most p s t
 
 -- nothing is due where nothing was read
-pub wrote-none : (R : Reading) (a : OutLog) (p : List ℕ) → Wrote a a (added R p [])
+pub wrote-none : (R : Rules) (a : OutLog) (p : List ℕ) → Wrote a a (added R p [])
 wrote-none R a p = rw added-nil (wrote-nil a)
 
 running_fault : (o : Option (ℕ × StreamFault)) → Running ≡ status_of (fault_of o) → o ≡ None

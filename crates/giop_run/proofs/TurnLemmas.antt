@@ -2,10 +2,10 @@
 use Rattle.std.proofs.Common.{◌≡◌, ℕ, ◌+◌, ◌^◌, ◌<◌, ◌≤◌, List, [], ◌++◌, drop, refl, sym, subst, ap, ◌∙◌, append-nil, append_assoc, arith, Bool, Result, Ok, Err, true, false, inl, inr, Option}
 use Rattle.std.proofs.lemmas.List.Elements.{All-nil, All-append}
 use Rattle.giop_print.specs.Output.{OutLog, counted}
-use Rattle.giop_message.specs.Reading.{Reading}
+use Rattle.giop_stream.specs.Rules.{Rules}
 use Rattle.giop_stream.specs.Stream.{closing}
 use Rattle.giop_stream.specs.Engine.{state_of}
-use Rattle.giop_stream.specs.Holding.{added, Holds, reading_of}
+use Rattle.giop_stream.specs.Holding.{added, Holds, rules_of}
 use Rattle.giop_stream.specs.Remembering.{EngineMemory}
 use Rattle.giop_stream.specs.Checkpoint.{Saves}
 use Rattle.giop_print.proofs.Writing.{wrote-append, wrote-front, front-append, wrote-nil}
@@ -26,7 +26,7 @@ use Rattle.giop_run.proofs.ReadLemmas.{consumes-same, consumes-append}
 -- one turn
 
 -- a read of some octets, and their feed
-pub turned_on : (R : Reading) (r : Result Bool RunFault) (p s : List ℕ) (e : EngineMemory) (a b : SourceLog) (x y : OutLog) → OneRead s a b → b.failures ≡ a.failures → b.ends ≡ a.ends → Fed R r p s e x y → Turned R r p s e a b x y
+pub turned_on : (R : Rules) (r : Result Bool RunFault) (p s : List ℕ) (e : EngineMemory) (a b : SourceLog) (x y : OutLog) → OneRead s a b → b.failures ≡ a.failures → b.ends ≡ a.ends → Fed R r p s e x y → Turned R r p s e a b x y
 turned_on R (Ok true) p s e a b x y n k l f = (n, k, l, f.0, f.1)
 turned_on R (Ok false) p s e a b x y n k l f = (n, k, inr f.1, f.0)
 turned_on R (Err fault.Out) p s e a b x y n k l f = (n, k, f)
@@ -35,21 +35,21 @@ turned_on R (Err fault.Turns) p s e a b x y n k l f = absurd f
 turned_on R (Err fault.Failed) p s e a b x y n k l f = absurd f
 
 -- an engine that reads messages by R did this by R
-turned_by : (Q R : Reading) (r : Result Bool RunFault) (p s : List ℕ) (e : EngineMemory) (a b : SourceLog) (x y : OutLog) → Q ≡ R → Turned Q r p s e a b x y → Turned R r p s e a b x y
+turned_by : (Q R : Rules) (r : Result Bool RunFault) (p s : List ℕ) (e : EngineMemory) (a b : SourceLog) (x y : OutLog) → Q ≡ R → Turned Q r p s e a b x y → Turned R r p s e a b x y
 turned_by Q R r p s e a b x y q t = subst (λ z. Turned z r p s e a b x y) q t
 
 -- an engine that reads by what a run reads by closed it
-closed_by : (w : Way) (d : EngineMemory) (r : Result Report RunFault) (p : List ℕ) (x y : OutLog) → (d.table ≡ w.table) × (d.listed ≡ w.listed) → Closed (way_of d w.ending w.before w.after) r p x y → Closed w r p x y
-closed_by w d r p x y (t, l) q = rw (t, l) at q
+closed_by : (w : Way) (d : EngineMemory) (r : Result Report RunFault) (p : List ℕ) (x y : OutLog) → (d.table ≡ w.table) × (d.listed ≡ w.listed) × (d.most ≡ w.most) → Closed (way_of d w.ending w.before w.after) r p x y → Closed w r p x y
+closed_by w d r p x y (t, l, n) q = rw (t, l, n) at q
 
 -- nothing was read
-pub took-none : (R : Reading) (p : List ℕ) (e : EngineMemory) (x : OutLog) → reading_of e ≡ R → Holds e p → Took R p [] e x x
+pub took-none : (R : Rules) (p : List ℕ) (e : EngineMemory) (x : OutLog) → rules_of e ≡ R → Holds e p → Took R p [] e x x
 took-none R p e x r h = record { reads = r; holds = rw append-nil h; written = wrote-none R x p }
 
 -- a flush
 
 -- what was written stays written
-pub going_flushed : (R : Reading) (p s : List ℕ) (e : EngineMemory) (k : ℕ) (a b : SourceLog) (x y z : OutLog) (kept : List ℕ) → Going R p s e k a b x y → Flushed y z kept → Going R p s e k a b x z
+pub going_flushed : (R : Rules) (p s : List ℕ) (e : EngineMemory) (k : ℕ) (a b : SourceLog) (x y z : OutLog) (kept : List ℕ) → Going R p s e k a b x y → Flushed y z kept → Going R p s e k a b x z
 going_flushed R p s e k a b x y z kept g f =
     record {
       began = g.began;
@@ -64,25 +64,25 @@ going_flushed R p s e k a b x y z kept g f =
     }
 
 -- the finish of a stream, where it or the flush may fail
-pub closed_flushed : (e : EngineMemory) (t : Totals) (p room : List ℕ) (x y z : OutLog) (kept : List ℕ) → Completed (reading_of e) (Ok t) p x y → Flushed y z kept → Closed (way_of e endings.Finish room room) (Ok (record { totals = t; saved = 0 })) p x z
+pub closed_flushed : (e : EngineMemory) (t : Totals) (p room : List ℕ) (x y z : OutLog) (kept : List ℕ) → Completed (rules_of e) (Ok t) p x y → Flushed y z kept → Closed (way_of e endings.Finish room room) (Ok (record { totals = t; saved = 0 })) p x z
 closed_flushed e t p room x y z kept (w, f) q =
     record {
-      written = wrote_flushed x y z (closing (reading_of e) p) kept w q;
+      written = wrote_flushed x y z (closing (rules_of e) p) kept w q;
       ended = record { totals = f; saved = refl; room = refl };
     }
 
-pub closed_cut : (e : EngineMemory) (t : Totals) (p room : List ℕ) (x y z : OutLog) → Completed (reading_of e) (Ok t) p x y → FlushFailed y z → Closed (way_of e endings.Finish room room) (Err fault.Out) p x z
+pub closed_cut : (e : EngineMemory) (t : Totals) (p room : List ℕ) (x y z : OutLog) → Completed (rules_of e) (Ok t) p x y → FlushFailed y z → Closed (way_of e endings.Finish room room) (Err fault.Out) p x z
 closed_cut e t p room x y z (w, f) q =
-    rw append-nil at (wrote-front x y z (closing (reading_of e) p) [] w (flush_front y z [] q))
+    rw append-nil at (wrote-front x y z (closing (rules_of e) p) [] w (flush_front y z [] q))
 
-pub closed_unfinished : (e : EngineMemory) (r : RunFault) (p room : List ℕ) (x y : OutLog) → Completed (reading_of e) (Err r) p x y → Closed (way_of e endings.Finish room room) (Err r) p x y
+pub closed_unfinished : (e : EngineMemory) (r : RunFault) (p room : List ℕ) (x y : OutLog) → Completed (rules_of e) (Err r) p x y → Closed (way_of e endings.Finish room room) (Err r) p x y
 closed_unfinished e fault.Out p room x y f = f
 closed_unfinished e fault.Read p room x y f = absurd f
 closed_unfinished e fault.Turns p room x y f = absurd f
 closed_unfinished e fault.Failed p room x y f = absurd f
 
 -- a checkpoint of a stream, where its flush may fail
-pub closed_saved : (e : EngineMemory) (n : ℕ) (p before after : List ℕ) (x y : OutLog) (kept : List ℕ) → Holds e p → Flushed x y kept → Saves n after e.table e.listed p → drop n after ≡ drop n before → Closed (way_of e endings.Save before after) (Ok (record { totals = e.stream.totals; saved = n })) p x y
+pub closed_saved : (e : EngineMemory) (n : ℕ) (p before after : List ℕ) (x y : OutLog) (kept : List ℕ) → Holds e p → Flushed x y kept → Saves n after e.table e.listed e.most p → drop n after ≡ drop n before → Closed (way_of e endings.Save before after) (Ok (record { totals = e.stream.totals; saved = n })) p x y
 unfolding state_of
 closed_saved e n p before after x y kept h f s d =
     record {
@@ -111,7 +111,7 @@ given_none p a =
       };
     }
 
-given_more : (R : Reading) (p s t : List ℕ) (e : EngineMemory) (k : ℕ) (a b c : SourceLog) (x y : OutLog) → Going R p s e k a b x y → OneRead t b c → k < 2 ^ 40 → Given p (s ++ t) a c
+given_more : (R : Rules) (p s t : List ℕ) (e : EngineMemory) (k : ℕ) (a b c : SourceLog) (x y : OutLog) → Going R p s e k a b x y → OneRead t b c → k < 2 ^ 40 → Given p (s ++ t) a c
 unfolding counted
 given_more R p s t e k a b c x y g u h =
     record {
@@ -128,7 +128,7 @@ given_more R p s t e k a b c x y g u h =
       };
     }
 
-pub going_start : (R : Reading) (p : List ℕ) (e : EngineMemory) (a : SourceLog) (x y : OutLog) → Fed R (Ok true) p [] e x y → Going R p [] e 0 a a x y
+pub going_start : (R : Rules) (p : List ℕ) (e : EngineMemory) (a : SourceLog) (x y : OutLog) → Fed R (Ok true) p [] e x y → Going R p [] e 0 a a x y
 going_start R p e a x y f =
     record {
       began = rw append-nil at f.1;
@@ -142,7 +142,7 @@ going_start R p e a x y f =
       ends = refl;
     }
 
-going_on : (R : Reading) → AddsUp R → (p s t : List ℕ) (e d : EngineMemory) (k : ℕ) (a b c : SourceLog) (x y z : OutLog) → Going R p s e k a b x y → Turned R (Ok true) (p ++ s) t d b c y z → Going R p (s ++ t) d (k + 1) a c x z
+going_on : (R : Rules) → AddsUp R → (p s t : List ℕ) (e d : EngineMemory) (k : ℕ) (a b c : SourceLog) (x y z : OutLog) → Going R p s e k a b x y → Turned R (Ok true) (p ++ s) t d b c y z → Going R p (s ++ t) d (k + 1) a c x z
 unfolding counted
 going_on R adds p s t e d k a b c x y z g (u, failures, ends, took, running) =
     record {
@@ -161,9 +161,9 @@ going_on R adds p s t e d k a b c x y z g (u, failures, ends, took, running) =
       ends = ends ∙ g.ends;
     }
 
-pub going_more : (R : Reading) → AddsUp R → (p s t : List ℕ) (e d : EngineMemory) (k : ℕ) (a b c : SourceLog) (x y z : OutLog) → Going R p s e k a b x y → Turned (reading_of e) (Ok true) (p ++ s) t d b c y z → Going R p (s ++ t) d (k + 1) a c x z
+pub going_more : (R : Rules) → AddsUp R → (p s t : List ℕ) (e d : EngineMemory) (k : ℕ) (a b c : SourceLog) (x y z : OutLog) → Going R p s e k a b x y → Turned (rules_of e) (Ok true) (p ++ s) t d b c y z → Going R p (s ++ t) d (k + 1) a c x z
 going_more R adds p s t e d k a b c x y z g u =
-    going_on R adds p s t e d k a b c x y z g (turned_by (reading_of e) R (Ok true) (p ++ s) t d b c y z g.took.reads u)
+    going_on R adds p s t e d k a b c x y z g (turned_by (rules_of e) R (Ok true) (p ++ s) t d b c y z g.took.reads u)
 
 -- the last turn
 
@@ -184,12 +184,12 @@ failed_on w adds fault.Out p s t e d k a b c x y z g (u, failures, front) h =
 failed_on w adds fault.Turns p s t e d k a b c x y z g u h = absurd u
 failed_on w adds fault.Failed p s t e d k a b c x y z g u h = absurd u
 
-pub ran_err : (w : Way) → AddsUp (reads_by w) → (r : RunFault) (p s t : List ℕ) (e d : EngineMemory) (k : ℕ) (a b c : SourceLog) (x y z : OutLog) → Going (reads_by w) p s e k a b x y → Turned (reading_of e) (Err r) (p ++ s) t d b c y z → k < 2 ^ 40 → Ran w (Err r) p (s ++ t) a c x z
+pub ran_err : (w : Way) → AddsUp (reads_by w) → (r : RunFault) (p s t : List ℕ) (e d : EngineMemory) (k : ℕ) (a b c : SourceLog) (x y z : OutLog) → Going (reads_by w) p s e k a b x y → Turned (rules_of e) (Err r) (p ++ s) t d b c y z → k < 2 ^ 40 → Ran w (Err r) p (s ++ t) a c x z
 ran_err w adds r p s t e d k a b c x y z g u h =
-    failed_on w adds r p s t e d k a b c x y z g (turned_by (reading_of e) (reads_by w) (Err r) (p ++ s) t d b c y z g.took.reads u) h
+    failed_on w adds r p s t e d k a b c x y z g (turned_by (rules_of e) (reads_by w) (Err r) (p ++ s) t d b c y z g.took.reads u) h
 
 -- the source gave what went in
-given_all : (R : Reading) (p s : List ℕ) (e : EngineMemory) (k : ℕ) (a b : SourceLog) (x y : OutLog) → Going R p s e k a b x y → k ≤ 2 ^ 40 → Given p s a b
+given_all : (R : Rules) (p s : List ℕ) (e : EngineMemory) (k : ℕ) (a b : SourceLog) (x y : OutLog) → Going R p s e k a b x y → k ≤ 2 ^ 40 → Given p s a b
 given_all R p s e k a b x y g h =
     record {
       left = g.left;
@@ -206,7 +206,7 @@ given_all R p s e k a b x y g h =
     }
 
 -- no turn is left
-pub ran_turns : (R : Reading) (p s : List ℕ) (e : EngineMemory) (k : ℕ) (a b : SourceLog) (x y : OutLog) → Going R p s e k a b x y → k ≡ 2 ^ 40 → ReadsSpent R p s a b x y
+pub ran_turns : (R : Rules) (p s : List ℕ) (e : EngineMemory) (k : ℕ) (a b : SourceLog) (x y : OutLog) → Going R p s e k a b x y → k ≡ 2 ^ 40 → ReadsSpent R p s a b x y
 ran_turns R p s e k a b x y g h =
     record {
       given = given_all R p s e k a b x y g (omega arith);
@@ -255,10 +255,10 @@ over_on w adds (Err fault.Read) p s t e d k a b c x y z o g u h q = absurd q
 over_on w adds (Err fault.Turns) p s t e d k a b c x y z o g u h q = absurd q
 over_on w adds (Err fault.Failed) p s t e d k a b c x y z o g u h q = absurd q
 
-pub ran_over : (w : Way) → AddsUp (reads_by w) → (r : Result Report RunFault) (p s t : List ℕ) (e d : EngineMemory) (k : ℕ) (a b c : SourceLog) (x y z o : OutLog) → Going (reads_by w) p s e k a b x y → Turned (reading_of e) (Ok false) (p ++ s) t d b c y z → k < 2 ^ 40
-    → (d.table ≡ w.table) × (d.listed ≡ w.listed) → Closed (way_of d w.ending w.before w.after) r ((p ++ s) ++ t) z o → Ran w r p (s ++ t) a c x o
+pub ran_over : (w : Way) → AddsUp (reads_by w) → (r : Result Report RunFault) (p s t : List ℕ) (e d : EngineMemory) (k : ℕ) (a b c : SourceLog) (x y z o : OutLog) → Going (reads_by w) p s e k a b x y → Turned (rules_of e) (Ok false) (p ++ s) t d b c y z → k < 2 ^ 40
+    → (d.table ≡ w.table) × (d.listed ≡ w.listed) × (d.most ≡ w.most) → Closed (way_of d w.ending w.before w.after) r ((p ++ s) ++ t) z o → Ran w r p (s ++ t) a c x o
 ran_over w adds r p s t e d k a b c x y z o g u h same q =
-    let v = turned_by (reading_of e) (reads_by w) (Ok false) (p ++ s) t d b c y z g.took.reads u in
+    let v = turned_by (rules_of e) (reads_by w) (Ok false) (p ++ s) t d b c y z g.took.reads u in
     over_on w adds r p s t e d k a b c x y z o g v h (closed_by w d r ((p ++ s) ++ t) z o same q)
 
 -- the stream was over before the first read
@@ -277,7 +277,7 @@ stopped_on w (Err fault.Read) p e a x y z f q = absurd q
 stopped_on w (Err fault.Turns) p e a x y z f q = absurd q
 stopped_on w (Err fault.Failed) p e a x y z f q = absurd q
 
-pub ran_stopped : (w : Way) (r : Result Report RunFault) (p : List ℕ) (e : EngineMemory) (a : SourceLog) (x y z : OutLog) → Fed (reads_by w) (Ok false) p [] e x y → (e.table ≡ w.table) × (e.listed ≡ w.listed) → Closed (way_of e w.ending w.before w.after) r (p ++ []) y z → Ran w r p [] a a x z
+pub ran_stopped : (w : Way) (r : Result Report RunFault) (p : List ℕ) (e : EngineMemory) (a : SourceLog) (x y z : OutLog) → Fed (reads_by w) (Ok false) p [] e x y → (e.table ≡ w.table) × (e.listed ≡ w.listed) × (e.most ≡ w.most) → Closed (way_of e w.ending w.before w.after) r (p ++ []) y z → Ran w r p [] a a x z
 ran_stopped w r p e a x y z f same q = stopped_on w r p e a x y z f (closed_by w e r (p ++ []) y z same q)
 
 -- the empty piece failed

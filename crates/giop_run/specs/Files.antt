@@ -12,6 +12,7 @@ use Rattle.giop_sig.specs.RequestList.{Entry, Lists, IsOf, IsRefusedAs}
 use Rattle.giop_message.specs.Signatures.{Listed}
 use Rattle.giop_checkpoint.specs.declared.fixed.Counts.{Counts}
 use Rattle.giop_checkpoint.specs.Refusals.{IsOurs}
+use Rattle.giop_stream.specs.Rules.{most_open}
 use Rattle.giop_stream.specs.Checkpoint.{counts_of, IsRefused, Spells}
 use Rattle.giop_run.specs.Running.{Way}
 use Rattle.giop_run.specs.declared.running.Ending.{Ending}
@@ -67,7 +68,7 @@ abbrev pub GoesOn : Folder → Option (List ℕ) → Table → Listed → (List 
 GoesOn held None C kept Is = Is []
 GoesOn held (Some name) C kept Is =
     (octets : List ℕ) × IsFront checkpoint_most (held name) octets
-    × IsOurs (counts_of C kept) octets × ((p : List ℕ) → Spells octets C kept p → Is p)
+    × IsOurs (counts_of C kept) octets × ((p : List ℕ) → Spells octets C kept most_open p → Is p)
 
 -- what the stream gives: that of the file, or without one of standard input
 abbrev pub stream_of : Folder → Option (List ℕ) → Option (List ℕ) → Option (List ℕ)
@@ -144,7 +145,14 @@ ending_of (Some name) = endings.Save
 -- what it reads by and how it ends, with the octets for a checkpoint before it and after it
 abbrev pub way_by : Table → Listed → Asked → List ℕ → List ℕ → Way
 way_by C kept asked before after =
-    record { table = C; listed = kept; ending = ending_of asked.save; before = before; after = after }
+    record {
+      table = C;
+      listed = kept;
+      most = most_open;
+      ending = ending_of asked.save;
+      before = before;
+      after = after;
+    }
 
 -- what a run reads by: the catalogue and the list of the files
 pub record ReadsBy (held : Folder) (asked : Asked) (C : Table) (kept : Listed) : Type 0 where

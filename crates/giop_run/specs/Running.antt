@@ -4,9 +4,8 @@ use Rattle.std.specs.Io.KnownBytes.{Consumes, IsAtEnd}
 use Rattle.giop_cdr.specs.Numbers.{AreOctets}
 use Rattle.giop_print.specs.Output.{OutLog, counted, Wrote, WroteFront}
 use Rattle.giop_sig.specs.Table.{Table}
-use Rattle.giop_message.specs.Reading.{Reading}
 use Rattle.giop_message.specs.Signatures.{Listed}
-use Rattle.giop_message.specs.MessageReading.{message_reading}
+use Rattle.giop_stream.specs.Rules.{Rules, rules}
 use Rattle.giop_stream.specs.Framing.{cut}
 use Rattle.giop_stream.specs.Stream.{closing, final, tally}
 use Rattle.giop_stream.specs.Holding.{added}
@@ -23,6 +22,7 @@ use Rattle.giop_run.specs.declared.fault.RunFault.TheVariants as fault
 pub record Way : Type 0 where
   pub table : Table
   pub listed : Listed
+  pub most : ℕ  -- so many messages may be open at once
   pub ending : Ending
   pub before : List ℕ
   pub after : List ℕ
@@ -30,14 +30,21 @@ pub record Way : Type 0 where
 -- the way of a run of this engine
 abbrev pub way_of : EngineMemory → Ending → List ℕ → List ℕ → Way
 way_of e ending before after =
-    record { table = e.table; listed = e.listed; ending = ending; before = before; after = after }
+    record {
+      table = e.table;
+      listed = e.listed;
+      most = e.most;
+      ending = ending;
+      before = before;
+      after = after;
+    }
 
 -- how it reads a message
-abbrev pub reads_by : Way → Reading
-reads_by w = message_reading w.table w.listed
+abbrev pub reads_by : Way → Rules
+reads_by w = rules w.table w.listed w.most
 
 -- what an ending writes behind the lines of the stream p: its closing, or nothing where the stream goes on later
-abbrev pub end_text : Ending → Reading → List ℕ → List ℕ
+abbrev pub end_text : Ending → Rules → List ℕ → List ℕ
 end_text endings.Finish R p = closing R p
 end_text endings.Save R p = []
 
@@ -50,7 +57,7 @@ pub record IsFinish (w : Way) (report : Report) (p : List ℕ) : Type 0 where
 -- the stream p was saved: the first octets of those for a checkpoint are its checkpoint, and the others are as they were
 pub record IsSave (w : Way) (report : Report) (p : List ℕ) : Type 0 where
   pub totals : report.totals ≡ tally (reads_by w) p
-  pub saved : Saves report.saved w.after w.table w.listed p
+  pub saved : Saves report.saved w.after w.table w.listed w.most p
   pub room : drop report.saved w.after ≡ drop report.saved w.before
 
 -- what an ending says of the stream p, and has saved of it
@@ -96,13 +103,13 @@ pub record Finished (w : Way) (report : Report) (p s : List ℕ) (before after :
   pub ended : EndsAs w.ending w report (p ++ s)
 
 -- a read failed: the lines of what was read are written, and no closing
-pub record ReadStopped (R : Reading) (p s : List ℕ) (before after : SourceLog) (x y : OutLog) : Type 0 where
+pub record ReadStopped (R : Rules) (p s : List ℕ) (before after : SourceLog) (x y : OutLog) : Type 0 where
   pub given : Given p s before after
   pub failures : after.failures ≡ counted before.failures
   pub written : Wrote x y (added R p s)
 
 -- the reads were used up: the lines of what was read are written, and no closing
-pub record ReadsSpent (R : Reading) (p s : List ℕ) (before after : SourceLog) (x y : OutLog) : Type 0 where
+pub record ReadsSpent (R : Rules) (p s : List ℕ) (before after : SourceLog) (x y : OutLog) : Type 0 where
   pub given : Given p s before after
   pub reads : before.reads + 2 ^ 40 < 2 ^ 64 → after.reads ≡ before.reads + 2 ^ 40
   pub failures : after.failures ≡ before.failures

@@ -3,10 +3,10 @@ use Rattle.std.specs.Prelude.{◌≡◌, ℕ, ◌+◌, ◌^◌, ◌≤◌, ◌<�
 use Rattle.std.specs.Io.KnownBytes.{Consumes}
 use Rattle.giop_cdr.specs.Numbers.{AreOctets}
 use Rattle.giop_print.specs.Output.{OutLog, counted, Wrote, WroteFront}
-use Rattle.giop_message.specs.Reading.{Reading}
+use Rattle.giop_stream.specs.Rules.{Rules}
 use Rattle.giop_stream.specs.Framing.{cut}
 use Rattle.giop_stream.specs.Stream.{closing, final}
-use Rattle.giop_stream.specs.Holding.{added, Holds, reading_of}
+use Rattle.giop_stream.specs.Holding.{added, Holds, rules_of}
 use Rattle.giop_stream.specs.Remembering.{EngineMemory}
 use Rattle.giop_run.specs.SourceLog.{SourceLog}
 use Rattle.giop_run.specs.Running.{IsStopped, IsOver, Way, reads_by, end_text, EndsAs}
@@ -20,13 +20,13 @@ abbrev pub IsRunning : List ℕ → Type 0
 IsRunning p = (cut p).stop ≡ None
 
 -- the octets s went into an engine that held p and read messages by R, and their lines were written
-pub record Took (R : Reading) (p s : List ℕ) (e : EngineMemory) (x y : OutLog) : Type 0 where
-  pub reads : reading_of e ≡ R
+pub record Took (R : Rules) (p s : List ℕ) (e : EngineMemory) (x y : OutLog) : Type 0 where
+  pub reads : rules_of e ≡ R
   pub holds : Holds e (p ++ s)
   pub written : Wrote x y (added R p s)
 
 -- what feeding the octets s to an engine that held p did: true where the stream goes on
-abbrev pub Fed : Reading → Result Bool RunFault → List ℕ → List ℕ → EngineMemory → OutLog → OutLog → Type 0
+abbrev pub Fed : Rules → Result Bool RunFault → List ℕ → List ℕ → EngineMemory → OutLog → OutLog → Type 0
 Fed R (Ok true) p s e x y = Took R p s e x y × IsRunning (p ++ s)
 Fed R (Ok false) p s e x y = Took R p s e x y × IsStopped (p ++ s)
 Fed R (Err fault.Out) p s e x y = WroteFront x y (added R p s)
@@ -42,7 +42,7 @@ pub record OneRead (s : List ℕ) (before after : SourceLog) : Type 0 where
   pub reads : after.reads ≡ counted before.reads
 
 -- what one read and its feed did on an engine that held p: true where the stream goes on
-abbrev pub Turned : Reading → Result Bool RunFault → List ℕ → List ℕ → EngineMemory → SourceLog → SourceLog → OutLog → OutLog → Type 0
+abbrev pub Turned : Rules → Result Bool RunFault → List ℕ → List ℕ → EngineMemory → SourceLog → SourceLog → OutLog → OutLog → Type 0
 Turned R (Ok true) p s e before after x y =
     OneRead s before after × (after.failures ≡ before.failures) × (after.ends ≡ before.ends) × Took R p s e x y × IsRunning (p ++ s)
 Turned R (Ok false) p s e before after x y =
@@ -60,7 +60,7 @@ pub record Ended (w : Way) (report : Report) (p : List ℕ) (x y : OutLog) : Typ
   pub ended : EndsAs w.ending w report p
 
 -- what the finish of an engine that held p did
-abbrev pub Completed : Reading → Result Totals RunFault → List ℕ → OutLog → OutLog → Type 0
+abbrev pub Completed : Rules → Result Totals RunFault → List ℕ → OutLog → OutLog → Type 0
 Completed R (Ok totals) p x y = Wrote x y (closing R p) × (totals ≡ final R p)
 Completed R (Err fault.Out) p x y = WroteFront x y (closing R p)
 Completed R (Err fault.Read) p x y = ⊥
@@ -76,7 +76,7 @@ Closed w (Err fault.Turns) p x y = ⊥
 Closed w (Err fault.Failed) p x y = ⊥
 
 -- k turns, after all of which the stream goes on, did this to a stream p that the engine held
-pub record Going (R : Reading) (p s : List ℕ) (e : EngineMemory) (k : ℕ) (before after : SourceLog) (x y : OutLog) : Type 0 where
+pub record Going (R : Rules) (p s : List ℕ) (e : EngineMemory) (k : ℕ) (before after : SourceLog) (x y : OutLog) : Type 0 where
   pub began : IsRunning p
   pub running : IsRunning (p ++ s)
   pub took : Took R p s e x y

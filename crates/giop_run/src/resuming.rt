@@ -2,6 +2,7 @@
 
 ghost use Rattle.std.specs.Prelude.{◌≡◌, List, ℕ, [], false, None, IfOk, IfErr, IfSome, option_map};
 ghost use Rattle.giop_checkpoint.specs.Refusals.{IsOurs};
+ghost use Rattle.giop_stream.specs.Rules.{most_open};
 ghost use Rattle.giop_stream.specs.Checkpoint.{counts_of, IsRefused, Spells};
 ghost use Rattle.giop_stream.specs.Holding.{AreOf, Holds};
 ghost use Rattle.giop_run.specs.Console.{run_fault};
@@ -26,7 +27,7 @@ fn loaded<'a, 'c>(
 ) -> Result<Engine<'c>, ProgramFault<'a>>
     requires of { AreOf catalogue.now requests.now }
     ensures again { IfOk result (λ e. (p : List ℕ)
-        → Spells octets.now catalogue.now requests.now p → Holds e p) }
+        → Spells octets.now catalogue.now requests.now most_open p → Holds e p) }
     ensures ours { IfOk result (λ e. IsOurs (counts_of catalogue.now requests.now) octets.now) }
     ensures err { IfErr result (λ fault. (why : LoadFault)
         × (fault ≡ ProgramFault.Checkpoint name.entry why)
@@ -34,6 +35,7 @@ fn loaded<'a, 'c>(
     ensures sound { IfOk result (λ e. e.failed ≡ false) }
     ensures table { IfOk result (λ e. e.table ≡ catalogue.now) }
     ensures listed { IfOk result (λ e. e.listed ≡ requests.now) }
+    ensures most { IfOk result (λ e. e.most ≡ most_open) }
 {
     match Engine::load(catalogue, requests, octets) {
         Ok(engine) => Ok(engine),
@@ -57,6 +59,7 @@ pub fn resumed<'a, 'c, R: Inputs + AllocGlobal>(
     ensures sound { IfOk result (λ e. e.failed ≡ false) }
     ensures table { IfOk result (λ e. e.table ≡ catalogue.now) }
     ensures listed { IfOk result (λ e. e.listed ≡ requests.now) }
+    ensures most { IfOk result (λ e. e.most ≡ most_open) }
 {
     let Some(name) = name else {
         return Ok(Engine::new(catalogue, requests));

@@ -3,7 +3,7 @@
 ghost use Rattle.std.specs.Prelude.{◌≡◌, ◌+◌, ◌^◌, ◌≤◌, Err, true, false, List, [], ℕ, drop, MatchResult, IfOk, OnOk, IfErr, OnErr};
 ghost use Rattle.giop_print.specs.Output.{counted};
 ghost use Rattle.giop_cdr.specs.Numbers.{AreOctets};
-ghost use Rattle.giop_stream.specs.Holding.{Holds, reading_of};
+ghost use Rattle.giop_stream.specs.Holding.{Holds, rules_of};
 ghost use Rattle.giop_run.specs.SourceLog.{Gave, ReadFailed};
 ghost use Rattle.giop_run.specs.Flushing.{Flushes};
 ghost use Rattle.giop_stream.specs.Checkpoint.{Saves};
@@ -117,9 +117,10 @@ fn turn<S: Source, O: Out>(
     buffer: &mut [u8; ROOM],
 ) -> Result<bool, RunFault>
     ensures turned { (p : List ℕ) → Holds engine.old p → (s : List ℕ)
-        × Turned (reading_of engine.old) result p s engine.new (S.log source.old) (S.log source.new) (O.log out.old) (O.log out.new) }
+        × Turned (rules_of engine.old) result p s engine.new (S.log source.old) (S.log source.new) (O.log out.old) (O.log out.new) }
     ensures leaves { engine.old.failed ≡ false → OnOk result (engine.new.failed ≡ false) }
-    ensures same { (engine.new.table ≡ engine.old.table) × (engine.new.listed ≡ engine.old.listed) }
+    ensures same { (engine.new.table ≡ engine.old.table)
+        × (engine.new.listed ≡ engine.old.listed) × (engine.new.most ≡ engine.old.most) }
     ensures sound { result ≡ Err RunFault.Failed → engine.old.failed ≡ true }
     ensures reads { (S.log source.new).reads ≡ counted (S.log source.old).reads }
 {
@@ -146,11 +147,12 @@ fn read<S: Source>(source: &mut S, buffer: &mut [u8]) -> Result<usize, SourceFau
 /// Feeds a piece: whether the stream goes on.
 fn feed<O: Out>(engine: &mut Engine, piece: &[u8], out: &mut O) -> Result<bool, RunFault>
     ensures fed { (p : List ℕ) → Holds engine.old p
-        → Fed (reading_of engine.old) result p piece.now engine.new (O.log out.old) (O.log out.new) }
+        → Fed (rules_of engine.old) result p piece.now engine.new (O.log out.old) (O.log out.new) }
     ensures failed { engine.old.failed ≡ true
         → (result ≡ Err RunFault.Failed) × (O.log out.new ≡ O.log out.old) }
     ensures leaves { OnOk result (engine.new.failed ≡ false) }
-    ensures same { (engine.new.table ≡ engine.old.table) × (engine.new.listed ≡ engine.old.listed) }
+    ensures same { (engine.new.table ≡ engine.old.table)
+        × (engine.new.listed ≡ engine.old.listed) × (engine.new.most ≡ engine.old.most) }
     ensures sound { result ≡ Err RunFault.Failed → engine.old.failed ≡ true }
 {
     match engine.feed(piece, out) {
@@ -213,7 +215,7 @@ fn saved<O: Out, F: Between<O>>(
 /// Saves the stream's checkpoint: how many octets it has.
 fn save(engine: &Engine, into: &mut [u8; 14_240]) -> Result<usize, RunFault>
     ensures saves { (p : List ℕ) → Holds engine.now p
-        → IfOk result (λ n. Saves n into.new engine.now.table engine.now.listed p) }
+        → IfOk result (λ n. Saves n into.new engine.now.table engine.now.listed engine.now.most p) }
     ensures behind { IfOk result (λ n. drop n into.new ≡ drop n into.old) }
     ensures cause { IfErr result (λ fault. fault ≡ RunFault.Failed) }
     ensures failed { OnErr result (engine.now.failed ≡ true) }
@@ -228,7 +230,7 @@ fn save(engine: &Engine, into: &mut [u8; 14_240]) -> Result<usize, RunFault>
 /// Ends the stream.
 fn finish<O: Out>(engine: Engine, out: &mut O) -> Result<Totals, RunFault>
     ensures finished { (p : List ℕ) → Holds engine.entry p
-        → Completed (reading_of engine.entry) result p (O.log out.old) (O.log out.new) }
+        → Completed (rules_of engine.entry) result p (O.log out.old) (O.log out.new) }
     ensures failed { engine.entry.failed ≡ true
         → (result ≡ Err RunFault.Failed) × (O.log out.new ≡ O.log out.old) }
     ensures sound { result ≡ Err RunFault.Failed → engine.entry.failed ≡ true }

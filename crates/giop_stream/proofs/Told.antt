@@ -1,4 +1,5 @@
 -- The lines of a stream: which there are, in which order, and which of them stand.
+pub mod Together
 pub mod Telling
 pub mod LastLines
 pub mod Heads

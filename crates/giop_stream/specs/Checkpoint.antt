@@ -6,7 +6,7 @@ use Rattle.giop_sig.specs.Trees.{depth_of}
 use Rattle.giop_message.specs.declared.message.Message.{Message}
 use Rattle.giop_message.specs.Holding.{Fits}
 use Rattle.giop_message.specs.Headers.{size}
-use Rattle.giop_message.specs.MessageReading.{message_reading}
+use Rattle.giop_stream.specs.Rules.{rules}
 use Rattle.giop_message.specs.Signatures.{Listed}
 use Rattle.giop_checkpoint.specs.declared.sizes.TheConstants.{FIXED_SIZE, RECORD_SIZE, MESSAGE_SIZE, FRAME_SIZE, MOST_RECORDS}
 use Rattle.giop_checkpoint.specs.declared.fault.StreamFault.{StreamFault}
@@ -142,14 +142,15 @@ pub record IsPutWhole (C : Table) (l : Listed) (m : Memory) (octets : List ℕ) 
   pub are : AreEntries m.slots.slots.items m.slots.own entries
   pub put : octets ≡ checkpoint_octets C l m entries
 
--- These octets are the checkpoint of an engine that holds the stream p, by this table and list.
-pub record Spells (octets : List ℕ) (C : Table) (l : Listed) (p : List ℕ) : Type 0 where
+-- These octets are the checkpoint of an engine that holds the stream p, by this table and list, where
+-- so many messages may be open.
+pub record Spells (octets : List ℕ) (C : Table) (l : Listed) (most : ℕ) (p : List ℕ) : Type 0 where
   pub memory : Memory
   pub entries : List Entry
   pub octets_are : octets ≡ checkpoint_octets C l memory entries
   pub entries_are : AreEntries memory.slots.slots.items memory.slots.own entries
   pub stream : AreOctets p
-  pub shows : Shows C l memory (state_of (message_reading C l) p)
+  pub shows : Shows C l memory (state_of (rules C l most) p)
   pub ready : AreReady C (memory.totals.octets + 1) memory.slots
 
 -- the greatest checkpoint for a catalogue of this depth
@@ -162,8 +163,9 @@ entries_size [] = 0
 entries_size (e ∷ es) = (RECORD_SIZE + FRAME_SIZE * e.record_is.frames) + entries_size es
 
 -- The first so many octets are a checkpoint of p: the fixed part, and each record with its frames.
-pub record Saves (n : ℕ) (octets : List ℕ) (C : Table) (l : Listed) (p : List ℕ) : Type 0 where
-  pub spells : Spells (take n octets) C l p
+pub record Saves (n : ℕ) (octets : List ℕ) (C : Table) (l : Listed) (most : ℕ) (p : List ℕ)
+    : Type 0 where
+  pub spells : Spells (take n octets) C l most p
   pub size : n ≡ FIXED_SIZE + entries_size spells.entries
   pub within : n ≤ checkpoint_limit (depth_of C.types)
 

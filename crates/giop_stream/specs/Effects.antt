@@ -2,11 +2,11 @@
 use Rattle.std.specs.Prelude.{Bool, true, ◌≡◌, ℕ, ◌<◌, ◌≤◌, false, List, [], ◌∷◌, ◌++◌, length, Option, Some, None, if◌then◌else◌, option_map}
 use Rattle.std.specs.List.{list_any, AllByRecursion as Each}
 use Rattle.giop_message.specs.Reading.{Reading}
-use Rattle.giop_stream.specs.Events.{Happening, Begins, Takes, Opens, Continues, Cancelled, Imposed, Closes, Title, Event, Open, place, octet, changed, open_after}
-use Rattle.giop_stream.specs.Lines.{Line, Started, Goes_on, is_last_of, standing}
+use Rattle.giop_stream.specs.Rules.{Rules}
+use Rattle.giop_stream.specs.Events.{Happening, Begins, Takes, Opens, Continues, Cancelled, Imposed, Closes, Title, Event, Open, place, octet, changed, joined, open_after}
+use Rattle.giop_stream.specs.Lines.{Line, Started, Goes_on, tells, is_last_of, standing}
 use Rattle.giop_stream.specs.Framing.{Message, with_payload}
 use Rattle.giop_stream.specs.State.{Slot, Kept, octets_of, slots_of}
-use Rattle.giop_stream.specs.Machine.{utters_kept, taking, written}
 
 -- the open messages, and what is kept of each message
 pub record Tracked : Type 0 where
@@ -17,12 +17,24 @@ pub record Effect : Type 0 where
   pub tracked : Tracked
   pub lines : List Line
 
+-- the lines of an event, by what is kept of its message
+unfoldable pub lines_for : Reading → Event → Option (List ℕ) → List Line
+lines_for R e None = []
+lines_for R e (Some xs) = tells R e xs (xs ++ joined e.whom.number (e ∷ [])) e.what
+
+-- what is kept with the octets of these events, and once these lines are written
+unfoldable pub kept_with : Kept → List Event → Kept
+kept_with known es i = option_map (λ xs. xs ++ joined i es) (known i)
+
+unfoldable pub kept_after : Kept → List Line → Kept
+kept_after known ls i = if list_any (is_last_of i) ls then None else known i
+
 -- one event: its lines up to the message's last one, and what is kept then
 unfoldable pub lines_at : Reading → Kept → Event → List Line
-lines_at R known e = standing (λ i. false) (utters_kept R e (known e.whom.number))
+lines_at R known e = standing (λ i. false) (lines_for R e (known e.whom.number))
 
 unfoldable pub tracked_at : Reading → Tracked → Event → Tracked
-tracked_at R c e = record { live = changed c.live e.whom e.what; known = written (taking c.known (e ∷ [])) (lines_at R c.known e) }
+tracked_at R c e = record { live = changed c.live e.whom e.what; known = kept_after (kept_with c.known (e ∷ [])) (lines_at R c.known e) }
 
 unfoldable pub effects : Reading → Tracked → List Event → Effect
 effects R c [] = record { tracked = c; lines = [] }
@@ -43,7 +55,7 @@ with_octet m x = with_payload m (m.payload ++ x ∷ [])
 -- ---- One message's part of an event: its lines, and its octets then, unless it is over.
 
 unfoldable pub lines_of : Reading → Event → Option (List ℕ) → List Line
-lines_of R e o = standing (λ i. false) (utters_kept R e o)
+lines_of R e o = standing (λ i. false) (lines_for R e o)
 
 unfoldable pub octets_then : Reading → Event → Option (List ℕ) → Option (List ℕ)
 octets_then R e o = if list_any (is_last_of e.whom.number) (lines_of R e o) then None else option_map (λ xs. xs ++ octet e.what) o
@@ -65,8 +77,8 @@ abbrev pub then_part : Part → Part → Part
 then_part one more = record { octets = more.octets; lines = one.lines ++ more.lines }
 
 -- what there is to know of the messages of a stream
-unfoldable pub stage : Reading → List ℕ → Tracked
-stage R p = record { live = open_after p; known = octets_of R p }
+unfoldable pub stage : Rules → List ℕ → Tracked
+stage R p = record { live = open_after R.most p; known = octets_of R p }
 
 -- ---- What an event does to the slots.
 

@@ -2,7 +2,6 @@
 -- joined message has, and its lines (GIOP Message Formats, Fragment Message, CancelRequest Message).
 use Rattle.std.specs.Prelude.{ℕ, ◌+◌, ◌-◌, ◌<◌, Bool, true, false, not, ◌&&◌, ◌||◌, List, [], ◌∷◌, ◌++◌, length, get_or, take, filter, flat_map, Option, Some, None, nat_lt, nat_le, ◌==◌, if◌then◌else◌}
 use Rattle.std.specs.List.{find, AllByRecursion as Each}
-use Rattle.giop_stream.specs.declared.slots.TheConstants.{MOST_OPEN}
 use Rattle.giop_cdr.specs.declared.order.Order.{Order}
 use Rattle.giop_cdr.specs.declared.order.Order.TheVariants.{Big, Little}
 use Rattle.giop_cdr.specs.Numbers.{num}
@@ -83,13 +82,12 @@ octet_acts now other =
 
 -- ---- The fourth octet of the payload, which completes the request id: of an opener,
 
--- so many messages are open at most
-abbrev pub most_open : ℕ
-most_open = MOST_OPEN
+-- where so many messages may be open at once,
 
-abbrev pub opens : List Open → Now → ℕ → Option Open → List Event
-opens live now id (Some other) = own now (Imposed IdOpen)
-opens live now id None = if nat_le most_open (length live) then own now (Imposed TooManyOpen) else own now (Opens id)
+abbrev pub opens : ℕ → List Open → Now → ℕ → Option Open → List Event
+opens most live now id (Some other) = own now (Imposed IdOpen)
+opens most live now id None =
+    if nat_le most (length live) then own now (Imposed TooManyOpen) else own now (Opens id)
 
 -- of a Fragment,
 
@@ -112,10 +110,10 @@ abbrev pub cancels : Now → Option Open → List Event
 cancels now None = []
 cancels now (Some o) = if may_be_cancelled o.opener.header then about now (Some o) (Cancelled now.whom.number) else []
 
-unfoldable pub id_acts : List Open → Now → ℕ → Option Open → List Event
-id_acts live now id other =
+unfoldable pub id_acts : ℕ → List Open → Now → ℕ → Option Open → List Event
+id_acts most live now id other =
     if is_fragment now.whom.header then continues now other
-    else if is_opener now.whom.header then opens live now id other
+    else if is_opener now.whom.header then opens most live now id other
     else if is_cancel now.whom.header then cancels now other
     else []
 
@@ -130,10 +128,10 @@ end_acts now other =
 
 -- ---- All that one octet does.
 
-unfoldable pub acts : List Open → Now → ℕ → Option Open → List Event
-acts live now id other =
+unfoldable pub acts : ℕ → List Open → Now → ℕ → Option Open → List Event
+acts most live now id other =
     (if now.come == 0 then header_acts now else octet_acts now other)
-    ++ ((if now.come == 4 then id_acts live now id other else [])
+    ++ ((if now.come == 4 then id_acts most live now id other else [])
     ++ (if now.come == size now.whom.header then end_acts now other else []))
 
 -- ---- The same of a message whose last octet has just come, where these messages were open before it.
@@ -158,19 +156,20 @@ at_header m = header_acts (now_of m)
 abbrev pub at_octet : List Open → Message → List Event
 at_octet live m = octet_acts (now_of m) (opener_of live m)
 
-abbrev pub at_id : List Open → Message → List Event
-at_id live m = id_acts live (now_of m) (id m) (opener_of live m)
+abbrev pub at_id : ℕ → List Open → Message → List Event
+at_id most live m = id_acts most live (now_of m) (id m) (opener_of live m)
 
 abbrev pub at_end : List Open → Message → List Event
 at_end live m = end_acts (now_of m) (opener_of live m)
 
-unfoldable pub happens : List Open → Message → List Event
+unfoldable pub happens : ℕ → List Open → Message → List Event
 unfolding acts
-happens live m = acts live (now_of m) (id m) (opener_of live m)
+happens most live m = acts most live (now_of m) (id m) (opener_of live m)
 
--- all that the octets of m do, from its header's last one on
-unfoldable pub events_of : List Open → Message → List Event
-events_of live m = flat_map (λ front. happens live (with_payload m front)) (fronts m.payload)
+-- All that the octets of m do, from its header's last one on
+unfoldable pub events_of : ℕ → List Open → Message → List Event
+events_of most live m =
+    flat_map (λ front. happens most live (with_payload m front)) (fronts m.payload)
 
 -- ---- The open messages after an event, and after these events.
 
@@ -188,17 +187,19 @@ opened live [] = live
 opened live (e ∷ es) = opened (changed live e.whom e.what) es
 
 -- the events of these messages, before the first of which these were open
-unfoldable pub events_from : List Open → List Message → List Event
-events_from live [] = []
-events_from live (m ∷ ms) = let es = events_of live m in es ++ events_from (opened live es) ms
+unfoldable pub events_from : ℕ → List Open → List Message → List Event
+events_from most live [] = []
+events_from most live (m ∷ ms) =
+    let es = events_of most live m in
+    es ++ events_from most (opened live es) ms
 
 -- the events of the stream
-unfoldable pub events : List ℕ → List Event
-events p = events_from [] (messages (cut p))
+unfoldable pub events : ℕ → List ℕ → List Event
+events most p = events_from most [] (messages (cut p))
 
 -- the messages that are open after p
-unfoldable pub open_after : List ℕ → List Open
-open_after p = opened [] (events p)
+unfoldable pub open_after : ℕ → List ℕ → List Open
+open_after most p = opened [] (events most p)
 
 -- the octets of the joined message of this number, after its header
 unfoldable pub octet : Happening → List ℕ

@@ -3,9 +3,8 @@ use Rattle.std.specs.Prelude.{◌≡◌, ℕ, List, length, drop, ◌++◌, true
 use Rattle.giop_cdr.specs.Numbers.{AreOctets}
 use Rattle.giop_print.specs.Output.{OutLog, Wrote, WroteFront}
 use Rattle.giop_sig.specs.Table.{Table}
-use Rattle.giop_message.specs.Reading.{Reading}
 use Rattle.giop_message.specs.Signatures.{Listed}
-use Rattle.giop_message.specs.MessageReading.{message_reading}
+use Rattle.giop_stream.specs.Rules.{Rules, rules}
 use Rattle.giop_message.specs.Holding as messages
 use Rattle.giop_checkpoint.specs.declared.fault.StreamFault.{StreamFault}
 use Rattle.giop_stream.specs.declared.status.Status.{Status}
@@ -21,19 +20,19 @@ use Rattle.giop_stream.specs.Remembering.{EngineMemory}
 abbrev pub AreOf : Table → Listed → Type 0
 AreOf C l = messages.AreOf C l
 
--- how an engine reads a message: by its table, and by what it knows of requests
-abbrev pub reading_of : EngineMemory → Reading
-reading_of e = message_reading e.table e.listed
+-- by what an engine reads: its table, what it knows of requests, and how many messages may be open
+abbrev pub rules_of : EngineMemory → Rules
+rules_of e = rules e.table e.listed e.most
 
 -- what these octets add to the text of a stream
-unfoldable pub added : Reading → List ℕ → List ℕ → List ℕ
+unfoldable pub added : Rules → List ℕ → List ℕ → List ℕ
 added R p more = drop (length (text R p)) (text R (p ++ more))
 
 -- The engine holds the stream p: its fields show what there is to hold of it.
 pub record Holds (e : EngineMemory) (p : List ℕ) : Type 0 where
   pub sound : e.failed ≡ false
   pub octets : AreOctets p
-  pub shows : Shows e.table e.listed e.stream (state_of (reading_of e) p)
+  pub shows : Shows e.table e.listed e.stream (state_of (rules_of e) p)
 
 abbrev pub status_of : Option StreamFault → Status
 status_of None = Running

@@ -1,4 +1,5 @@
 pub mod Headers
+pub mod Rules
 pub mod Framing
 pub mod Kinds
 pub mod Events
@@ -7,7 +8,6 @@ pub mod Lines
 pub mod Text
 pub mod Stream
 pub mod State
-pub mod Machine
 pub mod Effects
 pub mod Keeping
 pub mod Performs

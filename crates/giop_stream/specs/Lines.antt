@@ -4,6 +4,7 @@ use Rattle.giop_checkpoint.specs.declared.fault.StreamFault.{StreamFault}
 use Rattle.giop_stream.specs.declared.fault.ImposedFault.{ImposedFault}
 use Rattle.giop_stream.specs.Framing.{cut}
 use Rattle.giop_message.specs.Reading.{Saying, Value, Call, Rest, Fault, End, Reading, is_last}
+use Rattle.giop_stream.specs.Rules.{Rules}
 use Rattle.giop_stream.specs.Events.{Event, Happening, Begins, Takes, Opens, Continues, Cancelled, Imposed, Closes, events, joined}
 
 -- An imposed fault stands before the rest, so that the rest, the end and the other faults of its octet come after it.
@@ -104,13 +105,15 @@ standing is_over (l ∷ ls) =
     else l ∷ standing (λ i. is_over i || is_last_of i l) ls
 
 -- the lines of the messages
-unfoldable pub said : Reading → List ℕ → List Line
-said R p = standing (λ i. false) (in_order (length p) (told R (events p) [] (events p)))
+unfoldable pub said : Rules → List ℕ → List Line
+said R p =
+    let all = events R.most p in
+    standing (λ i. false) (in_order (length p) (told R.reading all [] all))
 
 unfoldable pub stop_line : Option (ℕ × StreamFault) → List Line
 stop_line None = []
 stop_line (Some found) = record { place = found.0; number = 0; content = Stopped found.1 } ∷ []
 
 -- All lines of the stream. No octet after that of the stream fault belongs to a message, so its line is the last.
-unfoldable pub lines : Reading → List ℕ → List Line
+unfoldable pub lines : Rules → List ℕ → List Line
 lines R p = said R p ++ stop_line (cut p).stop

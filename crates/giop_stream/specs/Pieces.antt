@@ -1,18 +1,18 @@
 -- What is written of a stream that comes in pieces, and of one that is read on from its front (meaning).
 use Rattle.std.specs.Prelude.{ℕ, List, [], ◌∷◌, ◌++◌}
-use Rattle.giop_message.specs.Reading.{Reading}
+use Rattle.giop_stream.specs.Rules.{Rules}
 use Rattle.giop_stream.specs.Stream.{text, closing}
 use Rattle.giop_stream.specs.Holding.{added}
 
 -- of these pieces, behind the stream p: piece by piece what it adds to the text of those before it
-unfoldable pub fed : Reading → List ℕ → List (List ℕ) → List ℕ
+unfoldable pub fed : Rules → List ℕ → List (List ℕ) → List ℕ
 fed R p [] = []
 fed R p (piece ∷ pieces) = added R p piece ++ fed R (p ++ piece) pieces
 
 -- all that is written of a stream, its end included
-unfoldable pub whole_text : Reading → List ℕ → List ℕ
+unfoldable pub whole_text : Rules → List ℕ → List ℕ
 whole_text R p = text R p ++ closing R p
 
 -- what of that is left behind the front p, where q follows
-unfoldable pub remaining : Reading → List ℕ → List ℕ → List ℕ
+unfoldable pub remaining : Rules → List ℕ → List ℕ → List ℕ
 remaining R p q = added R p q ++ closing R (p ++ q)

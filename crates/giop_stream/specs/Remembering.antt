@@ -19,4 +19,5 @@ pub record EngineMemory : Type 0 where
   pub failed : Bool
   pub table : Table
   pub listed : Listed
+  pub most : ℕ  -- so many messages may be open at once
   pub stream : Memory

@@ -15,6 +15,7 @@ share i live m =
     then (if m.number == i then take 4 m.payload else []) ++ continued i (opener_of live m) (drop 4 m.payload)
     else (if m.number == i then m.payload else [])
 
-unfoldable pub shares : ℕ → List Open → List Message → List ℕ
-shares i live [] = []
-shares i live (m ∷ ms) = share i live m ++ shares i (opened live (events_of live m)) ms
+unfoldable pub shares : ℕ → ℕ → List Open → List Message → List ℕ
+shares most i live [] = []
+shares most i live (m ∷ ms) =
+    share i live m ++ shares most i (opened live (events_of most live m)) ms

@@ -1,7 +1,7 @@
 -- What is kept of each message of a stream, and of its open ones, said from the whole of it (state).
-use Rattle.std.specs.Prelude.{ℕ, Bool, List, map, Option, Some, None, ◌==◌, if◌then◌else◌}
+use Rattle.std.specs.Prelude.{ℕ, Bool, List, [], ◌∷◌, map, Option, Some, None, ◌==◌, if◌then◌else◌}
 use Rattle.std.specs.List.{list_any}
-use Rattle.giop_message.specs.Reading.{Reading}
+use Rattle.giop_stream.specs.Rules.{Rules}
 use Rattle.giop_stream.specs.Events.{Open, events, joined}
 use Rattle.giop_stream.specs.Stream.{is_over}
 
@@ -15,8 +15,8 @@ abbrev pub Kept : Type 0
 Kept = ℕ → Option (List ℕ)
 
 -- the joined octets of this message, unless it is over
-unfoldable pub octets_of : Reading → List ℕ → Kept
-octets_of R p i = if is_over R p i then None else Some (joined i (events p))
+unfoldable pub octets_of : Rules → List ℕ → Kept
+octets_of R p i = if is_over R p i then None else Some (joined i (events R.most p))
 
 unfoldable pub is_open : List Open → ℕ → Bool
 is_open live i = list_any (λ o. o.opener.number == i) live
@@ -24,3 +24,18 @@ is_open live i = list_any (λ o. o.opener.number == i) live
 -- each open message with what is kept of it
 unfoldable pub slots_of : Kept → List Open → List Slot
 slots_of known live = map (λ o. record { open_as = o; octets = known o.opener.number }) live
+
+-- what is kept of a message: that of its slot, or of the current message
+unfoldable pub kept : List Slot → ℕ → Option (List ℕ) → Kept
+kept [] number own i = if number == i then own else None
+kept (slot ∷ slots) number own i = if slot.open_as.opener.number == i then slot.octets else kept slots number own i
+
+-- ---- The finish.
+
+-- a message of which octets are kept has neither ended nor been faulted
+abbrev pub left_by : ℕ → Option (List ℕ) → List ℕ
+left_by number None = []
+left_by number (Some xs) = number ∷ []
+
+unfoldable pub left_open : Slot → List ℕ
+left_open slot = left_by slot.open_as.opener.number slot.octets

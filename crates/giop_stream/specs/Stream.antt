@@ -4,14 +4,15 @@ use Rattle.std.specs.List.{list_any}
 use Rattle.giop_checkpoint.specs.declared.fault.StreamFault.{StreamFault}
 use Rattle.giop_stream.specs.declared.status.Totals.{Totals}
 use Rattle.giop_stream.specs.Framing.{Message, Cut, cut, messages, read_of}
-use Rattle.giop_message.specs.Reading.{Value, Call, Rest, Fault, End, Reading}
+use Rattle.giop_message.specs.Reading.{Value, Call, Rest, Fault, End}
+use Rattle.giop_stream.specs.Rules.{Rules}
 use Rattle.giop_print.specs.Lines.{unfinished_line, total_line}
 use Rattle.giop_message.specs.Headers.{is_fragment}
 use Rattle.giop_stream.specs.Lines.{Content, Started, Said, Goes_on, Ended_by, Faulted, Stopped, Line, is_last_of, said, lines}
 use Rattle.giop_stream.specs.Text.{lines_text, truncated_line}
 
 -- what is written of the stream p
-unfoldable pub text : Reading → List ℕ → List ℕ
+unfoldable pub text : Rules → List ℕ → List ℕ
 text R p = lines_text (lines R p)
 
 abbrev pub is_start : Content → Bool
@@ -41,7 +42,7 @@ unfoldable pub fault_count : List Line → ℕ
 fault_count ls = length (filter (λ l. is_fault l.content) ls)
 
 -- the start lines, the fault lines, and the octets that are read
-unfoldable pub tally : Reading → List ℕ → Totals
+unfoldable pub tally : Rules → List ℕ → Totals
 tally R p =
     record { messages = start_count (lines R p); faults = fault_count (lines R p); octets = read_of p (cut p).stop }
 
@@ -53,7 +54,7 @@ unfoldable pub is_truncated : Cut → Bool
 is_truncated c = is_inside c.current c.held c.stop
 
 -- a message that has a last line
-unfoldable pub is_over : Reading → List ℕ → ℕ → Bool
+unfoldable pub is_over : Rules → List ℕ → ℕ → Bool
 is_over R p i = list_any (is_last_of i) (said R p)
 
 -- the numbers of the messages that are no 1.2 Fragments
@@ -61,17 +62,17 @@ unfoldable pub heads : List Message → List ℕ
 heads ms = map (λ m. m.number) (filter (λ m. not (is_fragment m.header)) ms)
 
 -- those of them that have neither ended nor been faulted or cancelled
-unfoldable pub unfinished : Reading → List ℕ → List ℕ
+unfoldable pub unfinished : Rules → List ℕ → List ℕ
 unfinished R p = filter (λ i. not (is_over R p i)) (heads (messages (cut p)))
 
 abbrev pub with_truncated : Bool → Totals → Totals
 with_truncated truncated t = record t { faults = t.faults + (if truncated then 1 else 0) }
 
 -- the totals with the truncated line counted
-unfoldable pub final : Reading → List ℕ → Totals
+unfoldable pub final : Rules → List ℕ → Totals
 final R p = with_truncated (is_truncated (cut p)) (tally R p)
 
-unfoldable pub closing : Reading → List ℕ → List ℕ
+unfoldable pub closing : Rules → List ℕ → List ℕ
 closing R p =
     (if is_truncated (cut p) then truncated_line (length p) else [])
     ++ (flat_map unfinished_line (unfinished R p) ++ total_line (final R p).messages (final R p).faults (final R p).octets)

@@ -5,7 +5,7 @@ use Rattle.giop_sig.specs.Types.{Ty}
 use Rattle.giop_sig.specs.Table.{Table}
 use Rattle.giop_sig.specs.Headers.{BeginsWithId, header_type}
 use Rattle.giop_message.specs.Signatures.{Listed}
-use Rattle.giop_message.specs.MessageReading.{message_reading}
+use Rattle.giop_stream.specs.Rules.{rules}
 use Rattle.giop_message.specs.Headers.{minor, kind, size, is_fragment, has_name}
 use Rattle.giop_stream.specs.declared.slots.Slots.{Slots}
 use Rattle.giop_stream.specs.declared.slots.Payload.TheVariants.{Own}
@@ -58,8 +58,8 @@ pub record IsAt (C : Table) (l : Listed) (s : Slots) (c : Tracked) (m : Message)
 unfoldable pub whose_octet : List Open → Message → Option Title
 whose_octet live m = if goes_past m then opener_title (opener_of live m) else Some (title m)
 
-unfoldable pub id_events : List Open → Message → List Event
-id_events live m = if length m.payload == 4 then at_id live m else []
+unfoldable pub id_events : ℕ → List Open → Message → List Event
+id_events most live m = if length m.payload == 4 then at_id most live m else []
 
 unfoldable pub end_events : List Open → Message → List Event
 end_events live m = if length m.payload == size m.header then at_end live m else []
@@ -109,5 +109,6 @@ whose_in live None = None
 whose_in live (Some m) = whose live m
 
 -- The slots keep what there is to know of the messages of this stream.
-abbrev pub Knows : Table → Listed → Slots → List ℕ → Type 0
-Knows C l s p = Keeps C l s (stage (message_reading C l) p) (whose_in (open_after p) (cut p).current)
+abbrev pub Knows : Table → Listed → ℕ → Slots → List ℕ → Type 0
+Knows C l most s p =
+    Keeps C l s (stage (rules C l most) p) (whose_in (open_after most p) (cut p).current)

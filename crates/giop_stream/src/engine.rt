@@ -6,15 +6,16 @@ ghost use Rattle.giop_sig.specs.Table.{Table};
 ghost use Rattle.giop_sig.specs.Trees.{depth_of};
 ghost use Rattle.giop_checkpoint.specs.Refusals.{IsOurs};
 ghost use Rattle.giop_message.specs.Signatures.{Listed};
-ghost use Rattle.giop_message.specs.MessageReading.{message_reading};
+ghost use Rattle.giop_stream.specs.Rules.{rules, most_open};
 ghost use Rattle.giop_stream.specs.Framing.{cut, fault_of};
 ghost use Rattle.giop_stream.specs.Stream.{text, closing, final};
-ghost use Rattle.giop_stream.specs.Holding.{AreOf, Holds, StopWrites, Leaves, added, reading_of, status_of};
+ghost use Rattle.giop_stream.specs.Holding.{AreOf, Holds, StopWrites, Leaves, added, rules_of, status_of};
 ghost use Rattle.giop_stream.specs.Pieces.{fed, remaining, whole_text};
 ghost use Rattle.giop_stream.specs.Checkpoint.{counts_of, checkpoint_limit, IsRefused, Saves, Spells};
 
 use crate::fault::{LoadFault, Stop};
 use crate::framing::Framing;
+use crate::slots::MOST_OPEN;
 use crate::status::{Status, Totals};
 use crate::{loading, saving};
 use arrayvec::ArrayVec;
@@ -39,7 +40,13 @@ impl<'a> Model for Engine<'a> {
 
     ghost use Rattle.giop_stream.specs.Shown.{shown};
 
-    ghost view = { λ e. record { failed = e.failed; table = e.catalogue.now; listed = e.requests.now; stream = shown e.framing } };
+    ghost view = { λ e. record {
+      failed = e.failed;
+      table = e.catalogue.now;
+      listed = e.requests.now;
+      most = e.framing.slots.most;
+      stream = shown e.framing;
+    } };
 
     ghost use Rattle.std.specs.Prelude.{◌+◌};
     ghost use Rattle.giop_stream.specs.Keeping.{AreReady};
@@ -55,11 +62,12 @@ impl<'a> Engine<'a> {
         ensures holds { Holds result [] }
         ensures table { result.table ≡ catalogue.now }
         ensures listed { result.listed ≡ requests.now }
+        ensures most { result.most ≡ most_open }
     {
         Engine {
             catalogue,
             requests,
-            framing: Framing::new(),
+            framing: Framing::new(MOST_OPEN),
             failed: false,
         }
     }
@@ -73,7 +81,7 @@ impl<'a> Engine<'a> {
     ) -> Result<Engine<'a>, LoadFault>
         requires of { AreOf catalogue.now requests.now }
         // It holds the stream that the octets are the checkpoint of.
-        ensures again { (p : List ℕ) → Spells octets.now catalogue.now requests.now p →
+        ensures again { (p : List ℕ) → Spells octets.now catalogue.now requests.now most_open p →
             IsOkAnd result (λ e. Holds e p) }
         // The first check that fails refuses them.
         ensures refused { IfErr result (λ why.
@@ -82,6 +90,7 @@ impl<'a> Engine<'a> {
         ensures sound { IfOk result (λ e. e.failed ≡ false) }
         ensures table { IfOk result (λ e. e.table ≡ catalogue.now) }
         ensures listed { IfOk result (λ e. e.listed ≡ requests.now) }
+        ensures most { IfOk result (λ e. e.most ≡ most_open) }
     {
         match loading::read(catalogue, requests, octets) {
             Ok(framing) => Ok(Engine {
@@ -100,7 +109,8 @@ impl<'a> Engine<'a> {
         ensures held { (p : List ℕ) → Holds self.old p → OnOk result (Holds self.new (p ++ piece.now)) }
         // What the piece adds to the text is written.
         ensures text { (p : List ℕ) → Holds self.old p
-            → StopWrites result (O.log out.old) (O.log out.new) (drop (length (text (reading_of self.old) p)) (text (reading_of self.old) (p ++ piece.now))) }
+            → StopWrites result (O.log out.old) (O.log out.new)
+            (drop (length (text (rules_of self.old) p)) (text (rules_of self.old) (p ++ piece.now))) }
         // It says whether the stream has a fault.
         ensures status { (p : List ℕ) → Holds self.old p
             → IfOk result (λ s. s ≡ status_of (fault_of (cut (p ++ piece.now)).stop)) }
@@ -110,11 +120,13 @@ impl<'a> Engine<'a> {
         ensures failed { self.old.failed ≡ true → O.log out.new ≡ O.log out.old }
         // What it reads by stays.
         ensures same { (self.new.table ≡ self.old.table) × (self.new.listed ≡ self.old.listed) }
+        ensures most { self.new.most ≡ self.old.most }
     {
         if self.failed {
             return Err(Stop::Failed);
         }
         let (totals, stopped) = (self.framing.totals, self.framing.stopped);
+        let most = self.framing.slots.most;
         match self
             .framing
             .steps(self.catalogue, self.requests, piece, out)
@@ -122,7 +134,7 @@ impl<'a> Engine<'a> {
             Ok(()) => Ok(self.framing.status()),
             Err(fault) => {
                 self.failed = true;
-                self.framing = Framing::only(totals, stopped);
+                self.framing = Framing::only(totals, stopped, most);
                 Err(Stop::Out(fault))
             }
         }
@@ -132,8 +144,9 @@ impl<'a> Engine<'a> {
     pub fn finish<O: Out>(self, out: &mut O) -> Result<Totals, Stop>
         // The closing of what it holds is written.
         ensures text { (p : List ℕ) → Holds self.entry p
-            → StopWrites result (O.log out.old) (O.log out.new) (closing (reading_of self.entry) p) }
-        ensures totals { (p : List ℕ) → Holds self.entry p → IfOk result (λ t. t ≡ final (reading_of self.entry) p) }
+            → StopWrites result (O.log out.old) (O.log out.new) (closing (rules_of self.entry) p) }
+        ensures totals { (p : List ℕ) → Holds self.entry p →
+            IfOk result (λ t. t ≡ final (rules_of self.entry) p) }
         // A failed engine writes nothing, and no other answers that it was failed.
         ensures failed { self.entry.failed ≡ true → (result ≡ Err Stop.Failed) × (O.log out.new ≡ O.log out.old) }
         ensures sound { result ≡ Err Stop.Failed → self.entry.failed ≡ true }
@@ -152,7 +165,7 @@ impl<'a> Engine<'a> {
     pub fn save(&self, into: &mut [u8; 14_240]) -> Result<usize, Stop>
         // They are the checkpoint of each stream that it holds.
         ensures saves { (p : List ℕ) → Holds self.now p →
-            IfOk result (λ n. Saves n into.new self.now.table self.now.listed p) }
+            IfOk result (λ n. Saves n into.new self.now.table self.now.listed self.now.most p) }
         // The octets behind them are as they were.
         ensures behind { IfOk result (λ n. drop n into.new ≡ drop n into.old) }
         // It is refused exactly where the engine was failed; nothing is written then.
@@ -187,27 +200,28 @@ impl<'a> Engine<'a> {
 /// The text of a stream is a front of the text of each longer one, so that the cutting of a stream into pieces makes
 /// no difference.
 pub fn text_begins()
-    ensures { (C : Table) (l : Listed) (p q : List ℕ) → (more : List ℕ)
-        × (text (message_reading C l) (p ++ q) ≡ text (message_reading C l) p ++ more) }
+    ensures { (C : Table) (l : Listed) (n : ℕ) (p q : List ℕ) → (more : List ℕ)
+        × (text (rules C l n) (p ++ q) ≡ text (rules C l n) p ++ more) }
 {}
 
 /// However a stream is cut into pieces, the same is written of it.
 pub fn any_pieces()
     // What is written of pieces, one behind the other, is what all their octets add,
-    ensures whole { (C : Table) (l : Listed) (p : List ℕ) (pieces : List (List ℕ)) →
-        fed (message_reading C l) p pieces ≡ added (message_reading C l) p (concat pieces) }
+    ensures whole { (C : Table) (l : Listed) (n : ℕ) (p : List ℕ) (pieces : List (List ℕ)) →
+        fed (rules C l n) p pieces ≡ added (rules C l n) p (concat pieces) }
     // so that any two ways to cut the same octets write the same.
-    ensures same { (C : Table) (l : Listed) (p : List ℕ) (pieces others : List (List ℕ)) → concat pieces ≡ concat others →
-        fed (message_reading C l) p pieces ≡ fed (message_reading C l) p others }
+    ensures same { (C : Table) (l : Listed) (n : ℕ) (p : List ℕ) (pieces others : List (List ℕ)) →
+        concat pieces ≡ concat others →
+        fed (rules C l n) p pieces ≡ fed (rules C l n) p others }
 {}
 
 /// A stream is read on from a checkpoint of its front as if the reading had never ended, and each checkpoint is small.
 pub fn remaining()
     // The text of the front, and what is written of the octets behind it and at their end, are all that is written of both.
-    ensures text { (C : Table) (l : Listed) (octets p q : List ℕ) → Spells octets C l p →
-        text (message_reading C l) p ++ remaining (message_reading C l) p q
-        ≡ whole_text (message_reading C l) (p ++ q) }
+    ensures text { (C : Table) (l : Listed) (n : ℕ) (octets p q : List ℕ) → Spells octets C l n p →
+        text (rules C l n) p ++ remaining (rules C l n) p q
+        ≡ whole_text (rules C l n) (p ++ q) }
     // However long the front is, its checkpoint has at most so many octets.
-    ensures within { (C : Table) (l : Listed) (octets p : List ℕ) → Spells octets C l p →
-        length octets ≤ checkpoint_limit (depth_of C.types) }
+    ensures within { (C : Table) (l : Listed) (n : ℕ) (octets p : List ℕ) → Spells octets C l n p →
+        n ≤ most_open → length octets ≤ checkpoint_limit (depth_of C.types) }
 {}

@@ -2,6 +2,7 @@
 
 ghost use Rattle.std.specs.Prelude.{◌≡◌, ◌+◌, ◌*◌, ◌++◌, ◌∷◌, ◌^◌, ◌≤◌, ◌<◌, ℕ, List, [], length, None, OnOk, if◌then◌else◌};
 ghost use Rattle.arrayvec.specs.ArrayVec.{array_vec_len};
+ghost use Rattle.giop_stream.specs.Rules.{most_open};
 
 use crate::current::Current;
 use crate::dispatch;
@@ -32,13 +33,14 @@ pub struct Framing {
     ghost few_messages: { totals.messages ≤ totals.octets },
     ghost few_faults: { totals.faults ≤ 3 * totals.octets },
     ghost held: { array_vec_len header ≤ totals.octets },
+    ghost room: { slots.most ≤ most_open },
 }
 
 impl Framing {
     ghost use Rattle.giop_print.specs.Output.{Writes};
     ghost use Rattle.giop_sig.specs.Table.{Table};
     ghost use Rattle.giop_message.specs.Signatures.{Listed};
-    ghost use Rattle.giop_message.specs.MessageReading.{message_reading};
+    ghost use Rattle.giop_stream.specs.Rules.{rules};
     ghost use Rattle.giop_message.specs.Headers.{size};
     ghost use Rattle.giop_stream.specs.Headers.{wrong};
     ghost use Rattle.giop_stream.specs.Text.{stop_text};
@@ -51,8 +53,10 @@ impl Framing {
     ghost use Rattle.giop_stream.specs.Holding.{AreOf};
     ghost use Rattle.giop_stream.specs.Steps.{held_on, stop, settle};
 
-    /// Nothing read.
-    pub fn new() -> Framing
+    /// Nothing read, where so many messages may be open.
+    pub fn new(most: usize) -> Framing
+        requires { most ≤ most_open }
+        ensures most { result.slots.most ≡ most }
         ensures shows { (C : Table) (l : Listed) → Shows C l (shown result) one.fresh }
         ensures ready { (C : Table) → AreReady C (result.totals.octets + 1) result.slots }
     {
@@ -61,20 +65,22 @@ impl Framing {
             faults: 0,
             octets: 0,
         };
-        Framing::only(totals, None)
+        Framing::only(totals, None, most)
     }
 
     /// What is left where a put failed: the totals from before, and no message.
-    pub fn only(totals: Totals, stopped: Option<StreamFault>) -> Framing
+    pub fn only(totals: Totals, stopped: Option<StreamFault>, most: usize) -> Framing
         requires read { totals.octets ≤ 2 ^ 48 + 1 }
         requires running { stopped ≡ None → totals.octets ≤ 2 ^ 48 }
         requires few_messages { totals.messages ≤ totals.octets }
         requires few_faults { totals.faults ≤ 3 * totals.octets }
+        requires room { most ≤ most_open }
         ensures totals { result.totals ≡ totals }
         ensures stopped { result.stopped ≡ stopped }
         ensures header { result.header.items ≡ [] }
         ensures come { result.come ≡ 0 }
         ensures slots { IsBare result.slots }
+        ensures most { result.slots.most ≡ most }
         ensures ready { (C : Table) → AreReady C (result.totals.octets + 1) result.slots }
     {
         Framing {
@@ -82,7 +88,7 @@ impl Framing {
             stopped,
             header: ArrayVec::new(),
             come: 0,
-            slots: Slots::new(),
+            slots: Slots::new(most),
         }
     }
 
@@ -94,6 +100,7 @@ impl Framing {
         requires faults { self.old.totals.faults < 3 * place }
         ensures state { OnOk result (shown self.new ≡ stop (shown self.old) fault place) }
         ensures text { Writes result (O.log out.old) (O.log out.new) (stop_text fault place) }
+        ensures most { self.new.slots.most ≡ self.old.slots.most }
     {
         self.totals.octets = place;
         self.totals.faults += 1;
@@ -106,7 +113,8 @@ impl Framing {
     /// Behind a message's last octet the next header comes.
     #[tactic(auto, unfolding(crate::specs::Steps::settle))]
     fn settle(&mut self, size: u32)
-        ensures { shown self.new ≡ settle (shown self.old) size }
+        ensures state { shown self.new ≡ settle (shown self.old) size }
+        ensures most { self.new.slots.most ≡ self.old.slots.most }
     {
         if self.come == size {
             self.header.clear();
@@ -141,12 +149,14 @@ impl Framing {
         requires faults { self.old.totals.faults + 3 ≤ 3 * self.old.totals.octets }
         requires ready { AreReady catalogue.now self.old.totals.octets self.old.slots }
         // It does the step of the octet that was held last.
-        ensures does { (l : Listed) (s : State) (m : Memory) (x : ℕ) → IsReached catalogue.now l s →
+        ensures does { (l : Listed) (s : State) (m : Memory) (x : ℕ) →
+            IsReached catalogue.now l self.old.slots.most s →
             Shows catalogue.now l m s → shown self.old ≡ held_on m x →
             Does catalogue.now l result (O.log out.old) (O.log out.new) (shown self.new)
-            (one.step (message_reading catalogue.now l) s x) }
+            (one.step (rules catalogue.now l self.old.slots.most) s x) }
         ensures ready { OnOk result
             (AreReady catalogue.now (self.new.totals.octets + 1) self.new.slots) }
+        ensures most { self.new.slots.most ≡ self.old.slots.most }
     {
         self.totals.messages += 1;
         let now = self.current();
@@ -167,12 +177,13 @@ impl Framing {
         requires running { self.old.stopped ≡ None }
         requires limit { self.old.totals.octets < 2 ^ 48 }
         requires ready { AreReady catalogue.now (self.old.totals.octets + 1) self.old.slots }
-        ensures does { (l : Listed) (s : State) → IsReached catalogue.now l s →
+        ensures does { (l : Listed) (s : State) → IsReached catalogue.now l self.old.slots.most s →
             Shows catalogue.now l (shown self.old) s →
             Does catalogue.now l result (O.log out.old) (O.log out.new) (shown self.new)
-            (one.step (message_reading catalogue.now l) s octet) }
+            (one.step (rules catalogue.now l self.old.slots.most) s octet) }
         ensures ready { OnOk result
             (AreReady catalogue.now (self.new.totals.octets + 1) self.new.slots) }
+        ensures most { self.new.slots.most ≡ self.old.slots.most }
     {
         self.totals.octets += 1;
         self.header.push(octet);
@@ -198,12 +209,13 @@ impl Framing {
         requires limit { self.old.totals.octets < 2 ^ 48 }
         requires of { AreOf catalogue.now requests.now }
         requires ready { AreReady catalogue.now (self.old.totals.octets + 1) self.old.slots }
-        ensures does { (s : State) → IsReached catalogue.now requests.now s →
+        ensures does { (s : State) → IsReached catalogue.now requests.now self.old.slots.most s →
             Shows catalogue.now requests.now (shown self.old) s →
             Does catalogue.now requests.now result (O.log out.old) (O.log out.new) (shown self.new)
-            (one.step (message_reading catalogue.now requests.now) s octet) }
+            (one.step (rules catalogue.now requests.now self.old.slots.most) s octet) }
         ensures ready { OnOk result
             (AreReady catalogue.now (self.new.totals.octets + 1) self.new.slots) }
+        ensures most { self.new.slots.most ≡ self.old.slots.most }
     {
         self.totals.octets += 1;
         self.come = self.come.saturating_add(1);
@@ -224,12 +236,13 @@ impl Framing {
     ) -> Result<(), OutFault>
         requires of { AreOf catalogue.now requests.now }
         requires ready { AreReady catalogue.now (self.old.totals.octets + 1) self.old.slots }
-        ensures does { (s : State) → IsReached catalogue.now requests.now s →
+        ensures does { (s : State) → IsReached catalogue.now requests.now self.old.slots.most s →
             Shows catalogue.now requests.now (shown self.old) s →
             Does catalogue.now requests.now result (O.log out.old) (O.log out.new) (shown self.new)
-            (one.step (message_reading catalogue.now requests.now) s octet) }
+            (one.step (rules catalogue.now requests.now self.old.slots.most) s octet) }
         ensures ready { OnOk result
             (AreReady catalogue.now (self.new.totals.octets + 1) self.new.slots) }
+        ensures most { self.new.slots.most ≡ self.old.slots.most }
     {
         if self.stopped.is_some() {
             return Ok(());

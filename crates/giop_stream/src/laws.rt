@@ -4,8 +4,9 @@ ghost use Rattle.std.specs.Prelude.{◌≡◌, ◌≤◌, ◌<◌, ◌==◌, ◌
 ghost use Rattle.std.specs.List.{remove};
 ghost use Rattle.giop_checkpoint.specs.declared.fault.StreamFault.{StreamFault};
 ghost use Rattle.giop_message.specs.Reading.{Reading, IsCausal, IsEnding, IsInTurn};
+ghost use Rattle.giop_stream.specs.Rules.{Rules};
 ghost use Rattle.giop_stream.specs.Framing.{cut, limit, messages};
-ghost use Rattle.giop_stream.specs.Events.{Event, Open, Opens, Continues, most_open, events, open_after, joined, Rising};
+ghost use Rattle.giop_stream.specs.Events.{Event, Open, Opens, Continues, events, open_after, joined, Rising};
 ghost use Rattle.giop_stream.specs.Shares.{shares};
 ghost use Rattle.giop_stream.specs.Lines.{Class, has_class, lines};
 ghost use Rattle.giop_stream.specs.Text.{lines_text};
@@ -50,65 +51,69 @@ pub fn each_slot()
     ensures others { (R : Reading) (c : Tracked) (e : Event) (i : ℕ) → (i ≡ e.whom.number → ⊥) →
         (tracked_at R c e).known i ≡ c.known i }
     // The numbers of a stream's open messages rise.
-    ensures rising { (p : List ℕ) → Rising (open_after p) }
+    ensures rising { (most : ℕ) (p : List ℕ) → Rising (open_after most p) }
 {}
 
 /// The octets that come to a message are its own, then of each message that continues it those after the request id.
 pub fn each_joined()
-    ensures { (p : List ℕ) (i : ℕ) → joined i (events p) ≡ shares i [] (messages (cut p)) }
+    ensures { (most : ℕ) (p : List ℕ) (i : ℕ) →
+        joined i (events most p) ≡ shares most i [] (messages (cut p)) }
 {}
 
-/// There is room for the open messages.
+/// No more messages are open than may be.
 pub fn open_messages()
-    ensures { (p : List ℕ) → length (open_after p) ≤ most_open }
+    ensures { (most : ℕ) (p : List ℕ) → length (open_after most p) ≤ most }
 {}
 
 /// Behind a stream fault no octet adds a line, and none is counted.
 pub fn behind_a_stop()
-    ensures text { (R : Reading) → IsCausal R → (p q : List ℕ) (found : ℕ × StreamFault) →
+    ensures text { (R : Rules) → IsCausal R.reading → (p q : List ℕ) (found : ℕ × StreamFault) →
         (cut p).stop ≡ Some found →
         text R (p ++ q) ≡ text R p }
-    ensures totals { (R : Reading) → IsCausal R → (p q : List ℕ) (found : ℕ × StreamFault) →
+    ensures totals { (R : Rules) → IsCausal R.reading → (p q : List ℕ) (found : ℕ × StreamFault) →
         (cut p).stop ≡ Some found →
         tally R (p ++ q) ≡ tally R p }
 {}
 
 /// No octet has two lines of one class.
 pub fn one_of_each()
-    ensures { (R : Reading) → IsCausal R → IsInTurn R → (p : List ℕ) (k : ℕ) (c : Class) →
+    ensures { (R : Rules) → IsCausal R.reading → IsInTurn R.reading →
+        (p : List ℕ) (k : ℕ) (c : Class) →
         length (filter (λ l. (l.place == k) && has_class c l) (lines R p)) ≤ 1 }
 {}
 
 /// What an engine holds of a stream goes by one step for each octet.
 pub fn each_step()
-    ensures start { (R : Reading) → state_of R [] ≡ fresh }
-    ensures state { (R : Reading) → IsCausal R → IsInTurn R → (p : List ℕ) (x : ℕ) →
+    ensures start { (R : Rules) → state_of R [] ≡ fresh }
+    ensures state { (R : Rules) → IsCausal R.reading → IsInTurn R.reading → (p : List ℕ) (x : ℕ) →
         state_of R (p ++ x ∷ []) ≡ (step R (state_of R p) x).state }
-    ensures lines { (R : Reading) → IsCausal R → IsInTurn R → (p : List ℕ) (x : ℕ) →
+    ensures lines { (R : Rules) → IsCausal R.reading → IsInTurn R.reading → (p : List ℕ) (x : ℕ) →
         lines R (p ++ x ∷ []) ≡ lines R p ++ (step R (state_of R p) x).lines }
-    ensures text { (R : Reading) → IsCausal R → IsInTurn R → (p q : List ℕ) →
+    ensures text { (R : Rules) → IsCausal R.reading → IsInTurn R.reading → (p q : List ℕ) →
         text R (p ++ q) ≡ text R p ++ lines_text (run R (state_of R p) q) }
-    ensures rest { (R : Reading) → IsCausal R → IsInTurn R → (p q : List ℕ) →
+    ensures rest { (R : Rules) → IsCausal R.reading → IsInTurn R.reading → (p q : List ℕ) →
         state_of R (p ++ q) ≡ run_state R (state_of R p) q }
-    ensures closing { (R : Reading) → IsCausal R → IsInTurn R → IsEnding R → (p : List ℕ) →
+    ensures closing { (R : Rules) → IsCausal R.reading → IsInTurn R.reading → IsEnding R.reading →
+        (p : List ℕ) →
         closing R p ≡ finish (state_of R p) }
-    ensures totals { (R : Reading) → IsCausal R → IsInTurn R → (p : List ℕ) →
+    ensures totals { (R : Rules) → IsCausal R.reading → IsInTurn R.reading → (p : List ℕ) →
         final R p ≡ final_totals (state_of R p) }
 {}
 
 /// How many octets, messages and faults a stream can count.
 pub fn counts_are_bounded()
     // At most one octet is read beyond the limit, that of the stream fault;
-    ensures octets { (R : Reading) (p : List ℕ) → (tally R p).octets ≤ suc limit }
+    ensures octets { (R : Rules) (p : List ℕ) → (tally R p).octets ≤ suc limit }
     // and none where the stream has no fault.
-    ensures free { (R : Reading) (p : List ℕ) → (cut p).stop ≡ None → (tally R p).octets ≤ limit }
+    ensures free { (R : Rules) (p : List ℕ) → (cut p).stop ≡ None → (tally R p).octets ≤ limit }
     // Each message has a header of 12 octets.
-    ensures messages { (R : Reading) → IsCausal R → IsInTurn R → (p : List ℕ) →
+    ensures messages { (R : Rules) → IsCausal R.reading → IsInTurn R.reading → (p : List ℕ) →
         12 * (tally R p).messages ≤ (tally R p).octets }
     // Each message has one fault at most,
-    ensures faults { (R : Reading) → IsCausal R → IsInTurn R → (p : List ℕ) → (cut p).stop ≡ None →
+    ensures faults { (R : Rules) → IsCausal R.reading → IsInTurn R.reading →
+        (p : List ℕ) → (cut p).stop ≡ None →
         (tally R p).faults ≤ (tally R p).messages }
     // and the stream one, its stream fault or the truncated end.
-    ensures all_faults { (R : Reading) → IsCausal R → IsInTurn R → (p : List ℕ) →
+    ensures all_faults { (R : Rules) → IsCausal R.reading → IsInTurn R.reading → (p : List ℕ) →
         (final R p).faults ≤ suc (final R p).messages }
 {}

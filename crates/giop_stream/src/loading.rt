@@ -3,7 +3,6 @@
 ghost use Rattle.std.specs.Prelude.{◌≡◌, ℕ, List, ◌+◌, ◌<◌, ◌≤◌, ◌^◌, ◌*◌, length, true, Option, Some, None, IfOk, IfErr, IfSome, IsSomeAnd, IsOkAnd, [], ◌∷◌, ◌++◌, flat_map, replicate};
 ghost use Rattle.giop_sig.specs.Table.{Table};
 ghost use Rattle.giop_message.specs.Holding.{Follows};
-ghost use Rattle.giop_message.specs.MessageReading.{message_reading};
 ghost use Rattle.giop_message.specs.Signatures.{Listed};
 ghost use Rattle.giop_message.specs.Stored.{Stored};
 ghost use Rattle.giop_message.specs.declared.message.Message.{Message as Kept_message};
@@ -11,7 +10,7 @@ ghost use Rattle.giop_checkpoint.specs.Fixed.{HasRange};
 ghost use Rattle.giop_checkpoint.specs.Records.{AreRecords, entry_octets};
 ghost use Rattle.giop_checkpoint.specs.Refusals.{IsOurs};
 ghost use Rattle.giop_checkpoint.specs.declared.record.Standing.TheVariants as standings;
-ghost use Rattle.giop_stream.specs.Events.{most_open};
+ghost use Rattle.giop_stream.specs.Rules.{rules, most_open};
 ghost use Rattle.giop_stream.specs.State.{Slot as Held};
 ghost use Rattle.giop_stream.specs.Keeping.{AreReady, IsReady};
 ghost use Rattle.giop_stream.specs.Shown.{shown};
@@ -24,7 +23,7 @@ use crate::framing::Framing;
 use crate::header::size_of;
 use crate::kinds::is_fragment;
 use crate::saving::counts_of;
-use crate::slots::{Payload, Slot, Slots};
+use crate::slots::{MOST_OPEN, Payload, Slot, Slots};
 use crate::status::Totals;
 use arrayvec::ArrayVec;
 use giop_checkpoint::{
@@ -38,10 +37,11 @@ pub fn read(catalogue: &Catalogue, requests: &Requests, octets: &[u8]) -> Result
     ensures ready { IfOk result (λ f. AreReady catalogue.now (f.totals.octets + 1) f.slots) }
     ensures refused { IfErr result (λ why.
         IsRefused (counts_of catalogue.now requests.now) octets.now why) }
+    ensures most { IfOk result (λ f. f.slots.most ≡ most_open) }
     ensures ours { IfOk result (λ f. IsOurs (counts_of catalogue.now requests.now) octets.now) }
-    ensures again { (p : List ℕ) → Spells octets.now catalogue.now requests.now p →
+    ensures again { (p : List ℕ) → Spells octets.now catalogue.now requests.now most_open p →
         IsOkAnd result (λ f. Shows catalogue.now requests.now (shown f)
-        (state_of (message_reading catalogue.now requests.now) p)) }
+        (state_of (rules catalogue.now requests.now most_open) p)) }
 {
     let (fixed, records) = match fixed_part(octets, counts_of(catalogue, requests)) {
         Ok(parts) => parts,
@@ -58,13 +58,15 @@ fn framing_of(catalogue: &Catalogue, fixed: Fixed, records: &[u8]) -> Option<Fra
     requires range { HasRange fixed }
     requires lengths { AreRecords fixed.records records.now }
     ensures ready { IfSome result (λ f. AreReady catalogue.now (f.totals.octets + 1) f.slots) }
-    ensures again { (l : Listed) (octets p : List ℕ) (s : Spells octets catalogue.now l p) →
+    ensures most { IfSome result (λ f. f.slots.most ≡ most_open) }
+    ensures again { (l : Listed) (octets p : List ℕ)
+        (s : Spells octets catalogue.now l most_open p) →
         fixed ≡ fixed_of catalogue.now l s.memory →
         records.now ≡ flat_map entry_octets s.entries →
         IsSomeAnd result (λ f. Shows catalogue.now l (shown f)
-        (state_of (message_reading catalogue.now l) p)) }
+        (state_of (rules catalogue.now l most_open) p)) }
 {
-    let mut slots = Slots::new();
+    let mut slots = Slots::new(MOST_OPEN);
     if !add_all(&mut slots, catalogue, fixed.octets, fixed.records, records) {
         return None;
     }
@@ -184,6 +186,7 @@ fn add_all(
         length slots.old.slots.items + length held ≤ most_open → slots.old.own ≡ None →
         (result ≡ true) × HasAdded catalogue.now l slots.old slots.new held
         × IsOwn catalogue.now l slots.new.own own }
+    ensures most { slots.new.most ≡ slots.old.most }
 {
     if count == 0 {
         return true;
@@ -211,6 +214,7 @@ fn add(slots: &mut Slots, catalogue: &Catalogue, octets: u64, first: &FirstRecor
         IsCurrentEntry catalogue.now l (octets + 1) first.now own →
         (result ≡ true) × (slots.new.slots ≡ slots.old.slots)
         × IsOwn catalogue.now l slots.new.own (Some own) }
+    ensures most { slots.new.most ≡ slots.old.most }
 {
     match first.record.standing {
         Standing::Current => add_current(slots, catalogue, octets, first),
@@ -233,6 +237,7 @@ fn add_current(
     ensures again { (l : Listed) (own : Own) →
         IsCurrentEntry catalogue.now l (octets + 1) first.now own →
         (result ≡ true) × IsOwn catalogue.now l slots.new.own (Some own) }
+    ensures most { slots.new.most ≡ slots.old.most }
 {
     slots.own = message_of(catalogue, octets, first);
     slots.own.is_some()
@@ -254,6 +259,7 @@ fn add_open(
         IsOpenEntry catalogue.now l (octets + 1) first.now held →
         first.now.record.standing ≡ standings.Open id → length slots.old.slots.items < most_open →
         (result ≡ true) × HasAdded catalogue.now l slots.old slots.new (held ∷ []) }
+    ensures most { slots.new.most ≡ slots.old.most }
 {
     let message = message_of(catalogue, octets, first);
     message.is_some() && push(slots, first, id, message)
@@ -267,6 +273,7 @@ fn add_over(slots: &mut Slots, first: &FirstRecord<'_>, id: u32) -> bool
         IsOpenEntry C l n first.now held →
         first.now.record.standing ≡ standings.Over id → length slots.old.slots.items < most_open →
         (result ≡ true) × HasAdded C l slots.old slots.new (held ∷ []) }
+    ensures most { slots.new.most ≡ slots.old.most }
 {
     is_zero(first) && push(slots, first, id, None)
 }
@@ -278,6 +285,7 @@ fn push(slots: &mut Slots, first: &FirstRecord<'_>, id: u32, message: Option<Mes
     ensures own { slots.new.own ≡ slots.old.own }
     ensures added { length slots.old.slots.items < most_open → (result ≡ true)
         × (slots.new.slots.items ≡ slots.old.slots.items ++ pushed first.now id message ∷ []) }
+    ensures most { slots.new.most ≡ slots.old.most }
 {
     if slots.slots.is_full() {
         return false;

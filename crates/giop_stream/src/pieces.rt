@@ -9,7 +9,7 @@ use giop_sig::{Catalogue, Requests};
 
 impl Framing {
     ghost use Rattle.giop_print.specs.Output.{Writes};
-    ghost use Rattle.giop_message.specs.MessageReading.{message_reading};
+    ghost use Rattle.giop_stream.specs.Rules.{rules};
     ghost use Rattle.giop_message.specs.Headers.{size};
     ghost use Rattle.giop_stream.specs.Keeping.{AreReady};
     ghost use Rattle.giop_stream.specs.Engine.{State};
@@ -53,12 +53,13 @@ impl Framing {
         requires some { 0 < length octets.now }
         requires of { AreOf catalogue.now requests.now }
         requires ready { AreReady catalogue.now (self.old.totals.octets + 1) self.old.slots }
-        ensures does { (s : State) → IsReached catalogue.now requests.now s →
+        ensures does { (s : State) → IsReached catalogue.now requests.now self.old.slots.most s →
             Shows catalogue.now requests.now (shown self.old) s →
             Does catalogue.now requests.now result (O.log out.old) (O.log out.new) (shown self.new)
-            (one.runs (message_reading catalogue.now requests.now) s octets.now) }
+            (one.runs (rules catalogue.now requests.now self.old.slots.most) s octets.now) }
         ensures ready { OnOk result
             (AreReady catalogue.now (self.new.totals.octets + 1) self.new.slots) }
+        ensures most { self.new.slots.most ≡ self.old.slots.most }
     {
         let before = self.totals.octets;
         self.totals.octets += octets.len() as u64;
@@ -79,12 +80,13 @@ impl Framing {
     ) -> Result<(), OutFault>
         requires of { AreOf catalogue.now requests.now }
         requires ready { AreReady catalogue.now (self.old.totals.octets + 1) self.old.slots }
-        ensures does { (s : State) → IsReached catalogue.now requests.now s →
+        ensures does { (s : State) → IsReached catalogue.now requests.now self.old.slots.most s →
             Shows catalogue.now requests.now (shown self.old) s →
             Does catalogue.now requests.now result (O.log out.old) (O.log out.new) (shown self.new)
-            (one.runs (message_reading catalogue.now requests.now) s piece.now) }
+            (one.runs (rules catalogue.now requests.now self.old.slots.most) s piece.now) }
         ensures ready { OnOk result
             (AreReady catalogue.now (self.new.totals.octets + 1) self.new.slots) }
+        ensures most { self.new.slots.most ≡ self.old.slots.most }
     {
         let mut rest = piece;
         while let Some(octet) = rest.first() {

@@ -5,7 +5,8 @@ ghost use Rattle.giop_print.specs.Output.{Writes};
 ghost use Rattle.giop_sig.specs.Table.{Table};
 ghost use Rattle.giop_message.specs.Signatures.{Listed};
 ghost use Rattle.giop_message.specs.Holding.{AreOf};
-ghost use Rattle.giop_stream.specs.Events.{Title, Imposed, Closes, most_open};
+ghost use Rattle.giop_stream.specs.Events.{Title, Imposed, Closes};
+ghost use Rattle.giop_stream.specs.Rules.{most_open};
 ghost use Rattle.giop_stream.specs.Effects.{Tracked, IsNotOpen};
 
 use crate::fault::ImposedFault;
@@ -15,7 +16,7 @@ use giop_message::Message;
 use giop_print::{Out, OutFault, cancelled_line, unfinished_line};
 use giop_sig::{Catalogue, Requests};
 
-/// The greatest number of messages that are open at once.
+/// How many messages may be open at once where nothing else is chosen, and at most.
 pub const MOST_OPEN: usize = 16;
 
 /// An open message.
@@ -43,12 +44,14 @@ pub enum Payload {
 #[derive(Drop)]
 pub struct Slots {
     pub slots: ArrayVec<Slot, MOST_OPEN>,
+    /// How many messages may be open at once.
+    pub most: usize,
     pub own: Option<Message>,
     pub payload: Payload,
 }
 
 impl Slots {
-    ghost use Rattle.std.specs.Prelude.{◌<◌, ◌==◌, List, IfSome, flat_map, slice_get};
+    ghost use Rattle.std.specs.Prelude.{◌<◌, ◌==◌, List, IfSome, flat_map, nat_le, slice_get};
     ghost use Rattle.std.specs.List.{AllByRecursion as Each, position_from};
     ghost use Rattle.giop_print.specs.Lines.{unfinished_line};
     ghost use Rattle.giop_stream.specs.declared.slots.Payload.TheVariants as Payload;
@@ -58,17 +61,18 @@ impl Slots {
     ghost use Rattle.giop_message.specs.MessageReading.{id_said};
     ghost use Rattle.giop_stream.specs.Keeping.{AreSlots, IsKept, Keeps, AreReady, IsBare, effect_to};
     ghost use Rattle.giop_stream.specs.Performs.{TakesEffect, one_if, never};
-    ghost use Rattle.giop_stream.specs.Machine.{left_open};
-    ghost use Rattle.giop_stream.specs.State.{Slot as Held};
+    ghost use Rattle.giop_stream.specs.State.{Slot as Held, left_open};
     ghost use Rattle.giop_stream.specs.Runs.{run_effect};
 
-    /// No message.
-    pub fn new() -> Slots
+    /// No message, where so many may be open.
+    pub fn new(most: usize) -> Slots
+        ensures most { result.most ≡ most }
         ensures bare { IsBare result }
         ensures ready { (C : Table) (n : ℕ) → AreReady C n result }
     {
         Slots {
             slots: ArrayVec::new(),
+            most,
             own: None,
             payload: Payload::Nobody,
         }
@@ -108,6 +112,7 @@ impl Slots {
             (run_effect catalogue.now requests.now before c whose octets.now) whose }
         ensures ready { OnOk result
             (AreReady catalogue.now (before + length octets.now + 1) self.new) }
+        ensures most { self.new.most ≡ self.old.most }
     {
         match self.payload {
             Payload::Own => give(&mut self.own, catalogue, requests, octets, before, out),
@@ -132,6 +137,7 @@ impl Slots {
             TakesEffect C l one_if result (O.log out.old) (O.log out.new) self.new
             (effect_to C l place c (Some w) (Imposed fault)) (Some w) }
         ensures ready { (C : Table) (n : ℕ) → AreReady C n self.old → AreReady C n self.new }
+        ensures most { self.new.most ≡ self.old.most }
     {
         match self.payload {
             Payload::Own => impose(&mut self.own, number, fault, place, out),
@@ -156,6 +162,7 @@ impl Slots {
             TakesEffect catalogue.now l one_if result (O.log out.old) (O.log out.new) self.new
             (effect_to catalogue.now l place c whose Closes) None }
         ensures ready { AreReady catalogue.now (place + 1) self.new }
+        ensures most { self.new.most ≡ self.old.most }
     {
         let payload = self.payload;
         self.payload = Payload::Nobody;
@@ -169,14 +176,23 @@ impl Slots {
         }
     }
 
+    /// Whether as many messages are open as may be.
+    pub fn is_full(&self) -> bool
+        ensures { result ≡ nat_le self.now.most (length self.now.slots.items) }
+    {
+        self.most <= self.slots.len()
+    }
+
     /// Makes the message whose payload comes an open one.
     pub fn open(&mut self, number: u64, header: [u8; 12], id: u32)
-        requires { length self.old.slots.items < most_open }
+        requires full { length self.old.slots.items < self.old.most }
+        requires room { self.old.most ≤ most_open }
         ensures kept { (C : Table) (l : Listed) (c : Tracked) (w : Title) (place : ℕ) →
             Keeps C l self.old c (Some w) → self.old.payload ≡ Payload.Own →
             w.number ≡ number → w.header ≡ header →
             Keeps C l self.new (effect_to C l place c (Some w) (Opens id)).tracked (Some w) }
         ensures ready { (C : Table) (n : ℕ) → AreReady C n self.old → AreReady C n self.new }
+        ensures most { self.new.most ≡ self.old.most }
     {
         let message = self.own.take();
         self.payload = Payload::Open(self.slots.len());
@@ -194,6 +210,7 @@ impl Slots {
             Keeps C l self.old c whose → slice_get c.live k ≡ Some o →
             Keeps C l self.new c (Some o.opener) }
         ensures ready { (C : Table) (n : ℕ) → AreReady C n self.old → AreReady C n self.new }
+        ensures most { self.new.most ≡ self.old.most }
     {
         self.own = None;
         self.payload = Payload::Open(k);
@@ -204,6 +221,7 @@ impl Slots {
         ensures kept { (C : Table) (l : Listed) (c : Tracked) (whose : Option Title) →
             Keeps C l self.old c whose → Keeps C l self.new c None }
         ensures ready { (C : Table) (n : ℕ) → AreReady C n self.old → AreReady C n self.new }
+        ensures most { self.new.most ≡ self.old.most }
     {
         self.own = None;
         self.payload = Payload::Nobody;
@@ -217,6 +235,7 @@ impl Slots {
             Keeps catalogue.now l self.new c (Some w) }
         ensures ready { (n : ℕ) → AreReady catalogue.now n self.old → 12 < n →
             AreReady catalogue.now n self.new }
+        ensures most { self.new.most ≡ self.old.most }
     {
         self.own = Some(Message::start(catalogue, number, header));
         self.payload = Payload::Own;
@@ -256,6 +275,7 @@ impl Slots {
             TakesEffect C l never result (O.log out.old) (O.log out.new) self.new
             (effect_to C l place c (Some o.opener) (Cancelled by)) (Some w) }
         ensures ready { (C : Table) (n : ℕ) → AreReady C n self.old → AreReady C n self.new }
+        ensures most { self.new.most ≡ self.old.most }
     {
         match self.slots.pop_at(k) {
             Some(slot) => {

@@ -20,6 +20,7 @@ use Rattle.giop_message.specs.Signatures.{said_by}
 use Rattle.giop_message.specs.Messages as one
 use Rattle.giop_message.specs.Messages.{tell, is_shown, call_of, calls, with_front, passes, rest_in, rest, typed, option_typed, members_of, after_exception, body, type_if, request_body, result_body, reply_body, is_request, body_of, has_body, padded, after_header, of_header, message, may_lack, close, told_of, stage_of}
 use Rattle.giop_message.specs.MessageReading.{saying_of, text_of, reading_by}
+use Rattle.giop_stream.specs.Rules.{most_open}
 use Rattle.giop_stream.specs.Headers.{fronts, wrong, first_wrong, offence}
 use Rattle.giop_stream.specs.Framing.{with_first, cut_from, limit, limited, cut, messages, read_of}
 use Rattle.giop_stream.specs.Kinds.{may_be_cancelled, refused}
@@ -36,8 +37,8 @@ use Rattle.giop_stream.specs.Remembering.{Memory}
 use Rattle.giop_stream.specs.Engine.{state_of, own_for, owner_for}
 use Rattle.giop_stream.specs.Showing.{come_in, comes_itself}
 use Rattle.giop_stream.specs.Checkpoint.{counts_of, fixed_of, checkpoint_octets}
-use Rattle.giop_stream_rows.specs.Worked.{digit, octets, stream, written, reading, called, table_of, builtin, puts, bigs, late, asks, kept}
-use Rattle.giop_stream_rows.specs.Streams.{CloseConnection, LittleRequest, Interleaved, OpenTwice, Cancelled, Replied, Raised}
+use Rattle.giop_stream_rows.specs.Worked.{digit, octets, stream, written, read_by, called, table_of, builtin, puts, bigs, late, asks, kept}
+use Rattle.giop_stream_rows.specs.Streams.{CloseConnection, LittleRequest, Interleaved, OpenTwice, OneOpen, Cancelled, Replied, Raised}
 use Rattle.giop_stream_rows.specs.Checkpoints.{five_octets, one_in_payload, bad_magic, InAHeader, InAPayload, BehindAFault}
 
 -- what one message is read with
@@ -52,7 +53,7 @@ a_stream = 0
 
 -- what the rows are told with
 unfoldable pub told_with : ℕ
-unfolding digit octets stream written reading called table_of builtin puts bigs late asks kept
+unfolding digit octets stream written read_by called table_of builtin puts bigs late asks kept
 told_with = 0
 
 pub close_connection : CloseConnection
@@ -70,6 +71,10 @@ interleaved = record { text = refl; closing = refl }
 pub open_twice : OpenTwice
 unfolding one_message a_stream told_with
 open_twice = record { text = refl; closing = refl }
+
+pub one_open : OneOpen
+unfolding one_message a_stream told_with
+one_open = record { text = refl; closing = refl }
 
 pub cancelled : Cancelled
 unfolding one_message a_stream told_with
@@ -99,7 +104,12 @@ are_octets (x ∷ xs) h (suc k) d below =
 
 -- no message is kept
 no_messages : Payload → Slots
-no_messages payload = record { slots = record { items = [] }; own = None; payload = payload }
+no_messages payload = record {
+  slots = record { items = [] };
+  most = most_open;
+  own = None;
+  payload = payload;
+}
 
 -- what is held in each place
 in_header : Memory

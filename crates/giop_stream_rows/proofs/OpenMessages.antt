@@ -33,6 +33,7 @@ use Rattle.giop_message.specs.Stored.{Stored}
 use Rattle.giop_checkpoint.specs.Records as records
 use Rattle.giop_checkpoint.specs.Records.{Entry, EntryHasRange}
 use Rattle.giop_checkpoint.specs.declared.record.Standing.TheVariants as standings
+use Rattle.giop_stream.specs.Rules.{most_open}
 use Rattle.giop_stream.specs.declared.slots.Payload.TheVariants as payload
 use Rattle.giop_stream.specs.Remembering.{Memory}
 use Rattle.giop_stream.specs.Checkpoint.{IsHeld}
@@ -127,6 +128,7 @@ between = record {
       items = record { number = 1; header = header 40; id = 5; message = Some first }
           ∷ record { number = 2; header = header 36; id = 6; message = Some second } ∷ [];
     };
+    most = most_open;
     own = None;
     payload = payload.Nobody;
   };

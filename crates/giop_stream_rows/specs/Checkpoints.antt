@@ -1,6 +1,7 @@
 -- Checkpoints of worked streams, octet for octet (meaning). In the first three no message is kept:
 -- there is no record.
 use Rattle.std.specs.Prelude.{ℕ, List, [], ◌∷◌, ◌++◌, replicate, codes}
+use Rattle.giop_stream.specs.Rules.{most_open}
 use Rattle.giop_stream.specs.Checkpoint.{Spells}
 use Rattle.giop_stream_rows.specs.Worked.{stream, builtin, bigs}
 
@@ -18,6 +19,7 @@ InAHeader = Spells
     ∷ []))
     builtin
     []
+    most_open
     five_octets
 
 -- a Fragment of 1.0, which is faulted at its header, and the first octet of its payload
@@ -34,6 +36,7 @@ InAPayload = Spells
     ∷ []))
     builtin
     []
+    most_open
     one_in_payload
 
 -- a CloseConnection, and a magic that is wrong in its third octet
@@ -50,6 +53,7 @@ BehindAFault = Spells
     ∷ []))
     builtin
     []
+    most_open
     bad_magic
 
 -- ---- Two open messages.
@@ -98,4 +102,5 @@ behind_a_body =
 
 -- with two messages open, one of them within a number
 abbrev pub BetweenMessages : Type 0
-BetweenMessages = Spells (between_messages ++ in_a_number ++ behind_a_body) bigs [] two_requests
+BetweenMessages = Spells (between_messages ++ in_a_number ++ behind_a_body)
+    bigs [] most_open two_requests

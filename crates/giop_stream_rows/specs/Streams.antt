@@ -1,10 +1,11 @@
 -- Worked streams, message by message, with their lines (meaning).
 use Rattle.std.specs.Prelude.{[], ◌∷◌, codes}
-use Rattle.giop_stream_rows.specs.Worked.{stream, Row, reading, builtin, puts, bigs, asks, kept}
+use Rattle.giop_stream.specs.Rules.{rules}
+use Rattle.giop_stream_rows.specs.Worked.{stream, Row, read_by, builtin, puts, bigs, asks, kept}
 
 -- a CloseConnection of 1.0
 abbrev pub CloseConnection : Type 0
-CloseConnection = Row (reading builtin [])
+CloseConnection = Row (read_by builtin [])
     (stream (codes "47494f50 0100 00 05 00000000" ∷ []))
     (codes "m1 start 1.0 big CloseConnection size 0"
     ∷ codes "m1 end"
@@ -13,7 +14,7 @@ CloseConnection = Row (reading builtin [])
 
 -- a Request of 1.2 in little order, with a double
 abbrev pub LittleRequest : Type 0
-LittleRequest = Row (reading puts [])
+LittleRequest = Row (read_by puts [])
     (stream (codes "47494f50 0102 01 00 2c000000"
     ∷ codes "01000000 03 000000 0000 0000 01000000 41 000000 04000000 70757400 00000000"
     ∷ codes "00000000 000000000000f83f"
@@ -36,7 +37,7 @@ LittleRequest = Row (reading puts [])
 
 -- Two Requests in fragments, which come by turns. The number of the first is cut into three.
 abbrev pub Interleaved : Type 0
-Interleaved = Row (reading bigs [])
+Interleaved = Row (read_by bigs [])
     (stream (codes "47494f50 0102 02 00 00000028"
     ∷ codes "00000005 03 000000 0000 0000 00000001 41 000000 00000004 626967 00 00000000"
     ∷ codes "00000000 01020304"
@@ -86,7 +87,7 @@ Interleaved = Row (reading bigs [])
 
 -- two messages of one request id, of which the second is faulted
 abbrev pub OpenTwice : Type 0
-OpenTwice = Row (reading builtin [])
+OpenTwice = Row (read_by builtin [])
     (stream (codes "47494f50 0102 02 00 00000004 00000001"
     ∷ codes "47494f50 0102 02 00 00000004 00000001"
     ∷ []))
@@ -100,9 +101,25 @@ OpenTwice = Row (reading builtin [])
     ∷ codes "total messages 2 faults 1 octets 32"
     ∷ [])
 
+-- two messages where one may be open at once, of which the second is faulted
+abbrev pub OneOpen : Type 0
+OneOpen = Row (rules builtin [] 1)
+    (stream (codes "47494f50 0102 02 00 00000004 00000001"
+    ∷ codes "47494f50 0102 02 00 00000004 00000002"
+    ∷ []))
+    (codes "m1 start 1.2 big Request size 4 more"
+    ∷ codes "m1 header.request_id ulong 1"
+    ∷ codes "m2 start 1.2 big Request size 4 more"
+    ∷ codes "m2 header.request_id ulong 2"
+    ∷ codes "m2 fault too-many-open at 32"
+    ∷ [])
+    (codes "m1 unfinished"
+    ∷ codes "total messages 2 faults 1 octets 32"
+    ∷ [])
+
 -- a CancelRequest of an open message, and a Fragment behind it
 abbrev pub Cancelled : Type 0
-Cancelled = Row (reading builtin [])
+Cancelled = Row (read_by builtin [])
     (stream (codes "47494f50 0102 02 00 00000004 00000004"
     ∷ codes "47494f50 0102 00 02 00000004 00000004"
     ∷ codes "47494f50 0102 00 07 00000004 00000004"
@@ -121,7 +138,7 @@ Cancelled = Row (reading builtin [])
 
 -- a Reply to a request of a known operation
 abbrev pub Replied : Type 0
-Replied = Row (reading asks kept)
+Replied = Row (read_by asks kept)
     (stream (codes "47494f50 0100 00 01 00000011 00000000 00000001 00000000 0000002a 09" ∷ []))
     (codes "m1 start 1.0 big Reply size 17"
     ∷ codes "m1 header.service_contexts count 0"
@@ -135,7 +152,7 @@ Replied = Row (reading asks kept)
 
 -- and one with a known exception
 abbrev pub Raised : Type 0
-Raised = Row (reading asks kept)
+Raised = Row (read_by asks kept)
     (stream (codes "47494f50 0100 00 01 00000020"
     ∷ codes "00000000 00000001 00000001 0000000d 49444c3a4c6174653a312e30 00 00 0003"
     ∷ []))

@@ -4,9 +4,8 @@ use Rattle.std.specs.Prelude.{◌≡◌, ℕ, ◌+◌, ◌-◌, ◌*◌, ◌==�
 use Rattle.giop_sig.specs.Table.{Node, members, Operation, Exception, Table, op_id, operation_number}
 use Rattle.giop_sig.specs.Builtin.{builtin_types, member}
 use Rattle.giop_sig.specs.RequestList.{Entry, IsOf}
-use Rattle.giop_message.specs.Reading.{Reading}
 use Rattle.giop_message.specs.Signatures.{Listed}
-use Rattle.giop_message.specs.MessageReading.{message_reading}
+use Rattle.giop_stream.specs.Rules.{Rules, rules, most_open}
 use Rattle.giop_stream.specs.Stream.{text, closing}
 
 -- ---- The octets and the lines.
@@ -30,14 +29,14 @@ written [] = []
 written (line ∷ lines) = line ++ 10 ∷ written lines
 
 -- What is written of this stream, and at its end.
-pub record Row (R : Reading) (p : List ℕ) (lines end : List (List ℕ)) : Type 0 where
+pub record Row (R : Rules) (p : List ℕ) (lines end : List (List ℕ)) : Type 0 where
   pub text : text R p ≡ written lines
   pub closing : closing R p ≡ written end
 
 -- ---- What the streams are read by.
 
-unfoldable pub reading : Table → Listed → Reading
-reading table kept = message_reading table kept
+unfoldable pub read_by : Table → Listed → Rules
+read_by table kept = rules table kept most_open
 
 -- an operation by the structs of its parameters and of its results, which stand one behind the other; the first is counted
 -- from the first type behind the built-in ones

@@ -2,7 +2,7 @@
 #![tactic(auto)]
 
 ghost use Rattle.giop_stream_rows.specs.Worked.{AreOfTheirList};
-ghost use Rattle.giop_stream_rows.specs.Streams.{CloseConnection, LittleRequest, Interleaved, OpenTwice, Cancelled, Replied, Raised};
+ghost use Rattle.giop_stream_rows.specs.Streams.{CloseConnection, LittleRequest, Interleaved, OpenTwice, OneOpen, Cancelled, Replied, Raised};
 ghost use Rattle.giop_stream_rows.specs.Checkpoints.{InAHeader, InAPayload, BehindAFault, BetweenMessages};
 
 /// The text and the closing of these streams, by the declarations and the requests of each. It has no body, and is called
@@ -16,6 +16,8 @@ pub fn worked_streams()
     ensures interleaved { Interleaved }
     // Two messages of one request id.
     ensures open_twice { OpenTwice }
+    // Two messages where one may be open.
+    ensures one_open { OneOpen }
     // A CancelRequest, and a Fragment of the message that it cancelled.
     ensures cancelled { Cancelled }
     // A Reply with the results of its request's operation, and one with an exception.

@@ -4,8 +4,9 @@ use Rattle.std.specs.Prelude.{◌*◌, ◌==◌, nat_lt, if◌then◌else◌}
 use Rattle.std.proofs.lemmas.Bool.{cases_lt, lt-ltb, le-ltb, eqb-true}
 use Rattle.std.proofs.lemmas.List.{length_push}
 use Rattle.giop_checkpoint.specs.declared.fault.StreamFault.{StreamFault}
-use Rattle.giop_message.specs.Reading.{Reading, IsCausal, IsInTurn}
+use Rattle.giop_message.specs.Reading.{IsCausal, IsInTurn}
 use Rattle.giop_message.specs.Headers.{size}
+use Rattle.giop_stream.specs.Rules.{Rules}
 use Rattle.giop_stream.specs.Framing.{Message, with_payload, Cut, cut, limit, messages, read_of}
 use Rattle.giop_stream.specs.Headers.{wrong}
 use Rattle.giop_stream.specs.Stream.{tally}
@@ -90,14 +91,14 @@ unfolding read_of
 read_many p c (Some found) h = h.1
 read_many p c None h = omega (arith, h.1)
 
-pub octets_few : (R : Reading) (p : List ℕ) → (tally R p).octets ≤ suc limit
+pub octets_few : (R : Rules) (p : List ℕ) → (tally R p).octets ≤ suc limit
 unfolding tally Counted
 octets_few R p = read_few p (cut p) (cut p).stop (counted p)
 
-pub octets_free : (R : Reading) (p : List ℕ) → (cut p).stop ≡ None → (tally R p).octets ≤ limit
+pub octets_free : (R : Rules) (p : List ℕ) → (cut p).stop ≡ None → (tally R p).octets ≤ limit
 unfolding tally Counted
 octets_free R p free = read_free p (cut p) (cut p).stop (counted p) free
 
-pub messages_few : (R : Reading) → IsCausal R → IsInTurn R → (p : List ℕ) → 12 * (tally R p).messages ≤ (tally R p).octets
+pub messages_few : (R : Rules) → IsCausal R.reading → IsInTurn R.reading → (p : List ℕ) → 12 * (tally R p).messages ≤ (tally R p).octets
 unfolding tally Counted
 messages_few R causal laws p = rw ((sound R causal laws p).starts) (read_many p (cut p) (cut p).stop (counted p))

@@ -1,8 +1,8 @@
 -- What there is to know of a stream before its first octet.
 use Rattle.std.proofs.Common.{◌≡◌, ℕ, [], refl, ◌∙◌, Some, None, arith}
 use Rattle.giop_stream.specs.Headers.{fronts, wrong, first_wrong, offence}
+use Rattle.giop_stream.specs.Rules.{Rules}
 use Rattle.giop_stream.specs.Framing.{limit, limited, cut_from, cut, messages}
-use Rattle.giop_message.specs.Reading.{Reading}
 use Rattle.giop_stream.specs.Events.{opened, events_from, events, open_after, joined}
 use Rattle.giop_stream.specs.Lines.{in_order, standing, said, stop_line, lines}
 use Rattle.giop_stream.specs.Stream.{start_count, is_over}
@@ -16,40 +16,40 @@ pub cut_nothing : cut [] ≡ of_parts [] None [] None
 unfolding cut limited limit cut_from offence fronts first_wrong wrong of_parts
 cut_nothing = refl
 
-pub events_nothing : events [] ≡ []
+pub events_nothing : (most : ℕ) → events most [] ≡ []
 unfolding events events_from messages of_parts
-events_nothing = rw (events, cut_nothing) refl
+events_nothing most = rw (events, cut_nothing) refl
 
-pub said_nothing : (R : Reading) → said R [] ≡ []
+pub said_nothing : (R : Rules) → said R [] ≡ []
 unfolding said in_order standing
 said_nothing R = refl
 
-pub lines_nothing : (R : Reading) → lines R [] ≡ []
+pub lines_nothing : (R : Rules) → lines R [] ≡ []
 unfolding of_parts stop_line
 lines_nothing R = lines_stopped R [] None (rw cut_nothing refl) ∙ rw (said_nothing R) refl
 
-octets_nothing : (R : Reading) (i : ℕ) → octets_of R [] i ≡ Some []
+octets_nothing : (R : Rules) (i : ℕ) → octets_of R [] i ≡ Some []
 unfolding octets_of is_over joined
-octets_nothing R i = rw (octets_of, said_nothing R, events_nothing) refl
+octets_nothing R i = rw (octets_of, said_nothing R, events_nothing R.most) refl
 
-pub open_nothing : open_after [] ≡ []
+pub open_nothing : (most : ℕ) → open_after most [] ≡ []
 unfolding open_after opened
-open_nothing = rw events_nothing refl
+open_nothing most = rw (events_nothing most) refl
 
-live_nothing : AreSound []
+live_nothing : (most : ℕ) → AreSound most []
 unfolding IsFew AreOpeners
-live_nothing = record { few = omega arith; differ = tt; openers = tt }
+live_nothing most = record { few = omega arith; differ = tt; openers = tt }
 
-pub sound_start : (R : Reading) → IsSound R []
+pub sound_start : (R : Rules) → IsSound R []
 unfolding of_parts messages start_count
 sound_start R = record {
-  places = rw events_nothing tt;
-  numbers = rw open_nothing tt;
+  places = rw (events_nothing R.most) tt;
+  numbers = rw (open_nothing R.most) tt;
   unknown = λ i h. octets_nothing R i;
   starts = rw (lines_nothing R, cut_nothing) refl;
   fits = λ st. rw cut_nothing (record { current = tt; held = omega arith; short = omega arith });
-  rising = rw open_nothing tt;
+  rising = rw (open_nothing R.most) tt;
   early = λ st. rw cut_nothing tt;
-  live = rw open_nothing live_nothing;
+  live = rw (open_nothing R.most) (live_nothing R.most);
   begun = λ st. rw cut_nothing tt;
 }

@@ -7,8 +7,7 @@ use Rattle.giop_message.specs.Headers.{size, has_name, is_opener, is_fragment}
 use Rattle.giop_message.specs.Reading.{Reading}
 use Rattle.giop_stream.specs.Events.{Event, Open, Rising, changed, joined, Now, header_acts, octet_acts, id_acts, end_acts, acts}
 use Rattle.giop_stream.specs.Lines.{is_last_of, standing}
-use Rattle.giop_stream.specs.Machine.{utters_kept, taking, written}
-use Rattle.giop_stream.specs.Effects.{Tracked, Effect, lines_at, tracked_at, effects}
+use Rattle.giop_stream.specs.Effects.{Tracked, Effect, lines_at, tracked_at, effects, lines_for, kept_with, kept_after}
 use Rattle.giop_stream.specs.Step.{numbered}
 use Rattle.giop_stream.proofs.Told.Turns.{unnamed}
 
@@ -18,10 +17,10 @@ or_true : (b : Bool) → (b || true) ≡ true
 or_true true = refl
 or_true false = refl
 
-module _ (live : List Open) (now : Now) (i j : ℕ) (o q : Option Open) where
-  at_four : now.come ≡ 4 → (b : Bool) → has_name now.whom.header ≡ b → (b ≡ true → (i ≡ j) × (o ≡ q)) → acts live now i o ≡ acts live now j q
+module _ (most : ℕ) (live : List Open) (now : Now) (i j : ℕ) (o q : Option Open) where
+  at_four : now.come ≡ 4 → (b : Bool) → has_name now.whom.header ≡ b → (b ≡ true → (i ≡ j) × (o ≡ q)) → acts most live now i o ≡ acts most live now j q
   unfolding acts octet_acts id_acts end_acts
-  at_four four true e h = let same = h refl in λ k. acts live now (same.0 k) (same.1 k)
+  at_four four true e h = let same = h refl in λ k. acts most live now (same.0 k) (same.1 k)
   at_four four false e h = let none = unnamed now.whom.header e in rw (none.0, none.1, none.2) refl
 
   short_end : now.come < 4 → is_fragment now.whom.header ≡ true → (b : Bool) → (now.come == size now.whom.header) ≡ b
@@ -36,7 +35,7 @@ module _ (live : List Open) (now : Now) (i j : ℕ) (o q : Option Open) where
   unfolding octet_acts
   few_octets few = rw (le-ltb 4 now.come (omega (arith, few)), and_right (is_fragment now.whom.header) false refl) refl
 
-  elsewhere : (now.come ≡ 4 → ⊥) → (b : Bool) → is_fragment now.whom.header ≡ b → (b ≡ true → 4 < now.come → o ≡ q) → acts live now i o ≡ acts live now j q
+  elsewhere : (now.come ≡ 4 → ⊥) → (b : Bool) → is_fragment now.whom.header ≡ b → (b ≡ true → 4 < now.come → o ≡ q) → acts most live now i o ≡ acts most live now j q
   unfolding acts octet_acts end_acts
   elsewhere other false f h = rw (ne_eqb now.come 4 other, f) refl
   elsewhere other true f h = elim (cases_lt 4 now.come) [
@@ -49,7 +48,7 @@ module _ (live : List Open) (now : Now) (i j : ℕ) (o q : Option Open) where
   ]
 
   pub acts_agree : (now.come ≡ 4 → has_name now.whom.header ≡ true → (i ≡ j) × (o ≡ q))
-      → (4 < now.come → is_fragment now.whom.header ≡ true → o ≡ q) → acts live now i o ≡ acts live now j q
+      → (4 < now.come → is_fragment now.whom.header ≡ true → o ≡ q) → acts most live now i o ≡ acts most live now j q
   acts_agree h k = elim (cases_eq now.come 4) [
     | inl four ↦ at_four four (has_name now.whom.header) refl (λ named. h four named)
     | inr other ↦ elsewhere other (is_fragment now.whom.header) refl (λ f past. k past f)
@@ -68,7 +67,7 @@ unfolding effects
 effects_agree R P c d [] l h k = record { lines = refl; live = l; known = h }
 effects_agree R P c d (e ∷ es) l h k =
     let now : lines_at R c.known e ≡ lines_at R d.known e = unfold lines_at in
-    ap (λ (o : Option (List ℕ)). standing (λ i. false) (utters_kept R e o)) (h e.whom.number k.0) in
+    ap (λ (o : Option (List ℕ)). standing (λ i. false) (lines_for R e o)) (h e.whom.number k.0) in
     let more = effects_agree R P (tracked_at R c e) (tracked_at R d e) es (live_then l) (known_then now) k.1 in
     record { lines = λ j. now j ++ more.lines j; live = more.live; known = more.known }
   where
@@ -77,7 +76,7 @@ effects_agree R P c d (e ∷ es) l h k =
 
     known_then : lines_at R c.known e ≡ lines_at R d.known e → (i : ℕ) → P i → (tracked_at R c e).known i ≡ (tracked_at R d e).known i
     known_then now i p =
-        unfold tracked_at written taking in λ j. if list_any (is_last_of i) (now j) then None else option_map (λ xs. xs ++ joined i (e ∷ [])) (h i p j)
+        unfold tracked_at kept_after kept_with in λ j. if list_any (is_last_of i) (now j) then None else option_map (λ xs. xs ++ joined i (e ∷ [])) (h i p j)
 
 -- ---- Among open messages, whose numbers rise, one is found by its number.
 

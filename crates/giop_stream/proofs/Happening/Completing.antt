@@ -6,15 +6,16 @@ use Rattle.std.proofs.lemmas.Bool.{or_left, ltb-false}
 use Rattle.std.proofs.lemmas.List.{append-nil, map-append, length_push}
 use Rattle.std.proofs.lemmas.List.Elements.{filter-append}
 use Rattle.giop_message.specs.Headers.{size, is_fragment, is_opener}
+use Rattle.giop_stream.specs.Rules.{Rules}
 use Rattle.giop_stream.specs.Framing.{Message, with_payload, Cut, cut, messages}
-use Rattle.giop_message.specs.Reading.{Reading, IsCausal, IsEnding, IsInTurn}
+use Rattle.giop_message.specs.Reading.{IsCausal, IsEnding, IsInTurn}
 use Rattle.giop_stream.specs.Events.{Happening, Event, Open, place, happens, opened, events_from, events, open_after}
 use Rattle.giop_stream.specs.Lines.{is_last_of, said}
 use Rattle.giop_stream.specs.Stream.{is_over, heads}
 use Rattle.giop_stream.specs.Effects.{with_octet}
 use Rattle.giop_stream.specs.Octet.{Octet, Behind, Ends, Held, Of}
 use Rattle.giop_stream.specs.State.{octets_of, is_open}
-use Rattle.giop_stream.specs.Machine.{now_written}
+use Rattle.giop_stream.proofs.Told.Together.{sorted_lines}
 use Rattle.giop_stream.proofs.Lists.{by_growth, each_weaker, all_by}
 use Rattle.giop_stream.proofs.Cuts.Cutting.{stopped_at, of_parts, settled_messages}
 use Rattle.giop_stream.proofs.Cuts.CutFrom.{settle}
@@ -35,19 +36,19 @@ unfoldable pub tail_now : List Open → Option Message → List ℕ
 tail_now live None = []
 tail_now live (Some m) = tail_of live m
 
-pub record IsComplete (R : Reading) (p : List ℕ) : Type 0 where
-  pub kept : alive (is_over R p) (heads (messages (cut p))) ≡ alive (is_over R p) (numbers_of (open_after p) ++ tail_now (open_after p) (cut p).current)
-  pub named : IfSome (cut p).current (λ m. is_opener m.header ≡ true → 4 ≤ length m.payload → Known (is_over R p) (open_after p) m)
+pub record IsComplete (R : Rules) (p : List ℕ) : Type 0 where
+  pub kept : alive (is_over R p) (heads (messages (cut p))) ≡ alive (is_over R p) (numbers_of (open_after R.most p) ++ tail_now (open_after R.most p) (cut p).current)
+  pub named : IfSome (cut p).current (λ m. is_opener m.header ≡ true → 4 ≤ length m.payload → Known (is_over R p) (open_after R.most p) m)
 
-over_same : (R : Reading) (p p' : List ℕ) → said R p' ≡ said R p → is_over R p' ≡ is_over R p
+over_same : (R : Rules) (p p' : List ℕ) → said R p' ≡ said R p → is_over R p' ≡ is_over R p
 unfolding is_over
 over_same R p p' sd = λ j i. list_any (is_last_of i) (sd j)
 
-complete_quiet : (R : Reading) (p p' : List ℕ) → messages (cut p') ≡ messages (cut p) → (cut p').current ≡ (cut p).current
-    → events p' ≡ events p → said R p' ≡ said R p → IsComplete R p → IsComplete R p'
+complete_quiet : (R : Rules) (p p' : List ℕ) → messages (cut p') ≡ messages (cut p) → (cut p').current ≡ (cut p).current
+    → events R.most p' ≡ events R.most p → said R p' ≡ said R p → IsComplete R p → IsComplete R p'
 complete_quiet R p p' ms cur ev sd complete = record {
-  kept = rw (ms, cur, open_idle p p' ev, over_same R p p' sd) complete.kept;
-  named = rw (cur, open_idle p p' ev, over_same R p p' sd) complete.named;
+  kept = rw (ms, cur, open_idle R.most p p' ev, over_same R p p' sd) complete.kept;
+  named = rw (cur, open_idle R.most p p' ev, over_same R p p' sd) complete.named;
 }
 
 less_by : (a b : Bool) (i : ℕ) (xs ys : List ℕ) (test : ℕ → Bool) → test i ≡ (not b) → xs ≡ filter test ys
@@ -132,19 +133,19 @@ stays_is : (over : ℕ → Bool) (m : Message) (live : List Open) (es : List Eve
 unfolding Stays
 stays_is over m live es h = h
 
-complete_deal : (R : Reading) → IsCausal R → IsEnding R → (p p' : List ℕ) (whole : List Message) (m : Message)
-    → length p' ≡ suc (length p) → cut p' ≡ settle whole m → events p' ≡ events p ++ happens (open_after p) m
-    → Each (λ e. e.place ≤ length p) (events p) → place m ≡ suc (length p)
-    → length m.payload ≤ size m.header → (length m.payload ≡ 4 → Below m.number (open_after p))
-    → alive (is_over R p) (heads whole ++ head_of m) ≡ alive (is_over R p) (base (open_after p) m)
-    → (is_opener m.header ≡ true → 4 < length m.payload → Known (is_over R p) (open_after p) m)
+complete_deal : (R : Rules) → IsCausal R.reading → IsEnding R.reading → (p p' : List ℕ) (whole : List Message) (m : Message)
+    → length p' ≡ suc (length p) → cut p' ≡ settle whole m → events R.most p' ≡ events R.most p ++ happens R.most (open_after R.most p) m
+    → Each (λ e. e.place ≤ length p) (events R.most p) → place m ≡ suc (length p)
+    → length m.payload ≤ size m.header → (length m.payload ≡ 4 → Below m.number (open_after R.most p))
+    → alive (is_over R p) (heads whole ++ head_of m) ≡ alive (is_over R p) (base (open_after R.most p) m)
+    → (is_opener m.header ≡ true → 4 < length m.payload → Known (is_over R p) (open_after R.most p) m)
     → IsComplete R p'
 complete_deal R causal ending p p' whole m len ec ev old pl fits low start known =
-    let live = open_after p in
-    let es = happens live m in
-    let ls = now_written R (octets_of R p) es in
+    let live = open_after R.most p in
+    let es = happens R.most live m in
+    let ls = sorted_lines R.reading (octets_of R p) es in
     let here : Each (λ e. e.place ≡ suc (length p)) es =
-    happens_each (λ e. e.place ≡ suc (length p)) live m (λ what. pl)
+    happens_each R.most (λ e. e.place ≡ suc (length p)) live m (λ what. pl)
     (all_by (λ (o : Open). (what : Happening) → place m ≡ suc (length p)) (λ o what. pl) live) in
     let sd = said_grows R causal p p' es len ev old here in
     let over = is_over R p' in
@@ -155,14 +156,14 @@ complete_deal R causal ending p p' whole m len ec ev old pl fits low start known
     let ms : heads (messages (cut p')) ≡ heads whole ++ head_of m = rw (ec, settled_messages whole m) (heads_push whole m) in
     let one : alive over (heads whole ++ head_of m) ≡ alive over (base live m) =
     alive_same (is_over R p) over (λ i. list_any (is_last_of i) ls) (heads whole ++ head_of m) (base live m) mix start in
-    let two = stays_happens over m live low d in
-    let three = settled_kept over whole m (opened live es) (λ full f. done_known over m live f (omega arith) after d) in
+    let two = stays_happens R.most over m live low d in
+    let three = settled_kept over whole m (opened live es) (λ full f. done_known R.most over m live f (omega arith) after d) in
     let named' : IfSome (settle whole m).current (λ m. is_opener m.header ≡ true → 4 ≤ length m.payload → Known over (opened live es) m) =
     settled_if whole m (λ m. is_opener m.header ≡ true → 4 ≤ length m.payload → Known over (opened live es) m)
-    (λ o long. opener_known over m live o long fits (after o) d) in
+    (λ o long. opener_known R.most over m live o long fits (after o) d) in
     record {
-      kept = rw (ms, ec, open_grows p p' es ev) (one ∙ (sym (stays_is over m live es two) ∙ three));
-      named = rw (ec, open_grows p p' es ev) named';
+      kept = rw (ms, ec, open_grows R.most p p' es ev) (one ∙ (sym (stays_is over m live es two) ∙ three));
+      named = rw (ec, open_grows R.most p p' es ev) named';
     }
 
 known_same : (over : ℕ → Bool) (live : List Open) (m : Message) (xs : List ℕ) → Known over live m → Known over live (with_payload m xs)
@@ -179,23 +180,23 @@ first_base over live hs m low h = rw (not_open live m.number low) (go (is_fragme
     go false = alive_append over hs (m.number ∷ []) ∙ rw h (sym (alive_append over (numbers_of live) (m.number ∷ [])))
 
 -- what is asked of the message m, of which the octet is
-record Ready (R : Reading) (p : List ℕ) (m : Message) : Type 0 where
-  start : alive (is_over R p) (heads (cut p).whole ++ head_of m) ≡ alive (is_over R p) (base (open_after p) m)
-  low : length m.payload ≡ 4 → Below m.number (open_after p)
-  known : is_opener m.header ≡ true → 4 < length m.payload → Known (is_over R p) (open_after p) m
+record Ready (R : Rules) (p : List ℕ) (m : Message) : Type 0 where
+  start : alive (is_over R p) (heads (cut p).whole ++ head_of m) ≡ alive (is_over R p) (base (open_after R.most p) m)
+  low : length m.payload ≡ 4 → Below m.number (open_after R.most p)
+  known : is_opener m.header ≡ true → 4 < length m.payload → Known (is_over R p) (open_after R.most p) m
 
-module _ (R : Reading) (causal : IsCausal R) (ending : IsEnding R) (p : List ℕ) (x : ℕ) (sound : IsSound R p) (complete : IsComplete R p) where
+module _ (R : Rules) (causal : IsCausal R.reading) (ending : IsEnding R.reading) (p : List ℕ) (x : ℕ) (sound : IsSound R p) (complete : IsComplete R p) where
   ready_first : (m : Message) → (cut p).current ≡ None → m.payload ≡ [] → m.number ≡ suc (length (cut p).whole) → Ready R p m
   unfolding messages tail_now
   ready_first m cur none number =
       let count : length (messages (cut p)) ≡ length (cut p).whole = rw cur (ap length (append-nil (cut p).whole)) in
-      let low : Below m.number (open_after p) =
+      let low : Below m.number (open_after R.most p) =
       each_weaker (λ o. o.opener.number ≤ length (messages (cut p))) (λ o. o.opener.number < m.number)
-      (λ o k. omega (arith, k, count, number)) (open_after p) sound.numbers in
-      let kept : alive (is_over R p) (heads ((cut p).whole ++ [])) ≡ alive (is_over R p) (numbers_of (open_after p) ++ []) = rw cur at complete.kept in
-      let kept' : alive (is_over R p) (heads (cut p).whole) ≡ alive (is_over R p) (numbers_of (open_after p)) = simp append-nil at kept in
+      (λ o k. omega (arith, k, count, number)) (open_after R.most p) sound.numbers in
+      let kept : alive (is_over R p) (heads ((cut p).whole ++ [])) ≡ alive (is_over R p) (numbers_of (open_after R.most p) ++ []) = rw cur at complete.kept in
+      let kept' : alive (is_over R p) (heads (cut p).whole) ≡ alive (is_over R p) (numbers_of (open_after R.most p)) = simp append-nil at kept in
       record {
-        start = first_base (is_over R p) (open_after p)
+        start = first_base (is_over R p) (open_after R.most p)
             (heads (cut p).whole) m low kept';
         low = λ four. low;
         known = λ o past. absurd (omega (arith, past, ap length none));
@@ -205,15 +206,15 @@ module _ (R : Reading) (causal : IsCausal R) (ending : IsEnding R) (p : List ℕ
   unfolding messages head_of base tail_of tail_now
   ready_next was st cur =
       let kept : alive (is_over R p) (heads ((cut p).whole ++ was ∷ [])) ≡ alive (is_over R p)
-      (numbers_of (open_after p) ++ tail_of (open_after p) was) =
+      (numbers_of (open_after R.most p) ++ tail_of (open_after R.most p) was) =
       rw cur at complete.kept in
-      let named : is_opener was.header ≡ true → 4 ≤ length was.payload → Known (is_over R p) (open_after p) was = rw cur at complete.named in
-      let early = if_some (λ m. length m.payload < 4 → Below m.number (open_after p)) (cut p).current was cur (sound.early st) in
+      let named : is_opener was.header ≡ true → 4 ≤ length was.payload → Known (is_over R p) (open_after R.most p) was = rw cur at complete.named in
+      let early = if_some (λ m. length m.payload < 4 → Below m.number (open_after R.most p)) (cut p).current was cur (sound.early st) in
       let long = length_push was.payload x in
       record {
         start = rw (heads_push (cut p).whole was) at kept;
         low = λ four. early (omega (arith, long, four));
-        known = λ o past. known_same (is_over R p) (open_after p) was (was.payload ++ x ∷ []) (named o (omega (arith, long, past)));
+        known = λ o past. known_same (is_over R p) (open_after R.most p) was (was.payload ++ x ∷ []) (named o (omega (arith, long, past)));
       }
 
   ready : (m : Message) → (cut p).stop ≡ None → m.number ≡ suc (length (cut p).whole)
@@ -228,7 +229,7 @@ module _ (R : Reading) (causal : IsCausal R) (ending : IsEnding R) (p : List ℕ
   idle : (c : Cut) → cut (p ++ x ∷ []) ≡ c → messages c ≡ messages (cut p) → c.current ≡ (cut p).current → IsComplete R (p ++ x ∷ [])
   unfolding events
   idle c e ms cur =
-      let ev = ap (λ (d : Cut). events_from [] (messages d)) e ∙ ap (events_from []) ms in
+      let ev = ap (λ (d : Cut). events_from R.most [] (messages d)) e ∙ ap (events_from R.most []) ms in
       complete_quiet R p (p ++ x ∷ []) (ap messages e ∙ ms) (ap (λ (d : Cut). d.current) e ∙ cur) ev
       (said_idle R causal p (p ++ x ∷ []) len ev sound.places) complete
 
@@ -242,10 +243,10 @@ module _ (R : Reading) (causal : IsCausal R) (ending : IsEnding R) (p : List ℕ
       let r = ready one.m h.0 one.number_is one.from in
       complete_deal R causal ending p (p ++ x ∷ []) (cut p).whole one.m len one.adds.cut_is one.grows sound.places one.place_is one.fits r.low r.start r.known
 
-complete_start : (R : Reading) → IsComplete R []
+complete_start : (R : Rules) → IsComplete R []
 unfolding of_parts messages heads tail_now numbers_of
-complete_start R = record { kept = rw (cut_nothing, open_nothing) refl; named = rw cut_nothing tt }
+complete_start R = record { kept = rw (cut_nothing, open_nothing R.most) refl; named = rw cut_nothing tt }
 
-pub complete : (R : Reading) → IsCausal R → IsInTurn R → IsEnding R → (p : List ℕ) → IsComplete R p
+pub complete : (R : Rules) → IsCausal R.reading → IsInTurn R.reading → IsEnding R.reading → (p : List ℕ) → IsComplete R p
 complete R causal laws ending = by_growth (IsComplete R) (complete_start R)
     (λ p x h. let so = sound R causal laws p in complete_then R causal ending p x so h _ (then_is R causal laws p x so))

@@ -7,6 +7,7 @@ use Rattle.giop_checkpoint.specs.declared.fault.StreamFault.{StreamFault}
 use Rattle.giop_message.specs.Headers.{size}
 use Rattle.giop_message.specs.Reading.{Saying, Value, Call, Rest, Fault, End, Reading, IsCausal, IsInTurn}
 use Rattle.giop_stream.specs.Headers.{fronts, offence}
+use Rattle.giop_stream.specs.Rules.{Rules}
 use Rattle.giop_stream.specs.Framing.{Message, with_payload, Cut, with_first, cut_from, limit, stop_or_limit, limited, cut, messages}
 use Rattle.giop_stream.specs.Events.{Happening, Begins, Takes, Opens, Continues, Cancelled, Imposed, Closes, Event, Open, happens, events_of, opened, events_from, events}
 use Rattle.giop_stream.specs.Lines.{Content, Started, Said, Goes_on, Ended_by, Faulted, Line, line, tells, told, classes, by_class, in_order, ends, is_last_of, standing, said, stop_line, lines}
@@ -81,35 +82,35 @@ numbered p = go (nat_lt limit (length p))
 
 -- ---- and so have the events, and the lines.
 
-module _ (P : ℕ → Type 0) where
+module _ (most : ℕ) (P : ℕ → Type 0) where
   abbrev Named : List Event → Type 0
   Named es = Each (λ e. P e.whom.number) es
 
   abbrev Live : List Open → Type 0
   Live live = Each (λ o. P o.opener.number) live
 
-  events_of_each : (live : List Open) (m : Message) → P m.number → Live live → Named (events_of live m)
+  events_of_each : (live : List Open) (m : Message) → P m.number → Live live → Named (events_of most live m)
   unfolding events_of
   events_of_each live m h k = go (fronts m.payload)
     where
-      here : (front : List ℕ) → Named (happens live (with_payload m front))
+      here : (front : List ℕ) → Named (happens most live (with_payload m front))
       here front =
-          happens_each (λ e. P e.whom.number) live (with_payload m front) (λ what. h)
+          happens_each most (λ e. P e.whom.number) live (with_payload m front) (λ what. h)
           (each_weaker (λ o. P o.opener.number) (λ o. (what : Happening) → P o.opener.number) (λ o j what. j) live k)
 
-      go : (fs : List (List ℕ)) → Named (flat_map (λ front. happens live (with_payload m front)) fs)
+      go : (fs : List (List ℕ)) → Named (flat_map (λ front. happens most live (with_payload m front)) fs)
       go [] = tt
-      go (front ∷ fs) = each_append (λ e. P e.whom.number) (happens live (with_payload m front)) _ (here front) (go fs)
+      go (front ∷ fs) = each_append (λ e. P e.whom.number) (happens most live (with_payload m front)) _ (here front) (go fs)
 
   events_each : (live : List Open) (ms : List Message) → Live live → Each (λ m. P m.number) ms
-      → Named (events_from live ms)
+      → Named (events_from most live ms)
   unfolding events_from
   events_each live [] h k = tt
   events_each live (m ∷ ms) h k =
-      let es = events_of live m in
+      let es = events_of most live m in
       let here = events_of_each live m k.0 h in
       let then_live = opened_each (λ whom. P whom.number) live es h here in
-      each_append (λ e. P e.whom.number) es (events_from (opened live es) ms) here
+      each_append (λ e. P e.whom.number) es (events_from most (opened live es) ms) here
       (events_each (opened live es) ms then_live k.1)
 
 -- a line of one of so many messages, which is its last one where it is a fault
@@ -226,12 +227,12 @@ numbers p =
     each_weaker (λ m. (1 ≤ m.number) × (m.number < 1 + n)) (λ m. IsNumber n m.number)
     (λ m h. (omega (arith, h.0), omega (arith, h.1))) (messages (cut p)) (numbered p)
 
-said_few : (R : Reading) (p : List ℕ) → fault_count (said R p) ≤ length (messages (cut p))
+said_few : (R : Rules) (p : List ℕ) → fault_count (said R p) ≤ length (messages (cut p))
 unfolding said events
 said_few R p =
     let n = length (messages (cut p)) in
-    let all = told R (events p) [] (events p) in
-    let ones = told_each R n (events p) [] (events p) (events_each (IsNumber n) [] (messages (cut p)) tt (numbers p)) in
+    let all = told R.reading (events R.most p) [] (events R.most p) in
+    let ones = told_each R.reading n (events R.most p) [] (events R.most p) (events_each R.most (IsNumber n) [] (messages (cut p)) tt (numbers p)) in
     let most = faults_free n (λ i. false) (in_order (length p) all) (order_each (IsOne n) (length p) all ones) in
     omega (arith, most, all_free n)
 
@@ -245,7 +246,7 @@ unfolding fault_count stop_line stop_count
 stop_faults None = refl
 stop_faults (Some found) = refl
 
-lines_few : (R : Reading) (p : List ℕ) → fault_count (lines R p) ≤ length (messages (cut p)) + stop_count (cut p).stop
+lines_few : (R : Rules) (p : List ℕ) → fault_count (lines R p) ≤ length (messages (cut p)) + stop_count (cut p).stop
 unfolding lines
 lines_few R p = omega (arith, count_append (said R p) (stop_line (cut p).stop), said_few R p, stop_faults (cut p).stop)
 
@@ -269,7 +270,7 @@ one_end None current held = go (is_inside current held None)
     go true = omega arith
     go false = omega arith
 
-module _ (R : Reading) (causal : IsCausal R) (laws : IsInTurn R) (p : List ℕ) where
+module _ (R : Rules) (causal : IsCausal R.reading) (laws : IsInTurn R.reading) (p : List ℕ) where
   pub tally_faults : (tally R p).faults ≤ (tally R p).messages + stop_count (cut p).stop
   unfolding tally
   tally_faults = omega (arith, lines_few R p, (sound R causal laws p).starts)

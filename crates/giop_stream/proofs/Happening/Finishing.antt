@@ -3,14 +3,14 @@ use Rattle.std.proofs.Common.{◌≡◌, ℕ, Bool, true, false, cond, not, List
 use Rattle.std.specs.Prelude.{if◌then◌else◌, ◌||◌, ◌&&◌, nat_le, flat_map, option_map}
 use Rattle.giop_checkpoint.specs.declared.fault.StreamFault.{StreamFault}
 use Rattle.giop_message.specs.Headers.{is_fragment}
+use Rattle.giop_stream.specs.Rules.{Rules}
 use Rattle.giop_stream.specs.Framing.{Message, Cut, cut, read_of}
-use Rattle.giop_message.specs.Reading.{Reading, IsCausal, IsEnding, IsInTurn}
+use Rattle.giop_message.specs.Reading.{IsCausal, IsEnding, IsInTurn}
 use Rattle.giop_stream.specs.Text.{truncated_line}
 use Rattle.giop_stream.specs.Stream.{is_inside}
 use Rattle.giop_stream.specs.Events.{Open, title, has_named, events, open_after, joined}
 use Rattle.giop_stream.specs.Stream.{is_over, unfinished}
-use Rattle.giop_stream.specs.State.{Kept, octets_of, is_open, slots_of}
-use Rattle.giop_stream.specs.Machine.{left_by, left_open}
+use Rattle.giop_stream.specs.State.{Kept, octets_of, is_open, slots_of, left_by, left_open}
 use Rattle.giop_stream.specs.Engine.{own_for, own_in, state_of}
 use Rattle.giop_stream.specs.Step.{left_own, left_over}
 use Rattle.giop_stream.proofs.Told.LastLines.{octets_known}
@@ -63,16 +63,16 @@ own_left over xs live (Some m) h k = go (is_fragment m.header) refl
     go true f = fragment f _ (xs m.number) ∙ rw f refl
     go false f = rw (f, or_none (is_open live m.number)) (other f (is_open live m.number) (over m.number) refl)
 
-octets_over : (R : Reading) (p : List ℕ) (i : ℕ) → is_over R p i ≡ true → octets_of R p i ≡ None
+octets_over : (R : Rules) (p : List ℕ) (i : ℕ) → is_over R p i ≡ true → octets_of R p i ≡ None
 unfolding octets_of
 octets_over R p i h = rw h refl
 
-pub left_is : (R : Reading) → IsCausal R → IsInTurn R → IsEnding R → (p : List ℕ) → unfinished R p ≡ left_over (state_of R p)
+pub left_is : (R : Rules) → IsCausal R.reading → IsInTurn R.reading → IsEnding R.reading → (p : List ℕ) → unfinished R p ≡ left_over (state_of R p)
 unfolding unfinished left_over state_of alive
 left_is R causal laws ending p =
-    let live = open_after p in
+    let live = open_after R.most p in
     let over = is_over R p in
-    let known : (i : ℕ) → over i ≡ false → (ys : List ℕ) × (octets_of R p i ≡ Some ys) = λ i h. (joined i (events p), octets_known R p i h) in
+    let known : (i : ℕ) → over i ≡ false → (ys : List ℕ) × (octets_of R p i ≡ Some ys) = λ i h. (joined i (events R.most p), octets_known R p i h) in
     (complete R causal laws ending p).kept
     ∙ (alive_append over (numbers_of live) (tail_now live (cut p).current)
     ∙ rw (slots_left over (octets_of R p) live (octets_over R p) known, own_left over (octets_of R p) live (cut p).current (octets_over R p) known) refl)

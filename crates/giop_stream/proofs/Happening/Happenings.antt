@@ -19,28 +19,28 @@ unfolding opened
 opened_append live [] more = refl
 opened_append live (e ∷ es) more = opened_append (changed live e.whom e.what) es more
 
-pub events_from_push : (live : List Open) (ms : List Message) (m : Message)
-    → events_from live (ms ++ m ∷ []) ≡ events_from live ms ++ events_of (opened live (events_from live ms)) m
+pub events_from_push : (most : ℕ) (live : List Open) (ms : List Message) (m : Message)
+    → events_from most live (ms ++ m ∷ []) ≡ events_from most live ms ++ events_of most (opened live (events_from most live ms)) m
 unfolding events_from opened
-events_from_push live [] m = append-nil (events_of live m)
-events_from_push live (first ∷ ms) m =
-    let es = events_of live first in
-    rw (events_from_push (opened live es) ms m, opened_append live es (events_from (opened live es) ms))
-    (sym (append_assoc es (events_from (opened live es) ms)
-    (events_of (opened (opened live es) (events_from (opened live es) ms)) m)))
+events_from_push most live [] m = append-nil (events_of most live m)
+events_from_push most live (first ∷ ms) m =
+    let es = events_of most live first in
+    rw (events_from_push most (opened live es) ms m, opened_append live es (events_from most (opened live es) ms))
+    (sym (append_assoc es (events_from most (opened live es) ms)
+    (events_of most (opened (opened live es) (events_from most (opened live es) ms)) m)))
 
-pub events_of_push : (live : List Open) (m : Message) (xs : List ℕ) (x : ℕ)
-    → events_of live (with_payload m (xs ++ x ∷ [])) ≡ events_of live (with_payload m xs) ++ happens live
+pub events_of_push : (most : ℕ) (live : List Open) (m : Message) (xs : List ℕ) (x : ℕ)
+    → events_of most live (with_payload m (xs ++ x ∷ [])) ≡ events_of most live (with_payload m xs) ++ happens most live
     (with_payload m (xs ++ x ∷ []))
 unfolding events_of
-events_of_push live m xs x =
-    rw (fronts_push xs x) (flat_map-append (λ front. happens live (with_payload m front)) (fronts xs) ((xs ++ x ∷ []) ∷ [])
-    ∙ ap (λ (es : List Event). flat_map (λ front. happens live (with_payload m front)) (fronts xs) ++ es)
-    (append-nil (happens live (with_payload m (xs ++ x ∷ [])))))
+events_of_push most live m xs x =
+    rw (fronts_push xs x) (flat_map-append (λ front. happens most live (with_payload m front)) (fronts xs) ((xs ++ x ∷ []) ∷ [])
+    ∙ ap (λ (es : List Event). flat_map (λ front. happens most live (with_payload m front)) (fronts xs) ++ es)
+    (append-nil (happens most live (with_payload m (xs ++ x ∷ [])))))
 
-pub events_of_none : (live : List Open) (m : Message) → events_of live (with_payload m []) ≡ happens live (with_payload m [])
+pub events_of_none : (most : ℕ) (live : List Open) (m : Message) → events_of most live (with_payload m []) ≡ happens most live (with_payload m [])
 unfolding events_of fronts
-events_of_none live m = append-nil (happens live (with_payload m []))
+events_of_none most live m = append-nil (happens most live (with_payload m []))
 
 -- Events that change no open message.
 still_begins : (live : List Open) (whom : Title) → changed live whom Begins ≡ live
@@ -102,61 +102,61 @@ quiet_continues live now (Some o) =
     (λ e. quiet_about live now (Some o) (Imposed FragmentOrder) (still_imposed FragmentOrder live)))
 
 -- Before the last octet of a message, and before its id or in a Fragment, nothing changes.
-pub four : (live : List Open) (m : Message) → (length m.payload == 4) ≡ true
-    → ((length m.payload < 4) ⊎ (is_fragment m.header ≡ true)) → opened live (at_id live m) ≡ live
+pub four : (most : ℕ) (live : List Open) (m : Message) → (length m.payload == 4) ≡ true
+    → ((length m.payload < 4) ⊎ (is_fragment m.header ≡ true)) → opened live (at_id most live m) ≡ live
 unfolding id_acts
-four live m e (inl k) = absurd (omega (arith, eqb-true (length m.payload) 4 e))
-four live m e (inr k) = rw (id_acts, k) (quiet_continues live (now_of m) (opener_of live m))
+four most live m e (inl k) = absurd (omega (arith, eqb-true (length m.payload) 4 e))
+four most live m e (inr k) = rw (id_acts, k) (quiet_continues live (now_of m) (opener_of live m))
 
-pub quiet_one : (live : List Open) (m : Message) → length m.payload < size m.header
-    → ((length m.payload < 4) ⊎ (is_fragment m.header ≡ true)) → opened live (happens live m) ≡ live
+pub quiet_one : (most : ℕ) (live : List Open) (m : Message) → length m.payload < size m.header
+    → ((length m.payload < 4) ⊎ (is_fragment m.header ≡ true)) → opened live (happens most live m) ≡ live
 unfolding happens
-quiet_one live m h k =
+quiet_one most live m h k =
     let third : List Event = if length m.payload == size m.header then at_end live m else [] in
     let no_third : third ≡ [] = rw (ne_eqb (length m.payload) (size m.header) (λ e. omega arith)) refl in
     quiet_both live (if length m.payload == 0 then at_header m else at_octet live m)
-    ((if length m.payload == 4 then at_id live m else []) ++ third)
+    ((if length m.payload == 4 then at_id most live m else []) ++ third)
     (quiet_if live (length m.payload == 0) _ _ (λ e. quiet_header live (now_of m)) (λ e. quiet_octet live (now_of m) (opener_of live m)))
-    (quiet_both live (if length m.payload == 4 then at_id live m else []) third
-    (quiet_if live (length m.payload == 4) _ _ (λ e. four live m e k) (λ e. quiet_none live))
+    (quiet_both live (if length m.payload == 4 then at_id most live m else []) third
+    (quiet_if live (length m.payload == 4) _ _ (λ e. four most live m e k) (λ e. quiet_none live))
     (ap (opened live) no_third ∙ quiet_none live))
 
-quiet : (live : List Open) (m : Message) (xs : List ℕ) → length xs < size m.header
-    → ((length xs < 4) ⊎ (is_fragment m.header ≡ true)) → opened live (events_of live (with_payload m xs)) ≡ live
-quiet live m =
-    by_growth (λ xs. length xs < size m.header → ((length xs < 4) ⊎ (is_fragment m.header ≡ true)) → opened live (events_of live (with_payload m xs)) ≡ live)
-    (λ h k. rw (events_of_none live m) (quiet_one live (with_payload m []) h k))
+quiet : (most : ℕ) (live : List Open) (m : Message) (xs : List ℕ) → length xs < size m.header
+    → ((length xs < 4) ⊎ (is_fragment m.header ≡ true)) → opened live (events_of most live (with_payload m xs)) ≡ live
+quiet most live m =
+    by_growth (λ xs. length xs < size m.header → ((length xs < 4) ⊎ (is_fragment m.header ≡ true)) → opened live (events_of most live (with_payload m xs)) ≡ live)
+    (λ h k. rw (events_of_none most live m) (quiet_one most live (with_payload m []) h k))
     (λ xs x ih h k.
     let len = length_push xs x in
     rw (
-      events_of_push live m xs x,
-      opened_append live (events_of live (with_payload m xs))
-          (happens live (with_payload m (xs ++ x ∷ []))),
+      events_of_push most live m xs x,
+      opened_append live (events_of most live (with_payload m xs))
+          (happens most live (with_payload m (xs ++ x ∷ []))),
       ih (omega arith) (elim k [ inl s ↦ inl (omega arith) | inr f ↦ inr f ]),
     )
-    (quiet_one live (with_payload m (xs ++ x ∷ [])) h k))
+    (quiet_one most live (with_payload m (xs ++ x ∷ [])) h k))
 
 -- What an octet does is the same by the messages that were open before its message and by those that are open now.
-free : (live other : List Open) (m : Message) → 4 < length m.payload → is_fragment m.header ≡ false → happens live m ≡ happens other m
+free : (most : ℕ) (live other : List Open) (m : Message) → 4 < length m.payload → is_fragment m.header ≡ false → happens most live m ≡ happens most other m
 unfolding happens octet_acts end_acts goes_past
-free live other m h k =
+free most live other m h k =
     rw (happens, acts, octet_acts, goes_past, end_acts, k, ne_eqb (length m.payload) 0 (λ e. omega arith), ne_eqb (length m.payload) 4 (λ e. omega arith)) refl
 
-pub happens_same : (live : List Open) (m : Message) (xs : List ℕ) (x : ℕ) → length xs < size m.header
-    → happens live (with_payload m (xs ++ x ∷ [])) ≡ happens (opened live (events_of live (with_payload m xs)))
+pub happens_same : (most : ℕ) (live : List Open) (m : Message) (xs : List ℕ) (x : ℕ) → length xs < size m.header
+    → happens most live (with_payload m (xs ++ x ∷ [])) ≡ happens most (opened live (events_of most live (with_payload m xs)))
     (with_payload m (xs ++ x ∷ []))
-happens_same live m xs x h = go (is_fragment m.header) refl
+happens_same most live m xs x h = go (is_fragment m.header) refl
   where
     m' : Message
     m' = with_payload m (xs ++ x ∷ [])
 
     go : (b : Bool) → is_fragment m.header ≡ b
-        → happens live (with_payload m (xs ++ x ∷ [])) ≡ happens (opened live (events_of live (with_payload m xs)))
+        → happens most live (with_payload m (xs ++ x ∷ [])) ≡ happens most (opened live (events_of most live (with_payload m xs)))
         (with_payload m (xs ++ x ∷ []))
-    go true e = rw (quiet live m xs h (inr e)) refl
+    go true e = rw (quiet most live m xs h (inr e)) refl
     go false e = elim (cases_lt (length xs) 4) [
-      | inl s ↦ rw (quiet live m xs h (inl s)) refl
-      | inr l ↦ free live (opened live (events_of live (with_payload m xs))) (with_payload m (xs ++ x ∷ [])) (omega (arith, length_push xs x)) e
+      | inl s ↦ rw (quiet most live m xs h (inl s)) refl
+      | inr l ↦ free most live (opened live (events_of most live (with_payload m xs))) (with_payload m (xs ++ x ∷ [])) (omega (arith, length_push xs x)) e
     ]
 
 -- What holds of the events about the message itself and about each open message holds of all.
@@ -187,7 +187,7 @@ unfolding ForSome
 found Q test [] h = tt
 found Q test (o ∷ live) h = found_by Q (test o) o (find test live) h.0 (found Q test live h.1)
 
-module _ (P : Event → Type 0) (live : List Open) (now : Now) (id : ℕ) (other : Option Open)
+module _ (most : ℕ) (P : Event → Type 0) (live : List Open) (now : Now) (id : ℕ) (other : Option Open)
     (h : (what : Happening) → P (record { place = now.place; whom = now.whom; what = what }))
     (k : ForSome (About P now) other) where
   mine : (what : Happening) → Each P (own now what)
@@ -202,22 +202,22 @@ module _ (P : Event → Type 0) (live : List Open) (now : Now) (id : ℕ) (other
       either (Each P) (is_fragment now.whom.header && nat_lt 4 now.come) _ _ (about_each P now other (Takes now.octet) k)
       (mine (Takes now.octet))
 
-  parts_each : Each P (acts live now id other)
+  parts_each : Each P (acts most live now id other)
   unfolding acts
   parts_each =
       each_append P (if now.come == 0 then header_acts now else octet_acts now other) _
       (either (Each P) (now.come == 0) _ _ (of_header (Each P) joined now (mine Begins) (λ fault. mine (Imposed fault))) octet_each)
-      (of_later (Each P) joined live now id other
+      (of_later most (Each P) joined live now id other
       (record { mine = λ what later. mine what; theirs = λ what later. about_each P now other what k }))
 
-pub happens_each : (P : Event → Type 0) (live : List Open) (m : Message) → ((what : Happening) → P (record { place = place m; whom = title m; what = what }))
-    → Each (λ o. (what : Happening) → P (record { place = place m; whom = o.opener; what = what })) live → Each P (happens live m)
+pub happens_each : (most : ℕ) (P : Event → Type 0) (live : List Open) (m : Message) → ((what : Happening) → P (record { place = place m; whom = title m; what = what }))
+    → Each (λ o. (what : Happening) → P (record { place = place m; whom = o.opener; what = what })) live → Each P (happens most live m)
 unfolding happens opener_of About
-happens_each P live m h k =
-    parts_each P live (now_of m) (id m) (opener_of live m) h (found (About P (now_of m)) (λ o. o.id == id m) live k)
+happens_each most P live m h k =
+    parts_each most P live (now_of m) (id m) (opener_of live m) h (found (About P (now_of m)) (λ o. o.id == id m) live k)
 
 -- In a Fragment past its id no event is about the Fragment.
-module _ (P : Event → Type 0) (live : List Open) (now : Now) (id : ℕ) (other : Option Open)
+module _ (most : ℕ) (P : Event → Type 0) (live : List Open) (now : Now) (id : ℕ) (other : Option Open)
     (f : is_fragment now.whom.header ≡ true) (past : 4 < now.come) (long : now.come ≤ size now.whom.header)
     (k : ForSome (About P now) other) where
   past_end : Each P (end_acts now other)
@@ -230,27 +230,27 @@ module _ (P : Event → Type 0) (live : List Open) (now : Now) (id : ℕ) (other
   unfolding octet_acts
   past_octet = rw (octet_acts, f, lt-ltb 4 now.come past) (about_each P now other (Takes now.octet) k)
 
-  past_each : Each P (acts live now id other)
+  past_each : Each P (acts most live now id other)
   unfolding acts
   past_each =
       rw (acts, ne_eqb now.come 0 (λ e. omega (arith, e, past)), ne_eqb now.come 4 (λ e. omega (arith, e, past)))
       (each_append P (octet_acts now other) _ past_octet
       (either (Each P) (now.come == size now.whom.header) (end_acts now other) [] past_end tt))
 
-pub happens_agree : (P : Event → Type 0) (live : List Open) (m : Message) → length m.payload ≤ size m.header
+pub happens_agree : (most : ℕ) (P : Event → Type 0) (live : List Open) (m : Message) → length m.payload ≤ size m.header
     → (goes_past m ≡ false → (what : Happening) → P (record { place = place m; whom = title m; what = what }))
-    → Each (λ o. (what : Happening) → P (record { place = place m; whom = o.opener; what = what })) live → Each P (happens live m)
+    → Each (λ o. (what : Happening) → P (record { place = place m; whom = o.opener; what = what })) live → Each P (happens most live m)
 unfolding happens opener_of About goes_past
-happens_agree P live m long h k = go (goes_past m) refl
+happens_agree most P live m long h k = go (goes_past m) refl
   where
     one : ForSome (About P (now_of m)) (opener_of live m)
     one = found (About P (now_of m)) (λ o. o.id == id m) live k
 
-    go : (b : Bool) → goes_past m ≡ b → Each P (happens live m)
-    go false e = parts_each P live (now_of m) (id m) (opener_of live m) (h e) one
+    go : (b : Bool) → goes_past m ≡ b → Each P (happens most live m)
+    go false e = parts_each most P live (now_of m) (id m) (opener_of live m) (h e) one
     go true e =
         let both = and_parts (is_fragment m.header) (nat_lt 4 (length m.payload)) e in
-        past_each P live (now_of m) (id m) (opener_of live m) both.0 (ltb-true 4 (length m.payload) both.1) long one
+        past_each most P live (now_of m) (id m) (opener_of live m) both.0 (ltb-true 4 (length m.payload) both.1) long one
 
 -- a message before its id is complete
 pub not_past : (m : Message) → has_named m ≡ false → goes_past m ≡ false

@@ -4,8 +4,7 @@ use Rattle.std.specs.Prelude.{◌==◌, if◌then◌else◌, ◌||◌}
 use Rattle.std.specs.List.{list_any, AllByRecursion as Each}
 use Rattle.std.proofs.lemmas.Bool.{eq-eqb, eqb-true}
 use Rattle.giop_stream.specs.Events.{Open}
-use Rattle.giop_stream.specs.State.{Kept, is_open, slots_of}
-use Rattle.giop_stream.specs.Machine.{kept}
+use Rattle.giop_stream.specs.State.{Kept, is_open, slots_of, kept}
 use Rattle.giop_stream.proofs.Lists.{each_weaker, map_agree}
 
 -- The slots of these open messages, by what is kept of each, and what the machine finds there.

@@ -58,21 +58,21 @@ silent_header i now =
     of_header (IsSilent i) (silent_both i) now (silent_own i now Begins refl) (λ fault. silent_own i now (Imposed fault) refl)
 
 -- The octets of a message, one more at a time.
-happens_is : (i : ℕ) (live : List Open) (m : Message) (first : List Event)
-    → (if length m.payload == 0 then at_header m else at_octet live m) ≡ first → joined i (happens live m) ≡ joined i first
+happens_is : (most : ℕ) (i : ℕ) (live : List Open) (m : Message) (first : List Event)
+    → (if length m.payload == 0 then at_header m else at_octet live m) ≡ first → joined i (happens most live m) ≡ joined i first
 unfolding happens IsSilent
-happens_is i live m first h =
+happens_is most i live m first h =
     joined_append i (if length m.payload == 0 then at_header m else at_octet live m) _
     ∙ rw (
       h,
-      of_later (IsSilent i) (silent_both i) live (now_of m) (id m) (opener_of live m) (record {
+      of_later most (IsSilent i) (silent_both i) live (now_of m) (id m) (opener_of live m) (record {
         mine = λ what later. silent_own i (now_of m) what (silent what later);
         theirs = λ what later. silent_about i (now_of m) (opener_of live m) what (silent what later);
       }),
     ) (append-nil (joined i first))
 
-pub header_joined : (i : ℕ) (live : List Open) (m : Message) → m.payload ≡ [] → joined i (happens live m) ≡ []
-header_joined i live m h = happens_is i live m (at_header m) (rw h refl) ∙ silent_header i (now_of m)
+pub header_joined : (most : ℕ) (i : ℕ) (live : List Open) (m : Message) → m.payload ≡ [] → joined i (happens most live m) ≡ []
+header_joined most i live m h = happens_is most i live m (at_header m) (rw h refl) ∙ silent_header i (now_of m)
 
 -- the share of a message with one more octet
 more_of : ℕ → List Open → Message → ℕ → List ℕ
@@ -85,22 +85,22 @@ unfolding octet
 takes_if i now o x true = about_is i now o (Takes x)
 takes_if i now o x false = own_is i now (Takes x)
 
-octet_joined : (i : ℕ) (live : List Open) (m : Message) (xs : List ℕ) (x : ℕ)
-    → joined i (happens live (with_payload m (xs ++ x ∷ []))) ≡ more_of i live (with_payload m (xs ++ x ∷ [])) x
+octet_joined : (most : ℕ) (i : ℕ) (live : List Open) (m : Message) (xs : List ℕ) (x : ℕ)
+    → joined i (happens most live (with_payload m (xs ++ x ∷ []))) ≡ more_of i live (with_payload m (xs ++ x ∷ [])) x
 unfolding more_of octet_acts goes_past
-octet_joined i live m xs x =
+octet_joined most i live m xs x =
     let m' = with_payload m (xs ++ x ∷ []) in
     let first : (if length m'.payload == 0 then at_header m' else at_octet live m') ≡ at_octet live m' =
     rw (ne_eqb (length (xs ++ x ∷ [])) 0 (λ e. omega (arith, length_push xs x))) refl in
     let same : get_or (xs ++ x ∷ []) (length (xs ++ x ∷ []) - 1) 0 ≡ x = get_or_push xs x 0 (length (xs ++ x ∷ []) - 1) (omega (arith, length_push xs x)) in
-    happens_is i live m' (at_octet live m') first
+    happens_is most i live m' (at_octet live m') first
     ∙ (takes_if i (now_of m') (opener_of live m') (now_of m').octet (goes_past m') ∙ rw same refl)
 
 -- an octet that is not behind a Fragment's request id
-pub own_joined : (live : List Open) (m : Message) (xs : List ℕ) (x : ℕ) → goes_past (with_payload m (xs ++ x ∷ [])) ≡ false
-    → joined m.number (happens live (with_payload m (xs ++ x ∷ []))) ≡ x ∷ []
+pub own_joined : (most : ℕ) (live : List Open) (m : Message) (xs : List ℕ) (x : ℕ) → goes_past (with_payload m (xs ++ x ∷ [])) ≡ false
+    → joined m.number (happens most live (with_payload m (xs ++ x ∷ []))) ≡ x ∷ []
 unfolding more_of
-own_joined live m xs x h = octet_joined m.number live m xs x ∙ rw (h, eq-eqb m.number m.number refl) refl
+own_joined most live m xs x h = octet_joined most m.number live m xs x ∙ rw (h, eq-eqb m.number m.number refl) refl
 
 cases_append : (b : Bool) (xs ys : List ℕ) → (if b then xs ++ ys else []) ≡ (if b then xs else []) ++ (if b then ys else [])
 cases_append true xs ys = refl
@@ -186,26 +186,26 @@ share_none i live m = none_of (is_fragment m.header)
     none_of true = rw (both_empty (m.number == i)) (continued_none i (opener_of live (with_payload m [])))
     none_of false = both_empty (m.number == i)
 
-one_joined : (i : ℕ) (live : List Open) (m : Message) → joined i (events_of live m) ≡ share i live m
-one_joined i live m = by_growth (λ xs. joined i (events_of live (with_payload m xs)) ≡ share i live (with_payload m xs))
-    (rw (events_of_none live m, share_none i live m)
-    (happens_is i live (with_payload m []) (at_header (with_payload m [])) refl ∙ silent_header i (now_of (with_payload m []))))
+one_joined : (most : ℕ) (i : ℕ) (live : List Open) (m : Message) → joined i (events_of most live m) ≡ share i live m
+one_joined most i live m = by_growth (λ xs. joined i (events_of most live (with_payload m xs)) ≡ share i live (with_payload m xs))
+    (rw (events_of_none most live m, share_none i live m)
+    (happens_is most i live (with_payload m []) (at_header (with_payload m [])) refl ∙ silent_header i (now_of (with_payload m []))))
     (λ xs x ih. rw (
-      events_of_push live m xs x,
-      joined_append i (events_of live (with_payload m xs))
-          (happens live (with_payload m (xs ++ x ∷ []))),
+      events_of_push most live m xs x,
+      joined_append i (events_of most live (with_payload m xs))
+          (happens most live (with_payload m (xs ++ x ∷ []))),
       ih,
-      octet_joined i live m xs x,
+      octet_joined most i live m xs x,
     ) (sym (share_grows i live m xs x)))
     m.payload
 
-from_joined : (i : ℕ) (live : List Open) (ms : List Message) → joined i (events_from live ms) ≡ shares i live ms
+from_joined : (most : ℕ) (i : ℕ) (live : List Open) (ms : List Message) → joined i (events_from most live ms) ≡ shares most i live ms
 unfolding events_from shares IsSilent
-from_joined i live [] = (silent_both i).none
-from_joined i live (m ∷ ms) =
-    joined_append i (events_of live m) (events_from (opened live (events_of live m)) ms)
-    ∙ rw (one_joined i live m, from_joined i (opened live (events_of live m)) ms) refl
+from_joined most i live [] = (silent_both i).none
+from_joined most i live (m ∷ ms) =
+    joined_append i (events_of most live m) (events_from most (opened live (events_of most live m)) ms)
+    ∙ rw (one_joined most i live m, from_joined most i (opened live (events_of most live m)) ms) refl
 
-pub joined_is : (p : List ℕ) (i : ℕ) → joined i (events p) ≡ shares i [] (messages (cut p))
+pub joined_is : (most : ℕ) (p : List ℕ) (i : ℕ) → joined i (events most p) ≡ shares most i [] (messages (cut p))
 unfolding events
-joined_is p i = from_joined i [] (messages (cut p))
+joined_is most p i = from_joined most i [] (messages (cut p))

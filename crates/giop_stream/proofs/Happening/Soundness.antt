@@ -5,13 +5,15 @@ use Rattle.std.specs.List.{list_any, AllByRecursion as Each}
 use Rattle.std.proofs.lemmas.Bool.{ltb-true}
 use Rattle.giop_message.specs.Headers.{size}
 use Rattle.std.proofs.lemmas.List.{length_push}
+use Rattle.giop_stream.specs.Rules.{Rules}
 use Rattle.giop_stream.specs.Framing.{Message, with_payload, Cut, cut, messages}
 use Rattle.giop_message.specs.Reading.{Reading, IsCausal}
 use Rattle.giop_stream.specs.Events.{Happening, Event, Open, place, happens, events_of, opened, events_from, events, open_after, joined, Rising}
 use Rattle.giop_stream.specs.Lines.{Line, is_last_of, lines}
 use Rattle.giop_stream.specs.Stream.{start_count}
 use Rattle.giop_stream.specs.State.{Kept, octets_of}
-use Rattle.giop_stream.specs.Machine.{taking, written, now_written}
+use Rattle.giop_stream.specs.Effects.{kept_with, kept_after}
+use Rattle.giop_stream.proofs.Told.Together.{sorted_lines}
 use Rattle.giop_stream.proofs.Lists.{each_append, each_weaker, all_by}
 use Rattle.giop_stream.proofs.Cuts.Cutting.{settle_stop, settled_messages}
 use Rattle.giop_stream.proofs.Cuts.CutFrom.{settle}
@@ -35,21 +37,21 @@ pub record Fits (n : ℕ) (c : Cut) : Type 0 where
   pub short : length c.held < 12
 
 -- of the open messages: they are not too many, no two have one id, and each is an opener
-pub record AreSound (live : List Open) : Type 0 where
-  pub few : IsFew live
+pub record AreSound (most : ℕ) (live : List Open) : Type 0 where
+  pub few : IsFew most live
   pub differ : Differ live
   pub openers : AreOpeners live
 
-pub record IsSound (R : Reading) (p : List ℕ) : Type 0 where
-  pub places : Each (λ e. e.place ≤ length p) (events p)
-  pub numbers : Each (λ o. o.opener.number ≤ length (messages (cut p))) (open_after p)
+pub record IsSound (R : Rules) (p : List ℕ) : Type 0 where
+  pub places : Each (λ e. e.place ≤ length p) (events R.most p)
+  pub numbers : Each (λ o. o.opener.number ≤ length (messages (cut p))) (open_after R.most p)
   pub unknown : (i : ℕ) → length (messages (cut p)) < i → octets_of R p i ≡ Some []
   pub starts : start_count (lines R p) ≡ length (messages (cut p))
   pub fits : (cut p).stop ≡ None → Fits (length p) (cut p)
-  pub rising : Rising (open_after p)
-  pub early : (cut p).stop ≡ None → IfSome (cut p).current (λ m. length m.payload < 4 → Below m.number (open_after p))
-  pub live : AreSound (open_after p)
-  pub begun : (cut p).stop ≡ None → IfSome (cut p).current (λ m. length m.payload ≤ 4 → joined m.number (events p) ≡ m.payload)
+  pub rising : Rising (open_after R.most p)
+  pub early : (cut p).stop ≡ None → IfSome (cut p).current (λ m. length m.payload < 4 → Below m.number (open_after R.most p))
+  pub live : AreSound R.most (open_after R.most p)
+  pub begun : (cut p).stop ≡ None → IfSome (cut p).current (λ m. length m.payload ≤ 4 → joined m.number (events R.most p) ≡ m.payload)
 
 settled_fits : (n : ℕ) (whole : List Message) (m : Message) → place m ≡ n → m.number ≡ suc (length whole) → length m.header ≡ 12 → Fits n (settle whole m)
 unfolding settle
@@ -80,10 +82,10 @@ settled_fits n whole m h k t = go (nat_lt (length m.payload) (size m.header)) re
 settled_length : (whole : List Message) (m : Message) → length (messages (settle whole m)) ≡ suc (length whole)
 settled_length whole m = rw (settled_messages whole m) (omega (arith, length_push whole m))
 
-settled_early : (whole : List Message) (m : Message) (live : List Open) → (length m.payload ≤ 4 → Below m.number live)
-    → IfSome (settle whole m).current (λ m. length m.payload < 4 → Below m.number (opened live (happens live m)))
+settled_early : (most : ℕ) (whole : List Message) (m : Message) (live : List Open) → (length m.payload ≤ 4 → Below m.number live)
+    → IfSome (settle whole m).current (λ m. length m.payload < 4 → Below m.number (opened live (happens most live m)))
 unfolding settle
-settled_early whole m live h = go (nat_lt (length m.payload) (size m.header)) refl
+settled_early most whole m live h = go (nat_lt (length m.payload) (size m.header)) refl
   where
     go : (b : Bool) → nat_lt (length m.payload) (size m.header) ≡ b
         → (let c : Cut = if b then record {
@@ -92,8 +94,8 @@ settled_early whole m live h = go (nat_lt (length m.payload) (size m.header)) re
           held = [];
           stop = None;
         } else record { whole = whole ++ m ∷ []; current = None; held = []; stop = None } in IfSome c.current
-        (λ m. length m.payload < 4 → Below m.number (opened live (happens live m))))
-    go true e = λ short. rw (quiet_one live m (ltb-true (length m.payload) (size m.header) e) (inl short)) (h (omega arith))
+        (λ m. length m.payload < 4 → Below m.number (opened live (happens most live m))))
+    go true e = λ short. rw (quiet_one most live m (ltb-true (length m.payload) (size m.header) e) (inl short)) (h (omega arith))
     go false e = tt
 
 pub settled_current : (whole : List Message) (m : Message) (P Q : Message → Type 0) → (P m → Q m)
@@ -127,88 +129,88 @@ settled_if whole m Q h = go (nat_lt (length m.payload) (size m.header))
     go false = tt
 
 still_unknown : (K : Kept) (es : List Event) (ls : List Line) (i : ℕ) → K i ≡ Some [] → joined i es ≡ []
-    → list_any (is_last_of i) ls ≡ false → written (taking K es) ls i ≡ Some []
-unfolding written taking
+    → list_any (is_last_of i) ls ≡ false → kept_after (kept_with K es) ls i ≡ Some []
+unfolding kept_after kept_with
 still_unknown K es ls i h k j = rw (j, h, k) refl
 
-pub dealt_sound : (R : Reading) → IsCausal R → (p p' : List ℕ) (whole : List Message) (m : Message)
-    → length p' ≡ suc (length p) → cut p' ≡ settle whole m → events p' ≡ events p ++ happens (open_after p) m
+pub dealt_sound : (R : Rules) → IsCausal R.reading → (p p' : List ℕ) (whole : List Message) (m : Message)
+    → length p' ≡ suc (length p) → cut p' ≡ settle whole m → events R.most p' ≡ events R.most p ++ happens R.most (open_after R.most p) m
     → place m ≡ suc (length p) → m.number ≡ suc (length whole) → length m.header ≡ 12 → (cut p).stop ≡ None
-    → length (messages (cut p)) ≤ suc (length whole) → (length m.payload ≤ 4 → Below m.number (open_after p))
-    → length (messages (cut p)) + start_count (now_written R (octets_of R p) (happens (open_after p) m)) ≡ suc (length whole)
-    → (length m.payload ≤ 4 → joined m.number (events p) ++ joined m.number (happens (open_after p) m) ≡ m.payload)
+    → length (messages (cut p)) ≤ suc (length whole) → (length m.payload ≤ 4 → Below m.number (open_after R.most p))
+    → length (messages (cut p)) + start_count (sorted_lines R.reading (octets_of R p) (happens R.most (open_after R.most p) m)) ≡ suc (length whole)
+    → (length m.payload ≤ 4 → joined m.number (events R.most p) ++ joined m.number (happens R.most (open_after R.most p) m) ≡ m.payload)
     → IsSound R p → IsSound R p'
 dealt_sound R causal p p' whole m len ec ev pl nm twelve st more low starts grows sound =
-    let live = open_after p in
+    let live = open_after R.most p in
     let K = octets_of R p in
-    let es = happens live m in
-    let ls = now_written R K es in
+    let es = happens R.most live m in
+    let ls = sorted_lines R.reading K es in
     let all = suc (length whole) in
     let count : length (messages (cut p')) ≡ all = rw ec (settled_length whole m) in
     let here : Each (λ e. e.place ≡ suc (length p)) es =
-    happens_each (λ e. e.place ≡ suc (length p)) live m (λ what. pl)
+    happens_each R.most (λ e. e.place ≡ suc (length p)) live m (λ what. pl)
     (all_by (λ (o : Open). (what : Happening) → place m ≡ suc (length p)) (λ o what. pl) live) in
     let old : Each (λ o. o.opener.number ≤ all) live =
     each_weaker (λ o. o.opener.number ≤ length (messages (cut p))) (λ o. o.opener.number ≤ all)
     (λ o h. omega arith) live sound.numbers in
     let mine : m.number ≤ all = omega arith in
     let whose : Each (λ e. e.whom.number ≤ all) es =
-    happens_each (λ e. e.whom.number ≤ all) live m (λ what. mine)
+    happens_each R.most (λ e. e.whom.number ≤ all) live m (λ what. mine)
     (each_weaker (λ o. o.opener.number ≤ all) _ (λ o h what. h) live old) in
     let sd = said_grows R causal p p' es len ev sound.places here in
     let now_free : (cut p').stop ≡ None = rw ec (settle_stop whole m) in
     let ln : lines R p' ≡ lines R p ++ ls = lines_free R p' now_free ∙ (sd ∙ rw (lines_free R p st) refl) in
     let sc : start_count (lines R p') ≡ start_count (lines R p) + start_count ls = ap start_count ln ∙ start_append (lines R p) ls in
-    let opens = open_grows p p' es ev in
+    let opens = open_grows R.most p p' es ev in
     record {
-      places = rw (ev, len) (each_append (λ e. e.place ≤ suc (length p)) (events p) es
-          (each_weaker (λ e. e.place ≤ length p) (λ e. e.place ≤ suc (length p)) (λ e h. omega arith) (events p) sound.places)
+      places = rw (ev, len) (each_append (λ e. e.place ≤ suc (length p)) (events R.most p) es
+          (each_weaker (λ e. e.place ≤ length p) (λ e. e.place ≤ suc (length p)) (λ e h. omega arith) (events R.most p) sound.places)
           (each_weaker (λ e. e.place ≡ suc (length p)) (λ e. e.place ≤ suc (length p)) (λ e h. omega arith) es here));
-      numbers = rw (count, open_grows p p' es ev) (opened_each (λ whom. whom.number ≤ all) live es old whose);
+      numbers = rw (count, open_grows R.most p p' es ev) (opened_each (λ whom. whom.number ≤ all) live es old whose);
       unknown = λ i h.
           let below : Each (λ e. e.whom.number < i) es = each_weaker (λ e. e.whom.number ≤ all) (λ e. e.whom.number < i) (λ e k. omega arith) es whose in
           octets_grow R p p' es ls ev sd i
-          ∙ still_unknown K es ls i (sound.unknown i (omega arith)) (none_joined i es below) (none_last i ls (now_each R (λ k. k < i) K es below));
+          ∙ still_unknown K es ls i (sound.unknown i (omega arith)) (none_joined i es below) (none_last i ls (now_each R.reading (λ k. k < i) K es below));
       starts = sc ∙ (rw (sound.starts) starts ∙ sym count);
       fits = λ st. rw (ec, len) (settled_fits (suc (length p)) whole m pl nm twelve);
-      rising = rw (open_grows p p' es ev) (rising_happens live m sound.rising (λ four. low (omega arith)));
+      rising = rw (open_grows R.most p p' es ev) (rising_happens R.most live m sound.rising (λ four. low (omega arith)));
       early = λ st.
-          let grows = open_grows p p' es ev in
-          rw ec (settled_current whole m (λ m. length m.payload < 4 → Below m.number (opened live (happens live m)))
-          (λ m. length m.payload < 4 → Below m.number (open_after p'))
-          (λ k short. subst (Below m.number) (sym grows) (k short)) (settled_early whole m live low));
+          let grows = open_grows R.most p p' es ev in
+          rw ec (settled_current whole m (λ m. length m.payload < 4 → Below m.number (opened live (happens R.most live m)))
+          (λ m. length m.payload < 4 → Below m.number (open_after R.most p'))
+          (λ k short. subst (Below m.number) (sym grows) (k short)) (settled_early R.most whole m live low));
       live = rw opens (record {
-        few = few_happens live m sound.live.few;
-        differ = differ_happens live m sound.live.differ;
-        openers = openers_happens live m sound.live.openers;
+        few = few_happens R.most live m sound.live.few;
+        differ = differ_happens R.most live m sound.live.differ;
+        openers = openers_happens R.most live m sound.live.openers;
       });
       begun = λ st. rw (ec, ev) (settled_if whole m
-          (λ m. length m.payload ≤ 4 → joined m.number (events p ++ es) ≡ m.payload)
-          (λ short. joined_append m.number (events p) es ∙ grows short));
+          (λ m. length m.payload ≤ 4 → joined m.number (events R.most p ++ es) ≡ m.payload)
+          (λ short. joined_append m.number (events R.most p) es ∙ grows short));
     }
   where
     now_each : (R : Reading) (P : ℕ → Type 0) (known : Kept) (es : List Event) → Each (λ e. P e.whom.number) es
-        → Each (λ l. P l.number) (now_written R known es)
-    now_each R P known es h = unfold now_written in written_each R P known es h
+        → Each (λ l. P l.number) (sorted_lines R known es)
+    now_each R P known es h = unfold sorted_lines in written_each R P known es h
 
 -- The octets of a message, as the definitions see one more of them.
-pub events_on : (whole : List Message) (m : Message) (x : ℕ) → length m.payload < size m.header
-    → (let es = events_from [] (whole ++ m ∷ []) in let m' = with_payload m (m.payload ++ x ∷ []) in events_from []
-    (whole ++ m' ∷ []) ≡ es ++ happens (opened [] es) m')
-events_on whole m x h =
+pub events_on : (most : ℕ) (whole : List Message) (m : Message) (x : ℕ) → length m.payload < size m.header
+    → (let es = events_from most [] (whole ++ m ∷ []) in let m' = with_payload m (m.payload ++ x ∷ []) in events_from most []
+    (whole ++ m' ∷ []) ≡ es ++ happens most (opened [] es) m')
+events_on most whole m x h =
     let m' = with_payload m (m.payload ++ x ∷ []) in
-    let first = events_from [] whole in
+    let first = events_from most [] whole in
     let live = opened [] first in
-    let es : events_from [] (whole ++ m ∷ []) ≡ first ++ events_of live m = events_from_push [] whole m in
-    rw (es, opened_append [] first (events_of live m))
-    (events_from_push [] whole m' ∙ (rw (events_of_push live m m.payload x, happens_same live m m.payload x h)
-    (sym (append_assoc first (events_of live m) (happens (opened live (events_of live m)) m')))))
+    let es : events_from most [] (whole ++ m ∷ []) ≡ first ++ events_of most live m = events_from_push most [] whole m in
+    rw (es, opened_append [] first (events_of most live m))
+    (events_from_push most [] whole m' ∙ (rw (events_of_push most live m m.payload x, happens_same most live m m.payload x h)
+    (sym (append_assoc first (events_of most live m) (happens most (opened live (events_of most live m)) m')))))
 
-pub events_begin : (whole : List Message) (m : Message) → m.payload ≡ []
-    → events_from [] (whole ++ m ∷ []) ≡ events_from [] whole ++ happens (opened [] (events_from [] whole)) m
-events_begin whole m h =
-    let first = events_from [] whole in
+pub events_begin : (most : ℕ) (whole : List Message) (m : Message) → m.payload ≡ []
+    → events_from most [] (whole ++ m ∷ []) ≡ events_from most [] whole ++ happens most (opened [] (events_from most [] whole)) m
+events_begin most whole m h =
+    let first = events_from most [] whole in
     let live = opened [] first in
     let empty : m ≡ with_payload m [] = λ j. record m { payload = h j } in
-    let one : events_of live m ≡ happens live m = ap (events_of live) empty ∙ (events_of_none live m ∙ ap (happens live) (sym empty)) in
-    events_from_push [] whole m ∙ ap (λ (es : List Event). first ++ es) one
+    let one : events_of most live m ≡ happens most live m = ap (events_of most live) empty ∙ (events_of_none most live m ∙ ap (happens most live) (sym empty)) in
+    events_from_push most [] whole m ∙ ap (λ (es : List Event). first ++ es) one

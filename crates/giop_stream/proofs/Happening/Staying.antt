@@ -9,7 +9,7 @@ use Rattle.giop_stream.specs.declared.fault.ImposedFault.TheVariants.{Short, IdO
 use Rattle.giop_message.specs.Headers.{size, kind, minor, has_more, may_be_fragmented, is_fragment, is_opener, is_cancel}
 use Rattle.giop_stream.specs.Framing.{Message}
 use Rattle.giop_stream.specs.Kinds.{may_be_cancelled}
-use Rattle.giop_stream.specs.Events.{Happening, Opens, Cancelled, Imposed, Closes, Title, Event, Open, id, own, about, opener_of, at_header, at_octet, opens, most_open, continues, cancels, at_id, at_end, happens, changed, opened, now_of, id_acts, end_acts}
+use Rattle.giop_stream.specs.Events.{Happening, Opens, Cancelled, Imposed, Closes, Title, Event, Open, id, own, about, opener_of, at_header, at_octet, opens, continues, cancels, at_id, at_end, happens, changed, opened, now_of, id_acts, end_acts}
 use Rattle.giop_stream.specs.State.{is_open}
 use Rattle.giop_stream.proofs.Happening.Happenings.{opened_append, quiet_header, quiet_octet, quiet_continues, quiet_if, quiet_own, quiet_none, still_imposed}
 use Rattle.giop_stream.proofs.Happening.HappeningsKeep.{Below}
@@ -87,11 +87,11 @@ stays_opens over m live f low =
     rw (f, now, not_open live m.number low, map-append (λ o. o.opener.number) live (o ∷ []))
     (ap (alive over) (append-nil (map (λ o. o.opener.number) live ++ m.number ∷ [])))
 
-stays_opening : (over : ℕ → Bool) (m : Message) (live : List Open) → Below m.number live → is_fragment m.header ≡ false
-    → (o : Option Open) → Stays over m live (opens live (now_of m) (id m) o)
-stays_opening over m live low f (Some other) =
+stays_opening : (most : ℕ) (over : ℕ → Bool) (m : Message) (live : List Open) → Below m.number live → is_fragment m.header ≡ false
+    → (o : Option Open) → Stays over m live (opens most live (now_of m) (id m) o)
+stays_opening most over m live low f (Some other) =
     stays_quiet over m live _ (quiet_own live (now_of m) (Imposed IdOpen) (still_imposed IdOpen live))
-stays_opening over m live low f None = pick (nat_le most_open (length live))
+stays_opening most over m live low f None = pick (nat_le most (length live))
   where
     pick : (b : Bool) → Stays over m live (if b then own (now_of m) (Imposed TooManyOpen) else own (now_of m) (Opens (id m)))
     pick true = stays_quiet over m live _ (quiet_own live (now_of m) (Imposed TooManyOpen) (still_imposed TooManyOpen live))
@@ -105,14 +105,14 @@ stays_cancels over m live (Some o) d =
     (λ e k. stays_about over m live (Some o) (Cancelled m.number) (cancel_removes live m.number)
     (final_cancelled m.number) k) (λ e k. stays_quiet over m live [] (quiet_none live)) d
 
-stays_id : (over : ℕ → Bool) (m : Message) (live : List Open) → Below m.number live → Each (Dead over) (at_id live m) → Stays over m live (at_id live m)
+stays_id : (most : ℕ) (over : ℕ → Bool) (m : Message) (live : List Open) → Below m.number live → Each (Dead over) (at_id most live m) → Stays over m live (at_id most live m)
 unfolding id_acts
-stays_id over m live low =
+stays_id most over m live low =
     let other = opener_of live m in
     stays_if over m live (is_fragment m.header) (continues (now_of m) other) _
     (λ e d. stays_quiet over m live _ (quiet_continues live (now_of m) other))
-    (λ f. stays_if over m live (is_opener m.header) (opens live (now_of m) (id m) other) _
-    (λ e d. stays_opening over m live low f other)
+    (λ f. stays_if over m live (is_opener m.header) (opens most live (now_of m) (id m) other) _
+    (λ e d. stays_opening most over m live low f other)
     (λ e. stays_if over m live (is_cancel m.header) (cancels (now_of m) other) [] (λ k. stays_cancels over m live other)
     (λ k d. stays_quiet over m live [] (quiet_none live))))
 
@@ -129,20 +129,20 @@ stays_both : (over : ℕ → Bool) (m : Message) (live : List Open) (es more : L
 unfolding Stays
 stays_both over m live es more h k = rw (opened_append live es more) (k ∙ h)
 
-pub stays_happens : (over : ℕ → Bool) (m : Message) (live : List Open) → (length m.payload ≡ 4 → Below m.number live)
-    → Each (Dead over) (happens live m) → Stays over m live (happens live m)
+pub stays_happens : (most : ℕ) (over : ℕ → Bool) (m : Message) (live : List Open) → (length m.payload ≡ 4 → Below m.number live)
+    → Each (Dead over) (happens most live m) → Stays over m live (happens most live m)
 unfolding happens
-stays_happens over m live low d =
+stays_happens most over m live low d =
     let first = if length m.payload == 0 then at_header m else at_octet live m in
-    let second = if length m.payload == 4 then at_id live m else [] in
+    let second = if length m.payload == 4 then at_id most live m else [] in
     let third = if length m.payload == size m.header then at_end live m else [] in
     let still : opened live first ≡ live =
     quiet_if live (length m.payload == 0) (at_header m) (at_octet live m) (λ e. quiet_header live (now_of m))
     (λ e. quiet_octet live (now_of m) (opener_of live m)) in
     let rest : Each (Dead over) (second ++ third) = each_right (Dead over) first (second ++ third) d in
     let two : Stays over m live second =
-    stays_if over m live (length m.payload == 4) (at_id live m) []
-    (λ e. stays_id over m live (low (eqb-true (length m.payload) 4 e)))
+    stays_if over m live (length m.payload == 4) (at_id most live m) []
+    (λ e. stays_id most over m live (low (eqb-true (length m.payload) 4 e)))
     (λ e k. stays_quiet over m live [] (quiet_none live)) (each_left (Dead over) second third rest) in
     let three : Stays over m (opened live second) third =
     stays_if over m (opened live second) (length m.payload == size m.header) (at_end live m) []
@@ -177,14 +177,14 @@ opens_known : (over : ℕ → Bool) (m : Message) (live : List Open) → Known o
 unfolding Known opened own changed
 opens_known over m live = inl (open_last live (record { id = id m; opener = record { number = m.number; header = m.header } }))
 
-known_opens : (over : ℕ → Bool) (m : Message) (live : List Open) → Each (Dead over) (opens live (now_of m) (id m) (opener_of live m)) → Known over (opened live (opens live (now_of m) (id m) (opener_of live m))) m
+known_opens : (most : ℕ) (over : ℕ → Bool) (m : Message) (live : List Open) → Each (Dead over) (opens most live (now_of m) (id m) (opener_of live m)) → Known over (opened live (opens most live (now_of m) (id m) (opener_of live m))) m
 unfolding Known
-known_opens over m live = go (opener_of live m)
+known_opens most over m live = go (opener_of live m)
   where
-    go : (o : Option Open) → Each (Dead over) (opens live (now_of m) (id m) o)
-        → Known over (opened live (opens live (now_of m) (id m) o)) m
+    go : (o : Option Open) → Each (Dead over) (opens most live (now_of m) (id m) o)
+        → Known over (opened live (opens most live (now_of m) (id m) o)) m
     go (Some other) d = inr (dead_own over m (Imposed IdOpen) (final_imposed IdOpen) d)
-    go None d = pick (nat_le most_open (length live)) d
+    go None d = pick (nat_le most (length live)) d
       where
         pick : (b : Bool) → Each (Dead over) (if b then own (now_of m) (Imposed TooManyOpen) else own (now_of m) (Opens (id m)))
             → Known over (opened live (if b then own (now_of m) (Imposed TooManyOpen) else own (now_of m) (Opens (id m)))) m
@@ -203,9 +203,9 @@ short_end : (live : List Open) (m : Message) → is_opener m.header ≡ true →
 unfolding end_acts
 short_end live m o h = rw (end_acts, o, lt-ltb (size m.header) 4 h) refl
 
-opener_id : (live : List Open) (m : Message) → is_opener m.header ≡ true → at_id live m ≡ opens live (now_of m) (id m) (opener_of live m)
+opener_id : (most : ℕ) (live : List Open) (m : Message) → is_opener m.header ≡ true → at_id most live m ≡ opens most live (now_of m) (id m) (opener_of live m)
 unfolding id_acts
-opener_id live m o = rw (id_acts, o, opener_no_fragment m.header o) refl
+opener_id most live m o = rw (id_acts, o, opener_no_fragment m.header o) refl
 
 third_none : (live : List Open) (m : Message) → is_opener m.header ≡ true → 4 ≤ size m.header
     → (if length m.payload == size m.header then at_end live m else []) ≡ []
@@ -219,58 +219,58 @@ first_quiet : (live : List Open) (m : Message) → opened live (if length m.payl
 first_quiet live m = quiet_if live (length m.payload == 0) (at_header m) (at_octet live m) (λ e. quiet_header live (now_of m)) (λ e. quiet_octet live (now_of m) (opener_of live m))
 
 -- the open messages after the three parts of what an octet does
-after_parts : (live : List Open) (m : Message) (second third : List Event)
-    → (if length m.payload == 4 then at_id live m else []) ≡ second
+after_parts : (most : ℕ) (live : List Open) (m : Message) (second third : List Event)
+    → (if length m.payload == 4 then at_id most live m else []) ≡ second
     → (if length m.payload == size m.header then at_end live m else []) ≡ third
-    → opened live (happens live m) ≡ opened (opened live second) third
+    → opened live (happens most live m) ≡ opened (opened live second) third
 unfolding happens
-after_parts live m second third h k =
+after_parts most live m second third h k =
     let first = if length m.payload == 0 then at_header m else at_octet live m in
     opened_append live first _ ∙ rw (first_quiet live m, h, k) (opened_append live second third)
 
-dead_parts : (over : ℕ → Bool) (live : List Open) (m : Message) (second third : List Event)
-    → (if length m.payload == 4 then at_id live m else []) ≡ second
-    → (if length m.payload == size m.header then at_end live m else []) ≡ third → Each (Dead over) (happens live m)
+dead_parts : (most : ℕ) (over : ℕ → Bool) (live : List Open) (m : Message) (second third : List Event)
+    → (if length m.payload == 4 then at_id most live m else []) ≡ second
+    → (if length m.payload == size m.header then at_end live m else []) ≡ third → Each (Dead over) (happens most live m)
     → Each (Dead over) (second ++ third)
 unfolding happens
-dead_parts over live m second third h k d =
+dead_parts most over live m second third h k d =
     let rest = each_right (Dead over) (if length m.payload == 0 then at_header m else at_octet live m) _ d in
     rw (h, k) at rest
 
-second_none : (live : List Open) (m : Message) → 4 < length m.payload → (if length m.payload == 4 then at_id live m else []) ≡ []
-second_none live m h = rw (ne_eqb (length m.payload) 4 (λ e. omega arith)) refl
+second_none : (most : ℕ) (live : List Open) (m : Message) → 4 < length m.payload → (if length m.payload == 4 then at_id most live m else []) ≡ []
+second_none most live m h = rw (ne_eqb (length m.payload) 4 (λ e. omega arith)) refl
 
-pub opener_known : (over : ℕ → Bool) (m : Message) (live : List Open) → is_opener m.header ≡ true → 4 ≤ length m.payload
+pub opener_known : (most : ℕ) (over : ℕ → Bool) (m : Message) (live : List Open) → is_opener m.header ≡ true → 4 ≤ length m.payload
     → length m.payload ≤ size m.header → (4 < length m.payload → Known over live m)
-    → Each (Dead over) (happens live m) → Known over (opened live (happens live m)) m
+    → Each (Dead over) (happens most live m) → Known over (opened live (happens most live m)) m
 unfolding opened
-opener_known over m live o long fits before d = elim (cases_lt 4 (length m.payload)) [
+opener_known most over m live o long fits before d = elim (cases_lt 4 (length m.payload)) [
   | inl past ↦
       let none : (if length m.payload == size m.header then at_end live m else []) ≡ [] = third_none live m o (omega arith) in
-      rw (after_parts live m [] [] (second_none live m past) none) (before past)
+      rw (after_parts most live m [] [] (second_none most live m past) none) (before past)
   | inr least ↦
       let now : length m.payload ≡ 4 = omega arith in
-      let two : (if length m.payload == 4 then at_id live m else []) ≡ opens live (now_of m) (id m) (opener_of live m) = rw (eq-eqb (length m.payload) 4 now) (opener_id live m o) in
+      let two : (if length m.payload == 4 then at_id most live m else []) ≡ opens most live (now_of m) (id m) (opener_of live m) = rw (eq-eqb (length m.payload) 4 now) (opener_id most live m o) in
       let none : (if length m.payload == size m.header then at_end live m else []) ≡ [] = third_none live m o (omega arith) in
-      let dead_two = each_left (Dead over) (opens live (now_of m) (id m) (opener_of live m)) [] (dead_parts over live m (opens live (now_of m) (id m) (opener_of live m)) [] two none d) in
-      rw (after_parts live m (opens live (now_of m) (id m) (opener_of live m)) [] two none) (known_opens over m live dead_two)
+      let dead_two = each_left (Dead over) (opens most live (now_of m) (id m) (opener_of live m)) [] (dead_parts most over live m (opens most live (now_of m) (id m) (opener_of live m)) [] two none d) in
+      rw (after_parts most live m (opens most live (now_of m) (id m) (opener_of live m)) [] two none) (known_opens most over m live dead_two)
 ]
 
-pub done_known : (over : ℕ → Bool) (m : Message) (live : List Open) → is_fragment m.header ≡ false
+pub done_known : (most : ℕ) (over : ℕ → Bool) (m : Message) (live : List Open) → is_fragment m.header ≡ false
     → length m.payload ≡ size m.header → (is_opener m.header ≡ true → 4 < length m.payload → Known over live m)
-    → Each (Dead over) (happens live m) → Known over (opened live (happens live m)) m
+    → Each (Dead over) (happens most live m) → Known over (opened live (happens most live m)) m
 unfolding happens Known
-done_known over m live f full before d = go (is_opener m.header) refl
+done_known most over m live f full before d = go (is_opener m.header) refl
   where
     last : (es : List Event) → at_end live m ≡ es → Each (Dead over) es
     last es h =
         let rest = each_right (Dead over) (if length m.payload == 0 then at_header m else at_octet live m) _ d in
-        let third = each_right (Dead over) (if length m.payload == 4 then at_id live m else []) _ rest in
+        let third = each_right (Dead over) (if length m.payload == 4 then at_id most live m else []) _ rest in
         rw (eq-eqb (length m.payload) (size m.header) full, h) at third
 
-    go : (b : Bool) → is_opener m.header ≡ b → Known over (opened live (happens live m)) m
+    go : (b : Bool) → is_opener m.header ≡ b → Known over (opened live (happens most live m)) m
     go false o = inr (dead_own over m Closes final_closes (last (own (now_of m) Closes) (head_end live m o f)))
     go true o = elim (cases_lt (size m.header) 4) [
       | inl short ↦ inr (dead_own over m (Imposed Short) (final_imposed Short) (last (own (now_of m) (Imposed Short)) (short_end live m o short)))
-      | inr long ↦ opener_known over m live o (omega arith) (omega arith) (before o) d
+      | inr long ↦ opener_known most over m live o (omega arith) (omega arith) (before o) d
     ]

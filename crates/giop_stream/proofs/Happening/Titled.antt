@@ -1,7 +1,8 @@
 -- The open message that has the current message's number is the current message.
 use Rattle.std.proofs.Common.{inl, inr, ◌⊎◌, ◌≡◌, ℕ, suc, ◌≤◌, List, [], ◌∷◌, ◌++◌, length, refl, sym, ap, subst, ◌∙◌, Some, None, arith, append-nil}
 use Rattle.std.specs.List.{AllByRecursion as Each}
-use Rattle.giop_message.specs.Reading.{Reading, IsCausal, IsInTurn}
+use Rattle.giop_message.specs.Reading.{IsCausal, IsInTurn}
+use Rattle.giop_stream.specs.Rules.{Rules}
 use Rattle.giop_stream.specs.Framing.{Message, Cut, cut, messages}
 use Rattle.giop_stream.specs.Events.{Open, id, title, happens, opened, open_after}
 use Rattle.giop_stream.specs.Effects.{Tracked, with_octet, stage}
@@ -19,29 +20,29 @@ use Rattle.giop_stream.proofs.Moves.EngineAlive.{sound}
 abbrev pub IsTitled : Message → List Open → Type 0
 IsTitled m live = Each (λ o. o.opener.number ≡ m.number → o.opener ≡ title m) live
 
-titled_happens : (live : List Open) (m : Message) → IsTitled m live → IsTitled m (opened live (happens live m))
-titled_happens live m h = kept_happens (IsTitled m) live m (record {
+titled_happens : (most : ℕ) (live : List Open) (m : Message) → IsTitled m live → IsTitled m (opened live (happens most live m))
+titled_happens most live m h = kept_happens most (IsTitled m) live m (record {
   fewer = λ test live h. each_filter (λ o. o.opener.number ≡ m.number → o.opener ≡ title m) test live h;
   more = λ can q. unfold opened_by in each_append (λ o. o.opener.number ≡ m.number → o.opener ≡ title m) live
       (record { id = id m; opener = title m } ∷ []) q (λ same. refl, tt);
 }) h
 
 -- of the stream p
-abbrev HasTitle : List ℕ → Type 0
-HasTitle p = (cut p).stop ≡ None → (m : Message) → (cut p).current ≡ Some m → IsTitled m (open_after p)
+abbrev HasTitle : (most : ℕ) → List ℕ → Type 0
+HasTitle most p = (cut p).stop ≡ None → (m : Message) → (cut p).current ≡ Some m → IsTitled m (open_after most p)
 
-module _ (R : Reading) (p : List ℕ) (x : ℕ) (so_far : IsSound R p) (ih : HasTitle p) where
+module _ (R : Rules) (p : List ℕ) (x : ℕ) (so_far : IsSound R p) (ih : HasTitle R.most p) where
   before : (m : Message) → (cut p).stop ≡ None → m.number ≡ suc (length (cut p).whole)
       → (((cut p).current ≡ None) × (m.payload ≡ [])) ⊎ ((was : Message) × ((cut p).current ≡ Some was) × (m
-      ≡ with_octet was x)) → IsTitled m (open_after p)
+      ≡ with_octet was x)) → IsTitled m (open_after R.most p)
   unfolding messages
   before m st number (inl (cur, none)) =
       let count : length (messages (cut p)) ≡ length (cut p).whole = rw cur (ap length (append-nil (cut p).whole)) in
       each_weaker (λ o. o.opener.number ≤ length (messages (cut p))) (λ o. o.opener.number ≡ m.number → o.opener ≡ title m)
-      (λ o k same. absurd (omega (arith, k, same, count, number))) (open_after p) so_far.numbers
-  before m st number (inr (was, cur, is)) = subst (λ (n : Message). IsTitled n (open_after p)) (sym is) (ih st was cur)
+      (λ o k same. absurd (omega (arith, k, same, count, number))) (open_after R.most p) so_far.numbers
+  before m st number (inr (was, cur, is)) = subst (λ (n : Message). IsTitled n (open_after R.most p)) (sym is) (ih st was cur)
 
-  title_then : (o : Octet) → Then R p x o → HasTitle (p ++ x ∷ [])
+  title_then : (o : Octet) → Then R p x o → HasTitle R.most (p ++ x ∷ [])
   unfolding stopped_at of_parts stage
   title_then Behind h st m cur = absurd (let no : Some h.0 ≡ None = sym h.1 ∙ (ap (λ (c : Cut). c.stop) (sym h.2.cut_is) ∙ st) in cc)
   title_then (Ends fault) h st m cur = absurd (let no : Some (suc (length p), fault) ≡ None = ap (λ (c : Cut). c.stop) (sym h.1.cut_is) ∙ st in cc)
@@ -49,16 +50,16 @@ module _ (R : Reading) (p : List ℕ) (x : ℕ) (so_far : IsSound R p) (ih : Has
   title_then (Of now) h st m cur =
       let one = h.1 in
       let s = settled_is (cut p).whole one.m m (ap (λ (c : Cut). c.current) (sym one.adds.cut_is) ∙ cur) in
-      let live : open_after (p ++ x ∷ []) ≡ opened (open_after p) (happens (open_after p) one.m) =
-      ap (λ (c : Tracked). c.live) one.adds.stage ∙ effects_live R (stage R p) (happens (open_after p) one.m) in
-      subst (λ (n : Message). IsTitled n (open_after (p ++ x ∷ []))) (sym s.same)
-      (rw live (titled_happens (open_after p) one.m (before one.m h.0 one.number_is one.from)))
+      let live : open_after R.most (p ++ x ∷ []) ≡ opened (open_after R.most p) (happens R.most (open_after R.most p) one.m) =
+      ap (λ (c : Tracked). c.live) one.adds.stage ∙ effects_live R.reading (stage R p) (happens R.most (open_after R.most p) one.m) in
+      subst (λ (n : Message). IsTitled n (open_after R.most (p ++ x ∷ []))) (sym s.same)
+      (rw live (titled_happens R.most (open_after R.most p) one.m (before one.m h.0 one.number_is one.from)))
 
-title_start : HasTitle []
+title_start : (most : ℕ) → HasTitle most []
 unfolding of_parts
-title_start st m cur = absurd (let no : None ≡ Some m = sym (ap (λ (c : Cut). c.current) cut_nothing) ∙ cur in cc)
+title_start most st m cur = absurd (let no : None ≡ Some m = sym (ap (λ (c : Cut). c.current) cut_nothing) ∙ cur in cc)
 
-pub title_is : (R : Reading) → IsCausal R → IsInTurn R → (p : List ℕ) → HasTitle p
-title_is R causal laws = by_growth (λ p. HasTitle p) title_start (λ p x ih.
+pub title_is : (R : Rules) → IsCausal R.reading → IsInTurn R.reading → (p : List ℕ) → HasTitle R.most p
+title_is R causal laws = by_growth (λ p. HasTitle R.most p) (title_start R.most) (λ p x ih.
     let so_far = sound R causal laws p in
     title_then R p x so_far ih _ (then_is R causal laws p x so_far))

@@ -5,7 +5,7 @@ use Rattle.giop_stream.specs.declared.fault.ImposedFault.{ImposedFault}
 use Rattle.giop_stream.specs.declared.fault.ImposedFault.TheVariants.{Short, NoOpen, IdOpen, TooManyOpen, FragmentOrder}
 use Rattle.giop_message.specs.Headers.{order, has_more, size, is_fragment, is_opener, is_cancel}
 use Rattle.giop_stream.specs.Kinds.{may_be_cancelled, refused}
-use Rattle.giop_stream.specs.Events.{Happening, Begins, Takes, Opens, Continues, Cancelled, Imposed, Closes, Event, Open, Now, own, about, imposed, header_acts, most_open, opens, same_order, continues, cancels, id_acts, end_acts}
+use Rattle.giop_stream.specs.Events.{Happening, Begins, Takes, Opens, Continues, Cancelled, Imposed, Closes, Event, Open, Now, own, about, imposed, header_acts, opens, same_order, continues, cancels, id_acts, end_acts}
 
 -- what an octet may do behind its first part
 abbrev pub IsLater : Happening → Type 0
@@ -40,9 +40,9 @@ pub record HoldsOf (Q : List Event → Type 0) (now : Now) (other : Option Open)
   pub mine : (what : Happening) → IsLater what → Q (own now what)
   pub theirs : (what : Happening) → IsLater what → Q (about now other what)
 
-module _ (Q : List Event → Type 0) (j : IsJoined Q) (live : List Open) (now : Now) (id : ℕ) where
-  of_opens : (other : Option Open) → HoldsOf Q now other → Q (opens live now id other)
-  of_opens None h = either Q (nat_le most_open (length live)) _ _ (h.mine (Imposed TooManyOpen) tt) (h.mine (Opens id) tt)
+module _ (most : ℕ) (Q : List Event → Type 0) (j : IsJoined Q) (live : List Open) (now : Now) (id : ℕ) where
+  of_opens : (other : Option Open) → HoldsOf Q now other → Q (opens most live now id other)
+  of_opens None h = either Q (nat_le most (length live)) _ _ (h.mine (Imposed TooManyOpen) tt) (h.mine (Opens id) tt)
   of_opens (Some o) h = h.mine (Imposed IdOpen) tt
 
   of_continues : (other : Option Open) → HoldsOf Q now other → Q (continues now other)
@@ -55,7 +55,7 @@ module _ (Q : List Event → Type 0) (j : IsJoined Q) (live : List Open) (now : 
   of_cancels None h = j.none
   of_cancels (Some o) h = either Q (may_be_cancelled o.opener.header) _ _ (h.theirs (Cancelled now.whom.number) tt) j.none
 
-  pub of_id : (other : Option Open) → HoldsOf Q now other → Q (id_acts live now id other)
+  pub of_id : (other : Option Open) → HoldsOf Q now other → Q (id_acts most live now id other)
   unfolding id_acts
   of_id other h =
       either Q (is_fragment now.whom.header) _ _ (of_continues other h)
@@ -72,7 +72,7 @@ module _ (Q : List Event → Type 0) (j : IsJoined Q) (live : List Open) (now : 
       (either Q (has_more now.whom.header) _ _ j.none (h.theirs Closes tt)) (h.mine Closes tt)))
 
   pub of_later : (other : Option Open) → HoldsOf Q now other
-      → Q ((if now.come == 4 then id_acts live now id other else []) ++ (if now.come == size now.whom.header then end_acts now other else []))
+      → Q ((if now.come == 4 then id_acts most live now id other else []) ++ (if now.come == size now.whom.header then end_acts now other else []))
   of_later other h =
-      j.both (if now.come == 4 then id_acts live now id other else []) _ (either Q (now.come == 4) _ _ (of_id other h) j.none)
+      j.both (if now.come == 4 then id_acts most live now id other else []) _ (either Q (now.come == 4) _ _ (of_id other h) j.none)
       (either Q (now.come == size now.whom.header) _ _ (of_end other h) j.none)

@@ -4,13 +4,13 @@ use Rattle.std.proofs.lemmas.Bool.{lt-leb, le-leb}
 use Rattle.giop_stream.specs.declared.fault.ImposedFault.{ImposedFault}
 use Rattle.giop_stream.specs.declared.fault.ImposedFault.TheVariants.{NoOpen, IdOpen, TooManyOpen, FragmentOrder}
 use Rattle.giop_message.specs.Headers.{order, is_fragment, is_opener, is_cancel}
+use Rattle.giop_stream.specs.Rules.{Rules}
 use Rattle.giop_stream.specs.Framing.{Message}
 use Rattle.giop_message.specs.Reading.{Reading}
 use Rattle.giop_stream.specs.Kinds.{may_be_cancelled, refused}
-use Rattle.giop_stream.specs.Events.{Happening, Begins, Takes, Opens, Continues, Cancelled, Imposed, Title, Event, Open, title, place, id, own, about, opener_of, goes_past, at_header, at_octet, most_open, same_order, at_id, now_of, header_acts, octet_acts, id_acts}
+use Rattle.giop_stream.specs.Events.{Happening, Begins, Takes, Opens, Continues, Cancelled, Imposed, Title, Event, Open, title, place, id, own, about, opener_of, goes_past, at_header, at_octet, same_order, at_id, now_of, header_acts, octet_acts, id_acts}
 use Rattle.giop_stream.specs.Lines.{Line, line, tells, standing}
-use Rattle.giop_stream.specs.Machine.{utters_kept}
-use Rattle.giop_stream.specs.Effects.{Tracked, lines_at, tracked_at, lines_of, effects, one_effect, no_effect, starts, goes_on}
+use Rattle.giop_stream.specs.Effects.{Tracked, lines_at, tracked_at, lines_of, effects, one_effect, no_effect, starts, goes_on, lines_for}
 use Rattle.giop_stream.proofs.Keep.Places.{tracked_stays, tracked_begins}
 
 -- ---- The effects of few events.
@@ -61,7 +61,7 @@ effects_nobody R c m what = effects_none R c
 -- ---- A header's last octet.
 
 began : (R : Reading) (m : Message) (xs : List ℕ) → lines_of R (record { place = place m; whom = title m; what = Begins }) (Some xs) ≡ starts m ∷ []
-unfolding lines_of utters_kept tells line standing
+unfolding lines_of lines_for tells line standing
 began R m xs = refl
 
 begins_first : (R : Reading) (c : Tracked) (m : Message) (xs : List ℕ) (es : List Event) → c.known m.number ≡ Some xs
@@ -101,14 +101,14 @@ octet_lost R c live m h e = rw (h, e) (effects_nobody R c m (Takes (get_or m.pay
 
 -- ---- A request id: of a Fragment,
 
-pub fragment_unknown : (R : Reading) (c : Tracked) (live : List Open) (m : Message) → is_fragment m.header ≡ true
-    → opener_of live m ≡ None → effects R c (at_id live m) ≡ one_effect R c (place m) (title m) (Imposed NoOpen)
+pub fragment_unknown : (R : Rules) (c : Tracked) (live : List Open) (m : Message) → is_fragment m.header ≡ true
+    → opener_of live m ≡ None → effects R.reading c (at_id R.most live m) ≡ one_effect R.reading c (place m) (title m) (Imposed NoOpen)
 unfolding id_acts
-fragment_unknown R c live m f e = rw (f, e) (effects_own R c m (Imposed NoOpen))
+fragment_unknown R c live m f e = rw (f, e) (effects_own R.reading c m (Imposed NoOpen))
 
 went_on : (R : Reading) (m : Message) (o : Open) (xs : List ℕ)
     → lines_of R (record { place = place m; whom = title m; what = Continues o.opener.number }) (Some xs) ≡ goes_on m o ∷ []
-unfolding lines_of utters_kept tells line standing
+unfolding lines_of lines_for tells line standing
 went_on R m o xs = refl
 
 goes_first : (R : Reading) (c : Tracked) (m : Message) (o : Open) (xs : List ℕ) (es : List Event) → c.known m.number ≡ Some xs
@@ -124,64 +124,64 @@ goes_first R c m o xs es k =
       went_on R m o xs,
     ) refl
 
-pub fragment_in_order : (R : Reading) (c : Tracked) (live : List Open) (m : Message) (o : Open) (xs : List ℕ)
+pub fragment_in_order : (R : Rules) (c : Tracked) (live : List Open) (m : Message) (o : Open) (xs : List ℕ)
     → is_fragment m.header ≡ true → opener_of live m ≡ Some o → c.known m.number ≡ Some xs
     → same_order (order m.header) (order o.opener.header) ≡ true
-    → effects R c (at_id live m) ≡ record { tracked = c; lines = goes_on m o ∷ [] }
+    → effects R.reading c (at_id R.most live m) ≡ record { tracked = c; lines = goes_on m o ∷ [] }
 unfolding id_acts
-fragment_in_order R c live m o xs f e k s = rw (f, e, s) (goes_first R c m o xs [] k ∙ rw (effects_none R c) refl)
+fragment_in_order R c live m o xs f e k s = rw (f, e, s) (goes_first R.reading c m o xs [] k ∙ rw (effects_none R.reading c) refl)
 
-pub fragment_out_of_order : (R : Reading) (c : Tracked) (live : List Open) (m : Message) (o : Open) (xs : List ℕ)
+pub fragment_out_of_order : (R : Rules) (c : Tracked) (live : List Open) (m : Message) (o : Open) (xs : List ℕ)
     → is_fragment m.header ≡ true → opener_of live m ≡ Some o → c.known m.number ≡ Some xs
     → same_order (order m.header) (order o.opener.header) ≡ false
-    → (let fault = one_effect R c (place m) o.opener (Imposed FragmentOrder) in effects R c (at_id live m)
+    → (let fault = one_effect R.reading c (place m) o.opener (Imposed FragmentOrder) in effects R.reading c (at_id R.most live m)
     ≡ record { tracked = fault.tracked; lines = goes_on m o ∷ fault.lines })
 unfolding id_acts
 fragment_out_of_order R c live m o xs f e k s =
-    rw (f, e, s) (goes_first R c m o xs (about (now_of m) (Some o) (Imposed FragmentOrder)) k ∙ rw (effects_about R c m o (Imposed FragmentOrder)) refl)
+    rw (f, e, s) (goes_first R.reading c m o xs (about (now_of m) (Some o) (Imposed FragmentOrder)) k ∙ rw (effects_about R.reading c m o (Imposed FragmentOrder)) refl)
 
 -- of a message that has fragments,
 
-pub opener_twice : (R : Reading) (c : Tracked) (live : List Open) (m : Message) (o : Open) → is_fragment m.header ≡ false
+pub opener_twice : (R : Rules) (c : Tracked) (live : List Open) (m : Message) (o : Open) → is_fragment m.header ≡ false
     → is_opener m.header ≡ true → opener_of live m ≡ Some o
-    → effects R c (at_id live m) ≡ one_effect R c (place m) (title m) (Imposed IdOpen)
+    → effects R.reading c (at_id R.most live m) ≡ one_effect R.reading c (place m) (title m) (Imposed IdOpen)
 unfolding id_acts
-opener_twice R c live m o f h e = rw (f, h, e) (effects_own R c m (Imposed IdOpen))
+opener_twice R c live m o f h e = rw (f, h, e) (effects_own R.reading c m (Imposed IdOpen))
 
-pub opener_no_room : (R : Reading) (c : Tracked) (live : List Open) (m : Message) → is_fragment m.header ≡ false
-    → is_opener m.header ≡ true → opener_of live m ≡ None → most_open ≤ length live
-    → effects R c (at_id live m) ≡ one_effect R c (place m) (title m) (Imposed TooManyOpen)
+pub opener_no_room : (R : Rules) (c : Tracked) (live : List Open) (m : Message) → is_fragment m.header ≡ false
+    → is_opener m.header ≡ true → opener_of live m ≡ None → R.most ≤ length live
+    → effects R.reading c (at_id R.most live m) ≡ one_effect R.reading c (place m) (title m) (Imposed TooManyOpen)
 unfolding id_acts
-opener_no_room R c live m f h e n = rw (f, h, e, le-leb most_open (length live) n) (effects_own R c m (Imposed TooManyOpen))
+opener_no_room R c live m f h e n = rw (f, h, e, le-leb R.most (length live) n) (effects_own R.reading c m (Imposed TooManyOpen))
 
-pub opener_opens : (R : Reading) (c : Tracked) (live : List Open) (m : Message) → is_fragment m.header ≡ false
-    → is_opener m.header ≡ true → opener_of live m ≡ None → length live < most_open
-    → effects R c (at_id live m) ≡ one_effect R c (place m) (title m) (Opens (id m))
+pub opener_opens : (R : Rules) (c : Tracked) (live : List Open) (m : Message) → is_fragment m.header ≡ false
+    → is_opener m.header ≡ true → opener_of live m ≡ None → length live < R.most
+    → effects R.reading c (at_id R.most live m) ≡ one_effect R.reading c (place m) (title m) (Opens (id m))
 unfolding id_acts
-opener_opens R c live m f h e n = rw (f, h, e, lt-leb most_open (length live) n) (effects_own R c m (Opens (id m)))
+opener_opens R c live m f h e n = rw (f, h, e, lt-leb R.most (length live) n) (effects_own R.reading c m (Opens (id m)))
 
 -- of a CancelRequest,
 
-pub cancel_closes : (R : Reading) (c : Tracked) (live : List Open) (m : Message) (o : Open) → is_fragment m.header ≡ false
+pub cancel_closes : (R : Rules) (c : Tracked) (live : List Open) (m : Message) (o : Open) → is_fragment m.header ≡ false
     → is_opener m.header ≡ false → is_cancel m.header ≡ true → opener_of live m ≡ Some o
-    → may_be_cancelled o.opener.header ≡ true → effects R c (at_id live m) ≡ one_effect R c (place m) o.opener (Cancelled m.number)
+    → may_be_cancelled o.opener.header ≡ true → effects R.reading c (at_id R.most live m) ≡ one_effect R.reading c (place m) o.opener (Cancelled m.number)
 unfolding id_acts
-cancel_closes R c live m o f g h e s = rw (f, g, h, e, s) (effects_about R c m o (Cancelled m.number))
+cancel_closes R c live m o f g h e s = rw (f, g, h, e, s) (effects_about R.reading c m o (Cancelled m.number))
 
-pub cancel_spares : (R : Reading) (c : Tracked) (live : List Open) (m : Message) (o : Open) → is_fragment m.header ≡ false
+pub cancel_spares : (R : Rules) (c : Tracked) (live : List Open) (m : Message) (o : Open) → is_fragment m.header ≡ false
     → is_opener m.header ≡ false → is_cancel m.header ≡ true → opener_of live m ≡ Some o
-    → may_be_cancelled o.opener.header ≡ false → effects R c (at_id live m) ≡ no_effect c
+    → may_be_cancelled o.opener.header ≡ false → effects R.reading c (at_id R.most live m) ≡ no_effect c
 unfolding id_acts
-cancel_spares R c live m o f g h e s = rw (f, g, h, e, s) (effects_none R c)
+cancel_spares R c live m o f g h e s = rw (f, g, h, e, s) (effects_none R.reading c)
 
-pub cancel_misses : (R : Reading) (c : Tracked) (live : List Open) (m : Message) → is_fragment m.header ≡ false
-    → is_opener m.header ≡ false → is_cancel m.header ≡ true → opener_of live m ≡ None → effects R c (at_id live m) ≡ no_effect c
+pub cancel_misses : (R : Rules) (c : Tracked) (live : List Open) (m : Message) → is_fragment m.header ≡ false
+    → is_opener m.header ≡ false → is_cancel m.header ≡ true → opener_of live m ≡ None → effects R.reading c (at_id R.most live m) ≡ no_effect c
 unfolding id_acts
-cancel_misses R c live m f g h e = rw (f, g, h, e) (effects_none R c)
+cancel_misses R c live m f g h e = rw (f, g, h, e) (effects_none R.reading c)
 
 -- and of any other message.
 
-pub other_id : (R : Reading) (c : Tracked) (live : List Open) (m : Message) → is_fragment m.header ≡ false
-    → is_opener m.header ≡ false → is_cancel m.header ≡ false → effects R c (at_id live m) ≡ no_effect c
+pub other_id : (R : Rules) (c : Tracked) (live : List Open) (m : Message) → is_fragment m.header ≡ false
+    → is_opener m.header ≡ false → is_cancel m.header ≡ false → effects R.reading c (at_id R.most live m) ≡ no_effect c
 unfolding id_acts
-other_id R c live m f g h = rw (f, g, h) (effects_none R c)
+other_id R c live m f g h = rw (f, g, h) (effects_none R.reading c)

@@ -5,11 +5,11 @@ use Rattle.std.proofs.lemmas.Bool.{eq-eqb, ne_eqb}
 use Rattle.giop_sig.specs.Table.{Table}
 use Rattle.giop_message.specs.Signatures.{Listed}
 use Rattle.giop_message.specs.MessageReading.{message_reading}
-use Rattle.giop_message.specs.Reading.{Reading}
 use Rattle.giop_message.specs.Headers.{size}
 use Rattle.giop_stream.specs.declared.fault.ImposedFault.{ImposedFault}
 use Rattle.giop_stream.specs.declared.slots.Slots.{Slots}
 use Rattle.giop_stream.specs.declared.current.Current.{Current}
+use Rattle.giop_stream.specs.Rules.{Rules, rules}
 use Rattle.giop_stream.specs.Framing.{Message}
 use Rattle.giop_stream.specs.Text.{line_text, start_line}
 use Rattle.giop_stream.specs.Kinds.{refused}
@@ -37,24 +37,24 @@ starts_faults m ls = refl
 
 -- ---- The header's own events, then the end.
 
-module _ (R : Reading) (c : Tracked) (m : Message) where
+module _ (R : Rules) (c : Tracked) (m : Message) where
   abbrev pub begun : Effect
-  begun = effects R c (at_header m)
+  begun = effects R.reading c (at_header m)
 
   abbrev pub ended : Effect
-  ended = effects R begun.tracked (end_events begun.tracked.live m)
+  ended = effects R.reading begun.tracked (end_events begun.tracked.live m)
 
   pub begun_live : begun.tracked.live ≡ c.live
-  begun_live = effects_live R c (at_header m) ∙ quiet_header c.live (now_of m)
+  begun_live = effects_live R.reading c (at_header m) ∙ quiet_header c.live (now_of m)
 
-  parts : length m.payload ≡ 0 → happens c.live m ≡ at_header m ++ end_events c.live m
+  parts : length m.payload ≡ 0 → happens R.most c.live m ≡ at_header m ++ end_events c.live m
   unfolding happens end_events
   parts none = rw (eq-eqb (length m.payload) 0 none, ne_eqb (length m.payload) 4 (λ e. omega (arith, none, e))) refl
 
-  pub in_two : length m.payload ≡ 0 → effects R c (happens c.live m) ≡ then_effect begun ended
+  pub in_two : length m.payload ≡ 0 → effects R.reading c (happens R.most c.live m) ≡ then_effect begun ended
   in_two none =
       let ends : end_events c.live m ≡ end_events begun.tracked.live m = ap (λ (live : List Open). end_events live m) (sym begun_live) in
-      ap (effects R c) (parts none ∙ ap (λ (es : List Event). at_header m ++ es) ends) ∙ effects_append R c (at_header m) (end_events begun.tracked.live m)
+      ap (effects R.reading c) (parts none ∙ ap (λ (es : List Event). at_header m ++ es) ends) ∙ effects_append R.reading c (at_header m) (end_events begun.tracked.live m)
 
   pub ended_whose : whose_after begun.tracked.live m ≡ whose_after ended.tracked.live m
   unfolding whose_after end_events opened
@@ -63,7 +63,7 @@ module _ (R : Reading) (c : Tracked) (m : Message) where
       go : (b : Bool) → (length m.payload == size m.header) ≡ b
           → (if b then None else whose begun.tracked.live m) ≡ (if b then None else whose ended.tracked.live m)
       go true e = refl
-      go false e = ap (λ (live : List Open). whose live m) (sym (effects_live R begun.tracked (end_events begun.tracked.live m) ∙ rw e refl))
+      go false e = ap (λ (live : List Open). whose live m) (sym (effects_live R.reading begun.tracked (end_events begun.tracked.live m) ∙ rw e refl))
 
 module _ (C : Table) (l : Listed) (s : Slots) (c : Tracked) (who : Option Title) (m : Message) (now : Current) (h : IsFirst C l s c who m now) where
   pub apart : IsNotOpen m.number c.live
@@ -90,14 +90,14 @@ module _ (C : Table) (l : Listed) (s : Slots) (c : Tracked) (who : Option Title)
       go None e = record { more = _; is = ap (λ (p : Effect). p.lines) (begins e) }
       go (Some fault) e = record { more = _; is = ap (λ (p : Effect). p.lines) (refuses fault e) }
 
-  pub begun_at : (s' : Slots) → Keeps C l s' (begun (message_reading C l) c m).tracked (Some (title m))
-      → IsAt C l s' (begun (message_reading C l) c m).tracked m now
+  pub begun_at : (s' : Slots) → Keeps C l s' (begun (rules C l s.most) c m).tracked (Some (title m))
+      → IsAt C l s' (begun (rules C l s.most) c m).tracked m now
   begun_at s' k =
-      let live = begun_live (message_reading C l) c m in
+      let live = begun_live (rules C l s.most) c m in
       let none = none_come in
       let few : length m.payload < 4 = omega (arith, none) in
       record {
-        keeps = rw (whose_early (begun (message_reading C l) c m).tracked.live m few) k;
+        keeps = rw (whose_early (begun (rules C l s.most) c m).tracked.live m few) k;
         rising = rw live h.rising;
         current = h.current;
       }

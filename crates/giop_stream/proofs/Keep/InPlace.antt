@@ -8,8 +8,7 @@ use Rattle.giop_message.specs.Reading.{Reading}
 use Rattle.giop_stream.specs.Events.{Event, Open, octet, joined}
 use Rattle.giop_stream.specs.Lines.{Line, is_last_of, standing}
 use Rattle.giop_stream.specs.State.{Slot, Kept, slots_of}
-use Rattle.giop_stream.specs.Machine.{utters_kept, taking, written}
-use Rattle.giop_stream.specs.Effects.{Tracked, lines_at, tracked_at, lines_of, octets_then}
+use Rattle.giop_stream.specs.Effects.{Tracked, lines_at, tracked_at, lines_of, octets_then, lines_for, kept_with, kept_after}
 use Rattle.giop_stream.proofs.Lists.{each_weaker, filter_keeps}
 use Rattle.giop_stream.proofs.Told.Telling.{tells_number, standing_each}
 use Rattle.giop_stream.specs.Events.{Rising}
@@ -35,14 +34,14 @@ same_octets None = refl
 same_octets (Some xs) = ap Some (append-nil xs)
 
 pub own_then : (R : Reading) (c : Tracked) (e : Event) → (tracked_at R c e).known e.whom.number ≡ octets_then R e (c.known e.whom.number)
-unfolding tracked_at written taking octets_then lines_at lines_of
+unfolding tracked_at kept_after kept_with octets_then lines_at lines_of
 own_then R c e = rw (one_joined e) refl
 
 pub others_then : (R : Reading) (c : Tracked) (e : Event) (i : ℕ) → (i ≡ e.whom.number → ⊥) → (tracked_at R c e).known i ≡ c.known i
-unfolding tracked_at written taking lines_at
+unfolding tracked_at kept_after kept_with lines_at
 others_then R c e i h =
-    let mine : Each (λ l. l.number ≡ e.whom.number) (standing (λ i. false) (utters_kept R e (c.known e.whom.number))) =
-    standing_each (λ l. l.number ≡ e.whom.number) (λ i. false) (utters_kept R e (c.known e.whom.number))
+    let mine : Each (λ l. l.number ≡ e.whom.number) (standing (λ i. false) (lines_for R e (c.known e.whom.number))) =
+    standing_each (λ l. l.number ≡ e.whom.number) (λ i. false) (lines_for R e (c.known e.whom.number))
     (tells_number R (λ n. n ≡ e.whom.number) e (c.known e.whom.number) refl) in
     rw (other_last i e.whom.number _ h mine, other_joined i e h) (same_octets (c.known i))
 

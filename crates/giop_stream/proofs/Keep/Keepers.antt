@@ -17,8 +17,7 @@ use Rattle.giop_print.specs.Output.{OutLog}
 use Rattle.giop_stream.specs.Events.{Title, Open, Happening, Takes, Opens, Imposed, Cancelled, Closes, octet, changed, Rising}
 use Rattle.giop_stream.specs.Lines.{tells, standing}
 use Rattle.giop_stream.specs.State.{Slot, slots_of}
-use Rattle.giop_stream.specs.Machine.{utters_kept}
-use Rattle.giop_stream.specs.Effects.{Tracked, Effect, Part, part_of, tracked_at, lines_of, octets_then, one_effect, IsNotOpen}
+use Rattle.giop_stream.specs.Effects.{Tracked, Effect, Part, part_of, tracked_at, lines_of, octets_then, one_effect, IsNotOpen, lines_for}
 use Rattle.giop_stream.specs.Keeping.{IsKept, IsSlot, AreSlots, Keeps, event, effect_to}
 use Rattle.giop_stream.specs.Performs.{TakesEffect, PartTakesEffect, Says, one_if}
 use Rattle.giop_stream.proofs.Lists.{each_weaker, each_filter, filter_keeps}
@@ -52,8 +51,6 @@ pub record Alters (c : Tracked) (w : Title) (effect : Effect) (part : Part) : Ty
   pub live : effect.tracked.live ≡ c.live
   pub own : effect.tracked.known w.number ≡ part.octets
   pub others : (i : ℕ) → (i ≡ w.number → ⊥) → effect.tracked.known i ≡ c.known i
-
--- ---- A message begins, becomes open, and closes.
 
 -- ---- An open message goes.
 
@@ -92,7 +89,7 @@ module _ (C : Table) (l : Listed) where
 
   own_now : (s : Slots) (own' : Option Message) (c : Tracked) (w : Title) (effect : Effect) (part : Part) → Alters c w effect part
       → AreSlots C l s.slots.items (slots_of c.known c.live) → IsNotOpen w.number c.live
-      → IsKept C l own' w part.octets → Keeps C l (record { slots = s.slots; own = own'; payload = payload.Own }) effect.tracked (Some w)
+      → IsKept C l own' w part.octets → Keeps C l (record { slots = s.slots; most = s.most; own = own'; payload = payload.Own }) effect.tracked (Some w)
   own_now s own' c w effect part alters slots apart kept = record {
     slots = rw (alters.live, no_slot effect.tracked.known c.known c.live w.number apart alters.others) slots;
     payload = (rw alters.live apart, rw alters.own kept);
@@ -118,6 +115,7 @@ module _ (C : Table) (l : Listed) where
       → s.payload ≡ payload.Open k → slice_get s.slots.items k ≡ Some x → IsKept C l message w part.octets
       → Keeps C l (record {
         slots = record { items = slice_set s.slots.items k (record x { message = message }) };
+        most = s.most;
         own = s.own;
         payload = payload.Open k;
       }) effect.tracked (Some w)
@@ -166,7 +164,7 @@ module _ (C : Table) (l : Listed) where
     pub own_effects : (s : Slots) (own' : Option Message) (c : Tracked) (w : Title) (effect : Effect) (part : Part)
         → s.payload ≡ payload.Own → Keeps C l s c (Some w) → Alters c w effect part
         → (IsKept C l s.own w (c.known w.number) → PartTakesEffect C l n r a b own' w part)
-        → TakesEffect C l n r a b (record { slots = s.slots; own = own'; payload = s.payload }) effect (Some w)
+        → TakesEffect C l n r a b (record { slots = s.slots; most = s.most; own = own'; payload = s.payload }) effect (Some w)
     own_effects s own' c w effect part e h alters f =
         let now = own_parts s c w e h in
         performs_on r a b alters.lines (λ k. rw e (own_now s own' c w effect part alters h.slots now.0 k)) (f now.1)
@@ -178,6 +176,7 @@ module _ (C : Table) (l : Listed) where
         → (w.number ≡ x.number → IsKept C l x.message w (c.known w.number) → PartTakesEffect C l n r a b message w part)
         → TakesEffect C l n r a b (record {
           slots = record { items = slice_set s.slots.items k (record x { message = message }) };
+          most = s.most;
           own = s.own;
           payload = s.payload;
         }) effect (Some w)
@@ -197,7 +196,7 @@ module _ (C : Table) (l : Listed) where
   pub begin_keeps : (s : Slots) (m : Message) (c : Tracked) (whose : Option Title) (w : Title) (number : ℕ) (header : List ℕ)
       → Keeps C l s c whose → Follows C l number header m [] → w.number ≡ number → w.header ≡ header
       → c.known w.number ≡ Some [] → Each (λ o. o.opener.number ≡ w.number → ⊥) c.live
-      → Keeps C l (record { slots = s.slots; own = Some m; payload = payload.Own }) c (Some w)
+      → Keeps C l (record { slots = s.slots; most = s.most; own = Some m; payload = payload.Own }) c (Some w)
   begin_keeps s m c whose w number header h e n f known apart = record { slots = h.slots; payload = (apart, rw known kept) }
     where
       kept : IsKept C l (Some m) w (Some [])
@@ -205,7 +204,7 @@ module _ (C : Table) (l : Listed) where
 
   -- an event that says nothing and takes nothing
   opens_then : (at : ℕ) (w : Title) (i : ℕ) (o : Option (List ℕ)) → octets_then (message_reading C l) (event at w (Opens i)) o ≡ o
-  unfolding octets_then lines_of utters_kept tells standing octet
+  unfolding octets_then lines_of lines_for tells standing octet
   opens_then at w i None = refl
   opens_then at w i (Some xs) = ap Some (append-nil xs)
 
@@ -213,41 +212,6 @@ module _ (C : Table) (l : Listed) where
       → (tracked_at (message_reading C l) c (event at w (Opens i))).live ≡ c.live ++ record { id = i; opener = w } ∷ []
   unfolding tracked_at changed
   opened_live at c w i = refl
-
-  open_now : (s : Slots) (c : Tracked) (w : Title) (at number : ℕ) (header : List ℕ) (i : ℕ) → w.number ≡ number
-      → w.header ≡ header → Each (λ o. o.opener.number ≡ w.number → ⊥) c.live → IsKept C l s.own w (c.known w.number)
-      → AreSlots C l s.slots.items (slots_of c.known c.live)
-      → Keeps C l (record {
-        slots = record {
-          items = s.slots.items ++ record {
-            number = number;
-            header = header;
-            id = i;
-            message = s.own;
-          } ∷ [];
-        };
-        own = None;
-        payload = payload.Open (length s.slots.items);
-      })
-      (tracked_at (message_reading C l) c (event at w (Opens i))) (Some w)
-  open_now s c w at number header i n f apart kept slots =
-      let e = event at w (Opens i) in
-      let o : Open = record { id = i; opener = w } in
-      let known : (tracked_at (message_reading C l) c e).known w.number ≡ c.known w.number =
-      own_then (message_reading C l) c e ∙ opens_then at w i (c.known w.number) in
-      let same : Each (λ a. (tracked_at (message_reading C l) c e).known a.opener.number ≡ c.known a.opener.number) c.live =
-      each_weaker (λ a. a.opener.number ≡ w.number → ⊥)
-      (λ a. (tracked_at (message_reading C l) c e).known a.opener.number ≡ c.known a.opener.number)
-      (λ a j. others_then (message_reading C l) c e a.opener.number j) c.live apart in
-      let many : length s.slots.items ≡ length c.live = are_as_many C l s.slots.items (slots_of c.known c.live) slots ∙ slots_many c.known c.live in
-      record {
-        slots = rw (opened_live at c w i, slot_comes (tracked_at (message_reading C l) c e).known c.known c.live o same, known)
-            (push_slot C l s.slots.items (slots_of c.known c.live)
-            (record { number = number; header = header; id = i; message = s.own })
-            (record { open_as = o; octets = c.known w.number }) slots
-            (record { number = sym n; header = sym f; id = refl; message = kept }));
-        payload = (refl, (o, rw (opened_live at c w i, many) (get_last c.live o), refl));
-      }
 
   open_keeps : (s : Slots) (c : Tracked) (w : Title) (at number : ℕ) (header : List ℕ) (i : ℕ) → s.payload ≡ payload.Own
       → Keeps C l s c (Some w) → w.number ≡ number → w.header ≡ header
@@ -260,11 +224,30 @@ module _ (C : Table) (l : Listed) where
             message = s.own;
           } ∷ [];
         };
+        most = s.most;
         own = None;
         payload = payload.Open (length s.slots.items);
       })
       (tracked_at (message_reading C l) c (event at w (Opens i))) (Some w)
-  open_keeps s c w at number header i e h n f = let p = own_parts s c w e h in open_now s c w at number header i n f p.0 p.1 h.slots
+  open_keeps s c w at number header i e h n f =
+      let own = own_parts s c w e h in
+      let ev = event at w (Opens i) in
+      let o : Open = record { id = i; opener = w } in
+      let known : (tracked_at (message_reading C l) c ev).known w.number ≡ c.known w.number =
+      own_then (message_reading C l) c ev ∙ opens_then at w i (c.known w.number) in
+      let same : Each (λ a. (tracked_at (message_reading C l) c ev).known a.opener.number ≡ c.known a.opener.number) c.live =
+      each_weaker (λ a. a.opener.number ≡ w.number → ⊥)
+      (λ a. (tracked_at (message_reading C l) c ev).known a.opener.number ≡ c.known a.opener.number)
+      (λ a j. others_then (message_reading C l) c ev a.opener.number j) c.live own.0 in
+      let many : length s.slots.items ≡ length c.live = are_as_many C l s.slots.items (slots_of c.known c.live) h.slots ∙ slots_many c.known c.live in
+      record {
+        slots = rw (opened_live at c w i, slot_comes (tracked_at (message_reading C l) c ev).known c.known c.live o same, known)
+            (push_slot C l s.slots.items (slots_of c.known c.live)
+            (record { number = number; header = header; id = i; message = s.own })
+            (record { open_as = o; octets = c.known w.number }) h.slots
+            (record { number = sym n; header = sym f; id = refl; message = own.1 }));
+        payload = (refl, (o, rw (opened_live at c w i, many) (get_last c.live o), refl));
+      }
 
   gone_live : (at : ℕ) (c : Tracked) (w : Title) (what : Happening) → IsGone what
       → (tracked_at (message_reading C l) c (event at w what)).live ≡ filter (λ o. not (o.opener.number == w.number)) c.live
@@ -303,7 +286,7 @@ module _ (C : Table) (l : Listed) where
   module _ {A E : Type 0} {n : A → ℕ} (r : Result A E) (a b : OutLog) (at : ℕ) where
     pub own_closes : (s : Slots) (own' : Option Message) (c : Tracked) (whose : Option Title) → s.payload ≡ payload.Own → own' ≡ None → Keeps C l s c whose
         → ((w : Title) → IsKept C l s.own w (c.known w.number) → Says n r a b (lines_of (message_reading C l) (event at w Closes) (c.known w.number)))
-        → TakesEffect C l n r a b (record { slots = s.slots; own = own'; payload = payload.Nobody }) (effect_to C l at c whose Closes) None
+        → TakesEffect C l n r a b (record { slots = s.slots; most = s.most; own = own'; payload = payload.Nobody }) (effect_to C l at c whose Closes) None
     own_closes s own' c None e none h f = absurd (rw e at h.payload)
     own_closes s own' c (Some w) e none h f =
         let now = own_parts s c w e h in
@@ -313,7 +296,7 @@ module _ (C : Table) (l : Listed) where
         → s.payload ≡ payload.Open k → slice_get s.slots.items k ≡ Some x → slots'.items ≡ remove s.slots.items k
         → Rising c.live → Keeps C l s c whose
         → ((w : Title) → IsKept C l x.message w (c.known w.number) → Says n r a b (lines_of (message_reading C l) (event at w Closes) (c.known w.number)))
-        → TakesEffect C l n r a b (record { slots = slots'; own = s.own; payload = payload.Nobody }) (effect_to C l at c whose Closes) None
+        → TakesEffect C l n r a b (record { slots = slots'; most = s.most; own = s.own; payload = payload.Nobody }) (effect_to C l at c whose Closes) None
     slot_closes s x slots' c None k e get items rising h f = absurd (rw e at h.payload)
     slot_closes s x slots' c (Some w) k e get items rising h f =
         let p = place_of s c w k e h in
@@ -325,7 +308,7 @@ module _ (C : Table) (l : Listed) where
         (f w (in_slot s x c w k e get h).1)
 
   pub nobody_closes : {E : Type 0} (log : OutLog) (at : ℕ) (s : Slots) (c : Tracked) (whose : Option Title) → s.payload ≡ payload.Nobody → Keeps C l s c whose
-      → TakesEffect {E = E} C l one_if (Ok false) log log (record { slots = s.slots; own = s.own; payload = payload.Nobody }) (effect_to C l at c whose Closes) None
+      → TakesEffect {E = E} C l one_if (Ok false) log log (record { slots = s.slots; most = s.most; own = s.own; payload = payload.Nobody }) (effect_to C l at c whose Closes) None
   nobody_closes log at s c None e h = does_nothing false log refl (record { slots = h.slots; payload = rw e at h.payload })
   nobody_closes log at s c (Some w) e h = absurd (rw e at h.payload)
 
@@ -335,7 +318,7 @@ module _ (C : Table) (l : Listed) where
       → slots'.items ≡ s.slots.items ++ record { number = number; header = header; id = i; message = message } ∷ []
       → message ≡ s.own → own' ≡ None → k ≡ length s.slots.items
       → s.payload ≡ payload.Own → Keeps C l s c (Some w) → w.number ≡ number → w.header ≡ header
-      → Keeps C l (record { slots = slots'; own = own'; payload = payload.Open k }) (tracked_at (message_reading C l) c (event at w (Opens i))) (Some w)
+      → Keeps C l (record { slots = slots'; most = s.most; own = own'; payload = payload.Open k }) (tracked_at (message_reading C l) c (event at w (Opens i))) (Some w)
   open_with s slots' c w at number header i message own' k items m o l e h n f =
       let all = open_keeps s c w at number header i e h n f in
       record { slots = rw (items, m) all.slots; payload = rw (o, l) all.payload }
@@ -355,7 +338,7 @@ module _ (C : Table) (l : Listed) where
   pub cancel_keeps : (s : Slots) (slots' : ArrayVec Kept_slot) (c : Tracked) (w : Title) (k : ℕ) (o : Open) (at j : ℕ)
       → Keeps C l s c (Some w) → s.payload ≡ payload.Own → slice_get c.live k ≡ Some o → Rising c.live
       → slots'.items ≡ remove s.slots.items k
-      → Keeps C l (record { slots = slots'; own = s.own; payload = s.payload }) (tracked_at (message_reading C l) c (event at o.opener (Cancelled j))) (Some w)
+      → Keeps C l (record { slots = slots'; most = s.most; own = s.own; payload = s.payload }) (tracked_at (message_reading C l) c (event at o.opener (Cancelled j))) (Some w)
   cancel_keeps s slots' c w k o at j h e here rising items =
       let p = own_parts s c w e h in
       let ev = event at o.opener (Cancelled j) in

@@ -1,7 +1,6 @@
 -- What the code does at a request id, by the slots that it finds.
-use Rattle.std.proofs.Common.{inl, inr, ◌≡◌, ℕ, zero, suc, ◌<◌, ◌≤◌, Bool, true, false, List, [], ◌∷◌, length, refl, sym, ap, ◌∙◌, Option, Some, None, arith}
+use Rattle.std.proofs.Common.{◌≡◌, ℕ, zero, suc, ◌<◌, ◌≤◌, Bool, true, false, List, [], ◌∷◌, length, refl, sym, ap, ◌∙◌, Option, Some, None, arith}
 use Rattle.std.specs.Prelude.{◌==◌, ◌||◌, slice_get, slice_index_or, is_some}
-use Rattle.std.proofs.lemmas.Bool.{cases_eq, eq-eqb, eqb-true, false≢true}
 use Rattle.std.specs.List.{find, position_from}
 use Rattle.giop_sig.specs.Table.{Table}
 use Rattle.giop_message.specs.Signatures.{Listed}
@@ -10,12 +9,12 @@ use Rattle.giop_message.specs.Headers.{order, is_fragment, is_opener, is_cancel,
 use Rattle.giop_stream.specs.declared.fault.ImposedFault.TheVariants.{NoOpen, IdOpen, TooManyOpen, FragmentOrder}
 use Rattle.giop_stream.specs.declared.slots.Slots.{Slots}
 use Rattle.giop_stream.specs.declared.current.Current.{Current}
+use Rattle.giop_stream.specs.Rules.{rules}
 use Rattle.giop_stream.specs.Framing.{Message}
-use Rattle.giop_stream.specs.Events.{Open, Opens, Imposed, Cancelled, title, opener_of, at_id, most_open, same_order}
+use Rattle.giop_stream.specs.Events.{Open, Opens, Imposed, Cancelled, title, opener_of, at_id, same_order}
 use Rattle.giop_stream.specs.State.{slots_of}
-use Rattle.giop_stream.specs.Effects.{Tracked, Effect, effects, one_effect, no_effect, line_effect, lines_of, goes_on}
+use Rattle.giop_stream.specs.Effects.{Tracked, Effect, effects, one_effect, no_effect, line_effect, lines_of, goes_on, lines_for}
 use Rattle.giop_stream.specs.Lines.{Line, tells, standing}
-use Rattle.giop_stream.specs.Machine.{utters_kept}
 use Rattle.giop_stream.specs.Text.{line_text}
 use Rattle.giop_stream.specs.Stream.{fault_count}
 use Rattle.giop_cdr.specs.declared.order.Order.{Order}
@@ -65,19 +64,11 @@ cancel_named header f = rw f (go (is_opener header) (is_fragment header))
     go false true = refl
     go false false = refl
 
--- ---- Whether there is room.
-
-pub full_is : (n : ℕ) → (n == most_open) ≡ true → n ≡ most_open
-full_is n e = eqb-true n most_open e
-
-pub room_is : (n : ℕ) → (n == most_open) ≡ false → n ≤ most_open → n < most_open
-room_is n e less = elim (cases_eq n most_open) [ inl same ↦ absurd (false≢true (sym e ∙ eq-eqb n most_open same)) | inr other ↦ omega (arith, less, other) ]
-
 -- ---- A message that becomes open says nothing.
 
 module _ (C : Table) (l : Listed) where
   pub opens_lines : (c : Tracked) (m : Message) (at i : ℕ) → (one_effect (message_reading C l) c at (title m) (Opens i)).lines ≡ []
-  unfolding lines_of utters_kept tells standing
+  unfolding lines_of lines_for tells standing
   opens_lines c m at i = go (c.known m.number)
     where
       go : (o : Option (List ℕ)) → lines_of (message_reading C l) (event at (title m) (Opens i)) o ≡ []
@@ -127,41 +118,41 @@ module _ (C : Table) (l : Listed) (s : Slots) (c : Tracked) (m : Message) (now :
 
   pub twice : (r : Option ℕ) → r ≡ position_from (λ slot. slot.id == i) 0 s.slots.items → is_some r ≡ true
       → is_fragment m.header ≡ false → is_opener m.header ≡ true
-      → effects (message_reading C l) c (at_id c.live m) ≡ one_effect (message_reading C l) c now.place (title m) (Imposed IdOpen)
-  twice r e n f g = let o = hits (opener_named m.header g) r e n in opener_twice (message_reading C l) c c.live m o.0 f g o.1 ∙ rw h.current.place refl
+      → effects (message_reading C l) c (at_id s.most c.live m) ≡ one_effect (message_reading C l) c now.place (title m) (Imposed IdOpen)
+  twice r e n f g = let o = hits (opener_named m.header g) r e n in opener_twice (rules C l s.most) c c.live m o.0 f g o.1 ∙ rw h.current.place refl
 
   pub no_room : (r : Option ℕ) → r ≡ position_from (λ slot. slot.id == i) 0 s.slots.items → is_some r ≡ false
-      → length s.slots.items ≡ most_open → is_fragment m.header ≡ false → is_opener m.header ≡ true
-      → effects (message_reading C l) c (at_id c.live m) ≡ one_effect (message_reading C l) c now.place (title m) (Imposed TooManyOpen)
+      → s.most ≤ length s.slots.items → is_fragment m.header ≡ false → is_opener m.header ≡ true
+      → effects (message_reading C l) c (at_id s.most c.live m) ≡ one_effect (message_reading C l) c now.place (title m) (Imposed TooManyOpen)
   no_room r e n full f g =
       let many = as_many in
-      let room : most_open ≤ length c.live = omega (arith, many, full) in
-      opener_no_room (message_reading C l) c c.live m f g (misses (opener_named m.header g) r e n) room ∙ rw h.current.place refl
+      let room : s.most ≤ length c.live = omega (arith, many, full) in
+      opener_no_room (rules C l s.most) c c.live m f g (misses (opener_named m.header g) r e n) room ∙ rw h.current.place refl
 
   pub opens_one : (r : Option ℕ) → r ≡ position_from (λ slot. slot.id == i) 0 s.slots.items → is_some r ≡ false
-      → length s.slots.items < most_open → is_fragment m.header ≡ false → is_opener m.header ≡ true
-      → effects (message_reading C l) c (at_id c.live m) ≡ one_effect (message_reading C l) c now.place (title m) (Opens i)
+      → length s.slots.items < s.most → is_fragment m.header ≡ false → is_opener m.header ≡ true
+      → effects (message_reading C l) c (at_id s.most c.live m) ≡ one_effect (message_reading C l) c now.place (title m) (Opens i)
   opens_one r e n few f g =
       let many = as_many in
-      let room : length c.live < most_open = omega (arith, many, few) in
-      opener_opens (message_reading C l) c c.live m f g (misses (opener_named m.header g) r e n) room
+      let room : length c.live < s.most = omega (arith, many, few) in
+      opener_opens (rules C l s.most) c c.live m f g (misses (opener_named m.header g) r e n) room
       ∙ rw (h.current.place, h.id_is (opener_named m.header g)) refl
 
   -- ---- A Fragment.
 
   pub unknown : is_fragment m.header ≡ true → opener_of c.live m ≡ None
-      → effects (message_reading C l) c (at_id c.live m) ≡ one_effect (message_reading C l) c now.place (title m) (Imposed NoOpen)
-  unknown f e = fragment_unknown (message_reading C l) c c.live m f e ∙ rw h.current.place refl
+      → effects (message_reading C l) c (at_id s.most c.live m) ≡ one_effect (message_reading C l) c now.place (title m) (Imposed NoOpen)
+  unknown f e = fragment_unknown (rules C l s.most) c c.live m f e ∙ rw h.current.place refl
 
   pub in_order : (o : Open) → is_fragment m.header ≡ true → opener_of c.live m ≡ Some o → same_order (order m.header) (order o.opener.header) ≡ true
-      → effects (message_reading C l) c (at_id c.live m) ≡ line_effect (goes_on m o) (no_effect c)
-  in_order o f e same = let xs = h.alive (fragment_named m.header f) in fragment_in_order (message_reading C l) c c.live m o xs.0 f e xs.1 same
+      → effects (message_reading C l) c (at_id s.most c.live m) ≡ line_effect (goes_on m o) (no_effect c)
+  in_order o f e same = let xs = h.alive (fragment_named m.header f) in fragment_in_order (rules C l s.most) c c.live m o xs.0 f e xs.1 same
 
   pub out_of_order : (o : Open) → is_fragment m.header ≡ true → opener_of c.live m ≡ Some o → same_order (order m.header) (order o.opener.header) ≡ false
-      → effects (message_reading C l) c (at_id c.live m) ≡ line_effect (goes_on m o) (one_effect (message_reading C l) c now.place o.opener (Imposed FragmentOrder))
+      → effects (message_reading C l) c (at_id s.most c.live m) ≡ line_effect (goes_on m o) (one_effect (message_reading C l) c now.place o.opener (Imposed FragmentOrder))
   out_of_order o f e other =
       let xs = h.alive (fragment_named m.header f) in
-      fragment_out_of_order (message_reading C l) c c.live m o xs.0 f e xs.1 other ∙ rw h.current.place refl
+      fragment_out_of_order (rules C l s.most) c c.live m o xs.0 f e xs.1 other ∙ rw h.current.place refl
 
   -- the line of a Fragment, as the code writes it
   pub goes_text : (o : Open) (number : ℕ) → o.opener.number ≡ number → line_text (goes_on m o) ≡ continues_line now.number number
@@ -169,10 +160,10 @@ module _ (C : Table) (l : Listed) (s : Slots) (c : Tracked) (m : Message) (now :
 
   -- which begins all that is written
   pub goes_first : (o : Open) → is_fragment m.header ≡ true → opener_of c.live m ≡ Some o
-      → BeginsSo (goes_on m o) (effects (message_reading C l) c (at_id c.live m)).lines
+      → BeginsSo (goes_on m o) (effects (message_reading C l) c (at_id s.most c.live m)).lines
   goes_first o f e = go (same_order (order m.header) (order o.opener.header)) refl
     where
-      go : (b : Bool) → same_order (order m.header) (order o.opener.header) ≡ b → BeginsSo (goes_on m o) (effects (message_reading C l) c (at_id c.live m)).lines
+      go : (b : Bool) → same_order (order m.header) (order o.opener.header) ≡ b → BeginsSo (goes_on m o) (effects (message_reading C l) c (at_id s.most c.live m)).lines
       go true same = record { more = _; is = ap (λ (p : Effect). p.lines) (in_order o f e same) }
       go false other = record { more = _; is = ap (λ (p : Effect). p.lines) (out_of_order o f e other) }
 
@@ -189,8 +180,8 @@ module _ (C : Table) (l : Listed) (s : Slots) (c : Tracked) (m : Message) (now :
 
   pub misses_all : (r : Option ℕ) → r ≡ position_from (λ slot. slot.id == i) 0 s.slots.items → is_some r ≡ false
       → is_fragment m.header ≡ false → is_opener m.header ≡ false → is_cancel m.header ≡ true
-      → effects (message_reading C l) c (at_id c.live m) ≡ no_effect c
-  misses_all r e n f g b = cancel_misses (message_reading C l) c c.live m f g b (misses (cancel_named m.header b) r e n)
+      → effects (message_reading C l) c (at_id s.most c.live m) ≡ no_effect c
+  misses_all r e n f g b = cancel_misses (rules C l s.most) c c.live m f g b (misses (cancel_named m.header b) r e n)
 
   -- the header of the open message that is found
   pub header_may : (o : Open) (x : Kept_slot) (k : ℕ) (r : Bool) → slice_get c.live k ≡ Some o
@@ -199,13 +190,13 @@ module _ (C : Table) (l : Listed) (s : Slots) (c : Tracked) (m : Message) (now :
 
   pub spares : (o : Open) → is_fragment m.header ≡ false → is_opener m.header ≡ false → is_cancel m.header ≡ true
       → opener_of c.live m ≡ Some o → may_be_cancelled o.opener.header ≡ false
-      → effects (message_reading C l) c (at_id c.live m) ≡ no_effect c
-  spares o f g b e j = cancel_spares (message_reading C l) c c.live m o f g b e j
+      → effects (message_reading C l) c (at_id s.most c.live m) ≡ no_effect c
+  spares o f g b e j = cancel_spares (rules C l s.most) c c.live m o f g b e j
 
   pub cancels_one : (o : Open) → is_fragment m.header ≡ false → is_opener m.header ≡ false → is_cancel m.header ≡ true
       → opener_of c.live m ≡ Some o → may_be_cancelled o.opener.header ≡ true
-      → effects (message_reading C l) c (at_id c.live m) ≡ one_effect (message_reading C l) c now.place o.opener (Cancelled now.number)
-  cancels_one o f g b e j = cancel_closes (message_reading C l) c c.live m o f g b e j ∙ rw (h.current.place, h.current.number) refl
+      → effects (message_reading C l) c (at_id s.most c.live m) ≡ one_effect (message_reading C l) c now.place o.opener (Cancelled now.number)
+  cancels_one o f g b e j = cancel_closes (rules C l s.most) c c.live m o f g b e j ∙ rw (h.current.place, h.current.number) refl
 
   -- ---- Any message.
 
@@ -213,5 +204,5 @@ module _ (C : Table) (l : Listed) (s : Slots) (c : Tracked) (m : Message) (now :
   header_is says r e = ap says h.current.header ∙ e
 
   pub no_name : is_fragment now.header ≡ false → is_opener now.header ≡ false → is_cancel now.header ≡ false
-      → effects (message_reading C l) c (at_id c.live m) ≡ no_effect c
-  no_name f g b = other_id (message_reading C l) c c.live m (header_is is_fragment false f) (header_is is_opener false g) (header_is is_cancel false b)
+      → effects (message_reading C l) c (at_id s.most c.live m) ≡ no_effect c
+  no_name f g b = other_id (rules C l s.most) c c.live m (header_is is_fragment false f) (header_is is_opener false g) (header_is is_cancel false b)

@@ -11,6 +11,7 @@ use Rattle.giop_message.specs.Headers.{size, is_fragment, has_name}
 use Rattle.giop_message.proofs.MessageLaws.{is_ordered, is_closing, is_named}
 use Rattle.giop_stream.specs.declared.slots.Slots.{Slots}
 use Rattle.giop_stream.specs.declared.current.Current.{Current}
+use Rattle.giop_stream.specs.Rules.{Rules, rules}
 use Rattle.giop_stream.specs.Framing.{Message}
 use Rattle.giop_stream.specs.Events.{Takes, Title, Open, Event, title, place, opener_of, has_named, goes_past, id, at_octet, at_id, happens, opened, Rising, now_of, id_acts, end_acts}
 use Rattle.giop_stream.specs.Effects.{Tracked, Effect, effects, tracked_at, then_effect, with_octet}
@@ -33,11 +34,11 @@ effects_live R c [] = refl
 effects_live R c (e ∷ es) = effects_live R (tracked_at R c e) es
 
 -- a Fragment's request id opens and closes nothing
-fragment_still : (live : List Open) (m : Message) → is_fragment m.header ≡ true → opened live (id_events live m) ≡ live
+fragment_still : (most : ℕ) (live : List Open) (m : Message) → is_fragment m.header ≡ true → opened live (id_events most live m) ≡ live
 unfolding id_events id_acts opened
-fragment_still live m f = go (length m.payload == 4)
+fragment_still most live m f = go (length m.payload == 4)
   where
-    go : (b : Bool) → opened live (if b then at_id live m else []) ≡ live
+    go : (b : Bool) → opened live (if b then at_id most live m else []) ≡ live
     go true = rw f (quiet_continues live (now_of m) (opener_of live m))
     go false = refl
 
@@ -46,28 +47,28 @@ plain_end : (live live' : List Open) (m : Message) → is_fragment m.header ≡ 
 unfolding end_events end_acts
 plain_end live live' m f = rw f refl
 
-end_same : (live : List Open) (m : Message) → end_events (opened live (id_events live m)) m ≡ end_events live m
-end_same live m = go (is_fragment m.header) refl
+end_same : (most : ℕ) (live : List Open) (m : Message) → end_events (opened live (id_events most live m)) m ≡ end_events live m
+end_same most live m = go (is_fragment m.header) refl
   where
-    go : (f : Bool) → is_fragment m.header ≡ f → end_events (opened live (id_events live m)) m ≡ end_events live m
-    go true f = ap (λ (open' : List Open). end_events open' m) (fragment_still live m f)
-    go false f = plain_end live (opened live (id_events live m)) m f
+    go : (f : Bool) → is_fragment m.header ≡ f → end_events (opened live (id_events most live m)) m ≡ end_events live m
+    go true f = ap (λ (open' : List Open). end_events open' m) (fragment_still most live m f)
+    go false f = plain_end live (opened live (id_events most live m)) m f
 
 -- and the octets are the same message's
-whose_same : (live : List Open) (m : Message) → whose (opened live (id_events live m)) m ≡ whose live m
-whose_same live m = go (is_fragment m.header) refl
+whose_same : (most : ℕ) (live : List Open) (m : Message) → whose (opened live (id_events most live m)) m ≡ whose live m
+whose_same most live m = go (is_fragment m.header) refl
   where
-    go : (f : Bool) → is_fragment m.header ≡ f → whose (opened live (id_events live m)) m ≡ whose live m
-    go true f = ap (λ (open' : List Open). whose open' m) (fragment_still live m f)
-    go false f = whose_plain (opened live (id_events live m)) m f ∙ sym (whose_plain live m f)
+    go : (f : Bool) → is_fragment m.header ≡ f → whose (opened live (id_events most live m)) m ≡ whose live m
+    go true f = ap (λ (open' : List Open). whose open' m) (fragment_still most live m f)
+    go false f = whose_plain (opened live (id_events most live m)) m f ∙ sym (whose_plain live m f)
 
-rising_id : (live : List Open) (m : Message) → Rising live → (length m.payload ≡ 4 → IsNewest m.number live) → Rising (opened live (id_events live m))
+rising_id : (most : ℕ) (live : List Open) (m : Message) → Rising live → (length m.payload ≡ 4 → IsNewest m.number live) → Rising (opened live (id_events most live m))
 unfolding id_events opened opened_by
-rising_id live m r newest = go (length m.payload == 4) refl
+rising_id most live m r newest = go (length m.payload == 4) refl
   where
-    go : (b : Bool) → (length m.payload == 4) ≡ b → Rising (opened live (if b then at_id live m else []))
+    go : (b : Bool) → (length m.payload == 4) ≡ b → Rising (opened live (if b then at_id most live m else []))
     go true e =
-        kept_id Rising live m (record {
+        kept_id most Rising live m (record {
           fewer = rising_filter;
           more = λ can q. rising_push live (opened_by m) q
               (newest can.named);
@@ -76,40 +77,40 @@ rising_id live m r newest = go (length m.payload == 4) refl
 
 -- ---- The parts.
 
-module _ (R : Reading) (c : Tracked) (m : Message) where
+module _ (R : Rules) (c : Tracked) (m : Message) where
   abbrev pub first : Effect
-  first = effects R c (at_octet c.live m)
+  first = effects R.reading c (at_octet c.live m)
 
   abbrev pub second : Effect
-  second = effects R first.tracked (id_events first.tracked.live m)
+  second = effects R.reading first.tracked (id_events R.most first.tracked.live m)
 
   abbrev pub third : Effect
-  third = effects R second.tracked (end_events second.tracked.live m)
+  third = effects R.reading second.tracked (end_events second.tracked.live m)
 
   pub first_live : first.tracked.live ≡ c.live
-  first_live = effects_live R c (at_octet c.live m) ∙ quiet_octet c.live (now_of m) (opener_of c.live m)
+  first_live = effects_live R.reading c (at_octet c.live m) ∙ quiet_octet c.live (now_of m) (opener_of c.live m)
 
-  second_live : second.tracked.live ≡ opened c.live (id_events c.live m)
-  second_live = effects_live R first.tracked (id_events first.tracked.live m) ∙ ap (λ (live : List Open). opened live (id_events live m)) first_live
+  second_live : second.tracked.live ≡ opened c.live (id_events R.most c.live m)
+  second_live = effects_live R.reading first.tracked (id_events R.most first.tracked.live m) ∙ ap (λ (live : List Open). opened live (id_events R.most live m)) first_live
 
-  parts : (length m.payload ≡ 0 → ⊥) → happens c.live m ≡ at_octet c.live m ++ (id_events c.live m ++ end_events c.live m)
+  parts : (length m.payload ≡ 0 → ⊥) → happens R.most c.live m ≡ at_octet c.live m ++ (id_events R.most c.live m ++ end_events c.live m)
   unfolding happens id_events end_events
   parts some = rw (ne_eqb (length m.payload) 0 some) refl
 
-  pub in_parts : (length m.payload ≡ 0 → ⊥) → effects R c (happens c.live m) ≡ then_effect first (then_effect second third)
+  pub in_parts : (length m.payload ≡ 0 → ⊥) → effects R.reading c (happens R.most c.live m) ≡ then_effect first (then_effect second third)
   in_parts some =
-      let ids : id_events c.live m ≡ id_events first.tracked.live m = ap (λ (live : List Open). id_events live m) (sym first_live) in
-      let ends : end_events c.live m ≡ end_events second.tracked.live m = sym (ap (λ (live : List Open). end_events live m) second_live ∙ end_same c.live m) in
-      ap (effects R c) (parts some ∙ (ap (λ (es : List Event). at_octet c.live m ++ (es ++ end_events c.live m)) ids
-      ∙ ap (λ (es : List Event). at_octet c.live m ++ (id_events first.tracked.live m ++ es)) ends))
-      ∙ (effects_append R c (at_octet c.live m) (id_events first.tracked.live m ++ end_events second.tracked.live m)
-      ∙ rw (effects_append R first.tracked (id_events first.tracked.live m) (end_events second.tracked.live m)) refl)
+      let ids : id_events R.most c.live m ≡ id_events R.most first.tracked.live m = ap (λ (live : List Open). id_events R.most live m) (sym first_live) in
+      let ends : end_events c.live m ≡ end_events second.tracked.live m = sym (ap (λ (live : List Open). end_events live m) second_live ∙ end_same R.most c.live m) in
+      ap (effects R.reading c) (parts some ∙ (ap (λ (es : List Event). at_octet c.live m ++ (es ++ end_events c.live m)) ids
+      ∙ ap (λ (es : List Event). at_octet c.live m ++ (id_events R.most first.tracked.live m ++ es)) ends))
+      ∙ (effects_append R.reading c (at_octet c.live m) (id_events R.most first.tracked.live m ++ end_events second.tracked.live m)
+      ∙ rw (effects_append R.reading first.tracked (id_events R.most first.tracked.live m) (end_events second.tracked.live m)) refl)
 
   pub second_whose : whose first.tracked.live m ≡ whose second.tracked.live m
-  second_whose = ap (λ (live : List Open). whose live m) first_live ∙ (sym (whose_same c.live m) ∙ ap (λ (live : List Open). whose live m) (sym second_live))
+  second_whose = ap (λ (live : List Open). whose live m) first_live ∙ (sym (whose_same R.most c.live m) ∙ ap (λ (live : List Open). whose live m) (sym second_live))
 
   pub second_rising : Rising c.live → (length m.payload ≡ 4 → IsNewest m.number c.live) → Rising second.tracked.live
-  second_rising r newest = rw second_live (rising_id c.live m r newest)
+  second_rising r newest = rw second_live (rising_id R.most c.live m r newest)
 
   -- whose the octets are after the message's last one is nobody's, whatever is open
   pub third_whose : whose_after second.tracked.live m ≡ whose_after third.tracked.live m
@@ -119,7 +120,7 @@ module _ (R : Reading) (c : Tracked) (m : Message) where
       go : (b : Bool) → (length m.payload == size m.header) ≡ b
           → (if b then None else whose second.tracked.live m) ≡ (if b then None else whose third.tracked.live m)
       go true e = refl
-      go false e = ap (λ (live : List Open). whose live m) (sym (effects_live R second.tracked (end_events second.tracked.live m) ∙ rw e refl))
+      go false e = ap (λ (live : List Open). whose live m) (sym (effects_live R.reading second.tracked (end_events second.tracked.live m) ∙ rw e refl))
 
 -- ---- Whose an octet is that comes.
 
@@ -167,21 +168,21 @@ module _ (C : Table) (l : Listed) (s : Slots) (c : Tracked) (m : Message) (now :
   unfolding place
   some_place = omega (arith, h.current.place)
 
-  takes_at : first (message_reading C l) c (with_octet m x) ≡ effect_to C l now.place c (whose c.live m) (Takes x)
+  takes_at : first (rules C l s.most) c (with_octet m x) ≡ effect_to C l now.place c (whose c.live m) (Takes x)
   takes_at = rw (← whose_next c.live m x) (octet_does C l c (with_octet m x) x now.place last_is h.current.place)
 
   -- which is a run of one octet
-  pub takes_effect : first (message_reading C l) c (with_octet m x) ≡ run_effect C l (now.place - 1) c (whose c.live m) (x ∷ [])
+  pub takes_effect : first (rules C l s.most) c (with_octet m x) ≡ run_effect C l (now.place - 1) c (whose c.live m) (x ∷ [])
   unfolding run_effect
   takes_effect =
       let effect = effect_to C l now.place c (whose c.live m) (Takes x) in
       takes_at ∙ rw some_place (λ j. record { tracked = effect.tracked; lines = sym (append-nil effect.lines) j })
 
   known_is : length m.payload < 4 → has_name m.header ≡ true
-      → (first (message_reading C l) c (with_octet m x)).tracked.known m.number ≡ Some (m.payload ++ x ∷ [])
+      → (first (rules C l s.most) c (with_octet m x)).tracked.known m.number ≡ Some (m.payload ++ x ∷ [])
   known_is few name =
       let w : whose_octet c.live (with_octet m x) ≡ Some (title m) = whose_own c.live (with_octet m x) (omega (arith, length_push m.payload x)) in
-      let tracked : (first (message_reading C l) c (with_octet m x)).tracked ≡ tracked_at (message_reading C l) c (event now.place (title m) (Takes x)) =
+      let tracked : (first (rules C l s.most) c (with_octet m x)).tracked ≡ tracked_at (message_reading C l) c (event now.place (title m) (Takes x)) =
       ap (λ (p : Effect). p.tracked) (octet_does C l c (with_octet m x) x now.place last_is h.current.place)
       ∙ ap (λ (v : Option Title). (effect_to C l now.place c v (Takes x)).tracked) w in
       ap (λ (d : Tracked). d.known m.number) tracked
@@ -189,9 +190,9 @@ module _ (C : Table) (l : Listed) (s : Slots) (c : Tracked) (m : Message) (now :
       ∙ rw (h.alive name few) (named_then (message_reading C l) (in_turn C l) now.place (title m) m.payload x name few))
 
   pub taken_here : (s' : Slots) → Keeps C l s' (run_effect C l (now.place - 1) c (whose c.live m) (x ∷ [])).tracked
-      (whose c.live m) → IsTaken C l s' (first (message_reading C l) c (with_octet m x)).tracked (with_octet m x) now
+      (whose c.live m) → IsTaken C l s' (first (rules C l s.most) c (with_octet m x)).tracked (with_octet m x) now
   taken_here s' k =
-      let R = message_reading C l in
+      let R = rules C l s.most in
       let m' = with_octet m x in
       let live : (first R c m').tracked.live ≡ c.live = first_live R c m' in
       let w : whose_octet (first R c m').tracked.live m' ≡ whose c.live m = ap (λ (open' : List Open). whose_octet open' m') live ∙ whose_next c.live m x in
@@ -208,11 +209,11 @@ module _ (C : Table) (l : Listed) (s : Slots) (c : Tracked) (m : Message) (now :
   pub come_is : length (m.payload ++ x ∷ []) ≡ now.come
   come_is = omega (arith, length_push m.payload x, h.come)
 
-  pub named_at : (s' : Slots) → Keeps C l s' (second (message_reading C l) c (with_octet m x)).tracked
-      (whose (first (message_reading C l) c (with_octet m x)).tracked.live (with_octet m x))
-      → IsAt C l s' (second (message_reading C l) c (with_octet m x)).tracked (with_octet m x) now
+  pub named_at : (s' : Slots) → Keeps C l s' (second (rules C l s.most) c (with_octet m x)).tracked
+      (whose (first (rules C l s.most) c (with_octet m x)).tracked.live (with_octet m x))
+      → IsAt C l s' (second (rules C l s.most) c (with_octet m x)).tracked (with_octet m x) now
   named_at s' k =
-      let R = message_reading C l in
+      let R = rules C l s.most in
       let m' = with_octet m x in
       record {
         keeps = rw (← second_whose R c m') k;

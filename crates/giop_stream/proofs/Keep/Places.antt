@@ -7,8 +7,7 @@ use Rattle.giop_message.specs.Reading.{Reading}
 use Rattle.giop_stream.specs.Events.{Happening, Begins, Takes, Opens, Continues, Cancelled, Imposed, Closes, Title, Event, Open, octet, changed, Rising}
 use Rattle.giop_stream.specs.Lines.{line, tells, is_last_of, standing}
 use Rattle.giop_stream.specs.State.{slots_of}
-use Rattle.giop_stream.specs.Machine.{utters_kept}
-use Rattle.giop_stream.specs.Effects.{Tracked, tracked_at, lines_of, octets_then, stays, goes, IsNotOpen, slots_at}
+use Rattle.giop_stream.specs.Effects.{Tracked, tracked_at, lines_of, octets_then, stays, goes, IsNotOpen, slots_at, lines_for}
 use Rattle.giop_stream.proofs.Lists.{each_weaker, filter_keeps}
 use Rattle.giop_stream.proofs.Keep.InPlace.{own_then, others_then, slot_at, no_slot, slot_gone, slot_comes}
 
@@ -79,7 +78,7 @@ slots_left R c e h apart =
 
 -- an event that takes nothing, and says nothing that ends its message
 opens_then : (R : Reading) (e : Event) (i : ℕ) (o : Option (List ℕ)) → e.what ≡ Opens i → octets_then R e o ≡ o
-unfolding octets_then lines_of utters_kept tells standing octet
+unfolding octets_then lines_of lines_for tells standing octet
 opens_then R e i None h = refl
 opens_then R e i (Some xs) h = rw h (ap Some (append-nil xs))
 
@@ -103,7 +102,7 @@ slot_opens R c e i h apart =
     ∙ (slot_comes (tracked_at R c e).known c.known c.live o others ∙ ap (λ (xs : Option (List ℕ)). slots_at c ++ record { open_as = o; octets = xs } ∷ []) now)
 
 quiet_then : (R : Reading) (e : Event) (n : ℕ) (o : Option (List ℕ)) → e.what ≡ Continues n → octets_then R e o ≡ o
-unfolding octets_then lines_of utters_kept tells line standing octet is_last_of
+unfolding octets_then lines_of lines_for tells line standing octet is_last_of
 quiet_then R e n None h = refl
 quiet_then R e n (Some xs) h = rw h (go (e.whom.number == e.whom.number))
   where
@@ -128,7 +127,7 @@ tracked_stays R c e n h = λ j. record { live = live j; known = λ i. known i j 
         ]
 
 begins_then : (R : Reading) (e : Event) (o : Option (List ℕ)) → e.what ≡ Begins → octets_then R e o ≡ o
-unfolding octets_then lines_of utters_kept tells line standing octet is_last_of
+unfolding octets_then lines_of lines_for tells line standing octet is_last_of
 begins_then R e None h = refl
 begins_then R e (Some xs) h = rw h (go (e.whom.number == e.whom.number))
   where

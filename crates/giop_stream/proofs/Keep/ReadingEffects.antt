@@ -19,8 +19,7 @@ use Rattle.giop_stream.specs.Events.{Title, Event, Takes, Imposed, Cancelled, Cl
 use Rattle.giop_stream.specs.Lines.{Line, Said, Ended_by, Faulted, line, tells, is_last_of, standing}
 use Rattle.giop_stream.specs.Text.{imposed_word, line_text, lines_text}
 use Rattle.giop_stream.specs.Stream.{fault_count}
-use Rattle.giop_stream.specs.Machine.{utters_kept}
-use Rattle.giop_stream.specs.Effects.{lines_of, octets_then, part_of, no_part}
+use Rattle.giop_stream.specs.Effects.{lines_of, octets_then, part_of, no_part, lines_for}
 use Rattle.giop_stream.specs.Keeping.{IsKept, event}
 use Rattle.giop_stream.specs.Performs.{Says, one_if}
 
@@ -148,7 +147,7 @@ no_message (Some m) h = absurd cc
 
 module _ (R : Reading) where
   pub over_lines : (e : Event) → lines_of R e None ≡ []
-  unfolding lines_of utters_kept standing
+  unfolding lines_of lines_for standing
   over_lines e = refl
 
   pub over_then : (e : Event) → octets_then R e None ≡ None
@@ -156,7 +155,7 @@ module _ (R : Reading) where
   over_then e = rw (over_lines e) refl
 
   imposed_lines : (at : ℕ) (w : Title) (fault : ImposedFault) (xs : List ℕ) → lines_of R (event at w (Imposed fault)) (Some xs) ≡ record { place = at; number = w.number; content = Faulted fault } ∷ []
-  unfolding lines_of utters_kept tells line standing
+  unfolding lines_of lines_for tells line standing
   imposed_lines at w fault xs = refl
 
   imposed_then : (w : Title) (o : Option (List ℕ)) (at : ℕ) (fault : ImposedFault) → octets_then R (event at w (Imposed fault)) o ≡ None
@@ -165,7 +164,7 @@ module _ (R : Reading) where
   imposed_then w None at fault = over_then (event at w (Imposed fault))
 
   cancelled_lines : (at : ℕ) (w : Title) (j : ℕ) (xs : List ℕ) → lines_of R (event at w (Cancelled j)) (Some xs) ≡ record { place = at; number = w.number; content = Ended_by j } ∷ []
-  unfolding lines_of utters_kept tells line standing
+  unfolding lines_of lines_for tells line standing
   cancelled_lines at w j xs = refl
 
 module _ (C : Table) (l : Listed) where
@@ -179,11 +178,11 @@ module _ (C : Table) (l : Listed) where
   at_close header xs = (is_closing (said_by C l)).closed header xs
 
   take_lines : (at : ℕ) (w : Title) (xs : List ℕ) (x : ℕ) → lines_of R_of (event at w (Takes x)) (Some xs) ≡ said_lines at w.number (due R_of w.header xs x)
-  unfolding lines_of utters_kept tells line
+  unfolding lines_of lines_for tells line
   take_lines at w xs x = rw (one_octet at w x) (turn_stands at w.number (due R_of w.header xs x) (in_turn w.header xs x))
 
   closing_lines : (at : ℕ) (w : Title) (xs : List ℕ) → lines_of R_of (event at w Closes) (Some xs) ≡ close_lines at w.number (R_of.closes w.header xs)
-  unfolding lines_of utters_kept tells line
+  unfolding lines_of lines_for tells line
   closing_lines at w xs = close_stands at w.number (R_of.closes w.header xs) (at_close w.header xs)
 
   -- ---- An octet.

@@ -8,14 +8,14 @@ use Rattle.giop_cdr.specs.Numbers.{AreOctets}
 use Rattle.giop_print.specs.Output.{OutLog, Writes}
 use Rattle.giop_sig.specs.Table.{Table}
 use Rattle.giop_message.specs.Headers.{size}
-use Rattle.giop_message.specs.Reading.{Reading, IsCausal}
+use Rattle.giop_message.specs.Reading.{IsCausal}
 use Rattle.giop_message.specs.Signatures.{Listed, said_by}
-use Rattle.giop_message.specs.MessageReading.{message_reading}
 use Rattle.giop_message.proofs.MessageLaws.{is_causal}
 use Rattle.giop_stream.specs.declared.status.Totals.{Totals}
 use Rattle.giop_stream.specs.declared.slots.Slots.{Slots}
 use Rattle.giop_stream.specs.declared.current.Current.{Current}
 use Rattle.giop_stream.specs.Headers.{wrong, offence}
+use Rattle.giop_stream.specs.Rules.{Rules, rules}
 use Rattle.giop_stream.specs.Framing.{Message, Cut, cut, messages}
 use Rattle.giop_stream.specs.Events.{happens, open_after}
 use Rattle.giop_stream.specs.Lines.{Line, lines}
@@ -51,23 +51,27 @@ use Rattle.giop_stream.proofs.Moves.Settling.{does_by, settled_on, settled_off, 
 -- ---- A state of a stream.
 
 -- and of more of it
-pub reached_on : (C : Table) (l : Listed) (s : State) (q : List ℕ) → AreOctets q → IsReached C l s → IsReached C l (run_state (message_reading C l) s q)
-reached_on C l s q octets r =
-    let R = message_reading C l in
+pub reached_on : (C : Table) (l : Listed) (most : ℕ) (s : State) (q : List ℕ) → AreOctets q → IsReached C l most s → IsReached C l most (run_state (rules C l most) s q)
+reached_on C l most s q octets r =
+    let R = rules C l most in
     record {
       stream = r.stream ++ q;
       octets = All-append (λ x. x < 256) r.stream q r.octets octets;
       held = ap (λ (t : State). run_state R t q) r.held ∙ sym (run_holds R (is_causal (said_by C l)) (in_turn C l) r.stream q);
     }
 
-module _ (C : Table) (l : Listed) (s : State) (reached : IsReached C l s) (m : Memory) (h : Shows C l m s) where
-  abbrev R : Reading
-  R = message_reading C l
+-- where as many messages may be open
+pub reached_at : (C : Table) (l : Listed) (n most : ℕ) (s : State) → n ≡ most → IsReached C l n s → IsReached C l most s
+reached_at C l n most s same r = subst (λ (k : ℕ). IsReached C l k s) same r
+
+module _ (C : Table) (l : Listed) (most : ℕ) (s : State) (reached : IsReached C l most s) (m : Memory) (h : Shows C l m s) where
+  abbrev R : Rules
+  R = rules C l most
 
   abbrev pub p : List ℕ
   p = reached.stream
 
-  causal : IsCausal R
+  causal : IsCausal R.reading
   causal = is_causal (said_by C l)
 
   so : IsSound R p
@@ -82,7 +86,7 @@ module _ (C : Table) (l : Listed) (s : State) (reached : IsReached C l s) (m : M
       → OnOk result (Shows C l f (state_of R (p ++ x ∷ []))) → Does C l result before after f (step R s x)
   does_step x ls result before after f grows text shows =
       subst (λ (t : State). Does C l result before after f (step R t x)) (sym reached.held)
-      (does_by C l p (p ++ x ∷ []) (step R (state_of R p) x) ls result before after f
+      (does_by C l most p (p ++ x ∷ []) (step R (state_of R p) x) ls result before after f
       (step_state R causal (in_turn C l) p x) (step_lines R causal (in_turn C l) p x) grows text shows)
 
   -- and a run
@@ -91,7 +95,7 @@ module _ (C : Table) (l : Listed) (s : State) (reached : IsReached C l s) (m : M
       → OnOk result (Shows C l f (state_of R (p ++ q))) → Does C l result before after f (runs R s q)
   does_run q ls result before after f grows text shows =
       subst (λ (t : State). Does C l result before after f (runs R t q)) (sym reached.held)
-      (does_by C l p (p ++ q) (runs R (state_of R p) q) ls result before after f (run_holds R causal (in_turn C l) p q)
+      (does_by C l most p (p ++ q) (runs R (state_of R p) q) ls result before after f (run_holds R causal (in_turn C l) p q)
       (run_lines R causal (in_turn C l) p q) grows text shows)
 
   -- ---- What the fields say of the stream, where the reading goes on.
@@ -115,8 +119,8 @@ module _ (C : Table) (l : Listed) (s : State) (reached : IsReached C l s) (m : M
     fits_at : Fits (length p) (cut p)
     fits_at = so.fits runs_on
 
-    pub knows_at : Knows C l m.slots p
-    knows_at = knows_it C l p m runs_on at_p
+    pub knows_at : Knows C l most m.slots p
+    knows_at = knows_it C l most p m runs_on at_p
 
     -- a header that isn't whole is that of no message yet
     no_current : length m.header < 12 → (cut p).current ≡ None
@@ -151,17 +155,17 @@ module _ (C : Table) (l : Listed) (s : State) (reached : IsReached C l s) (m : M
   -- ---- What they show once the octet of this message is done with.
 
   abbrev pub effect_of : Message → Effect
-  effect_of n = effects R (stage R p) (happens (stage R p).live n)
+  effect_of n = effects R.reading (stage R p) (happens most (stage R p).live n)
 
   module _ (x : ℕ) (n : Message) (fits : length n.payload ≤ size n.header) (number : n.number ≡ suc (length (cut p).whole))
       (adds : Adds R p (p ++ x ∷ []) (settle (cut p).whole n) (effect_of n).lines (effect_of n).tracked) where
-    knows_then : (slots : Slots) → Keeps C l slots (effect_of n).tracked (whose_after (effect_of n).tracked.live n) → Knows C l slots (p ++ x ∷ [])
+    knows_then : (slots : Slots) → Keeps C l slots (effect_of n).tracked (whose_after (effect_of n).tracked.live n) → Knows C l most slots (p ++ x ∷ [])
     unfolding stage
     knows_then slots keeps =
         let p' = p ++ x ∷ [] in
-        let who : whose_after (stage R p').live n ≡ whose_in (open_after p') (cut p').current =
-        sym (ap (λ (d : Cut). whose_in (open_after p') d.current) adds.cut_is
-        ∙ whose_settled (open_after p') (cut p).whole n fits) in
+        let who : whose_after (stage R p').live n ≡ whose_in (open_after most p') (cut p').current =
+        sym (ap (λ (d : Cut). whose_in (open_after most p') d.current) adds.cut_is
+        ∙ whose_settled (open_after most p') (cut p).whole n fits) in
         subst (Keeps C l slots (stage R p')) who (subst (λ (d : Tracked). Keeps C l slots d (whose_after d.live n)) (sym adds.stage) keeps)
 
     settled_shows : (b f : Memory) (k : ℕ) → f ≡ settled b k → b.totals.messages ≡ n.number
@@ -178,11 +182,11 @@ module _ (C : Table) (l : Listed) (s : State) (reached : IsReached C l s) (m : M
         rw e (elim (cases_lt (length n.payload) (size n.header)) [
           | inl less ↦
               rw (settled_on b k (λ same. omega (arith, same, come, sized, less)))
-              (shows_by C l p' b (of_parts (cut p).whole (Some n) [] None)
+              (shows_by C l most p' b (of_parts (cut p).whole (Some n) [] None)
               (adds.cut_is ∙ goes_on (cut p).whole n less) refl totals stopped header come (knows_then b.slots keeps))
           | inr more ↦
               rw (settled_off b k (omega (arith, come, sized, more, fits)))
-              (shows_by C l p' (record b { header = []; come = 0 }) (of_parts ((cut p).whole ++ n ∷ []) None [] None)
+              (shows_by C l most p' (record b { header = []; come = 0 }) (of_parts ((cut p).whole ++ n ∷ []) None [] None)
               (adds.cut_is ∙ goes_off (cut p).whole n more) refl totals stopped refl refl (knows_then b.slots keeps))
         ])
 
@@ -244,12 +248,12 @@ module _ (C : Table) (l : Listed) (s : State) (reached : IsReached C l s) (m : M
 
     pub is_first : (now : Current) → now.number ≡ b.totals.messages + 1 → now.header ≡ b.header
         → now.place ≡ b.totals.octets → now.come ≡ b.come
-        → IsFirst C l b.slots (stage R p) (whose_in (open_after p) (cut p).current) first now
+        → IsFirst C l b.slots (stage R p) (whose_in (open_after most p) (cut p).current) first now
     unfolding stage
     is_first now number header at come =
         let within = fits_at ran in
         record {
-          keeps = subst (λ (z : Slots). Keeps C l z (stage R p) (whose_in (open_after p) (cut p).current)) (sym slots_was) (knows_at ran);
+          keeps = subst (λ (z : Slots). Keeps C l z (stage R p) (whose_in (open_after most p) (cut p).current)) (sym slots_was) (knows_at ran);
           rising = so.rising;
           current = record {
             number = omega (arith, number, messages_was, messages_at, count);
@@ -261,7 +265,7 @@ module _ (C : Table) (l : Listed) (s : State) (reached : IsReached C l s) (m : M
           none_come = refl;
           come = come ∙ none_come;
           newest = each_weaker (λ o. o.opener.number ≤ length (messages (cut p)))
-              (λ o. o.opener.number < suc (length (cut p).whole)) (λ o k. omega (arith, k, count)) (open_after p) so.numbers;
+              (λ o. o.opener.number < suc (length (cut p).whole)) (λ o k. omega (arith, k, count)) (open_after most p) so.numbers;
           unknown = so.unknown (suc (length (cut p).whole)) (omega (arith, count));
         }
 
@@ -318,7 +322,7 @@ module _ (C : Table) (l : Listed) (s : State) (reached : IsReached C l s) (m : M
           → now.place ≡ m.totals.octets + 1 → now.come ≡ m.come + 1 → IsNext C l m.slots (stage R p) c now x
       unfolding stage
       is_next now number header place come = record {
-        keeps = subst (λ (o : Option Message). Keeps C l m.slots (stage R p) (whose_in (open_after p) o)) cur (knows_at free);
+        keeps = subst (λ (o : Option Message). Keeps C l m.slots (stage R p) (whose_in (open_after most p) o)) cur (knows_at free);
         rising = so.rising;
         current = record {
           number = number_is ∙ sym number;
@@ -326,7 +330,7 @@ module _ (C : Table) (l : Listed) (s : State) (reached : IsReached C l s) (m : M
           place = omega (arith, place_more c x (length p) at_hand.place_is, all_read free, place);
         };
         come = omega (arith, come, come_is);
-        newest = if_some (λ m. length m.payload < 4 → IsNewest m.number (open_after p)) (cut p).current c cur (so.early (runs_on free));
+        newest = if_some (λ m. length m.payload < 4 → IsNewest m.number (open_after most p)) (cut p).current c cur (so.early (runs_on free));
         alive = λ name few. alive R causal (in_turn C l) p (runs_on free) c cur name few;
         says = λ name. says_id c.header at_hand.twelve right.1 name;
       }

@@ -5,8 +5,9 @@ use Rattle.std.specs.List.{AllByRecursion as Each}
 use Rattle.std.proofs.lemmas.List.{length_push, get_or_push}
 use Rattle.giop_message.specs.Headers.{size, has_name}
 use Rattle.giop_message.specs.Reading.{Reading, End, IsCausal, IsInTurn}
+use Rattle.giop_stream.specs.Rules.{Rules}
 use Rattle.giop_stream.specs.Framing.{Message, Cut, cut, messages}
-use Rattle.giop_stream.specs.Events.{Takes, Event, Rising, title, place, happens, events, open_after, most_open}
+use Rattle.giop_stream.specs.Events.{Takes, Event, Rising, title, place, happens, events, open_after}
 use Rattle.giop_stream.specs.State.{octets_of}
 use Rattle.giop_stream.specs.Effects.{Tracked, Effect, octets_then, effects, one_effect, starts, with_octet, stage}
 use Rattle.giop_stream.specs.Octet.{Octet, Behind, Ends, Held, Of, octet_of}
@@ -21,33 +22,33 @@ use Rattle.giop_stream.proofs.Told.Beginning.{IsAlive, alive_start, named_then, 
 use Rattle.giop_stream.proofs.Happening.Soundness.{IsSound}
 use Rattle.giop_stream.proofs.Moves.OneOctet.{Then, then_is}
 
-known_is : (R : Reading) (p : List ℕ) (i : ℕ) → (stage R p).known i ≡ octets_of R p i
+known_is : (R : Rules) (p : List ℕ) (i : ℕ) → (stage R p).known i ≡ octets_of R p i
 unfolding stage
 known_is R p i = refl
 
-module _ (R : Reading) (laws : IsInTurn R) (p : List ℕ) (x : ℕ) (sound : IsSound R p) (alive : IsAlive R p) where
+module _ (R : Rules) (laws : IsInTurn R.reading) (p : List ℕ) (x : ℕ) (sound : IsSound R p) (alive : IsAlive R p) where
   -- what is kept of the message then
   kept_now : (m : Message) → (cut p).stop ≡ None → length m.payload ≤ size m.header → length m.payload < size m.header → m.number ≡ suc (length (cut p).whole) → has_name m.header ≡ true → length m.payload < 4
-      → (((cut p).current ≡ None) × (m.payload ≡ [])) ⊎ ((was : Message) × ((cut p).current ≡ Some was) × (m ≡ with_octet was x)) → (effects R (stage R p) (happens (open_after p) m)).tracked.known m.number ≡ Some m.payload
+      → (((cut p).current ≡ None) × (m.payload ≡ [])) ⊎ ((was : Message) × ((cut p).current ≡ Some was) × (m ≡ with_octet was x)) → (effects R.reading (stage R p) (happens R.most (open_after R.most p) m)).tracked.known m.number ≡ Some m.payload
   unfolding messages
   kept_now m st fits lacks number name few (inl (cur, none)) =
       let free : length m.payload ≡ 0 = ap length none in
       let count : length (messages (cut p)) ≡ length (cut p).whole = rw cur (ap length (append-nil (cut p).whole)) in
       let known : octets_of R p m.number ≡ Some [] = sound.unknown m.number (omega (arith, count, number)) in
       let some : 0 < size m.header = omega (arith, lacks, free) in
-      let stepped : effects R (stage R p) (happens (open_after p) m) ≡ record { tracked = stage R p; lines = starts m ∷ [] } = rw (first_octet (open_after p) m free some) (header_begins R (stage R p) m [] (known_is R p m.number ∙ known) (named_accepted m.header name)) in
+      let stepped : effects R.reading (stage R p) (happens R.most (open_after R.most p) m) ≡ record { tracked = stage R p; lines = starts m ∷ [] } = rw (first_octet R.most (open_after R.most p) m free some) (header_begins R.reading (stage R p) m [] (known_is R p m.number ∙ known) (named_accepted m.header name)) in
       ap (λ (q : Effect). q.tracked.known m.number) stepped ∙ (known_is R p m.number ∙ (known ∙ ap Some (sym none)))
   kept_now m st fits lacks number name few (inr (was, cur, is)) = rw is (next was cur (rw is at name) (rw is at few) (rw is at lacks))
     where
-      next : (was : Message) → (cut p).current ≡ Some was → has_name was.header ≡ true → length (was.payload ++ x ∷ []) < 4 → length (was.payload ++ x ∷ []) < size was.header → (effects R (stage R p) (happens (open_after p) (with_octet was x))).tracked.known was.number ≡ Some (was.payload ++ x ∷ [])
+      next : (was : Message) → (cut p).current ≡ Some was → has_name was.header ≡ true → length (was.payload ++ x ∷ []) < 4 → length (was.payload ++ x ∷ []) < size was.header → (effects R.reading (stage R p) (happens R.most (open_after R.most p) (with_octet was x))).tracked.known was.number ≡ Some (was.payload ++ x ∷ [])
       next was cur name few lacks =
           let m = with_octet was x in
           let long = length_push was.payload x in
           let known : octets_of R p was.number ≡ Some was.payload = alive st was cur name (omega (arith, few, long)) in
           let last : get_or m.payload (length m.payload - 1) 0 ≡ x = get_or_push was.payload x 0 (length m.payload - 1) (omega (arith, long)) in
           let e : Event = record { place = place m; whom = title was; what = Takes x } in
-          let stepped : effects R (stage R p) (happens (open_after p) m) ≡ one_effect R (stage R p) (place m) (title was) (Takes x) = rw (early_octet (open_after p) m (omega (arith, long)) few lacks, octet_own R (stage R p) (open_after p) m (not_past m (omega (arith, few))), last) refl in
-          ap (λ (q : Effect). q.tracked.known was.number) stepped ∙ (own_then R (stage R p) e ∙ (ap (octets_then R e) (known_is R p was.number ∙ known) ∙ named_then R laws (place m) (title was) was.payload x name (omega (arith, few, long))))
+          let stepped : effects R.reading (stage R p) (happens R.most (open_after R.most p) m) ≡ one_effect R.reading (stage R p) (place m) (title was) (Takes x) = rw (early_octet R.most (open_after R.most p) m (omega (arith, long)) few lacks, octet_own R.reading (stage R p) (open_after R.most p) m (not_past m (omega (arith, few))), last) refl in
+          ap (λ (q : Effect). q.tracked.known was.number) stepped ∙ (own_then R.reading (stage R p) e ∙ (ap (octets_then R.reading e) (known_is R p was.number ∙ known) ∙ named_then R.reading laws (place m) (title was) was.payload x name (omega (arith, few, long))))
 
   pub alive_then : (o : Octet) → Then R p x o → IsAlive R (p ++ x ∷ [])
   unfolding stopped_at of_parts
@@ -63,35 +64,38 @@ module _ (R : Reading) (laws : IsInTurn R) (p : List ℕ) (x : ℕ) (sound : IsS
       let few' : length one.m.payload < 4 = omega (arith, few, ap (λ (n : Message). length n.payload) same) in
       sym (known_is R (p ++ x ∷ []) m.number)
       ∙ (ap (λ (c : Tracked). c.known m.number) adds.stage
-      ∙ (ap (λ (n : Message). (effects R (stage R p) (happens (open_after p) one.m)).tracked.known n.number) same ∙ (kept_now one.m h.0 one.fits s.lacks one.number_is name' few' one.from ∙ ap (λ (n : Message). Some n.payload) (sym same))))
+      ∙ (ap (λ (n : Message). (effects R.reading (stage R p) (happens R.most (open_after R.most p) one.m)).tracked.known n.number) same ∙ (kept_now one.m h.0 one.fits s.lacks one.number_is name' few' one.from ∙ ap (λ (n : Message). Some n.payload) (sym same))))
 
 -- ---- What is kept throughout.
 
-sound_by : (R : Reading) (p : List ℕ) (x : ℕ) (o : Octet) → Then R p x o → IsSound R (p ++ x ∷ [])
+sound_by : (R : Rules) (p : List ℕ) (x : ℕ) (o : Octet) → Then R p x o → IsSound R (p ++ x ∷ [])
 sound_by R p x Behind h = h.2.sound
 sound_by R p x (Ends fault) h = h.1.sound
 sound_by R p x (Held front) h = h.2.sound
 sound_by R p x (Of now) h = h.1.adds.sound
 
-record IsKept (R : Reading) (p : List ℕ) : Type 0 where
+record IsKept (R : Rules) (p : List ℕ) : Type 0 where
   sound : IsSound R p
   alive : IsAlive R p
 
-kept : (R : Reading) → IsCausal R → IsInTurn R → (p : List ℕ) → IsKept R p
+kept : (R : Rules) → IsCausal R.reading → IsInTurn R.reading → (p : List ℕ) → IsKept R p
 kept R causal laws = by_growth (IsKept R) (record { sound = sound_start R; alive = alive_start R }) (λ p x h.
     let octet = then_is R causal laws p x h.sound in
     record { sound = sound_by R p x (octet_of (cut p) (length p) x) octet; alive = alive_then R laws p x h.sound h.alive (octet_of (cut p) (length p) x) octet })
 
-pub sound : (R : Reading) → IsCausal R → IsInTurn R → (p : List ℕ) → IsSound R p
+pub sound : (R : Rules) → IsCausal R.reading → IsInTurn R.reading → (p : List ℕ) → IsSound R p
 sound R causal laws p = (kept R causal laws p).sound
 
-pub alive : (R : Reading) → IsCausal R → IsInTurn R → (p : List ℕ) → IsAlive R p
+pub alive : (R : Rules) → IsCausal R.reading → IsInTurn R.reading → (p : List ℕ) → IsAlive R p
 alive R causal laws p = (kept R causal laws p).alive
 
 -- ---- What depends on no reading.
 
 mute : Reading
 mute = record { reads = λ header xs. []; closes = λ header xs. (End, []) ∷ [] }
+
+abbrev mute_rules : ℕ → Rules
+mute_rules most = record { reading = mute; most = most }
 
 mute_causal : IsCausal mute
 unfolding mute
@@ -105,12 +109,12 @@ mute_in_turn = record {
   closing = record { closed = λ header xs. inr (inl refl); over = λ header xs x no. absurd cc; one_rest = λ header xs x no. absurd cc };
 }
 
-pub few_open : (p : List ℕ) → length (open_after p) ≤ most_open
+pub few_open : (most : ℕ) (p : List ℕ) → length (open_after most p) ≤ most
 unfolding IsFew
-few_open p = (sound mute mute_causal mute_in_turn p).live.few
+few_open most p = (sound (mute_rules most) mute_causal mute_in_turn p).live.few
 
-pub rising_open : (p : List ℕ) → Rising (open_after p)
-rising_open p = (sound mute mute_causal mute_in_turn p).rising
+pub rising_open : (most : ℕ) (p : List ℕ) → Rising (open_after most p)
+rising_open most p = (sound (mute_rules most) mute_causal mute_in_turn p).rising
 
-pub early_events : (p : List ℕ) → Each (λ e. e.place ≤ length p) (events p)
-early_events p = (sound mute mute_causal mute_in_turn p).places
+pub early_events : (most : ℕ) (p : List ℕ) → Each (λ e. e.place ≤ length p) (events most p)
+early_events most p = (sound (mute_rules most) mute_causal mute_in_turn p).places

@@ -8,6 +8,7 @@ use Rattle.std.proofs.lemmas.List.{length_push}
 use Rattle.giop_message.specs.Headers.{size, has_name, is_fragment}
 use Rattle.giop_message.specs.Reading.{Reading, IsCausal, IsInTurn}
 use Rattle.giop_stream.specs.declared.status.Totals.{Totals}
+use Rattle.giop_stream.specs.Rules.{Rules}
 use Rattle.giop_stream.specs.Framing.{Message, Cut, cut, messages, read_of}
 use Rattle.giop_stream.specs.Events.{Happening, Event, Open, id, place, opener_of, has_named, goes_past, happens, opened, open_after, Now, now_of}
 use Rattle.giop_stream.specs.Lines.{Line, lines}
@@ -63,24 +64,24 @@ owner_agree f g live live' now o q l h k = rw l (go (is_named now) refl)
     go true e = ap (option_map (λ (o : Open). o.opener.number)) (k e)
     go false e = ap (λ (xs : Option (List ℕ)). if is_open live' now.whom.number || is_some xs then Some now.whom.number else None) (h e)
 
-module _ (R : Reading) (p : List ℕ) (m : Message) (fits : length m.payload ≤ size m.header) (shows : Shows R p m) where
+module _ (R : Rules) (p : List ℕ) (m : Message) (fits : length m.payload ≤ size m.header) (shows : Shows R p m) where
   s : State
   s = state_of R p
 
   now : Now
   now = now_of m
 
-  live_same : live_of s ≡ open_after p
-  live_same = unfold live_of s state_of in opens_back (octets_of R p) (open_after p)
+  live_same : live_of s ≡ open_after R.most p
+  live_same = unfold live_of s state_of in opens_back (octets_of R p) (open_after R.most p)
 
-  same_name : length m.payload ≡ 4 → has_name m.header ≡ true → other_of s now ≡ opener_of (open_after p) m
+  same_name : length m.payload ≡ 4 → has_name m.header ≡ true → other_of s now ≡ opener_of (open_after R.most p) m
   unfolding s now other_of opener_of
   same_name four name = rw (eq-eqb (length m.payload) 4 four, live_same, shows.name_is four name) refl
 
-  events_same : events_at s now ≡ happens (open_after p) m
+  events_same : events_at R.most s now ≡ happens R.most (open_after R.most p) m
   unfolding s now events_at happens
   events_same =
-      rw live_same (acts_agree (open_after p) (now_of m) (id_of s now) (id m) (other_of s now) (opener_of (open_after p) m)
+      rw live_same (acts_agree R.most (open_after R.most p) (now_of m) (id_of s now) (id m) (other_of s now) (opener_of (open_after R.most p) m)
       (λ four name. (shows.name_is four name, same_name four name)) shows.past_is)
 
   Same : ℕ → Type 0
@@ -88,53 +89,53 @@ module _ (R : Reading) (p : List ℕ) (m : Message) (fits : length m.payload ≤
 
   mine : goes_past m ≡ false → Same m.number
   unfolding Same s now tracked_of state_of
-  mine past = kept_own (octets_of R p) (open_after p) m.number (own_octets (state_of R p) (now_of m)) (shows.own_is past)
+  mine past = kept_own (octets_of R p) (open_after R.most p) m.number (own_octets (state_of R p) (now_of m)) (shows.own_is past)
 
-  theirs : Each (λ o. Same o.opener.number) (open_after p)
+  theirs : Each (λ o. Same o.opener.number) (open_after R.most p)
   unfolding Same s now tracked_of state_of
-  theirs = kept_all (octets_of R p) (open_after p) m.number (own_octets (state_of R p) (now_of m))
+  theirs = kept_all (octets_of R p) (open_after R.most p) m.number (own_octets (state_of R p) (now_of m))
 
-  each_same : Each (λ e. Same e.whom.number) (happens (open_after p) m)
+  each_same : Each (λ e. Same e.whom.number) (happens R.most (open_after R.most p) m)
   each_same =
-      happens_agree (λ e. Same e.whom.number) (open_after p) m fits (λ past what. mine past)
+      happens_agree R.most (λ e. Same e.whom.number) (open_after R.most p) m fits (λ past what. mine past)
       (each_weaker (λ o. Same o.opener.number) (λ o. (what : Happening) → Same o.opener.number) (λ o k what. k)
-      (open_after p) theirs)
+      (open_after R.most p) theirs)
 
-  agree : AgreeOn Same (effects R (tracked_of s now) (events_at s now)) (effects R (stage R p) (happens (open_after p) m))
+  agree : AgreeOn Same (effects R.reading (tracked_of s now) (events_at R.most s now)) (effects R.reading (stage R p) (happens R.most (open_after R.most p) m))
   unfolding Same tracked_of stage
   agree =
-      rw events_same (effects_agree R Same (tracked_of s now) (stage R p) (happens (open_after p) m) live_same (λ i h. h) each_same)
+      rw events_same (effects_agree R.reading Same (tracked_of s now) (stage R p) (happens R.most (open_after R.most p) m) live_same (λ i h. h) each_same)
 
-  slots_same : (let a = effects R (stage R p) (happens (open_after p) m) in let b = effects R (tracked_of s now)
-      (events_at s now) in slots_of a.tracked.known a.tracked.live ≡ slots_of b.tracked.known b.tracked.live)
+  slots_same : (let a = effects R.reading (stage R p) (happens R.most (open_after R.most p) m) in let b = effects R.reading (tracked_of s now)
+      (events_at R.most s now) in slots_of a.tracked.known a.tracked.live ≡ slots_of b.tracked.known b.tracked.live)
   unfolding stage open_after
   slots_same =
-      let a = effects R (stage R p) (happens (open_after p) m) in
-      let b = effects R (tracked_of s now) (events_at s now) in
+      let a = effects R.reading (stage R p) (happens R.most (open_after R.most p) m) in
+      let b = effects R.reading (tracked_of s now) (events_at R.most s now) in
       let same : Each (λ o. Same o.opener.number) a.tracked.live =
-      subst (Each (λ o. Same o.opener.number)) (sym (effects_live R (stage R p) (happens (open_after p) m))) (then_same) in
+      subst (Each (λ o. Same o.opener.number)) (sym (effects_live R.reading (stage R p) (happens R.most (open_after R.most p) m))) (then_same) in
       slots_agree a.tracked.known b.tracked.known a.tracked.live
       (each_weaker (λ o. Same o.opener.number) (λ o. a.tracked.known o.opener.number ≡ b.tracked.known o.opener.number)
       (λ o k. sym (agree.known o.opener.number k)) a.tracked.live same)
       ∙ ap (slots_of b.tracked.known) (sym agree.live)
     where
-      then_same : Each (λ o. Same o.opener.number) (opened (open_after p) (happens (open_after p) m))
-      then_same = opened_each (λ whom. Same whom.number) (open_after p) (happens (open_after p) m) theirs each_same
+      then_same : Each (λ o. Same o.opener.number) (opened (open_after R.most p) (happens R.most (open_after R.most p) m))
+      then_same = opened_each (λ whom. Same whom.number) (open_after R.most p) (happens R.most (open_after R.most p) m) theirs each_same
 
-  named_same : is_named now ≡ true → length m.payload < size m.header → opener_of (effects R (stage R p) (happens (open_after p) m)).tracked.live m ≡ other_of s now
+  named_same : is_named now ≡ true → length m.payload < size m.header → opener_of (effects R.reading (stage R p) (happens R.most (open_after R.most p) m)).tracked.live m ≡ other_of s now
   unfolding now stage s
   named_same named less =
       let both = and_parts (is_fragment m.header) (nat_le 4 (length m.payload)) named in
       let four : 4 ≤ length m.payload = leb-true 4 (length m.payload) both.1 in
-      let quiet : (effects R (stage R p) (happens (open_after p) m)).tracked.live ≡ open_after p =
-      effects_live R (stage R p) (happens (open_after p) m) ∙ quiet_one (open_after p) m less (inr both.0) in
+      let quiet : (effects R.reading (stage R p) (happens R.most (open_after R.most p) m)).tracked.live ≡ open_after R.most p =
+      effects_live R.reading (stage R p) (happens R.most (open_after R.most p) m) ∙ quiet_one R.most (open_after R.most p) m less (inr both.0) in
       ap (λ (live : List Open). opener_of live m) quiet ∙ sym (elim (cases_eq (length m.payload) 4) [
         | inl e ↦ same_name e (fragment_named m.header both.0)
         | inr e ↦ shows.past_is (omega (arith, four, e)) both.0
       ])
 
-  unnamed_same : is_named now ≡ false → (effects R (stage R p) (happens (open_after p) m)).tracked.known m.number
-      ≡ (effects R (tracked_of s now) (events_at s now)).tracked.known m.number
+  unnamed_same : is_named now ≡ false → (effects R.reading (stage R p) (happens R.most (open_after R.most p) m)).tracked.known m.number
+      ≡ (effects R.reading (tracked_of s now) (events_at R.most s now)).tracked.known m.number
   unfolding now
   unnamed_same named = sym (agree.known m.number (mine (not_past m (unfold has_named in named))))
 
@@ -142,18 +143,18 @@ module _ (R : Reading) (p : List ℕ) (m : Message) (fits : length m.payload ≤
       → t ≡ record {
         messages = m.number;
         faults = s.totals.faults + fault_count
-            (effects R (tracked_of s now) (events_at s now)).lines;
+            (effects R.reading (tracked_of s now) (events_at R.most s now)).lines;
         octets = place m;
       }
-      → shape t (settle whole m) (effects R (stage R p) (happens (open_after p) m)).tracked ≡ (stepped s now (effects R (tracked_of s now) (events_at s now))).state
+      → shape t (settle whole m) (effects R.reading (stage R p) (happens R.most (open_after R.most p) m)).tracked ≡ (stepped s now (effects R.reading (tracked_of s now) (events_at R.most s now))).state
   unfolding settle shape stepped now
   stepped_is whole t number et = go (nat_lt (length m.payload) (size m.header)) refl
     where
       a : Effect
-      a = effects R (stage R p) (happens (open_after p) m)
+      a = effects R.reading (stage R p) (happens R.most (open_after R.most p) m)
 
       b : Effect
-      b = effects R (tracked_of s now) (events_at s now)
+      b = effects R.reading (tracked_of s now) (events_at R.most s now)
 
       go : (c : Bool) → nat_lt (length m.payload) (size m.header) ≡ c
           → shape t (if c then record {
@@ -199,7 +200,7 @@ read_settled p whole m = rw (settle_stop whole m) refl
 totals : ℕ → ℕ → ℕ → Totals
 totals a b n = record { messages = a; faults = b; octets = n }
 
-counts_by : (R : Reading) (p : List ℕ) (m : Message) (ls : List Line)
+counts_by : (R : Rules) (p : List ℕ) (m : Message) (ls : List Line)
     → totals m.number (fault_count (lines R p) + fault_count ls) (place m) ≡ totals m.number
     ((state_of R p).totals.faults + fault_count ls) (place m)
 unfolding state_of tally
@@ -209,10 +210,10 @@ counted : (whole : List Message) (m : Message) → m.number ≡ suc (length whol
 counted whole m number = ap length (settled_messages whole m) ∙ (omega (arith, length_push whole m) ∙ sym number)
 
 -- the totals once the octet of m is done with
-pub tally_settled : (R : Reading) (p : List ℕ) (x : ℕ) (m : Message) → m.number ≡ suc (length (cut p).whole)
-    → (let effect = effects R (stage R p) (happens (open_after p) m) in Adds R p (p ++ x ∷ [])
+pub tally_settled : (R : Rules) (p : List ℕ) (x : ℕ) (m : Message) → m.number ≡ suc (length (cut p).whole)
+    → (let effect = effects R.reading (stage R p) (happens R.most (open_after R.most p) m) in Adds R p (p ++ x ∷ [])
     (settle (cut p).whole m) effect.lines effect.tracked)
-    → (let effect = effects R (stage R p) (happens (open_after p) m) in tally R (p ++ x ∷ [])
+    → (let effect = effects R.reading (stage R p) (happens R.most (open_after R.most p) m) in tally R (p ++ x ∷ [])
     ≡ record { messages = m.number; faults = fault_count (lines R p) + fault_count effect.lines; octets = suc (length p) })
 tally_settled R p x m number adds =
     let p' = p ++ x ∷ [] in
@@ -221,27 +222,27 @@ tally_settled R p x m number adds =
     (adds.sound.starts ∙ (ap (λ (c : Cut). length (messages c)) adds.cut_is ∙ counted whole m number))
     (ap fault_count adds.lines ∙ count_append (lines R p) _) (read_settled p' whole m ∙ omega (arith, length_push p x))
 
-module _ (R : Reading) (causal : IsCausal R) (laws : IsInTurn R) (p : List ℕ) (x : ℕ) (sound : IsSound R p) (alive : IsAlive R p) where
+module _ (R : Rules) (causal : IsCausal R.reading) (laws : IsInTurn R.reading) (p : List ℕ) (x : ℕ) (sound : IsSound R p) (alive : IsAlive R p) where
   of_steps : (now : Now) → (cut p).stop ≡ None → IsOf R p x now
       → Steps R p (p ++ x ∷ []) (stepped (state_of R p) now
-      (effects R (tracked_of (state_of R p) now) (events_at (state_of R p) now)))
+      (effects R.reading (tracked_of (state_of R p) now) (events_at R.most (state_of R p) now)))
   unfolding s now totals stepped
   of_steps now st h =
       subst (λ (n : Now). Steps R p (p ++ x ∷ [])
-      (stepped (state_of R p) n (effects R (tracked_of (state_of R p) n) (events_at (state_of R p) n)))) h.is_now
+      (stepped (state_of R p) n (effects R.reading (tracked_of (state_of R p) n) (events_at R.most (state_of R p) n)))) h.is_now
       (go (shows R p x sound alive h.m st h.number_is h.from))
     where
       go : Shows R p h.m → Steps R p (p ++ x ∷ [])
-          (stepped (state_of R p) (now_of h.m) (effects R (tracked_of (state_of R p) (now_of h.m))
-          (events_at (state_of R p) (now_of h.m))))
+          (stepped (state_of R p) (now_of h.m) (effects R.reading (tracked_of (state_of R p) (now_of h.m))
+          (events_at R.most (state_of R p) (now_of h.m))))
       go shown =
           let m = h.m in
           let p' = p ++ x ∷ [] in
           let whole = (cut p).whole in
           let s = state_of R p in
-          let effect = effects R (tracked_of s (now_of m)) (events_at s (now_of m)) in
+          let effect = effects R.reading (tracked_of s (now_of m)) (events_at R.most s (now_of m)) in
           let same = agree R p m h.fits shown in
-          let faults : fault_count (lines R p) + fault_count (effects R (stage R p) (happens (open_after p) m)).lines
+          let faults : fault_count (lines R p) + fault_count (effects R.reading (stage R p) (happens R.most (open_after R.most p) m)).lines
           ≡ fault_count (lines R p) + fault_count effect.lines =
           ap (λ (l : List Line). fault_count (lines R p) + fault_count l) (sym same.lines) in
           let t = tally_settled R p x m h.number_is h.adds ∙ (λ j. totals m.number (faults j) (sym h.place_is j)) in

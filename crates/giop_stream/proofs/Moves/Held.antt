@@ -6,13 +6,12 @@ use Rattle.std.proofs.lemmas.Bool.{lt-ltb, le-ltb, lt-leb, le-leb, eq-eqb, false
 use Rattle.giop_sig.specs.Table.{Table}
 use Rattle.giop_message.specs.declared.message.Message.{Message as Kept_message}
 use Rattle.giop_message.specs.Headers.{size, is_fragment}
-use Rattle.giop_message.specs.Reading.{Reading}
 use Rattle.giop_message.specs.Signatures.{Listed, said_by}
-use Rattle.giop_message.specs.MessageReading.{message_reading}
 use Rattle.giop_message.proofs.MessageLaws.{is_causal}
 use Rattle.giop_checkpoint.specs.declared.fault.StreamFault.{StreamFault}
 use Rattle.giop_stream.specs.declared.slots.Payload.{Payload}
 use Rattle.giop_stream.specs.declared.slots.Payload.TheVariants as payload
+use Rattle.giop_stream.specs.Rules.{Rules, rules}
 use Rattle.giop_stream.specs.Framing.{Message, Cut, cut, fault_of}
 use Rattle.giop_stream.specs.Events.{Title, Open, Rising, title, id, opener_of, has_named, Now, now_of}
 use Rattle.giop_stream.specs.Stream.{tally}
@@ -63,7 +62,7 @@ itself_by (Some found) st current held come e h short = absurd cc
 itself_by None st None held come e h short = rw (lt-leb 12 (length held) short) refl
 itself_by None st (Some m) held come e h short = rw (e, le-leb 12 (length m.header) (omega (arith, h.0))) refl
 
-module _ (R : Reading) (p : List ℕ) (so : IsSound R p) where
+module _ (R : Rules) (p : List ℕ) (so : IsSound R p) where
   pub come_state : come_in (state_of R p) ≡ unless (cut p).stop 0 (come_of (cut p).current)
   unfolding come_in state_of
   come_state =
@@ -251,9 +250,9 @@ module _ (C : Table) (l : Listed) (s : State) (c : Tracked) (own : Option Kept_m
 
 -- ---- Of a stream.
 
-module _ (C : Table) (l : Listed) (p : List ℕ) where
-  abbrev R : Reading
-  R = message_reading C l
+module _ (C : Table) (l : Listed) (most : ℕ) (p : List ℕ) where
+  abbrev R : Rules
+  R = rules C l most
 
   so : IsSound R p
   so = sound R (is_causal (said_by C l)) (in_turn C l) p
@@ -264,7 +263,7 @@ module _ (C : Table) (l : Listed) (p : List ℕ) where
 
   -- by the stream's cut, where the reading goes on
   pub shows_by : (m : Memory) (c : Cut) → cut p ≡ c → c.stop ≡ None → m.totals ≡ tally R p → m.stopped ≡ None
-      → m.header ≡ header_of c.current c.held → m.come ≡ come_of c.current → Knows C l m.slots p → Shows C l m (state_of R p)
+      → m.header ≡ header_of c.current c.held → m.come ≡ come_of c.current → Knows C l most m.slots p → Shows C l m (state_of R p)
   unfolding state_of stage
   shows_by m c e st totals stopped header come knows =
       let goes_on : (cut p).stop ≡ None = ap (λ (d : Cut). d.stop) e ∙ st in
@@ -282,7 +281,7 @@ module _ (C : Table) (l : Listed) (p : List ℕ) where
       }
 
   -- and what the slots keep then
-  pub knows_it : (m : Memory) → (cut p).stop ≡ None → Shows C l m (state_of R p) → Knows C l m.slots p
+  pub knows_it : (m : Memory) → (cut p).stop ≡ None → Shows C l m (state_of R p) → Knows C l most m.slots p
   unfolding state_of stage
   knows_it m st h = record {
     slots = h.slots;

@@ -5,15 +5,14 @@ use Rattle.std.proofs.lemmas.Bool.{cases_eq, lt-ltb, le-ltb, lt-leb, ne_eqb, fal
 use Rattle.std.proofs.lemmas.List.{length_push}
 use Rattle.giop_sig.specs.Table.{Table}
 use Rattle.giop_message.specs.Headers.{size}
-use Rattle.giop_message.specs.Reading.{Reading}
 use Rattle.giop_message.specs.Signatures.{Listed}
-use Rattle.giop_message.specs.MessageReading.{message_reading}
 use Rattle.giop_checkpoint.specs.declared.fault.StreamFault.{StreamFault}
 use Rattle.giop_checkpoint.specs.declared.fault.StreamFault.TheVariants.{StreamLimit}
 use Rattle.giop_stream.specs.declared.status.Totals.{Totals}
 use Rattle.giop_stream.specs.declared.slots.Payload.{Payload}
 use Rattle.giop_stream.specs.declared.slots.Payload.TheVariants as payload
 use Rattle.giop_stream.specs.Headers.{wrong}
+use Rattle.giop_stream.specs.Rules.{Rules, rules}
 use Rattle.giop_stream.specs.Framing.{limit}
 use Rattle.giop_stream.specs.Lines.{stop_line}
 use Rattle.giop_stream.specs.Text.{stop_text, lines_text}
@@ -83,9 +82,9 @@ nothing_shown C l m totals stopped header come bare =
       turn = λ free. rw bare.nobody refl;
     }
 
-module _ (C : Table) (l : Listed) (m : Memory) (s : State) (h : Shows C l m s) where
-  abbrev R : Reading
-  R = message_reading C l
+module _ (C : Table) (l : Listed) (most : ℕ) (m : Memory) (s : State) (h : Shows C l m s) where
+  abbrev R : Rules
+  R = rules C l most
 
   octets_are : m.totals.octets ≡ s.totals.octets
   octets_are = ap (λ (t : Totals). t.octets) h.totals

@@ -5,9 +5,9 @@ use Rattle.std.proofs.lemmas.Bool.{lt-ltb, ne_eqb, le-leb}
 use Rattle.std.proofs.lemmas.List.{append-nil, length_push, get_or_push, take_all, take-append-le}
 use Rattle.giop_cdr.specs.Numbers.{num}
 use Rattle.giop_message.specs.Headers.{order, size, has_name, is_opener, is_fragment, is_cancel}
-use Rattle.giop_message.specs.Reading.{Reading}
 use Rattle.giop_checkpoint.specs.declared.fault.StreamFault.{StreamFault}
 use Rattle.giop_stream.specs.declared.status.Totals.{Totals}
+use Rattle.giop_stream.specs.Rules.{Rules}
 use Rattle.giop_stream.specs.Framing.{Message, Cut, cut, messages, read_of, fault_of}
 use Rattle.giop_stream.specs.Events.{Open, id, opener_of, has_named, goes_past, open_after, Now, now_of}
 use Rattle.giop_stream.specs.Lines.{stop_line, lines}
@@ -44,11 +44,11 @@ shape t c tracked = record {
   owner = owner_in tracked.known tracked.live c.current;
 }
 
-pub state_is : (R : Reading) (p : List ℕ) (t : Totals) (c : Cut) (tracked : Tracked) → tally R p ≡ t → cut p ≡ c → stage R p ≡ tracked → state_of R p ≡ shape t c tracked
+pub state_is : (R : Rules) (p : List ℕ) (t : Totals) (c : Cut) (tracked : Tracked) → tally R p ≡ t → cut p ≡ c → stage R p ≡ tracked → state_of R p ≡ shape t c tracked
 unfolding state_of shape stage
 state_is R p t c tracked et ec es = λ j. shape (et j) (ec j) (es j)
 
-pub tally_by : (R : Reading) (p : List ℕ) (c : Cut) (a b n : ℕ) → cut p ≡ c → start_count (lines R p) ≡ a
+pub tally_by : (R : Rules) (p : List ℕ) (c : Cut) (a b n : ℕ) → cut p ≡ c → start_count (lines R p) ≡ a
     → fault_count (lines R p) ≡ b → read_of p c.stop ≡ n → tally R p ≡ record { messages = a; faults = b; octets = n }
 unfolding tally
 tally_by R p c a b n ec e f o = λ j. record { messages = e j; faults = f j; octets = (ap (λ (c : Cut). read_of p c.stop) ec ∙ o) j }
@@ -90,7 +90,7 @@ weaker : (P Q : Message → Type 0) → ((m : Message) → P m → Q m) → (o :
 weaker P Q h None k = tt
 weaker P Q h (Some m) k = h m k
 
-pub octet_is : (R : Reading) (p : List ℕ) (x : ℕ) → IsSound R p → octet_at (state_of R p) x ≡ octet_of (cut p) (length p) x
+pub octet_is : (R : Rules) (p : List ℕ) (x : ℕ) → IsSound R p → octet_at (state_of R p) x ≡ octet_of (cut p) (length p) x
 unfolding octet_at octet_of state_of tally
 octet_is R p x sound =
     seen (cut p).stop (cut p).current (cut p).held (start_count (lines R p)) (length (messages (cut p)))
@@ -100,11 +100,11 @@ octet_is R p x sound =
 
 -- ---- The steps of no message.
 
-pub record Steps (R : Reading) (p p' : List ℕ) (one : Step) : Type 0 where
+pub record Steps (R : Rules) (p p' : List ℕ) (one : Step) : Type 0 where
   pub state : state_of R p' ≡ one.state
   pub lines : lines R p' ≡ lines R p ++ one.lines
 
-module _ (R : Reading) (p : List ℕ) (x : ℕ) where
+module _ (R : Rules) (p : List ℕ) (x : ℕ) where
   pub behind_steps : (found : ℕ × StreamFault) → (cut p).stop ≡ Some found → Adds R p (p ++ x ∷ []) (cut p) [] (stage R p)
       → Steps R p (p ++ x ∷ []) (record { state = state_of R p; lines = [] })
   behind_steps found st adds =
@@ -168,12 +168,12 @@ below_open n [] h = refl
 below_open n (o ∷ live) h = let less = h.0 in rw (ne_eqb o.opener.number n (λ e. omega (arith, less, e))) (below_open n live h.1)
 
 -- what the state shows of the message m, at its octet
-pub record Shows (R : Reading) (p : List ℕ) (m : Message) : Type 0 where
-  pub own_is : goes_past m ≡ false → is_open (open_after p) m.number ≡ false → own_octets (state_of R p) (now_of m) ≡ octets_of R p m.number
+pub record Shows (R : Rules) (p : List ℕ) (m : Message) : Type 0 where
+  pub own_is : goes_past m ≡ false → is_open (open_after R.most p) m.number ≡ false → own_octets (state_of R p) (now_of m) ≡ octets_of R p m.number
   pub name_is : length m.payload ≡ 4 → has_name m.header ≡ true → id_of (state_of R p) (now_of m) ≡ id m
-  pub past_is : 4 < length m.payload → is_fragment m.header ≡ true → other_of (state_of R p) (now_of m) ≡ opener_of (open_after p) m
+  pub past_is : 4 < length m.payload → is_fragment m.header ≡ true → other_of (state_of R p) (now_of m) ≡ opener_of (open_after R.most p) m
 
-module _ (R : Reading) (p : List ℕ) (x : ℕ) (sound : IsSound R p) (alive : IsAlive R p) where
+module _ (R : Rules) (p : List ℕ) (x : ℕ) (sound : IsSound R p) (alive : IsAlive R p) where
   shows_first : (m : Message) → m.payload ≡ [] → m.number ≡ suc (length (messages (cut p))) → Shows R p m
   shows_first m none number = record {
     own_is = λ past free. rw none (sym (sound.unknown m.number (omega (arith, number))));
@@ -181,12 +181,12 @@ module _ (R : Reading) (p : List ℕ) (x : ℕ) (sound : IsSound R p) (alive : I
     past_is = λ past. absurd (let no : 4 < 0 = rw none at past in omega (arith, no));
   }
 
-  live_is : live_of (state_of R p) ≡ open_after p
+  live_is : live_of (state_of R p) ≡ open_after R.most p
   unfolding live_of state_of
-  live_is = opens_back (octets_of R p) (open_after p)
+  live_is = opens_back (octets_of R p) (open_after R.most p)
 
   own_held : (was : Message) → (cut p).current ≡ Some was → goes_past (with_octet was x) ≡ false
-      → is_open (open_after p) was.number ≡ false
+      → is_open (open_after R.most p) was.number ≡ false
       → own_octets (state_of R p) (now_of (with_octet was x)) ≡ octets_of R p was.number
   unfolding state_of own_for has_named
   own_held was cur past free =
@@ -206,15 +206,15 @@ module _ (R : Reading) (p : List ℕ) (x : ℕ) (sound : IsSound R p) (alive : I
       let m = with_octet was x in
       let long = length_push was.payload x in
       let few : length was.payload < 4 = omega (arith, long, four) in
-      let low = if_some (λ m. length m.payload < 4 → Below m.number (open_after p)) (cut p).current was cur (sound.early st) few in
+      let low = if_some (λ m. length m.payload < 4 → Below m.number (open_after R.most p)) (cut p).current was cur (sound.early st) few in
       let past : goes_past m ≡ false = past_not m (omega (arith, four)) in
       let kept_is : own_octets (state_of R p) (now_of m) ≡ Some was.payload =
-      own_held was cur past (below_open was.number (open_after p) low) ∙ alive st was cur name few in
+      own_held was cur past (below_open was.number (open_after R.most p) low) ∙ alive st was cur name few in
       let last : get_or (was.payload ++ x ∷ []) (length (was.payload ++ x ∷ []) - 1) 0 ≡ x = get_or_push was.payload x 0 _ (omega (arith, long)) in
       ap (id_by (now_of m)) kept_is ∙ rw (last, take_all 4 (was.payload ++ x ∷ []) (omega (arith, four))) refl
 
   past_held : (was : Message) → (cut p).current ≡ Some was → 4 < length (was.payload ++ x ∷ [])
-      → is_fragment was.header ≡ true → other_of (state_of R p) (now_of (with_octet was x)) ≡ opener_of (open_after p)
+      → is_fragment was.header ≡ true → other_of (state_of R p) (now_of (with_octet was x)) ≡ opener_of (open_after R.most p)
       (with_octet was x)
   unfolding other_of state_of owner_for opener_of id
   past_held was cur long f =
@@ -228,7 +228,7 @@ module _ (R : Reading) (p : List ℕ) (x : ℕ) (sound : IsSound R p) (alive : I
             (length was.payload) more,
         take-append-le 4 was.payload (x ∷ []) more,
       )
-      (found_again (λ o. o.id == num (order was.header) (take 4 was.payload)) (open_after p) sound.rising)
+      (found_again (λ o. o.id == num (order was.header) (take 4 was.payload)) (open_after R.most p) sound.rising)
 
   shows_next : (was : Message) → (cut p).stop ≡ None → (cut p).current ≡ Some was → Shows R p (with_octet was x)
   shows_next was st cur = record { own_is = own_held was cur; name_is = name_held was st cur; past_is = past_held was cur }

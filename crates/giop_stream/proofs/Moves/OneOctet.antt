@@ -11,19 +11,20 @@ use Rattle.giop_message.specs.Reading.{Reading, IsCausal, IsInTurn}
 use Rattle.giop_checkpoint.specs.declared.fault.StreamFault.{StreamFault}
 use Rattle.giop_checkpoint.specs.declared.fault.StreamFault.TheVariants.{StreamLimit}
 use Rattle.giop_stream.specs.Headers.{wrong}
+use Rattle.giop_stream.specs.Rules.{Rules}
 use Rattle.giop_stream.specs.Framing.{Message, Cut, limit, cut, messages, fault_of}
 use Rattle.giop_stream.specs.Events.{Happening, Event, Open, place, happens, events_from, events, open_after, joined, Now, now_of}
 use Rattle.giop_stream.specs.Lines.{Line, said, stop_line, lines}
 use Rattle.giop_stream.specs.Stream.{start_count}
 use Rattle.giop_stream.specs.State.{Kept, octets_of}
-use Rattle.giop_stream.specs.Machine.{utters, now_written}
+use Rattle.giop_stream.proofs.Told.Together.{all_lines, sorted_lines}
 use Rattle.giop_stream.specs.Effects.{Tracked, effects, IsBegun, with_octet, stage}
 use Rattle.giop_stream.specs.Octet.{Octet, Behind, Ends, Held, Of, front_is, octet_in, octet_of, header_of, come_of}
 use Rattle.giop_stream.proofs.Lists.{all_by, each_weaker}
 use Rattle.giop_stream.proofs.Cuts.Cutting.{next, stopped_at, of_parts, parts_by, cut_grows, settle_stop, settled_messages, next_limit, next_payload, next_front, next_stopped}
 use Rattle.giop_stream.proofs.Cuts.CutFrom.{settle, header_case}
 use Rattle.giop_stream.proofs.Happening.Happenings.{happens_each}
-use Rattle.giop_stream.proofs.Told.Telling.{standing_each, utters_places}
+use Rattle.giop_stream.proofs.Told.Telling.{standing_each, all_lines_places}
 use Rattle.giop_stream.proofs.Happening.HappeningsKeep.{Below}
 use Rattle.giop_stream.proofs.Told.Ordering.{Ordered, Rises, Fine, ordered_stays, are_effects}
 use Rattle.giop_stream.proofs.Told.Turns.{happens_fine, not_past}
@@ -34,7 +35,7 @@ use Rattle.giop_stream.proofs.Happening.Soundness.{Fits, IsSound, dealt_sound, e
 use Rattle.giop_stream.proofs.Happening.StepCases.{quiet_sound, stop_starts, none_known, not_twelve, place_more, place_first, events_of_cut}
 use Rattle.giop_stream.proofs.Happening.StepCases.{octets_are}
 
-pub record Adds (R : Reading) (p p' : List ℕ) (c : Cut) (ls : List Line) (tracked : Tracked) : Type 0 where
+pub record Adds (R : Rules) (p p' : List ℕ) (c : Cut) (ls : List Line) (tracked : Tracked) : Type 0 where
   pub cut_is : cut p' ≡ c
   pub lines : lines R p' ≡ lines R p ++ ls
   pub here : Each (λ l. l.place ≡ suc (length p)) ls
@@ -43,22 +44,22 @@ pub record Adds (R : Reading) (p p' : List ℕ) (c : Cut) (ls : List Line) (trac
   pub sound : IsSound R p'
 
 -- an octet of the message m: its header's last one, or one more of its payload
-pub record IsOf (R : Reading) (p : List ℕ) (x : ℕ) (now : Now) : Type 0 where
+pub record IsOf (R : Rules) (p : List ℕ) (x : ℕ) (now : Now) : Type 0 where
   pub m : Message
   pub is_now : now_of m ≡ now
   pub fits : length m.payload ≤ size m.header
   pub number_is : m.number ≡ suc (length (cut p).whole)
   pub place_is : place m ≡ suc (length p)
   pub from : (((cut p).current ≡ None) × (m.payload ≡ [])) ⊎ ((was : Message) × ((cut p).current ≡ Some was) × (m ≡ with_octet was x))
-  pub grows : events (p ++ x ∷ []) ≡ events p ++ happens (open_after p) m
-  pub adds : Adds R p (p ++ x ∷ []) (settle (cut p).whole m) (effects R (stage R p) (happens (open_after p) m)).lines
-      (effects R (stage R p) (happens (open_after p) m)).tracked
+  pub grows : events R.most (p ++ x ∷ []) ≡ events R.most p ++ happens R.most (open_after R.most p) m
+  pub adds : Adds R p (p ++ x ∷ []) (settle (cut p).whole m) (effects R.reading (stage R p) (happens R.most (open_after R.most p) m)).lines
+      (effects R.reading (stage R p) (happens R.most (open_after R.most p) m)).tracked
 
 -- the message that begins with this header, behind these messages
 abbrev pub beginner : List Message → ℕ → List ℕ → Message
 beginner whole at header = record { number = suc (length whole); before = at - 12; header = header; payload = [] }
 
-abbrev pub Then : Reading → List ℕ → ℕ → Octet → Type 0
+abbrev pub Then : Rules → List ℕ → ℕ → Octet → Type 0
 Then R p x Behind = (found : ℕ × StreamFault) × ((cut p).stop ≡ Some found) × Adds R p (p ++ x ∷ []) (cut p) [] (stage R p)
 Then R p x (Ends fault) =
     ((cut p).stop ≡ None) × Adds R p (p ++ x ∷ []) (stopped_at (suc (length p)) fault (cut p)) (stop_line (Some (suc (length p), fault))) (stage R p)
@@ -92,19 +93,19 @@ front_short front number at e = rw e refl
 
 -- ---- The lines of an effect, in their order.
 
-now_here : (R : Reading) (n : ℕ) (K : Kept) (es : List Event) → Ordered (utters R K es) → Each (λ e. e.place ≡ n) es
-    → Each (λ l. l.place ≡ n) (now_written R K es)
-unfolding now_written
+now_here : (R : Reading) (n : ℕ) (K : Kept) (es : List Event) → Ordered (all_lines R K es) → Each (λ e. e.place ≡ n) es
+    → Each (λ l. l.place ≡ n) (sorted_lines R K es)
+unfolding sorted_lines
 now_here R n K es h here =
-    rw (ordered_stays (utters R K es) h) (standing_each (λ l. l.place ≡ n) (λ i. false) (utters R K es) (utters_places R (λ k. k ≡ n) K es here))
+    rw (ordered_stays (all_lines R K es) h) (standing_each (λ l. l.place ≡ n) (λ i. false) (all_lines R K es) (all_lines_places R (λ k. k ≡ n) K es here))
 
-now_rises : (R : Reading) (K : Kept) (es : List Event) → Fine (utters R K es) → Rises (now_written R K es)
-unfolding now_written
-now_rises R K es h = rw (ordered_stays (utters R K es) h.ordered) h.rises
+now_rises : (R : Reading) (K : Kept) (es : List Event) → Fine (all_lines R K es) → Rises (sorted_lines R K es)
+unfolding sorted_lines
+now_rises R K es h = rw (ordered_stays (all_lines R K es) h.ordered) h.rises
 
 -- ---- The cases.
 
-module _ (R : Reading) (causal : IsCausal R) (laws : IsInTurn R) (p : List ℕ) (x : ℕ) (sound : IsSound R p) where
+module _ (R : Rules) (causal : IsCausal R.reading) (laws : IsInTurn R.reading) (p : List ℕ) (x : ℕ) (sound : IsSound R p) where
   len : length (p ++ x ∷ []) ≡ suc (length p)
   len = omega (arith, length_push p x)
 
@@ -115,7 +116,7 @@ module _ (R : Reading) (causal : IsCausal R) (laws : IsInTurn R) (p : List ℕ) 
   unfolding stage events
   idle c ls ec ms same none here rises fits =
       let p' = p ++ x ∷ [] in
-      let ev : events p' ≡ events p = ap (events_from []) (ap messages ec ∙ ms) in
+      let ev : events R.most p' ≡ events R.most p = ap (events_from R.most []) (ap messages ec ∙ ms) in
       let sd = said_idle R causal p p' len ev sound.places in
       let ln : lines R p' ≡ lines R p ++ ls =
       lines_stopped R p' c.stop (ap (λ (d : Cut). d.stop) ec) ∙ (ap (λ (l : List Line). l ++ stop_line c.stop) sd ∙ same) in
@@ -125,62 +126,62 @@ module _ (R : Reading) (causal : IsCausal R) (laws : IsInTurn R) (p : List ℕ) 
         lines = ln;
         here = here;
         rises = rises;
-        stage = λ j. record { live = open_idle p p' ev j; known = λ i. octets_idle R p p' ev sd i j };
+        stage = λ j. record { live = open_idle R.most p p' ev j; known = λ i. octets_idle R p p' ev sd i j };
         sound = quiet_sound R p p' len (ap messages ec ∙ ms) ev sd sc (λ free. rw ec (fits (rw ec at free)).1)
             (λ free. rw (ec, (fits (rw ec at free)).0) tt) (λ free. rw (ec, (fits (rw ec at free)).0) tt) sound;
       }
 
   -- where it is of the message m
   deals : (m : Message) (whole : List Message) → cut (p ++ x ∷ []) ≡ settle whole m
-      → events (p ++ x ∷ []) ≡ events p ++ happens (open_after p) m → place m ≡ suc (length p) → m.number ≡ suc (length whole)
+      → events R.most (p ++ x ∷ []) ≡ events R.most p ++ happens R.most (open_after R.most p) m → place m ≡ suc (length p) → m.number ≡ suc (length whole)
       → length m.header ≡ 12 → (cut p).stop ≡ None → length (messages (cut p)) ≤ suc (length whole)
-      → (length m.payload ≤ 4 → Below m.number (open_after p))
-      → length (messages (cut p)) + start_count (now_written R (octets_of R p) (happens (open_after p) m)) ≡ suc
+      → (length m.payload ≤ 4 → Below m.number (open_after R.most p))
+      → length (messages (cut p)) + start_count (sorted_lines R.reading (octets_of R p) (happens R.most (open_after R.most p) m)) ≡ suc
       (length whole) → length m.payload ≤ size m.header → (has_name m.header ≡ true → IsBegun (octets_of R p) m)
-      → (length m.payload ≤ 4 → joined m.number (events p) ++ joined m.number (happens (open_after p) m) ≡ m.payload)
-      → Adds R p (p ++ x ∷ []) (settle whole m) (effects R (stage R p) (happens (open_after p) m)).lines (effects R (stage R p) (happens (open_after p) m)).tracked
+      → (length m.payload ≤ 4 → joined m.number (events R.most p) ++ joined m.number (happens R.most (open_after R.most p) m) ≡ m.payload)
+      → Adds R p (p ++ x ∷ []) (settle whole m) (effects R.reading (stage R p) (happens R.most (open_after R.most p) m)).lines (effects R.reading (stage R p) (happens R.most (open_after R.most p) m)).tracked
   unfolding stage
   deals m whole ec ev pl nm twelve st more low starts fits begun grows =
       let p' = p ++ x ∷ [] in
-      let live = open_after p in
+      let live = open_after R.most p in
       let K = octets_of R p in
-      let es = happens live m in
+      let es = happens R.most live m in
       let here : Each (λ e. e.place ≡ suc (length p)) es =
-      happens_each (λ e. e.place ≡ suc (length p)) live m (λ what. pl)
+      happens_each R.most (λ e. e.place ≡ suc (length p)) live m (λ what. pl)
       (all_by (λ (o : Open). (what : Happening) → place m ≡ suc (length p)) (λ o what. pl) live) in
       let sd = said_grows R causal p p' es len ev sound.places here in
       let fine = happens_fine R laws K live m fits begun in
-      let p1 = are_effects R (record { live = live; known = K }) es fine.ordered in
+      let p1 = are_effects R.reading (record { live = live; known = K }) es fine.ordered in
       let st' : (cut p').stop ≡ None = ap (λ (c : Cut). c.stop) ec ∙ settle_stop whole m in
       record {
         cut_is = ec;
         lines = lines_free R p' st' ∙ (sd ∙ rw (lines_free R p st, p1.lines) refl);
-        here = subst (Each (λ l. l.place ≡ suc (length p))) p1.lines (now_here R (suc (length p)) K es fine.ordered here);
-        rises = subst Rises p1.lines (now_rises R K es fine);
-        stage = λ j. record { live = (open_grows p p' es ev ∙ p1.live) j; known = λ i. (octets_grow R p p' es (now_written R K es) ev sd i ∙ p1.known i) j };
+        here = subst (Each (λ l. l.place ≡ suc (length p))) p1.lines (now_here R.reading (suc (length p)) K es fine.ordered here);
+        rises = subst Rises p1.lines (now_rises R.reading K es fine);
+        stage = λ j. record { live = (open_grows R.most p p' es ev ∙ p1.live) j; known = λ i. (octets_grow R p p' es (sorted_lines R.reading K es) ev sd i ∙ p1.known i) j };
         sound = dealt_sound R causal p p' whole m len ec ev pl nm twelve st more low starts grows sound;
       }
 
-  begun_by : (was : Message) → (length was.payload ≤ 4 → joined was.number (events p) ≡ was.payload) → IsBegun (octets_of R p) (with_octet was x)
+  begun_by : (was : Message) → (length was.payload ≤ 4 → joined was.number (events R.most p) ≡ was.payload) → IsBegun (octets_of R p) (with_octet was x)
   begun_by was begun some short xs known =
       let same : xs ≡ was.payload = sym (octets_are R p was.number xs known) ∙ begun (omega (arith, length_push was.payload x, short)) in
       rw same (omega (arith, length_push was.payload x))
 
   paid_events : (whole : List Message) (was : Message) (held : List ℕ) → cut p ≡ of_parts whole (Some was) held None
-      → nat_lt limit (suc (length p)) ≡ false → events (p ++ x ∷ []) ≡ events p ++ happens (open_after p) (with_octet was x)
+      → nat_lt limit (suc (length p)) ≡ false → events R.most (p ++ x ∷ []) ≡ events R.most p ++ happens R.most (open_after R.most p) (with_octet was x)
   unfolding of_parts messages open_after
   paid_events whole was held ec room =
       let m = with_octet was x in
       let fit : Fits (length p) (of_parts whole (Some was) held None) = rw ec at (sound.fits (rw ec refl)) in
       let fits = fit.current in
       let ec' : cut (p ++ x ∷ []) ≡ settle whole m = cut_grows p x ∙ rw ec (next_payload whole was held (length p) x room) in
-      let before : events p ≡ events_from [] (whole ++ was ∷ []) = events_of_cut p (of_parts whole (Some was) held None) ec in
-      events_of_cut (p ++ x ∷ []) (settle whole m) ec' ∙ (ap (events_from []) (settled_messages whole m) ∙ rw before (events_on whole was x fits.lacks))
+      let before : events R.most p ≡ events_from R.most [] (whole ++ was ∷ []) = events_of_cut R.most p (of_parts whole (Some was) held None) ec in
+      events_of_cut R.most (p ++ x ∷ []) (settle whole m) ec' ∙ (ap (events_from R.most []) (settled_messages whole m) ∙ rw before (events_on R.most whole was x fits.lacks))
 
   paid_adds : (whole : List Message) (was : Message) (held : List ℕ) → cut p ≡ of_parts whole (Some was) held None → nat_lt limit (suc (length p)) ≡ false
       → Adds R p (p ++ x ∷ []) (settle whole (with_octet was x))
-      (effects R (stage R p) (happens (open_after p) (with_octet was x))).lines
-      (effects R (stage R p) (happens (open_after p) (with_octet was x))).tracked
+      (effects R.reading (stage R p) (happens R.most (open_after R.most p) (with_octet was x))).lines
+      (effects R.reading (stage R p) (happens R.most (open_after R.most p) (with_octet was x))).tracked
   unfolding of_parts messages open_after
   paid_adds whole was held ec room =
       let c = of_parts whole (Some was) held None in
@@ -190,17 +191,17 @@ module _ (R : Reading) (causal : IsCausal R) (laws : IsInTurn R) (p : List ℕ) 
       let fits = fit.current in
       let lacks = fits.lacks in
       let long = length_push was.payload x in
-      let early : length was.payload < 4 → Below was.number (open_after p) = rw ec at (sound.early st) in
+      let early : length was.payload < 4 → Below was.number (open_after R.most p) = rw ec at (sound.early st) in
       let one : length (whole ++ was ∷ []) ≡ suc (length whole) = omega (arith, length_push whole was) in
       let count : length (messages (cut p)) ≡ suc (length whole) = rw ec one in
       let ec' : cut (p ++ x ∷ []) ≡ settle whole m = cut_grows p x ∙ rw ec (next_payload whole was held (length p) x room) in
       let ev = paid_events whole was held ec room in
-      let begun : length was.payload ≤ 4 → joined was.number (events p) ≡ was.payload = rw ec at (sound.begun st) in
-      let starts = none_later R (octets_of R p) (open_after p) m (omega (arith, long)) in
+      let begun : length was.payload ≤ 4 → joined was.number (events R.most p) ≡ was.payload = rw ec at (sound.begun st) in
+      let starts = none_later R (octets_of R p) (open_after R.most p) m (omega (arith, long)) in
       deals m whole ec' ev (place_more was x (length p) fits.place_is) fits.number_is fits.twelve st (le_of_eq count)
       (λ four. early (omega (arith, four, long))) (omega (arith, count, starts)) (omega (arith, lacks, long))
       (λ name. begun_by was begun)
-      (λ short. rw (begun (omega (arith, short, long)), own_joined (open_after p) was was.payload x (not_past m short)) refl)
+      (λ short. rw (begun (omega (arith, short, long)), own_joined R.most (open_after R.most p) was was.payload x (not_past m short)) refl)
 
   paid : (whole : List Message) (was : Message) (held : List ℕ) → cut p ≡ of_parts whole (Some was) held None
       → nat_lt limit (suc (length p)) ≡ false → Then R p x
@@ -236,7 +237,7 @@ module _ (R : Reading) (causal : IsCausal R) (laws : IsInTurn R) (p : List ℕ) 
 
   begins_events : (whole : List Message) (held : List ℕ) → cut p ≡ of_parts whole None held None
       → nat_lt limit (suc (length p)) ≡ false → wrong (held ++ x ∷ []) ≡ None → length (held ++ x ∷ []) ≡ 12
-      → events (p ++ x ∷ []) ≡ events p ++ happens (open_after p) (beginner whole (suc (length p)) (held ++ x ∷ []))
+      → events R.most (p ++ x ∷ []) ≡ events R.most p ++ happens R.most (open_after R.most p) (beginner whole (suc (length p)) (held ++ x ∷ []))
   unfolding of_parts messages open_after header_case
   begins_events whole held ec room right twelve =
       let front = held ++ x ∷ [] in
@@ -245,13 +246,13 @@ module _ (R : Reading) (causal : IsCausal R) (laws : IsInTurn R) (p : List ℕ) 
       let grown : cut (p ++ x ∷ []) ≡ header_case 1 (suc (length p)) whole front (wrong front) (length front == 12) =
       cut_grows p x ∙ rw ec (next_front whole held (length p) x room) in
       let ec' : cut (p ++ x ∷ []) ≡ settle whole m = grown ∙ rw (right, eq-eqb (length front) 12 twelve, number) refl in
-      let before : events p ≡ events_from [] whole = events_of_cut p (of_parts whole None held None) ec ∙ ap (events_from []) (append-nil whole) in
-      events_of_cut (p ++ x ∷ []) (settle whole m) ec' ∙ (ap (events_from []) (settled_messages whole m) ∙ rw before (events_begin whole m refl))
+      let before : events R.most p ≡ events_from R.most [] whole = events_of_cut R.most p (of_parts whole None held None) ec ∙ ap (events_from R.most []) (append-nil whole) in
+      events_of_cut R.most (p ++ x ∷ []) (settle whole m) ec' ∙ (ap (events_from R.most []) (settled_messages whole m) ∙ rw before (events_begin R.most whole m refl))
 
   begins_adds : (whole : List Message) (held : List ℕ) → cut p ≡ of_parts whole None held None
       → nat_lt limit (suc (length p)) ≡ false → wrong (held ++ x ∷ []) ≡ None → length (held ++ x ∷ []) ≡ 12
       → (let m = beginner whole (suc (length p)) (held ++ x ∷ []) in Adds R p (p ++ x ∷ []) (settle whole m)
-      (effects R (stage R p) (happens (open_after p) m)).lines (effects R (stage R p) (happens (open_after p) m)).tracked)
+      (effects R.reading (stage R p) (happens R.most (open_after R.most p) m)).lines (effects R.reading (stage R p) (happens R.most (open_after R.most p) m)).tracked)
   unfolding of_parts messages open_after header_case
   begins_adds whole held ec room right twelve =
       let c = of_parts whole None held None in
@@ -269,14 +270,14 @@ module _ (R : Reading) (causal : IsCausal R) (laws : IsInTurn R) (p : List ℕ) 
       cut_grows p x ∙ rw ec (next_front whole held (length p) x room) in
       let ec' : cut (p ++ x ∷ []) ≡ settle whole m = grown ∙ rw (right, eq-eqb (length front) 12 twelve, number) refl in
       let ev = begins_events whole held ec room right twelve in
-      let starts = one_first R (octets_of R p) (open_after p) m [] refl known in
-      let low : Below m.number (open_after p) =
+      let starts = one_first R (octets_of R p) (open_after R.most p) m [] refl known in
+      let low : Below m.number (open_after R.most p) =
       each_weaker (λ o. o.opener.number ≤ length (messages (cut p))) (λ o. o.opener.number < m.number)
-      (λ o k. omega (arith, k, count)) (open_after p) sound.numbers in
+      (λ o k. omega (arith, k, count)) (open_after R.most p) sound.numbers in
       deals m whole ec' ev (place_first (length p) m refl refl (omega (arith, within, long, twelve))) refl twelve st
       (omega (arith, count)) (λ four. low) (omega (arith, count, starts)) (omega arith)
       (λ name some. absurd (omega (arith, some)))
-      (λ short. rw (none_known R p m.number known, header_joined m.number (open_after p) m refl) refl)
+      (λ short. rw (none_known R p m.number known, header_joined R.most m.number (open_after R.most p) m refl) refl)
 
   begins : (whole : List Message) (held : List ℕ) → cut p ≡ of_parts whole None held None
       → nat_lt limit (suc (length p)) ≡ false → wrong (held ++ x ∷ []) ≡ None → length (held ++ x ∷ []) ≡ 12
@@ -369,13 +370,13 @@ module _ (R : Reading) (causal : IsCausal R) (laws : IsInTurn R) (p : List ℕ) 
   -- an octet of the current message's payload, and the last one of a header
   pub paid_is : (was : Message) → (cut p).stop ≡ None → (cut p).current ≡ Some was → nat_lt limit (suc (length p)) ≡ false
       → Adds R p (p ++ x ∷ []) (settle (cut p).whole (with_octet was x))
-      (effects R (stage R p) (happens (open_after p) (with_octet was x))).lines
-      (effects R (stage R p) (happens (open_after p) (with_octet was x))).tracked
+      (effects R.reading (stage R p) (happens R.most (open_after R.most p) (with_octet was x))).lines
+      (effects R.reading (stage R p) (happens R.most (open_after R.most p) (with_octet was x))).tracked
   paid_is was st cur = paid_adds (cut p).whole was (cut p).held (parts_by (cut p) (Some was) None cur st)
 
   pub begins_is : (cut p).stop ≡ None → (cut p).current ≡ None → nat_lt limit (suc (length p)) ≡ false
       → wrong ((cut p).held ++ x ∷ []) ≡ None → length ((cut p).held ++ x ∷ []) ≡ 12
       → (let m = beginner (cut p).whole (suc (length p)) ((cut p).held ++ x ∷ []) in Adds R p (p ++ x ∷ [])
-      (settle (cut p).whole m) (effects R (stage R p) (happens (open_after p) m)).lines
-      (effects R (stage R p) (happens (open_after p) m)).tracked)
+      (settle (cut p).whole m) (effects R.reading (stage R p) (happens R.most (open_after R.most p) m)).lines
+      (effects R.reading (stage R p) (happens R.most (open_after R.most p) m)).tracked)
   begins_is st cur = begins_adds (cut p).whole (cut p).held (parts_by (cut p) None None cur st)

@@ -11,9 +11,10 @@ use Rattle.giop_sig.specs.Table.{Table}
 use Rattle.giop_message.specs.Headers.{size}
 use Rattle.giop_message.specs.Signatures.{Listed, said_by}
 use Rattle.giop_message.specs.MessageReading.{message_reading}
-use Rattle.giop_message.specs.Reading.{Reading, IsCausal, IsInTurn}
+use Rattle.giop_message.specs.Reading.{IsCausal, IsInTurn}
 use Rattle.giop_message.proofs.MessageLaws.{is_causal}
 use Rattle.giop_stream.specs.declared.slots.Slots.{Slots}
+use Rattle.giop_stream.specs.Rules.{Rules, rules}
 use Rattle.giop_stream.specs.Framing.{Message, Cut, with_payload, limit, cut, messages, read_of}
 use Rattle.giop_stream.specs.Events.{Takes, Title, Open, Rising, happens, at_octet, changed, open_after}
 use Rattle.giop_stream.specs.Lines.{lines}
@@ -74,9 +75,9 @@ within_on p m x n h =
     }
 
 -- it does nothing but come to the message whose it is,
-comes_alone : (live : List Open) (m : Message) → 4 < length m.payload → length m.payload < size m.header → happens live m ≡ at_octet live m
+comes_alone : (most : ℕ) (live : List Open) (m : Message) → 4 < length m.payload → length m.payload < size m.header → happens most live m ≡ at_octet live m
 unfolding happens
-comes_alone live m past less =
+comes_alone most live m past less =
     rw (
       ne_eqb (length m.payload) 0 (λ e. omega (arith, past, e)),
       ne_eqb (length m.payload) 4
@@ -97,81 +98,81 @@ module _ (C : Table) (l : Listed) where
   takes_live at c None x = refl
   takes_live at c (Some w) x = refl
 
-  module _ (p : List ℕ) (m : Message) (x n : ℕ) (h : Within p m (suc n)) where
+  module _ (most : ℕ) (p : List ℕ) (m : Message) (x n : ℕ) (h : Within p m (suc n)) where
     at_hand : CurrentFits (length p) (cut p) m
     at_hand =
         if_some (CurrentFits (length p) (cut p)) (cut p).current m h.current
-        ((sound (message_reading C l) (is_causal (said_by C l)) (in_turn C l) p).fits h.free).current
+        ((sound (rules C l most) (is_causal (said_by C l)) (in_turn C l) p).fits h.free).current
 
     -- what the octet does to the message whose it is
     abbrev taken : Effect
-    taken = effect_to C l (suc (length p)) (stage (message_reading C l) p) (whose (open_after p) m) (Takes x)
+    taken = effect_to C l (suc (length p)) (stage (rules C l most) p) (whose (open_after most p) m) (Takes x)
 
-    octet_takes : effects (message_reading C l) (stage (message_reading C l) p) (happens (open_after p) (with_octet m x)) ≡ taken
+    octet_takes : effects (message_reading C l) (stage (rules C l most) p) (happens most (open_after most p) (with_octet m x)) ≡ taken
     unfolding stage
     octet_takes =
         let last : get_or (m.payload ++ x ∷ []) (length (m.payload ++ x ∷ []) - 1) 0 ≡ x =
         get_or_push m.payload x 0 (length (m.payload ++ x ∷ []) - 1) (omega (arith, length_push m.payload x)) in
         let alone =
-        comes_alone (open_after p) (with_octet m x) (omega (arith, h.named, length_push m.payload x))
+        comes_alone most (open_after most p) (with_octet m x) (omega (arith, h.named, length_push m.payload x))
         (omega (arith, h.before_last, length_push m.payload x)) in
-        rw (alone, ← whose_next (open_after p) m x)
-        (octet_does C l (stage (message_reading C l) p) (with_octet m x) x (suc (length p)) last
+        rw (alone, ← whose_next (open_after most p) m x)
+        (octet_does C l (stage (rules C l most) p) (with_octet m x) x (suc (length p)) last
         (place_more m x (length p) at_hand.place_is))
 
-    octet_adds : Adds (message_reading C l) p (p ++ x ∷ []) (settle (cut p).whole (with_octet m x)) taken.lines taken.tracked
+    octet_adds : Adds (rules C l most) p (p ++ x ∷ []) (settle (cut p).whole (with_octet m x)) taken.lines taken.tracked
     octet_adds =
-        let so = sound (message_reading C l) (is_causal (said_by C l)) (in_turn C l) p in
+        let so = sound (rules C l most) (is_causal (said_by C l)) (in_turn C l) p in
         let room = le-ltb limit (suc (length p)) (omega (arith, h.room)) in
-        rw octet_takes at (paid_is (message_reading C l) (is_causal (said_by C l)) (in_turn C l) p x so m h.free h.current room)
+        rw octet_takes at (paid_is (rules C l most) (is_causal (said_by C l)) (in_turn C l) p x so m h.free h.current room)
 
-    octet_whose : whose (open_after (p ++ x ∷ [])) (with_octet m x) ≡ whose (open_after p) m
+    octet_whose : whose (open_after most (p ++ x ∷ [])) (with_octet m x) ≡ whose (open_after most p) m
     unfolding stage
     octet_whose =
-        let live : open_after (p ++ x ∷ []) ≡ open_after p =
+        let live : open_after most (p ++ x ∷ []) ≡ open_after most p =
         ap (λ (c : Tracked). c.live) octet_adds.stage
-        ∙ takes_live (suc (length p)) (stage (message_reading C l) p) (whose (open_after p) m) x in
-        ap (λ (open' : List Open). whose open' (with_octet m x)) live ∙ whose_on (open_after p) m x h.named
+        ∙ takes_live (suc (length p)) (stage (rules C l most) p) (whose (open_after most p) m) x in
+        ap (λ (open' : List Open). whose open' (with_octet m x)) live ∙ whose_on (open_after most p) m x h.named
 
 -- ---- All of them.
 
 -- what they make of the stream p, in which this message is the current one
-pub record IsRun (C : Table) (l : Listed) (p : List ℕ) (m : Message) (q : List ℕ) : Type 0 where
+pub record IsRun (C : Table) (l : Listed) (most : ℕ) (p : List ℕ) (m : Message) (q : List ℕ) : Type 0 where
   pub within : Within (p ++ q) (with_payload m (m.payload ++ q)) 0
-  pub lines : lines (message_reading C l) (p ++ q) ≡ lines
-      (message_reading C l) p ++ (run_effect C l (length p) (stage (message_reading C l) p) (whose (open_after p) m) q).lines
-  pub stage : stage (message_reading C l) (p ++ q) ≡ (run_effect C l (length p) (stage (message_reading C l) p) (whose (open_after p) m) q).tracked
-  pub whose : whose (open_after (p ++ q)) (with_payload m (m.payload ++ q)) ≡ whose (open_after p) m
+  pub lines : lines (rules C l most) (p ++ q) ≡ lines
+      (rules C l most) p ++ (run_effect C l (length p) (stage (rules C l most) p) (whose (open_after most p) m) q).lines
+  pub stage : stage (rules C l most) (p ++ q) ≡ (run_effect C l (length p) (stage (rules C l most) p) (whose (open_after most p) m) q).tracked
+  pub whose : whose (open_after most (p ++ q)) (with_payload m (m.payload ++ q)) ≡ whose (open_after most p) m
 
 module _ (C : Table) (l : Listed) where
-  pub run_is : (q p : List ℕ) (m : Message) → Within p m (length q) → IsRun C l p m q
+  pub run_is : (most : ℕ) (q p : List ℕ) (m : Message) → Within p m (length q) → IsRun C l most p m q
   unfolding run_effect
-  run_is [] p m h =
-      let R = message_reading C l in
+  run_is most [] p m h =
+      let R = rules C l most in
       let same = append-nil p in
       let none = append-nil m.payload in
       record {
         within = subst (λ (z : List ℕ). Within (p ++ []) (with_payload m z) 0) (sym none) (subst (λ (r : List ℕ). Within r m 0) (sym same) h);
         lines = ap (lines R) same ∙ sym (append-nil (lines R p));
         stage = ap (stage R) same;
-        whose = λ j. whose (open_after (same j)) (with_payload m (none j));
+        whose = λ j. whose (open_after most (same j)) (with_payload m (none j));
       }
-  run_is (x ∷ q) p m h =
-      let R = message_reading C l in
+  run_is most (x ∷ q) p m h =
+      let R = rules C l most in
       let p' = p ++ x ∷ [] in
-      let more = run_is q p' (with_octet m x) (within_on p m x (length q) h) in
+      let more = run_is most q p' (with_octet m x) (within_on p m x (length q) h) in
       let all : p' ++ q ≡ p ++ x ∷ q = append_assoc p (x ∷ []) q in
       let payload : (m.payload ++ x ∷ []) ++ q ≡ m.payload ++ x ∷ q = append_assoc m.payload (x ∷ []) q in
       let at : length p' ≡ suc (length p) = omega (arith, length_push p x) in
-      let one = octet_adds C l p m x (length q) h in
-      let who = octet_whose C l p m x (length q) h in
+      let one = octet_adds C l most p m x (length q) h in
+      let who = octet_whose C l most p m x (length q) h in
       record {
         within = subst (λ (z : List ℕ). Within (p ++ x ∷ q) (with_payload m z) 0) payload
             (subst (λ (r : List ℕ). Within r (with_payload m ((m.payload ++ x ∷ []) ++ q)) 0) all more.within);
         lines = ap (lines R) (sym all) ∙ (more.lines
             ∙ ((λ j. one.lines j ++ (run_effect C l (at j) (one.stage j) (who j) q).lines) ∙ append_assoc (lines R p) _ _));
         stage = ap (stage R) (sym all) ∙ (more.stage ∙ (λ j. (run_effect C l (at j) (one.stage j) (who j) q).tracked));
-        whose = (λ j. whose (open_after (sym all j)) (with_payload m (sym payload j))) ∙ (more.whose ∙ who);
+        whose = (λ j. whose (open_after most (sym all j)) (with_payload m (sym payload j))) ∙ (more.whose ∙ who);
       }
 
 -- ---- What the fields show with them.
@@ -187,7 +188,7 @@ number_fits (Ok k) n other less h = h.1
 number_fits (Err e) n other less h = absurd (h less)
 
 -- the current message is the one that started last
-started_last : (R : Reading) → IsCausal R → IsInTurn R → (p : List ℕ) (m : Message) → (cut p).stop ≡ None
+started_last : (R : Rules) → IsCausal R.reading → IsInTurn R.reading → (p : List ℕ) (m : Message) → (cut p).stop ≡ None
     → (cut p).current ≡ Some m → start_count (lines R p) ≡ m.number
 unfolding messages
 started_last R causal laws p m free current =
@@ -196,47 +197,47 @@ started_last R causal laws p m free current =
     let count : length (messages (cut p)) ≡ length (cut p).whole + 1 = rw current (length_push (cut p).whole m) in
     omega (arith, so.starts, count, at_hand.number_is)
 
-module _ (C : Table) (l : Listed) (s : State) (reached : IsReached C l s) (m : Memory) (h : Shows C l m s)
+module _ (C : Table) (l : Listed) (most : ℕ) (s : State) (reached : IsReached C l most s) (m : Memory) (h : Shows C l m s)
     (free : m.stopped ≡ None) (c : Message) (current : (cut reached.stream).current ≡ Some c) (q : List ℕ) (named : 4 ≤ m.come)
     (before_last : m.come + length q < size m.header) (room : m.totals.octets + length q ≤ 2 ^ 48) where
-  abbrev R : Reading
-  R = message_reading C l
+  abbrev R : Rules
+  R = rules C l most
 
   abbrev p : List ℕ
   p = reached.stream
 
   all : m.totals.octets ≡ length p
-  all = all_read C l s reached m h free
+  all = all_read C l most s reached m h free
 
   begins : Within p c (length q)
   unfolding limit
   begins =
-      let come = come_is C l s reached m h free c current in
+      let come = come_is C l most s reached m h free c current in
       record {
-        free = runs_on C l s reached m h free;
+        free = runs_on C l most s reached m h free;
         current = current;
         named = omega (arith, named, come);
-        before_last = omega (arith, before_last, come, ap size (header_is C l s reached m h free c current));
+        before_last = omega (arith, before_last, come, ap size (header_is C l most s reached m h free c current));
         room = omega (arith, room, all);
       }
 
   -- there is room to count them
   pub run_fits : m.come + length q < 2 ^ 32
-  run_fits = omega (arith, before_last, size_few C l s reached m h free c current)
+  run_fits = omega (arith, before_last, size_few C l most s reached m h free c current)
 
-  run : IsRun C l p c q
-  run = run_is C l q p c begins
+  run : IsRun C l most p c q
+  run = run_is C l most q p c begins
 
   -- their effect
   abbrev pub ran : Effect
-  ran = run_effect C l m.totals.octets (stage R p) (whose (open_after p) c) q
+  ran = run_effect C l m.totals.octets (stage R p) (whose (open_after most p) c) q
 
   grows_by_run : lines R (p ++ q) ≡ lines R p ++ ran.lines
   grows_by_run = rw all run.lines
 
   -- what the slots keep before them
-  pub run_keeps : Keeps C l m.slots (stage R p) (whose (open_after p) c)
-  run_keeps = subst (λ (o : Option Message). Keeps C l m.slots (stage R p) (whose_in (open_after p) o)) current (knows_at C l s reached m h free)
+  pub run_keeps : Keeps C l m.slots (stage R p) (whose (open_after most p) c)
+  run_keeps = subst (λ (o : Option Message). Keeps C l m.slots (stage R p) (whose_in (open_after most p) o)) current (knows_at C l most s reached m h free)
 
   pub run_rises : Rising (stage R p).live
   unfolding stage
@@ -245,32 +246,32 @@ module _ (C : Table) (l : Listed) (s : State) (reached : IsReached C l s) (m : M
   pub run_does : {A E : Type 0} (result : Result A E) (before after : OutLog) (f : Memory)
       → Writes result before after (lines_text ran.lines) → OnOk result (Shows C l f (state_of R (p ++ q)))
       → Does C l result before after f (runs R s q)
-  run_does result before after f text shows = does_run C l s reached m h q ran.lines result before after f grows_by_run text shows
+  run_does result before after f text shows = does_run C l most s reached m h q ran.lines result before after f grows_by_run text shows
 
-  knows_so : (slots : Slots) → Keeps C l slots ran.tracked (whose (open_after p) c) → Knows C l slots (p ++ q)
+  knows_so : (slots : Slots) → Keeps C l slots ran.tracked (whose (open_after most p) c) → Knows C l most slots (p ++ q)
   knows_so slots k =
       let tracked : ran.tracked ≡ stage R (p ++ q) = rw all (sym run.stage) in
-      let who : whose (open_after p) c ≡ whose_in (open_after (p ++ q)) (cut (p ++ q)).current =
-      sym (ap (whose_in (open_after (p ++ q))) run.within.current ∙ run.whose) in
-      subst (Keeps C l slots (stage R (p ++ q))) who (subst (λ (s : Tracked). Keeps C l slots s (whose (open_after p) c)) tracked k)
+      let who : whose (open_after most p) c ≡ whose_in (open_after most (p ++ q)) (cut (p ++ q)).current =
+      sym (ap (whose_in (open_after most (p ++ q))) run.within.current ∙ run.whose) in
+      subst (Keeps C l slots (stage R (p ++ q))) who (subst (λ (s : Tracked). Keeps C l slots s (whose (open_after most p) c)) tracked k)
 
   pub run_shows : (b : Memory) → b.totals.messages ≡ m.totals.messages
       → b.totals.faults ≡ m.totals.faults + fault_count ran.lines → b.totals.octets ≡ m.totals.octets + length q
       → b.stopped ≡ m.stopped → b.header ≡ m.header → b.come ≡ m.come + length q
-      → Keeps C l b.slots ran.tracked (whose (open_after p) c)
+      → Keeps C l b.slots ran.tracked (whose (open_after most p) c)
       → Shows C l b (state_of R (p ++ q))
   unfolding tally
   run_shows b messages faults octets stopped header come keeps =
       let then = run.within.current in
       let started : b.totals.messages ≡ start_count (lines R (p ++ q)) =
-      messages ∙ (sym (number_is C l s reached m h free c current)
+      messages ∙ (sym (number_is C l most s reached m h free c current)
       ∙ sym (started_last R (is_causal (said_by C l)) (in_turn C l) (p ++ q)
       (with_payload c (c.payload ++ q)) run.within.free then)) in
       let grown : fault_count (lines R (p ++ q)) ≡ fault_count (lines R p) + fault_count ran.lines =
       ap fault_count grows_by_run ∙ count_append (lines R p) ran.lines in
-      let faulted : b.totals.faults ≡ fault_count (lines R (p ++ q)) = omega (arith, faults, grown, faults_at C l s reached m h) in
+      let faulted : b.totals.faults ≡ fault_count (lines R (p ++ q)) = omega (arith, faults, grown, faults_at C l most s reached m h) in
       let read : b.totals.octets ≡ read_of (p ++ q) (cut (p ++ q)).stop =
       omega (arith, octets, all, length-append p q) ∙ sym (read_all (p ++ q) run.within.free) in
-      shows_by C l (p ++ q) b (cut (p ++ q)) refl run.within.free (λ j. record { messages = started j; faults = faulted j; octets = read j }) (stopped ∙ free)
-      (header ∙ (header_is C l s reached m h free c current ∙ ap (λ (o : Option Message). header_of o (cut (p ++ q)).held) (sym then)))
-      (omega (arith, come, come_is C l s reached m h free c current, length-append c.payload q) ∙ ap come_of (sym then)) (knows_so b.slots keeps)
+      shows_by C l most (p ++ q) b (cut (p ++ q)) refl run.within.free (λ j. record { messages = started j; faults = faulted j; octets = read j }) (stopped ∙ free)
+      (header ∙ (header_is C l most s reached m h free c current ∙ ap (λ (o : Option Message). header_of o (cut (p ++ q)).held) (sym then)))
+      (omega (arith, come, come_is C l most s reached m h free c current, length-append c.payload q) ∙ ap come_of (sym then)) (knows_so b.slots keeps)

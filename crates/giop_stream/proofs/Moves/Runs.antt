@@ -215,9 +215,9 @@ module _ (C : Table) (l : Listed) where
     Makes message w = PartTakesEffect C l one_if r a b message w (run_part C l before w (c.known w.number) xs)
 
     pub own_runs : (own' : Option Message) → s.payload ≡ payload.Own → ((w : Title) → IsKept C l s.own w (c.known w.number) → Makes own' w)
-        → TakesEffect C l one_if r a b (record { slots = s.slots; own = own'; payload = s.payload }) (run_effect C l before c whose xs) whose
+        → TakesEffect C l one_if r a b (record { slots = s.slots; most = s.most; own = own'; payload = s.payload }) (run_effect C l before c whose xs) whose
     own_runs own' e f =
-        own_has C l (λ whose. TakesEffect C l one_if r a b (record { slots = s.slots; own = own'; payload = s.payload })
+        own_has C l (λ whose. TakesEffect C l one_if r a b (record { slots = s.slots; most = s.most; own = own'; payload = s.payload })
         (run_effect C l before c whose xs) whose) s c whose e h
         (λ w k. own_effects C l r a b s own' c w _ _ e k (run_alters w xs before c) (f w))
 
@@ -229,6 +229,7 @@ module _ (C : Table) (l : Listed) where
             items = slice_set s.slots.items k
                 (record x { message = message });
           };
+          most = s.most;
           own = s.own;
           payload = s.payload;
         }) (run_effect C l before c whose xs) whose
@@ -236,6 +237,7 @@ module _ (C : Table) (l : Listed) where
         slot_has C l (λ whose. TakesEffect C l one_if r a b
         (record {
           slots = record { items = slice_set s.slots.items k (record x { message = message }) };
+          most = s.most;
           own = s.own;
           payload = s.payload;
         }) (run_effect C l before c whose xs) whose) s c whose k e h

@@ -7,8 +7,8 @@ use Rattle.giop_print.specs.Output.{OutLog, Writes}
 use Rattle.giop_sig.specs.Table.{Table}
 use Rattle.giop_message.specs.Headers.{size}
 use Rattle.giop_message.specs.Signatures.{Listed}
-use Rattle.giop_message.specs.MessageReading.{message_reading}
 use Rattle.giop_checkpoint.specs.declared.fault.StreamFault.{StreamFault}
+use Rattle.giop_stream.specs.Rules.{rules}
 use Rattle.giop_stream.specs.Framing.{Message, fault_of}
 use Rattle.giop_stream.specs.Events.{Open}
 use Rattle.giop_stream.specs.Lines.{Line, lines}
@@ -25,12 +25,12 @@ use Rattle.giop_stream.proofs.Cuts.CutFrom.{settle}
 
 -- ---- A call does a step, by what it makes of a stream.
 
-pub does_by : {A E : Type 0} (C : Table) (l : Listed) (p q : List ℕ) (one : Step) (ls : List Line) (result : Result A E) (before after : OutLog) (f : Memory)
-    → (let R = message_reading C l in state_of R q ≡ one.state → lines R q ≡ lines R p ++ one.lines
+pub does_by : {A E : Type 0} (C : Table) (l : Listed) (most : ℕ) (p q : List ℕ) (one : Step) (ls : List Line) (result : Result A E) (before after : OutLog) (f : Memory)
+    → (let R = rules C l most in state_of R q ≡ one.state → lines R q ≡ lines R p ++ one.lines
     → lines R q ≡ lines R p ++ ls → Writes result before after (lines_text ls) → OnOk result (Shows C l f (state_of R q))
     → Does C l result before after f one)
-does_by C l p q one ls result before after f state more grows text shows =
-    let R = message_reading C l in
+does_by C l most p q one ls result before after f state more grows text shows =
+    let R = rules C l most in
     let same : one.lines ≡ ls = append_cancel_left (lines R p) one.lines ls (sym more ∙ grows) in
     record { text = rw same text; shows = subst (λ (s : State). OnOk result (Shows C l f s)) state shows }
 

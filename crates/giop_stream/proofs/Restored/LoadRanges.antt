@@ -6,9 +6,8 @@ use Rattle.giop_cdr.specs.Numbers.{AreOctets}
 use Rattle.giop_sig.specs.Table.{Table}
 use Rattle.giop_message.specs.declared.message.Message.{Message as Kept_message}
 use Rattle.giop_message.specs.Headers.{size}
-use Rattle.giop_message.specs.Reading.{Reading, IsCausal, IsInTurn}
+use Rattle.giop_message.specs.Reading.{IsCausal, IsInTurn}
 use Rattle.giop_message.specs.Signatures.{Listed, said_by}
-use Rattle.giop_message.specs.MessageReading.{message_reading}
 use Rattle.giop_message.proofs.MessageLaws.{is_causal}
 use Rattle.giop_checkpoint.specs.declared.fault.StreamFault.{StreamFault}
 use Rattle.giop_checkpoint.specs.declared.fixed.Place.TheVariants.{Header, Payload}
@@ -16,8 +15,9 @@ use Rattle.giop_checkpoint.specs.Fixed.{PlaceHasRange, IsAmong, HasRange}
 use Rattle.giop_stream.specs.declared.slots.Payload.{Payload as Whose}
 use Rattle.giop_stream.specs.declared.slots.Payload.TheVariants as payload
 use Rattle.giop_stream.specs.Headers.{offence}
+use Rattle.giop_stream.specs.Rules.{Rules, rules, most_open}
 use Rattle.giop_stream.specs.Framing.{Message, Cut, cut, limit, read_of, fault_of}
-use Rattle.giop_stream.specs.Events.{place, open_after, most_open}
+use Rattle.giop_stream.specs.Events.{place, open_after}
 use Rattle.giop_stream.specs.State.{slots_of, octets_of}
 use Rattle.giop_stream.specs.Stream.{tally}
 use Rattle.giop_stream.specs.Octet.{Octet, Behind, Ends, Held, Of, header_of, octet_of}
@@ -97,7 +97,7 @@ header_fits n c fits octets = go c.current fits.current octets
         let within : length m.header ≤ n = omega (arith, f.twelve, f.place_is) in
         (record { most = omega (arith, f.twelve); small = λ twelve. size_fits m.header h.0 twelve }, within)
 
-module _ (R : Reading) (causal : IsCausal R) (laws : IsInTurn R) where
+module _ (R : Rules) (causal : IsCausal R.reading) (laws : IsInTurn R.reading) where
   late_by : (p : List ℕ) (x : ℕ) (o : Octet) → Then R p x o → Late (cut p).stop → Late (cut (p ++ x ∷ [])).stop
   unfolding stopped_at of_parts
   late_by p x Behind h ih = rw h.2.cut_is ih
@@ -141,14 +141,14 @@ pub record AreTotals (m : Memory) : Type 0 where
   pub faults : m.totals.faults ≤ 3 * m.totals.octets
   pub held : length m.header ≤ m.totals.octets
 
-module _ (octets p : List ℕ) (C : Table) (l : Listed) (s : Spells octets C l p) where
-  abbrev R : Reading
-  R = message_reading C l
+module _ (octets p : List ℕ) (C : Table) (l : Listed) (most : ℕ) (s : Spells octets C l most p) where
+  abbrev R : Rules
+  R = rules C l most
 
-  causal : IsCausal R
+  causal : IsCausal R.reading
   causal = is_causal (said_by C l)
 
-  laws : IsInTurn R
+  laws : IsInTurn R.reading
   laws = in_turn C l
 
   totals_are : s.memory.totals ≡ tally R p
@@ -159,12 +159,12 @@ module _ (octets p : List ℕ) (C : Table) (l : Listed) (s : Spells octets C l p
   unfolding state_of
   free none = free_stop (cut p).stop (sym s.shows.stopped ∙ none)
 
-  pub few_slots : length s.memory.slots.slots.items ≤ most_open
+  pub few_slots : length s.memory.slots.slots.items ≤ most
   unfolding state_of
   few_slots =
       let K = octets_of R p in
-      let many = are_as_many C l s.memory.slots.slots.items (slots_of K (open_after p)) s.shows.slots in
-      omega (arith, many, slots_many K (open_after p), few_open p)
+      let many = are_as_many C l s.memory.slots.slots.items (slots_of K (open_after most p)) s.shows.slots in
+      omega (arith, many, slots_many K (open_after most p), few_open most p)
 
   header_is : IsWithin s.memory.totals.octets s.memory.header
   header_is = rw (totals_are, s.shows.header) (header_within R causal laws p s.stream)
@@ -178,17 +178,17 @@ module _ (octets p : List ℕ) (C : Table) (l : Listed) (s : Spells octets C l p
     held = header_is.1;
   }
 
-  pub fixed_range : HasRange (fixed_of C l s.memory)
+  pub fixed_range : most ≤ most_open → HasRange (fixed_of C l s.memory)
   unfolding fixed_of IsWithin limit
-  fixed_range =
-      let most = octets_few R p in
+  fixed_range room =
+      let few = octets_few R p in
       let twelfth = messages_few R causal laws p in
       let m = s.memory in
       record {
-        records = omega (arith, few_slots, one_own m.slots.own);
-        octets = rw totals_are (omega (arith, most));
-        messages = rw totals_are (omega (arith, most, twelfth));
-        faults = rw totals_are (omega (arith, most, twelfth, tally_faults R causal laws p, one_stop (cut p).stop));
+        records = omega (arith, few_slots, room, one_own m.slots.own);
+        octets = rw totals_are (omega (arith, few));
+        messages = rw totals_are (omega (arith, few, twelfth));
+        faults = rw totals_are (omega (arith, few, twelfth, tally_faults R causal laws p, one_stop (cut p).stop));
         place = place_range m.stopped m.header m.come header_is.0;
         owner = owner_among m.slots.payload (length m.slots.slots.items) m.slots.own;
       }

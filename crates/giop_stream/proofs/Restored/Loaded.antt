@@ -14,7 +14,8 @@ use Rattle.giop_checkpoint.specs.declared.record.Standing.TheVariants as standin
 use Rattle.giop_checkpoint.specs.Records.{Entry, EntryHasRange, entry_octets}
 use Rattle.giop_stream.specs.declared.slots.Slot.{Slot}
 use Rattle.giop_stream.specs.declared.slots.Slots.{Slots}
-use Rattle.giop_stream.specs.Events.{Title, most_open}
+use Rattle.giop_stream.specs.Rules.{most_open}
+use Rattle.giop_stream.specs.Events.{Title}
 use Rattle.giop_stream.specs.State.{Slot as Held}
 use Rattle.giop_stream.specs.Engine.{Own}
 use Rattle.giop_stream.specs.Keeping.{IsReady, IsKept, IsSlot, AreSlots}

@@ -6,8 +6,6 @@ use Rattle.std.proofs.lemmas.Option.{slice_get_within}
 use Rattle.giop_sig.specs.Table.{Table}
 use Rattle.giop_message.specs.declared.message.Message.{Message}
 use Rattle.giop_message.specs.Headers.{size, is_fragment}
-use Rattle.giop_message.specs.MessageReading.{message_reading}
-use Rattle.giop_message.specs.Reading.{Reading}
 use Rattle.giop_message.specs.Signatures.{Listed}
 use Rattle.giop_checkpoint.specs.declared.fault.StreamFault.{StreamFault}
 use Rattle.giop_checkpoint.specs.declared.fixed.Fixed.{Fixed}
@@ -18,8 +16,9 @@ use Rattle.giop_stream.specs.declared.slots.Slot.{Slot}
 use Rattle.giop_stream.specs.declared.slots.Slots.{Slots}
 use Rattle.giop_stream.specs.declared.slots.Payload.{Payload as Whose}
 use Rattle.giop_stream.specs.declared.slots.Payload.TheVariants as payload
+use Rattle.giop_stream.specs.Rules.{Rules, rules}
 use Rattle.giop_stream.specs.Framing.{cut, fault_of}
-use Rattle.giop_stream.specs.Events.{open_after, most_open}
+use Rattle.giop_stream.specs.Events.{open_after}
 use Rattle.giop_stream.specs.State.{Slot as Held, octets_of}
 use Rattle.giop_stream.specs.Engine.{State, Own, unless, state_of}
 use Rattle.giop_stream.specs.Keeping.{AreSlots}
@@ -35,12 +34,12 @@ use Rattle.giop_stream.proofs.Restored.SavedSizes.{entries_count}
 
 -- ---- the records of a checkpoint are left, and there is room for them
 
-pub spells_left : (octets p : List ℕ) (C : Table) (l : Listed) (s : Spells octets C l p) (fixed : Fixed) (records : List ℕ) →
+pub spells_left : (octets p : List ℕ) (C : Table) (l : Listed) (most : ℕ) (s : Spells octets C l most p) (fixed : Fixed) (records : List ℕ) →
     fixed ≡ fixed_of C l s.memory → records ≡ flat_map entry_octets s.entries →
-    AreLeft C l (fixed.octets + 1) fixed.records records (state_of (message_reading C l) p).slots
-    (state_of (message_reading C l) p).own
+    AreLeft C l (fixed.octets + 1) fixed.records records (state_of (rules C l most) p).slots
+    (state_of (rules C l most) p).own
 unfolding fixed_of
-spells_left octets p C l s fixed records is are =
+spells_left octets p C l most s fixed records is are =
     subst P (sym is) (record {
       kept = s.memory.slots.slots.items;
       current = s.memory.slots.own;
@@ -56,13 +55,13 @@ spells_left octets p C l s fixed records is are =
   where
     P : Fixed → Type 0
     P f =
-        AreLeft C l (f.octets + 1) f.records records (state_of (message_reading C l) p).slots
-        (state_of (message_reading C l) p).own
+        AreLeft C l (f.octets + 1) f.records records (state_of (rules C l most) p).slots
+        (state_of (rules C l most) p).own
 
-pub room_for : (R : Reading) (p : List ℕ) (bare : Slots) → bare.slots.items ≡ [] →
-    length bare.slots.items + length (state_of R p).slots ≤ most_open
+pub room_for : (R : Rules) (p : List ℕ) (bare : Slots) → bare.slots.items ≡ [] →
+    length bare.slots.items + length (state_of R p).slots ≤ R.most
 unfolding state_of
-room_for R p bare none = omega (arith, ap length none, slots_many (octets_of R p) (open_after p), few_open p)
+room_for R p bare none = omega (arith, ap length none, slots_many (octets_of R p) (open_after R.most p), few_open R.most p)
 
 -- ---- the place
 
@@ -71,7 +70,7 @@ behind_none : (found : Option (ℕ × StreamFault)) (held : List ℕ) (fault : S
 behind_none None held fault e = absurd cc
 behind_none (Some found) held fault e = refl
 
-held_behind : (R : Reading) (p : List ℕ) (fault : StreamFault) → (state_of R p).stop ≡ Some fault → (state_of R p).held ≡ []
+held_behind : (R : Rules) (p : List ℕ) (fault : StreamFault) → (state_of R p).stop ≡ Some fault → (state_of R p).held ≡ []
 unfolding state_of
 held_behind R p fault e = behind_none (cut p).stop _ fault e
 
@@ -196,19 +195,19 @@ added_all C l bare slots held none added =
     let kept : slots.slots.items ≡ added.kept = added.put ∙ ap (λ (xs : List Slot). xs ++ added.kept) none in
     subst (λ (xs : List Slot). AreSlots C l xs held) (sym kept) added.are
 
-module _ (octets p : List ℕ) (C : Table) (l : Listed) (s : Spells octets C l p) where
+module _ (octets p : List ℕ) (C : Table) (l : Listed) (most : ℕ) (s : Spells octets C l most p) where
   state : State
-  state = state_of (message_reading C l) p
+  state = state_of (rules C l most) p
 
   behind : IsBehind s.memory.stopped s.memory.header
   unfolding state
-  behind fault e = s.shows.header ∙ held_behind (message_reading C l) p fault (sym s.shows.stopped ∙ e)
+  behind fault e = s.shows.header ∙ held_behind (rules C l most) p fault (sym s.shows.stopped ∙ e)
 
   come_is : s.memory.come ≡ come_of (nat_lt (length s.memory.header) 12) s.memory.header state.left
   unfolding state come_in
   come_is =
       s.shows.come
-      ∙ ap (λ (xs : List ℕ). come_of (nat_lt (length xs) 12) xs (state_of (message_reading C l) p).left) (sym s.shows.header)
+      ∙ ap (λ (xs : List ℕ). come_of (nat_lt (length xs) 12) xs (state_of (rules C l most) p).left) (sym s.shows.header)
 
   -- whether the next octets are the current message's own, by the place that was written
   itself_now : Option StreamFault → Bool
@@ -229,7 +228,7 @@ module _ (octets p : List ℕ) (C : Table) (l : Listed) (s : Spells octets C l p
       (itself_now s.memory.stopped) many) state
   unfolding state
   payload_is many long =
-      let kept = are_as_many C l s.memory.slots.slots.items (state_of (message_reading C l) p).slots s.shows.slots in
+      let kept = are_as_many C l s.memory.slots.slots.items (state_of (rules C l most) p).slots s.shows.slots in
       let same : many ≡ length s.memory.slots.slots.items = long ∙ sym kept in
       rw same (payload_again C l s.memory.slots.payload s.memory.slots.own (length s.memory.slots.slots.items) state
       (itself_now s.memory.stopped) kept s.shows.own (s.shows.owner, s.shows.turn) itself_is)
@@ -256,8 +255,8 @@ module _ (octets p : List ℕ) (C : Table) (l : Listed) (s : Spells octets C l p
         }
 
     pub shows_again : (fixed : Fixed) → fixed ≡ fixed_of C l s.memory → IsReadAs m fixed slots →
-        HasAdded C l bare slots (state_of (message_reading C l) p).slots →
-        IsOwn C l slots.own (state_of (message_reading C l) p).own → Shows C l m (state_of (message_reading C l) p)
+        HasAdded C l bare slots (state_of (rules C l most) p).slots →
+        IsOwn C l slots.own (state_of (rules C l most) p).own → Shows C l m (state_of (rules C l most) p)
     unfolding state
     shows_again fixed e is added own = shows_fixed (subst (λ (f : Fixed). IsReadAs m f slots) e is) added own
 
@@ -266,7 +265,7 @@ module _ (octets p : List ℕ) (C : Table) (l : Listed) (s : Spells octets C l p
         long ≡ length (fields.header_in (fixed_of C l s.memory).place) → MayBe (fixed_of C l s.memory) stop long
     unfolding fixed_of
     totals_fixed stopped same =
-        let may : AreTotals s.memory = may_be_again octets p C l s in
+        let may : AreTotals s.memory = may_be_again octets p C l most s in
         let held = header_again s.memory.stopped s.memory.header s.memory.come behind in
         record {
           running = λ e. may.running (sym (stop_again s.memory.stopped s.memory.header s.memory.come) ∙ sym stopped ∙ e);

@@ -201,7 +201,7 @@ current_is m number header before after n h put = record {
 
 pub saved_is : (e v : EngineMemory) (n : ℕ) (octets written p : List ℕ) → e ≡ v → Holds e p →
     IsPutWhole v.table v.listed v.stream written → HasRoom v.table v.listed v.stream →
-    n ≡ length written → take n octets ≡ written → Saves n octets e.table e.listed p
+    n ≡ length written → take n octets ≡ written → Saves n octets e.table e.listed e.most p
 saved_is e v n octets written p same holds put room long front =
     let whole = subst (λ x. IsPutWhole x.table x.listed x.stream written) (sym same) put in
     let here = subst (λ x. HasRoom x.table x.listed x.stream) (sym same) room in

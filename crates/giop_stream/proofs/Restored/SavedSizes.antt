@@ -11,7 +11,7 @@ use Rattle.giop_checkpoint.specs.declared.sizes.TheConstants.{FRAME_SIZE}
 use Rattle.giop_checkpoint.specs.Fixed.{fixed_octets}
 use Rattle.giop_checkpoint.specs.Records.{Entry, EntryHasRange, own_octets, entry_octets}
 use Rattle.giop_checkpoint.proofs.RecordFields.{own_long}
-use Rattle.giop_stream.specs.Events.{most_open}
+use Rattle.giop_stream.specs.Rules.{most_open}
 use Rattle.giop_stream.specs.declared.slots.Slot.{Slot}
 use Rattle.giop_stream.specs.Keeping.{IsReady, AreReady}
 use Rattle.giop_stream.specs.Remembering.{Memory}

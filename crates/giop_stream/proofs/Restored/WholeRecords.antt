@@ -1,5 +1,5 @@
 -- The octets of a checkpoint are whole records behind a fixed part, and what refuses them.
-use Rattle.std.proofs.Common.{◌≡◌, ℕ, ◌+◌, ◌*◌, get_or, List, [], ◌∷◌, ◌++◌, length, flat_map, arith, inl, inr, refl, sym, ap, ◌∙◌, subst}
+use Rattle.std.proofs.Common.{◌≤◌, ◌≡◌, ℕ, ◌+◌, ◌*◌, get_or, List, [], ◌∷◌, ◌++◌, length, flat_map, arith, inl, inr, refl, sym, ap, ◌∙◌, subst}
 use Rattle.std.specs.List.{AllByRecursion as Each}
 use Rattle.std.proofs.lemmas.List.{drop_at, length-append}
 use Rattle.giop_sig.specs.Table.{Table}
@@ -12,6 +12,7 @@ use Rattle.giop_checkpoint.specs.declared.sizes.TheConstants.{FRAME_SIZE}
 use Rattle.giop_checkpoint.specs.Fixed.{HasRange, fixed_octets}
 use Rattle.giop_checkpoint.specs.Records.{Entry, EntryHasRange, AreRecords, used, kind_octets, own_octets, entry_octets}
 use Rattle.giop_checkpoint.specs.Refusals.{Refused, Passes}
+use Rattle.giop_stream.specs.Rules.{most_open}
 use Rattle.giop_stream.specs.Remembering.{Memory}
 use Rattle.giop_stream.specs.Checkpoint.{counts_of, fixed_of, checkpoint_octets, Spells, IsRefused}
 use Rattle.giop_stream.proofs.Restored.LoadRanges.{fixed_range}
@@ -41,7 +42,7 @@ fixed_counts : (C : Table) (l : Listed) (m : Memory) → (fixed_of C l m).counts
 unfolding fixed_of
 fixed_counts C l m = refl
 
-module _ (octets p : List ℕ) (C : Table) (l : Listed) (s : Spells octets C l p) where
+module _ (octets p : List ℕ) (C : Table) (l : Listed) (most : ℕ) (s : Spells octets C l most p) where
   fixed_records : AreRecords (fixed_of C l s.memory).records (flat_map entry_octets s.entries)
   unfolding fixed_of
   fixed_records =
@@ -56,13 +57,13 @@ module _ (octets p : List ℕ) (C : Table) (l : Listed) (s : Spells octets C l p
   fixed_front = s.octets_are
 
   -- what is said of any fixed part and records that were written is so of these
-  pub parts_read : (P : Fixed → List ℕ → Type 0) (counts : Counts) → counts ≡ counts_of C l →
+  pub parts_read : most ≤ most_open → (P : Fixed → List ℕ → Type 0) (counts : Counts) → counts ≡ counts_of C l →
       ((f : Fixed) (records : List ℕ) → f.counts ≡ counts → HasRange f → AreRecords f.records records →
       octets ≡ fixed_octets f ++ records → P f records) →
       P (fixed_of C l s.memory) (flat_map entry_octets s.entries)
-  parts_read P counts same again =
+  parts_read room P counts same again =
       again (fixed_of C l s.memory) (flat_map entry_octets s.entries) (fixed_counts C l s.memory ∙ sym same)
-      (fixed_range octets p C l s) fixed_records fixed_front
+      (fixed_range octets p C l most s room) fixed_records fixed_front
 
 -- ---- what is no checkpoint
 

@@ -5,13 +5,13 @@ use Rattle.std.specs.List.{list_any, AllByRecursion as Each}
 use Rattle.std.proofs.lemmas.Bool.{le-ltb, eq-eqb, ne_eqb, and_right, ltb-true}
 use Rattle.std.proofs.lemmas.List.{length_push}
 use Rattle.giop_message.specs.Headers.{size, is_fragment, has_name}
+use Rattle.giop_stream.specs.Rules.{Rules}
 use Rattle.giop_stream.specs.Framing.{Message, Cut, cut}
 use Rattle.giop_message.specs.Reading.{Saying, Value, Reading, IsInTurn, due}
 use Rattle.giop_stream.specs.Events.{Takes, Title, Event, Open, goes_past, at_header, at_octet, happens, octet, joined}
 use Rattle.giop_stream.specs.Lines.{Line, Said, line, tells, is_last_of, standing}
 use Rattle.giop_stream.specs.State.{octets_of}
-use Rattle.giop_stream.specs.Machine.{utters_kept}
-use Rattle.giop_stream.specs.Effects.{lines_of, octets_then}
+use Rattle.giop_stream.specs.Effects.{lines_of, octets_then, lines_for}
 use Rattle.giop_stream.proofs.Lists.{each_filter}
 use Rattle.giop_stream.proofs.Cuts.Cutting.{of_parts}
 use Rattle.giop_stream.proofs.Cuts.CutFrom.{settle}
@@ -53,7 +53,7 @@ one_octet at w x = rw (eq-eqb w.number w.number refl) refl
 takes_last : (R : Reading) → IsInTurn R → (at : ℕ) (w : Title) (xs : List ℕ) (x : ℕ) → has_name w.header ≡ true
     → length xs < 4 → list_any (is_last_of w.number) (lines_of R (record { place = at; whom = w; what = Takes x }) (Some xs))
     ≡ false
-unfolding lines_of utters_kept tells
+unfolding lines_of lines_for tells
 takes_last R laws at w xs x name short =
     let e : Event = record { place = at; whom = w; what = Takes x } in
     rw (one_octet at w x)
@@ -74,23 +74,23 @@ pub not_past : (m : Message) → length m.payload ≤ 4 → goes_past m ≡ fals
 unfolding goes_past
 not_past m h = and_right (is_fragment m.header) (nat_lt 4 (length m.payload)) (le-ltb 4 (length m.payload) h)
 
-pub early_octet : (live : List Open) (m : Message) → 0 < length m.payload → length m.payload < 4
-    → length m.payload < size m.header → happens live m ≡ at_octet live m
+pub early_octet : (most : ℕ) (live : List Open) (m : Message) → 0 < length m.payload → length m.payload < 4
+    → length m.payload < size m.header → happens most live m ≡ at_octet live m
 unfolding happens
-early_octet live m some few lacks =
+early_octet most live m some few lacks =
     rw (
-      happens,
+      happens most,
       ne_eqb (length m.payload) 0 (λ e. omega arith),
       ne_eqb (length m.payload) 4 (λ e. omega arith),
       ne_eqb
           (length m.payload) (size m.header) (λ e. omega arith),
     ) (append-nil (at_octet live m))
 
-pub first_octet : (live : List Open) (m : Message) → length m.payload ≡ 0 → 0 < size m.header → happens live m ≡ at_header m
+pub first_octet : (most : ℕ) (live : List Open) (m : Message) → length m.payload ≡ 0 → 0 < size m.header → happens most live m ≡ at_header m
 unfolding happens
-first_octet live m none some =
+first_octet most live m none some =
     rw (
-      happens,
+      happens most,
       eq-eqb (length m.payload) 0 none,
       ne_eqb (length m.payload) 4 (λ e. omega arith),
       ne_eqb (length m.payload)
@@ -98,7 +98,7 @@ first_octet live m none some =
     ) (append-nil (at_header m))
 
 -- what is kept of a message whose request id comes
-abbrev pub IsAlive : Reading → List ℕ → Type 0
+abbrev pub IsAlive : Rules → List ℕ → Type 0
 IsAlive R p =
     (cut p).stop ≡ None → (m : Message) → (cut p).current ≡ Some m → has_name m.header ≡ true → length m.payload < 4 → octets_of R p m.number ≡ Some m.payload
 
@@ -121,6 +121,6 @@ settled_is whole m m' h = go (nat_lt (length m.payload) (size m.header)) refl h
     go true e k = record { same = cc; lacks = ltb-true (length m.payload) (size m.header) e }
     go false e k = absurd cc
 
-pub alive_start : (R : Reading) → IsAlive R []
+pub alive_start : (R : Rules) → IsAlive R []
 unfolding of_parts
 alive_start R st m cur name few = absurd (let no : None ≡ Some m = sym (ap (λ (c : Cut). c.current) cut_nothing) ∙ cur in cc)

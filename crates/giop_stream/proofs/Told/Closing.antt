@@ -12,8 +12,7 @@ use Rattle.giop_stream.specs.declared.slots.Slot.{Slot as Kept_slot}
 use Rattle.giop_stream.specs.Events.{Title}
 use Rattle.giop_stream.specs.Text.{truncated_line}
 use Rattle.giop_stream.specs.Stream.{with_truncated}
-use Rattle.giop_stream.specs.State.{Slot}
-use Rattle.giop_stream.specs.Machine.{left_by, left_open}
+use Rattle.giop_stream.specs.State.{Slot, left_by, left_open}
 use Rattle.giop_stream.specs.Keeping.{IsKept, IsSlot, AreSlots}
 use Rattle.giop_stream.specs.Remembering.{Memory}
 use Rattle.giop_stream.specs.Engine.{State, Own}

@@ -5,7 +5,8 @@ use Rattle.std.proofs.Math.Seq.{drop-append_seam}
 use Rattle.std.proofs.lemmas.List.{take-append-le}
 use Rattle.std.proofs.lemmas.List.Elements.{All-take}
 use Rattle.giop_cdr.specs.Numbers.{AreOctets}
-use Rattle.giop_message.specs.Reading.{Reading, IsCausal, IsInTurn}
+use Rattle.giop_message.specs.Reading.{IsCausal, IsInTurn}
+use Rattle.giop_stream.specs.Rules.{Rules}
 use Rattle.giop_stream.specs.Text.{lines_text}
 use Rattle.giop_stream.specs.Stream.{text}
 use Rattle.giop_stream.specs.Holding.{added}
@@ -15,16 +16,16 @@ use Rattle.giop_stream.proofs.Keep.Performing.{text_append}
 use Rattle.giop_stream.proofs.Moves.EngineLaws.{run_text}
 use Rattle.giop_stream.proofs.Keep.Adding.{added_run}
 
-added_from : (R : Reading) (p q z : List ℕ) → text R (p ++ q) ≡ text R p ++ z → added R p q ≡ z
+added_from : (R : Rules) (p q z : List ℕ) → text R (p ++ q) ≡ text R p ++ z → added R p q ≡ z
 unfolding added
 added_from R p q z e = ap (drop (length (text R p))) e ∙ drop-append_seam (text R p) z
 
 -- the text of a stream, and then what more octets add to it
-pub text_adds : (R : Reading) → IsCausal R → IsInTurn R → (p q : List ℕ) → text R (p ++ q) ≡ text R p ++ added R p q
+pub text_adds : (R : Rules) → IsCausal R.reading → IsInTurn R.reading → (p q : List ℕ) → text R (p ++ q) ≡ text R p ++ added R p q
 text_adds R causal laws p q = run_text R causal laws p q ∙ ap (λ (z : List ℕ). text R p ++ z) (sym (added_run R causal laws p q))
 
 -- what octets add, and then others
-pub added_both : (R : Reading) → IsCausal R → IsInTurn R → (p q r : List ℕ) → added R p (q ++ r) ≡ added R p q ++ added R (p ++ q) r
+pub added_both : (R : Rules) → IsCausal R.reading → IsInTurn R.reading → (p q r : List ℕ) → added R p (q ++ r) ≡ added R p q ++ added R (p ++ q) r
 added_both R causal laws p q r =
     added_from R p (q ++ r) (added R p q ++ added R (p ++ q) r)
     (ap (text R) (sym (append_assoc p q r))
@@ -33,21 +34,21 @@ added_both R causal laws p q r =
 
 -- ---- A run, and then another.
 
-pub run_state_on : (R : Reading) (s : State) (q r : List ℕ) → run_state R s (q ++ r) ≡ run_state R (run_state R s q) r
+pub run_state_on : (R : Rules) (s : State) (q r : List ℕ) → run_state R s (q ++ r) ≡ run_state R (run_state R s q) r
 unfolding run_state
 run_state_on R s [] r = refl
 run_state_on R s (x ∷ q) r = run_state_on R (step R s x).state q r
 
-run_on : (R : Reading) (s : State) (q r : List ℕ) → run R s (q ++ r) ≡ run R s q ++ run R (run_state R s q) r
+run_on : (R : Rules) (s : State) (q r : List ℕ) → run R s (q ++ r) ≡ run R s q ++ run R (run_state R s q) r
 unfolding run run_state
 run_on R s [] r = refl
 run_on R s (x ∷ q) r =
     rw (run_on R (step R s x).state q r) (sym (append_assoc (step R s x).lines (run R (step R s x).state q) (run R (run_state R (step R s x).state q) r)))
 
-pub run_text_on : (R : Reading) (s : State) (q r : List ℕ) → lines_text (run R s (q ++ r)) ≡ lines_text (run R s q) ++ lines_text (run R (run_state R s q) r)
+pub run_text_on : (R : Rules) (s : State) (q r : List ℕ) → lines_text (run R s (q ++ r)) ≡ lines_text (run R s q) ++ lines_text (run R (run_state R s q) r)
 run_text_on R s q r = ap lines_text (run_on R s q r) ∙ text_append (run R s q) (run R (run_state R s q) r)
 
-pub one_run : (R : Reading) (s : State) (x : ℕ) → runs R s (x ∷ []) ≡ step R s x
+pub one_run : (R : Rules) (s : State) (x : ℕ) → runs R s (x ∷ []) ≡ step R s x
 unfolding run run_state
 one_run R s x = λ j. record { state = (step R s x).state; lines = append-nil (step R s x).lines j }
 
@@ -70,7 +71,7 @@ octets_come come left piece e h =
     subst AreOctets front (All-take (λ x. x < 256) (length come) piece h)
 
 -- and what it has written so far
-pub run_within : (R : Reading) (s : State) (come q left piece : List ℕ) → piece ≡ (come ++ q) ++ left
+pub run_within : (R : Rules) (s : State) (come q left piece : List ℕ) → piece ≡ (come ++ q) ++ left
     → (more : List ℕ) × (lines_text (run R s piece)
     ≡ (lines_text (run R s come) ++ lines_text (run R (run_state R s come) q)) ++ more)
 run_within R s come q left piece e = (

@@ -4,11 +4,13 @@ use Rattle.std.specs.Prelude.{◌==◌, if◌then◌else◌, ◌||◌, flat_map}
 use Rattle.std.specs.List.{filter, list_any, AllByRecursion as Each}
 use Rattle.std.proofs.lemmas.Bool.{or_cases, or_right, or_left, and_parts, eq-eqb, eqb-true}
 use Rattle.giop_message.specs.Reading.{Saying, Reading, IsEnding, is_last}
+use Rattle.giop_stream.specs.Rules.{Rules}
 use Rattle.giop_stream.specs.Events.{Happening, Begins, Takes, Opens, Continues, Cancelled, Imposed, Closes, Event, events, joined}
 use Rattle.giop_stream.specs.Lines.{Class, Start, Said_value, Said_call, Continuing, Cancelling, Imposing, Said_rest, Said_fault, Said_end, Stop, rank, Said, class_of, Line, line, tells, classes, by_class, is_last_of, standing, said}
 use Rattle.giop_stream.specs.Stream.{is_over}
 use Rattle.giop_stream.specs.State.{Kept, octets_of}
-use Rattle.giop_stream.specs.Machine.{taking, utters_kept, utters, now_written}
+use Rattle.giop_stream.specs.Effects.{kept_with, lines_for}
+use Rattle.giop_stream.proofs.Told.Together.{all_lines, sorted_lines}
 use Rattle.giop_stream.proofs.Lists.{each_weaker, any_append}
 
 -- A line stays in the order by class.
@@ -138,52 +140,52 @@ tells_final R ending e so_far all (Opens i) h = absurd cc
 tells_final R ending e so_far all (Continues i) h = absurd cc
 
 kept_final : (R : Reading) → IsEnding R → (e : Event) (o : Option (List ℕ)) (xs : List ℕ) → o ≡ Some xs
-    → is_final e.what ≡ true → list_any (is_last_of e.whom.number) (utters_kept R e o) ≡ true
-unfolding utters_kept
+    → is_final e.what ≡ true → list_any (is_last_of e.whom.number) (lines_for R e o) ≡ true
+unfolding lines_for
 kept_final R ending e None xs k h = absurd cc
 kept_final R ending e (Some ys) xs k h = tells_final R ending e ys (ys ++ joined e.whom.number (e ∷ [])) e.what h
 
 Ends : Reading → Kept → List Event → Event → Type 0
-Ends R K es e = is_final e.what ≡ true → (xs : List ℕ) → K e.whom.number ≡ Some xs → list_any (is_last_of e.whom.number) (utters R K es) ≡ true
+Ends R K es e = is_final e.what ≡ true → (xs : List ℕ) → K e.whom.number ≡ Some xs → list_any (is_last_of e.whom.number) (all_lines R K es) ≡ true
 
-taking_some : (K : Kept) (e : Event) (i : ℕ) (xs : List ℕ) → K i ≡ Some xs → taking K (e ∷ []) i ≡ Some (xs ++ joined i (e ∷ []))
-unfolding taking
-taking_some K e i xs h = rw h refl
+with_some : (K : Kept) (e : Event) (i : ℕ) (xs : List ℕ) → K i ≡ Some xs → kept_with K (e ∷ []) i ≡ Some (xs ++ joined i (e ∷ []))
+unfolding kept_with
+with_some K e i xs h = rw h refl
 
 ends_first : (R : Reading) → IsEnding R → (K : Kept) (e : Event) (es : List Event) → Ends R K (e ∷ es) e
-unfolding Ends utters
+unfolding Ends all_lines
 ends_first R ending K e es h xs k =
-    any_left (is_last_of e.whom.number) (utters_kept R e (K e.whom.number)) (utters R (taking K (e ∷ [])) es) (kept_final R ending e (K e.whom.number) xs k h)
+    any_left (is_last_of e.whom.number) (lines_for R e (K e.whom.number)) (all_lines R (kept_with K (e ∷ [])) es) (kept_final R ending e (K e.whom.number) xs k h)
 
-ends_more : (R : Reading) (K : Kept) (e : Event) (es : List Event) (d : Event) → Ends R (taking K (e ∷ [])) es d → Ends R K (e ∷ es) d
-unfolding Ends utters
+ends_more : (R : Reading) (K : Kept) (e : Event) (es : List Event) (d : Event) → Ends R (kept_with K (e ∷ [])) es d → Ends R K (e ∷ es) d
+unfolding Ends all_lines
 ends_more R K e es d f h xs k =
-    any_right (is_last_of d.whom.number) (utters_kept R e (K e.whom.number)) (utters R (taking K (e ∷ [])) es)
-    (f h (xs ++ joined d.whom.number (e ∷ [])) (taking_some K e d.whom.number xs k))
+    any_right (is_last_of d.whom.number) (lines_for R e (K e.whom.number)) (all_lines R (kept_with K (e ∷ [])) es)
+    (f h (xs ++ joined d.whom.number (e ∷ [])) (with_some K e d.whom.number xs k))
 
 all_end : (R : Reading) → IsEnding R → (K : Kept) (es : List Event) → Each (Ends R K es) es
 all_end R ending K [] = tt
 all_end R ending K (e ∷ es) = (
   ends_first R ending K e es,
-  each_weaker (Ends R (taking K (e ∷ [])) es) (Ends R K (e ∷ es))
-      (λ d. ends_more R K e es d) es (all_end R ending (taking K (e ∷ [])) es),
+  each_weaker (Ends R (kept_with K (e ∷ [])) es) (Ends R K (e ∷ es))
+      (λ d. ends_more R K e es d) es (all_end R ending (kept_with K (e ∷ [])) es),
 )
 
-pub is_over_grows : (R : Reading) (p p' : List ℕ) (ls : List Line) (i : ℕ) → said R p' ≡ said R p ++ ls
+pub is_over_grows : (R : Rules) (p p' : List ℕ) (ls : List Line) (i : ℕ) → said R p' ≡ said R p ++ ls
     → is_over R p' i ≡ (is_over R p i || list_any (is_last_of i) ls)
 unfolding is_over
 is_over_grows R p p' ls i sd = rw sd (any_append (is_last_of i) (said R p) ls)
 
-pub octets_known : (R : Reading) (p : List ℕ) (i : ℕ) → is_over R p i ≡ false → octets_of R p i ≡ Some (joined i (events p))
+pub octets_known : (R : Rules) (p : List ℕ) (i : ℕ) → is_over R p i ≡ false → octets_of R p i ≡ Some (joined i (events R.most p))
 unfolding octets_of
 octets_known R p i h = rw h refl
 
 unfoldable pub Dead : (ℕ → Bool) → Event → Type 0
 Dead over e = is_final e.what ≡ true → over e.whom.number ≡ true
 
-dead_by : (R : Reading) (p p' : List ℕ) (es : List Event) → said R p' ≡ said R p ++ now_written R (octets_of R p) es
-    → (e : Event) → Ends R (octets_of R p) es e → Dead (is_over R p') e
-unfolding Ends Dead now_written
+dead_by : (R : Rules) (p p' : List ℕ) (es : List Event) → said R p' ≡ said R p ++ sorted_lines R.reading (octets_of R p) es
+    → (e : Event) → Ends R.reading (octets_of R p) es e → Dead (is_over R p') e
+unfolding Ends Dead sorted_lines
 dead_by R p p' es sd e ends h = go (is_over R p i) refl
   where
     i : ℕ
@@ -192,11 +194,11 @@ dead_by R p p' es sd e ends h = go (is_over R p i) refl
     go : (b : Bool) → is_over R p i ≡ b → is_over R p' i ≡ true
     go true k = is_over_grows R p p' _ i sd ∙ or_left (is_over R p i) _ k
     go false k =
-        let uttered = ends h (joined i (events p)) (octets_known R p i k) in
+        let uttered = ends h (joined i (events R.most p)) (octets_known R p i k) in
         is_over_grows R p p' _ i sd ∙ or_right (is_over R p i) _
-        (last_stands i (λ j. false) (by_class (utters R (octets_of R p) es)) refl
-        (any_by_class (is_last_of i) (utters R (octets_of R p) es) uttered))
+        (last_stands i (λ j. false) (by_class (all_lines R.reading (octets_of R p) es)) refl
+        (any_by_class (is_last_of i) (all_lines R.reading (octets_of R p) es) uttered))
 
-pub dead : (R : Reading) → IsEnding R → (p p' : List ℕ) (es : List Event)
-    → said R p' ≡ said R p ++ now_written R (octets_of R p) es → Each (Dead (is_over R p')) es
-dead R ending p p' es sd = each_weaker (Ends R (octets_of R p) es) (Dead (is_over R p')) (dead_by R p p' es sd) es (all_end R ending (octets_of R p) es)
+pub dead : (R : Rules) → IsEnding R.reading → (p p' : List ℕ) (es : List Event)
+    → said R p' ≡ said R p ++ sorted_lines R.reading (octets_of R p) es → Each (Dead (is_over R p')) es
+dead R ending p p' es sd = each_weaker (Ends R.reading (octets_of R p) es) (Dead (is_over R p')) (dead_by R p p' es sd) es (all_end R.reading ending (octets_of R p) es)

@@ -5,8 +5,9 @@ use Rattle.std.specs.List.{filter, AllByRecursion as Each}
 use Rattle.std.proofs.lemmas.Bool.{cases_eq, eqb-true, ne_eqb, and_parts}
 use Rattle.std.proofs.lemmas.List.{length_push}
 use Rattle.std.proofs.lemmas.List.Elements.{filter-append}
+use Rattle.giop_stream.specs.Rules.{Rules}
 use Rattle.giop_stream.specs.Framing.{Cut}
-use Rattle.giop_message.specs.Reading.{Reading, IsCausal, IsInTurn}
+use Rattle.giop_message.specs.Reading.{IsCausal, IsInTurn}
 use Rattle.giop_stream.specs.Lines.{Class, rank, Line, has_class, lines}
 use Rattle.giop_stream.specs.Effects.{Tracked}
 use Rattle.giop_stream.specs.Octet.{Octet, Behind, Ends, Held, Of}
@@ -38,16 +39,16 @@ one_at_most test n h (l ∷ ls) r = go (test l) refl (one_at_most test n h ls r.
 
 -- ---- The lines that an octet adds.
 
-record More (R : Reading) (p : List ℕ) (x : ℕ) : Type 0 where
+record More (R : Rules) (p : List ℕ) (x : ℕ) : Type 0 where
   more : List Line
   grows : lines R (p ++ x ∷ []) ≡ lines R p ++ more
   here : Each (λ l. l.place ≡ suc (length p)) more
   rises : Rises more
 
-more_of : (R : Reading) (p : List ℕ) (x : ℕ) (c : Cut) (ls : List Line) (tracked : Tracked) → Adds R p (p ++ x ∷ []) c ls tracked → More R p x
+more_of : (R : Rules) (p : List ℕ) (x : ℕ) (c : Cut) (ls : List Line) (tracked : Tracked) → Adds R p (p ++ x ∷ []) c ls tracked → More R p x
 more_of R p x c ls tracked h = record { more = ls; grows = h.lines; here = h.here; rises = h.rises }
 
-more_by : (R : Reading) (p : List ℕ) (x : ℕ) (o : Octet) → Then R p x o → More R p x
+more_by : (R : Rules) (p : List ℕ) (x : ℕ) (o : Octet) → Then R p x o → More R p x
 more_by R p x Behind h = more_of R p x _ _ _ h.2
 more_by R p x (Ends fault) h = more_of R p x _ _ _ h.1
 more_by R p x (Held front) h = more_of R p x _ _ _ h.2
@@ -58,7 +59,7 @@ more_by R p x (Of now) h = more_of R p x _ _ _ h.1.adds
 abbrev is_at : ℕ → Class → Line → Bool
 is_at k c l = (l.place == k) && has_class c l
 
-record Apart (R : Reading) (p : List ℕ) : Type 0 where
+record Apart (R : Rules) (p : List ℕ) : Type 0 where
   places : Each (λ l. l.place ≤ length p) (lines R p)
   one : (k : ℕ) (c : Class) → length (filter (is_at k c) (lines R p)) ≤ 1
 
@@ -68,7 +69,7 @@ is_ranked k c l h = eqb-true (rank_of l) (rank c) (and_parts (l.place == k) (has
 elsewhere : (k : ℕ) (c : Class) (l : Line) → (l.place ≡ k → ⊥) → is_at k c l ≡ false
 elsewhere k c l h = rw (ne_eqb l.place k h) refl
 
-apart_more : (R : Reading) → IsCausal R → IsInTurn R → (p : List ℕ) (x : ℕ) → Apart R p → Apart R (p ++ x ∷ [])
+apart_more : (R : Rules) → IsCausal R.reading → IsInTurn R.reading → (p : List ℕ) (x : ℕ) → Apart R p → Apart R (p ++ x ∷ [])
 apart_more R causal laws p x h =
     let a = more_by R p x _ (then_is R causal laws p x (sound R causal laws p)) in
     let old = lines R p in
@@ -95,9 +96,9 @@ apart_more R causal laws p x h =
       ]);
     }
 
-apart_start : (R : Reading) → Apart R []
+apart_start : (R : Rules) → Apart R []
 apart_start R = record { places = rw (lines_nothing R) tt; one = λ k c. rw (lines_nothing R) (omega arith) }
 
-pub one_of_class : (R : Reading) → IsCausal R → IsInTurn R → (p : List ℕ) (k : ℕ) (c : Class)
+pub one_of_class : (R : Rules) → IsCausal R.reading → IsInTurn R.reading → (p : List ℕ) (k : ℕ) (c : Class)
     → length (filter (λ l. (l.place == k) && has_class c l) (lines R p)) ≤ 1
 one_of_class R causal laws p = (by_growth (Apart R) (apart_start R) (λ p x. apart_more R causal laws p x) p).one

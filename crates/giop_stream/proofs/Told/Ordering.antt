@@ -9,8 +9,8 @@ use Rattle.giop_message.specs.Reading.{Reading}
 use Rattle.giop_stream.specs.Events.{Event, opened, joined}
 use Rattle.giop_stream.specs.Lines.{Class, Start, Said_value, Said_call, Continuing, Cancelling, Imposing, Said_rest, Said_fault, Said_end, Stop, rank, class_of, Line, has_class, classes, by_class, is_last_of, standing}
 use Rattle.giop_stream.specs.State.{Kept}
-use Rattle.giop_stream.specs.Machine.{utters_kept, taking, utters, written, now_written}
-use Rattle.giop_stream.specs.Effects.{Tracked, lines_at, tracked_at, effects}
+use Rattle.giop_stream.proofs.Told.Together.{all_lines, sorted_lines}
+use Rattle.giop_stream.specs.Effects.{Tracked, lines_at, tracked_at, effects, lines_for, kept_with, kept_after}
 use Rattle.giop_stream.proofs.Lists.{filter_drops, filter_keeps, each_weaker, each_filter, any_append}
 use Rattle.giop_stream.proofs.Told.Telling.{joined_append, standing_append, standing_drops, standing_each, tells_number}
 
@@ -150,45 +150,45 @@ restricted : (ℕ → Bool) → Kept → Kept
 restricted over K i = if over i then None else K i
 
 kept_filter : (R : Reading) (over : ℕ → Bool) (e : Event) (o : Option (List ℕ)) (b : Bool) → over e.whom.number ≡ b
-    → filter (λ l. not (over l.number)) (utters_kept R e o) ≡ utters_kept R e (if b then None else o)
-unfolding utters_kept
+    → filter (λ l. not (over l.number)) (lines_for R e o) ≡ lines_for R e (if b then None else o)
+unfolding lines_for
 kept_filter R over e o true h =
-    filter_drops (λ l. not (over l.number)) (utters_kept R e o)
-    (each_weaker (λ l. over l.number ≡ true) (λ l. not (over l.number) ≡ false) (λ l k. rw k refl) (utters_kept R e o)
+    filter_drops (λ l. not (over l.number)) (lines_for R e o)
+    (each_weaker (λ l. over l.number ≡ true) (λ l. not (over l.number) ≡ false) (λ l k. rw k refl) (lines_for R e o)
     (tells_number R (λ n. over n ≡ true) e o h))
 kept_filter R over e o false h =
-    filter_keeps (λ l. not (over l.number)) (utters_kept R e o)
-    (each_weaker (λ l. over l.number ≡ false) (λ l. not (over l.number) ≡ true) (λ l k. rw k refl) (utters_kept R e o)
+    filter_keeps (λ l. not (over l.number)) (lines_for R e o)
+    (each_weaker (λ l. over l.number ≡ false) (λ l. not (over l.number) ≡ true) (λ l k. rw k refl) (lines_for R e o)
     (tells_number R (λ n. over n ≡ false) e o h))
 
-restricted_taking : (over : ℕ → Bool) (K : Kept) (es : List Event) (i : ℕ) → restricted over (taking K es) i ≡ taking (restricted over K) es i
-unfolding restricted taking
-restricted_taking over K es i = go (over i)
+restricted_with : (over : ℕ → Bool) (K : Kept) (es : List Event) (i : ℕ) → restricted over (kept_with K es) i ≡ kept_with (restricted over K) es i
+unfolding restricted kept_with
+restricted_with over K es i = go (over i)
   where
     go : (b : Bool) → (if b then None else option_map (λ xs. xs ++ joined i es) (K i)) ≡ option_map (λ xs. xs ++ joined i es) (if b then None else K i)
     go true = refl
     go false = refl
 
-same_utters : (R : Reading) (f g : Kept) (es : List Event) → ((i : ℕ) → f i ≡ g i) → utters R f es ≡ utters R g es
-same_utters R f g es h = ap (λ (k : Kept). utters R k es) (λ j i. h i j)
+same_all_lines : (R : Reading) (f g : Kept) (es : List Event) → ((i : ℕ) → f i ≡ g i) → all_lines R f es ≡ all_lines R g es
+same_all_lines R f g es h = ap (λ (k : Kept). all_lines R k es) (λ j i. h i j)
 
-utters_filter : (R : Reading) (over : ℕ → Bool) (K : Kept) (es : List Event)
-    → filter (λ l. not (over l.number)) (utters R K es) ≡ utters R (restricted over K) es
-unfolding utters restricted
-utters_filter R over K [] = refl
-utters_filter R over K (e ∷ es) =
-    filter-append (λ l. not (over l.number)) (utters_kept R e (K e.whom.number)) (utters R (taking K (e ∷ [])) es)
-    ∙ rw (kept_filter R over e (K e.whom.number) (over e.whom.number) refl, utters_filter R over (taking K (e ∷ [])) es)
-    (ap (λ (ls : List Line). utters_kept R e (if over e.whom.number then None else K e.whom.number) ++ ls)
-    (same_utters R (λ i. if over i then None else taking K (e ∷ []) i)
-    (taking (λ i. if over i then None else K i) (e ∷ [])) es (λ i. restricted_taking over K (e ∷ []) i)))
+all_lines_filter : (R : Reading) (over : ℕ → Bool) (K : Kept) (es : List Event)
+    → filter (λ l. not (over l.number)) (all_lines R K es) ≡ all_lines R (restricted over K) es
+unfolding all_lines restricted
+all_lines_filter R over K [] = refl
+all_lines_filter R over K (e ∷ es) =
+    filter-append (λ l. not (over l.number)) (lines_for R e (K e.whom.number)) (all_lines R (kept_with K (e ∷ [])) es)
+    ∙ rw (kept_filter R over e (K e.whom.number) (over e.whom.number) refl, all_lines_filter R over (kept_with K (e ∷ [])) es)
+    (ap (λ (ls : List Line). lines_for R e (if over e.whom.number then None else K e.whom.number) ++ ls)
+    (same_all_lines R (λ i. if over i then None else kept_with K (e ∷ []) i)
+    (kept_with (λ i. if over i then None else K i) (e ∷ [])) es (λ i. restricted_with over K (e ∷ []) i)))
 
 -- ---- The effects.
 
 pub record AreEffects (R : Reading) (c : Tracked) (es : List Event) : Type 0 where
-  pub lines : now_written R c.known es ≡ (effects R c es).lines
+  pub lines : sorted_lines R c.known es ≡ (effects R c es).lines
   pub live : opened c.live es ≡ (effects R c es).tracked.live
-  pub known : (i : ℕ) → written (taking c.known es) (now_written R c.known es) i ≡ (effects R c es).tracked.known i
+  pub known : (i : ℕ) → kept_after (kept_with c.known es) (sorted_lines R c.known es) i ≡ (effects R c es).tracked.known i
 
 nothing_kept : (o : Option (List ℕ)) → option_map (λ xs. xs ++ []) o ≡ o
 nothing_kept None = refl
@@ -208,15 +208,15 @@ or_none true = refl
 or_none false = refl
 
 -- the lines of the first event, then those of the others by what is kept behind it
-split_lines : (R : Reading) (K : Kept) (e : Event) (es : List Event) → Ordered (utters R K (e ∷ es))
-    → now_written R K (e ∷ es) ≡ lines_at R K e ++ now_written R (written (taking K (e ∷ [])) (lines_at R K e)) es
-unfolding now_written lines_at utters written restricted
+split_lines : (R : Reading) (K : Kept) (e : Event) (es : List Event) → Ordered (all_lines R K (e ∷ es))
+    → sorted_lines R K (e ∷ es) ≡ lines_at R K e ++ sorted_lines R (kept_after (kept_with K (e ∷ [])) (lines_at R K e)) es
+unfolding sorted_lines lines_at all_lines kept_after restricted
 split_lines R K e es h =
-    let A = utters_kept R e (K e.whom.number) in
-    let B = utters R (taking K (e ∷ [])) es in
+    let A = lines_for R e (K e.whom.number) in
+    let B = all_lines R (kept_with K (e ∷ [])) es in
     let over : ℕ → Bool = λ i. list_any (is_last_of i) (standing (λ i. false) A) in
-    let later : utters R (λ i. if over i then None else taking K (e ∷ []) i) es ≡ filter (λ l. not (over l.number)) B =
-    sym (utters_filter R over (taking K (e ∷ [])) es) in
+    let later : all_lines R (λ i. if over i then None else kept_with K (e ∷ []) i) es ≡ filter (λ l. not (over l.number)) B =
+    sym (all_lines_filter R over (kept_with K (e ∷ [])) es) in
     let sorted : by_class (filter (λ l. not (over l.number)) B) ≡ filter (λ l. not (over l.number)) B =
     ordered_stays (filter (λ l. not (over l.number)) B)
     (ordered_filter (λ l. not (over l.number)) B (ordered_right A B h)) in
@@ -224,24 +224,24 @@ split_lines R K e es h =
     (standing_append (λ i. false) A B ∙ ap (λ (ls : List Line). standing (λ i. false) A ++ ls)
     (standing_drops over over (λ i. false) B (λ i. or_none (over i))))
 
-later_ordered : (R : Reading) (K : Kept) (e : Event) (es : List Event) → Ordered (utters R K (e ∷ es))
-    → Ordered (utters R (written (taking K (e ∷ [])) (lines_at R K e)) es)
-unfolding utters written restricted
+later_ordered : (R : Reading) (K : Kept) (e : Event) (es : List Event) → Ordered (all_lines R K (e ∷ es))
+    → Ordered (all_lines R (kept_after (kept_with K (e ∷ [])) (lines_at R K e)) es)
+unfolding all_lines kept_after restricted
 later_ordered R K e es h =
     let over : ℕ → Bool = λ i. list_any (is_last_of i) (lines_at R K e) in
-    rw (← utters_filter R over (taking K (e ∷ [])) es)
-    (ordered_filter (λ l. not (over l.number)) (utters R (taking K (e ∷ [])) es)
-    (ordered_right (utters_kept R e (K e.whom.number)) (utters R (taking K (e ∷ [])) es) h))
+    rw (← all_lines_filter R over (kept_with K (e ∷ [])) es)
+    (ordered_filter (λ l. not (over l.number)) (all_lines R (kept_with K (e ∷ [])) es)
+    (ordered_right (lines_for R e (K e.whom.number)) (all_lines R (kept_with K (e ∷ [])) es) h))
 
-nothing_now : (R : Reading) (K : Kept) → now_written R K [] ≡ []
-unfolding now_written utters standing
+nothing_now : (R : Reading) (K : Kept) → sorted_lines R K [] ≡ []
+unfolding sorted_lines all_lines standing
 nothing_now R K = rw (ordered_stays [] tt) refl
 
-nothing_else : (K : Kept) (i : ℕ) → written (taking K []) [] i ≡ K i
-unfolding written taking joined
+nothing_else : (K : Kept) (i : ℕ) → kept_after (kept_with K []) [] i ≡ K i
+unfolding kept_after kept_with joined
 nothing_else K i = nothing_kept (K i)
 
-pub are_effects : (R : Reading) (c : Tracked) (es : List Event) → Ordered (utters R c.known es) → AreEffects R c es
+pub are_effects : (R : Reading) (c : Tracked) (es : List Event) → Ordered (all_lines R c.known es) → AreEffects R c es
 unfolding effects opened tracked_at
 are_effects R c [] h = record { lines = nothing_now R c.known; live = refl; known = λ i. rw (nothing_now R c.known) (nothing_else c.known i) }
 are_effects R c (e ∷ es) h =
@@ -250,16 +250,16 @@ are_effects R c (e ∷ es) h =
     let split = split_lines R c.known e es h in
     record { lines = split ∙ rw ih.lines refl; live = ih.live; known = λ i. rw split (one i) ∙ ih.known i }
   where
-    one : (i : ℕ) → written (taking c.known (e ∷ es))
-        (lines_at R c.known e ++ now_written R (written (taking c.known (e ∷ [])) (lines_at R c.known e)) es) i ≡ written
-        (taking (written (taking c.known (e ∷ [])) (lines_at R c.known e)) es)
-        (now_written R (written (taking c.known (e ∷ [])) (lines_at R c.known e)) es) i
-    one i = unfold written taking in
+    one : (i : ℕ) → kept_after (kept_with c.known (e ∷ es))
+        (lines_at R c.known e ++ sorted_lines R (kept_after (kept_with c.known (e ∷ [])) (lines_at R c.known e)) es) i ≡ kept_after
+        (kept_with (kept_after (kept_with c.known (e ∷ [])) (lines_at R c.known e)) es)
+        (sorted_lines R (kept_after (kept_with c.known (e ∷ [])) (lines_at R c.known e)) es) i
+    one i = unfold kept_after kept_with in
         rw (
           any_append (is_last_of i) (lines_at R c.known e)
-              (now_written R (written (taking c.known (e ∷ [])) (lines_at R c.known e)) es),
+              (sorted_lines R (kept_after (kept_with c.known (e ∷ [])) (lines_at R c.known e)) es),
           joined_append i (e ∷ []) es,
         )
         (kept_by (list_any (is_last_of i) (lines_at R c.known e))
-        (list_any (is_last_of i) (now_written R (written (taking c.known (e ∷ [])) (lines_at R c.known e)) es)) (c.known i)
+        (list_any (is_last_of i) (sorted_lines R (kept_after (kept_with c.known (e ∷ [])) (lines_at R c.known e)) es)) (c.known i)
         (joined i (e ∷ [])) (joined i es))

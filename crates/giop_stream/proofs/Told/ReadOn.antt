@@ -2,11 +2,12 @@
 use Rattle.std.proofs.Common.{◌≡◌, ℕ, ◌≤◌, List, [], ◌++◌, length, refl, sym, ap, ◌∙◌, append_assoc, append-nil, length-drop, arith}
 use Rattle.giop_sig.specs.Table.{Table}
 use Rattle.giop_sig.specs.Trees.{depth_of}
-use Rattle.giop_message.specs.Reading.{Reading, IsCausal, IsInTurn}
+use Rattle.giop_message.specs.Reading.{IsCausal, IsInTurn}
 use Rattle.giop_message.specs.Signatures.{Listed}
 use Rattle.giop_checkpoint.specs.declared.fixed.Fixed.{Fixed}
 use Rattle.giop_checkpoint.specs.Fixed.{HasRange, fixed_octets}
 use Rattle.giop_checkpoint.proofs.Fronts.{front_of}
+use Rattle.giop_stream.specs.Rules.{Rules, most_open}
 use Rattle.giop_stream.specs.Stream.{text, closing}
 use Rattle.giop_stream.specs.Holding.{added}
 use Rattle.giop_stream.specs.Pieces.{whole_text, remaining}
@@ -15,7 +16,7 @@ use Rattle.giop_stream.proofs.Told.Further.{text_adds}
 use Rattle.giop_stream.proofs.Restored.LoadRanges.{fixed_range, few_slots}
 use Rattle.giop_stream.proofs.Restored.SavedSizes.{HasRoom, whole_long, whole_within}
 
-pub remains : (R : Reading) → IsCausal R → IsInTurn R → (p q : List ℕ) →
+pub remains : (R : Rules) → IsCausal R.reading → IsInTurn R.reading → (p q : List ℕ) →
     text R p ++ remaining R p q ≡ whole_text R (p ++ q)
 unfolding remaining whole_text
 remains R causal laws p q =
@@ -27,13 +28,13 @@ fixed_long f range =
     let front = front_of f.counts f (fixed_octets f) [] refl range (sym (append-nil (fixed_octets f))) in
     omega (arith, front.ours.0, ap length front.rest, length-drop 96 (fixed_octets f))
 
-pub spells_within : (octets p : List ℕ) (C : Table) (l : Listed) → Spells octets C l p →
-    length octets ≤ checkpoint_limit (depth_of C.types)
-spells_within octets p C l s =
+pub spells_within : (octets p : List ℕ) (C : Table) (l : Listed) (most : ℕ) → Spells octets C l most p →
+    most ≤ most_open → length octets ≤ checkpoint_limit (depth_of C.types)
+spells_within octets p C l most s few =
     let whole : IsPutWhole C l s.memory octets = record { entries = s.entries; are = s.entries_are; put = s.octets_are } in
     let room : HasRoom C l s.memory = record {
-      fixed = fixed_long _ (fixed_range octets p C l s);
-      few = few_slots octets p C l s;
+      fixed = fixed_long _ (fixed_range octets p C l most s few);
+      few = omega (arith, few_slots octets p C l most s, few);
       ready = s.ready;
     } in
     omega (arith, whole_long C l s.memory octets whole room, whole_within C l s.memory octets whole room)

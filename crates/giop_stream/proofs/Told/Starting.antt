@@ -6,6 +6,7 @@ use Rattle.std.proofs.lemmas.Bool.{ne_eqb, eq-eqb}
 use Rattle.std.proofs.lemmas.List.Elements.{filter-append}
 use Rattle.giop_stream.specs.declared.fault.ImposedFault.{ImposedFault}
 use Rattle.giop_message.specs.Headers.{size, is_fragment}
+use Rattle.giop_stream.specs.Rules.{Rules}
 use Rattle.giop_stream.specs.Framing.{Message}
 use Rattle.giop_stream.specs.Kinds.{refused}
 use Rattle.giop_stream.specs.Events.{Happening, Begins, Takes, Opens, Continues, Cancelled, Imposed, Closes, Event, Open, title, place, id, own, about, opener_of, imposed, at_octet, at_id, at_end, happens, joined, now_of, header_acts, octet_acts, Now}
@@ -13,7 +14,8 @@ use Rattle.giop_message.specs.Reading.{Saying, Value, Call, Rest, Fault, End, Re
 use Rattle.giop_stream.specs.Lines.{Start, Content, Started, Said, Goes_on, Ended_by, Faulted, Stopped, Line, has_class, line, tells, classes, by_class, is_last_of, standing}
 use Rattle.giop_stream.specs.Stream.{is_start, start_count}
 use Rattle.giop_stream.specs.State.{Kept}
-use Rattle.giop_stream.specs.Machine.{utters_kept, taking, utters, now_written}
+use Rattle.giop_stream.specs.Effects.{lines_for, kept_with}
+use Rattle.giop_stream.proofs.Told.Together.{all_lines, sorted_lines}
 use Rattle.giop_stream.proofs.Happening.Walking.{IsLater, of_later, either}
 use Rattle.giop_stream.proofs.Lists.{each_append, each_map, filter_drops, each_weaker}
 use Rattle.giop_stream.proofs.Told.Telling.{classes_each, standing_each}
@@ -48,17 +50,17 @@ closes_none R e so_far all = each_map NoStart (λ l. line e (Said l.0 l.1)) (λ 
 Quiet : Event → Type 0
 Quiet e = (R : Reading) (so_far all : List ℕ) → Each NoStart (tells R e so_far all e.what)
 
-kept_none : (R : Reading) (e : Event) (o : Option (List ℕ)) → Quiet e → Each NoStart (utters_kept R e o)
-unfolding utters_kept Quiet
+kept_none : (R : Reading) (e : Event) (o : Option (List ℕ)) → Quiet e → Each NoStart (lines_for R e o)
+unfolding lines_for Quiet
 kept_none R e None h = tt
 kept_none R e (Some xs) h = h R xs (xs ++ joined e.whom.number (e ∷ []))
 
-utters_none : (R : Reading) (K : Kept) (es : List Event) → Each Quiet es → Each NoStart (utters R K es)
-unfolding utters
-utters_none R K [] h = tt
-utters_none R K (e ∷ es) h =
-    each_append NoStart (utters_kept R e (K e.whom.number)) (utters R (taking K (e ∷ [])) es)
-    (kept_none R e (K e.whom.number) h.0) (utters_none R (taking K (e ∷ [])) es h.1)
+all_lines_none : (R : Reading) (K : Kept) (es : List Event) → Each Quiet es → Each NoStart (all_lines R K es)
+unfolding all_lines
+all_lines_none R K [] h = tt
+all_lines_none R K (e ∷ es) h =
+    each_append NoStart (lines_for R e (K e.whom.number)) (all_lines R (kept_with K (e ∷ [])) es)
+    (kept_none R e (K e.whom.number) h.0) (all_lines_none R (kept_with K (e ∷ [])) es h.1)
 
 -- ---- What tells no start, and so what each part of an octet does but the first.
 
@@ -100,27 +102,27 @@ quiet_octet now other =
     (quiet_about now other (Takes now.octet) (calm_takes now.octet)) (quiet_own now (Takes now.octet) (calm_takes now.octet))
 
 -- what an octet does behind its first part
-later_part : List Open → Message → List Event
-later_part live m = (if length m.payload == 4 then at_id live m else []) ++ (if length m.payload == size m.header then at_end live m else [])
+later_part : (most : ℕ) → List Open → Message → List Event
+later_part most live m = (if length m.payload == 4 then at_id most live m else []) ++ (if length m.payload == size m.header then at_end live m else [])
 
-quiet_later : (live : List Open) (m : Message) → Each Quiet (later_part live m)
+quiet_later : (most : ℕ) (live : List Open) (m : Message) → Each Quiet (later_part most live m)
 unfolding later_part
-quiet_later live m =
-    of_later (Each Quiet) (record { none = tt; both = each_append Quiet }) live (now_of m) (id m) (opener_of live m) (record {
+quiet_later most live m =
+    of_later most (Each Quiet) (record { none = tt; both = each_append Quiet }) live (now_of m) (id m) (opener_of live m) (record {
       mine = λ what later. quiet_own (now_of m) what (calm what later);
       theirs = λ what later. quiet_about (now_of m) (opener_of live m) what (calm what later);
     })
 
-pub none_later : (R : Reading) (K : Kept) (live : List Open) (m : Message) → 0 < length m.payload → start_count (now_written R K (happens live m)) ≡ 0
-unfolding now_written by_class happens later_part
+pub none_later : (R : Rules) (K : Kept) (live : List Open) (m : Message) → 0 < length m.payload → start_count (sorted_lines R.reading K (happens R.most live m)) ≡ 0
+unfolding sorted_lines by_class happens later_part
 none_later R K live m h =
-    let es : List Event = at_octet live m ++ later_part live m in
-    let quiet : Each Quiet es = each_append Quiet (at_octet live m) (later_part live m) (quiet_octet (now_of m) (opener_of live m)) (quiet_later live m) in
-    let all : Each NoStart (utters R K es) = utters_none R K es quiet in
+    let es : List Event = at_octet live m ++ later_part R.most live m in
+    let quiet : Each Quiet es = each_append Quiet (at_octet live m) (later_part R.most live m) (quiet_octet (now_of m) (opener_of live m)) (quiet_later R.most live m) in
+    let all : Each NoStart (all_lines R.reading K es) = all_lines_none R.reading K es quiet in
     rw (ne_eqb (length m.payload) 0 (λ e. omega arith))
-    (none_count (standing (λ i. false) (flat_map (λ class. filter (has_class class) (utters R K es)) classes))
-    (standing_each NoStart (λ i. false) (flat_map (λ class. filter (has_class class) (utters R K es)) classes)
-    (classes_each NoStart (utters R K es) classes all)))
+    (none_count (standing (λ i. false) (flat_map (λ class. filter (has_class class) (all_lines R.reading K es)) classes))
+    (standing_each NoStart (λ i. false) (flat_map (λ class. filter (has_class class) (all_lines R.reading K es)) classes)
+    (classes_each NoStart (all_lines R.reading K es) classes all)))
 
 -- the start line comes before all others
 no_start_class : (ls : List Line) → Each NoStart ls → filter (has_class Start) ls ≡ []
@@ -144,9 +146,9 @@ unfolding by_class classes
 start_first l header ls e h = rw (e, no_start_class ls h) refl
 
 begun : (R : Reading) (K : Kept) (m : Message) (e : Event) (xs : List ℕ) (rest : List Event) → e.whom ≡ title m
-    → e.what ≡ Begins → K m.number ≡ Some xs → utters R K (e ∷ rest) ≡ line e (Started m.header) ∷ utters R
-    (taking K (e ∷ [])) rest
-unfolding utters utters_kept tells
+    → e.what ≡ Begins → K m.number ≡ Some xs → all_lines R K (e ∷ rest) ≡ line e (Started m.header) ∷ all_lines R
+    (kept_with K (e ∷ [])) rest
+unfolding all_lines lines_for tells
 begun R K m e xs rest w b k = rw (w, b, k) refl
 
 first_start : (e : Event) (header : List ℕ) → is_start (line e (Started header)).content ≡ true
@@ -167,18 +169,18 @@ first_of_all : (e : Event) (header : List ℕ) (more : List Line) → Each NoSta
 unfolding line
 first_of_all e header more h = start_first (record { place = e.place; number = e.whom.number; content = Started header }) header more refl h
 
-pub one_first : (R : Reading) (K : Kept) (live : List Open) (m : Message) (xs : List ℕ) → m.payload ≡ []
-    → K m.number ≡ Some xs → start_count (now_written R K (happens live m)) ≡ 1
-unfolding now_written happens header_acts own later_part
+pub one_first : (R : Rules) (K : Kept) (live : List Open) (m : Message) (xs : List ℕ) → m.payload ≡ []
+    → K m.number ≡ Some xs → start_count (sorted_lines R.reading K (happens R.most live m)) ≡ 1
+unfolding sorted_lines happens header_acts own later_part
 one_first R K live m xs pay known =
     let e : Event = record { place = place m; whom = title m; what = Begins } in
-    let rest : List Event = imposed (now_of m) (refused m.header) ++ later_part live m in
-    let more : List Line = utters R (taking K (e ∷ [])) rest in
+    let rest : List Event = imposed (now_of m) (refused m.header) ++ later_part R.most live m in
+    let more : List Line = all_lines R.reading (kept_with K (e ∷ [])) rest in
     let none : Each NoStart more =
-    utters_none R (taking K (e ∷ [])) rest (each_append Quiet (imposed (now_of m) (refused m.header)) (later_part live m)
-    (quiet_imposed (now_of m) (refused m.header)) (quiet_later live m)) in
+    all_lines_none R.reading (kept_with K (e ∷ [])) rest (each_append Quiet (imposed (now_of m) (refused m.header)) (later_part R.most live m)
+    (quiet_imposed (now_of m) (refused m.header)) (quiet_later R.most live m)) in
     let empty : length m.payload ≡ 0 = rw pay refl in
-    let said : utters R K (e ∷ rest) ≡ line e (Started m.header) ∷ more = begun R K m e xs rest refl refl known in
+    let said : all_lines R.reading K (e ∷ rest) ≡ line e (Started m.header) ∷ more = begun R.reading K m e xs rest refl refl known in
     let calm : Each NoStart (standing (λ i. false || is_last_of i (line e (Started m.header))) (by_class more)) =
     standing_each NoStart (λ i. false || is_last_of i (line e (Started m.header))) (by_class more) (by_class_each more none) in
     rw (eq-eqb (length m.payload) 0 empty, said, first_of_all e m.header more none)

@@ -10,7 +10,8 @@ use Rattle.giop_stream.specs.Events.{Happening, Begins, Takes, Opens, Continues,
 use Rattle.giop_message.specs.Reading.{Reading, IsCausal}
 use Rattle.giop_stream.specs.Lines.{Class, Content, Started, Said, Goes_on, Ended_by, Faulted, Line, has_class, line, tells, told, classes, by_class, in_order, is_last_of, standing}
 use Rattle.giop_stream.specs.State.{Kept}
-use Rattle.giop_stream.specs.Machine.{utters_kept, taking, utters}
+use Rattle.giop_stream.specs.Effects.{lines_for, kept_with}
+use Rattle.giop_stream.proofs.Told.Together.{all_lines}
 use Rattle.giop_stream.proofs.Lists.{filter_keeps, filter_drops, filter_swap, each_append, each_weaker, each_map, each_filter}
 
 -- The octets of a message in a longer list of events.
@@ -209,26 +210,26 @@ unfolding standing
 standing_drops over orig f [] h = refl
 standing_drops over orig f (l ∷ ls) h = drops_by over orig f l ls h (λ o g k. standing_drops o orig g ls k) (orig l.number) (f l.number) refl refl
 
--- What the machine utters: the lines of the messages that are not over, by what it keeps of them.
+-- The lines of several events: those of the messages that are not over, by what is kept of them.
 unfoldable pub keeping : (ℕ → Bool) → List Event → Kept
 keeping over past i = if over i then None else Some (joined i past)
 
-taking_one : (over : ℕ → Bool) (past : List Event) (e : Event) (i : ℕ) → taking (keeping over past) (e ∷ []) i ≡ keeping over (past ++ e ∷ []) i
-unfolding taking keeping
-taking_one over past e i = go (over i)
+with_one : (over : ℕ → Bool) (past : List Event) (e : Event) (i : ℕ) → kept_with (keeping over past) (e ∷ []) i ≡ keeping over (past ++ e ∷ []) i
+unfolding kept_with keeping
+with_one over past e i = go (over i)
   where
     go : (b : Bool) → option_map (λ xs. xs ++ joined i (e ∷ [])) (if b then None else Some (joined i past))
         ≡ (if b then None else Some (joined i (past ++ e ∷ [])))
     go true = refl
     go false = ap Some (sym (joined_append i past (e ∷ [])))
 
-utters_same : (R : Reading) (f g : Kept) (es : List Event) → ((i : ℕ) → f i ≡ g i) → utters R f es ≡ utters R g es
-utters_same R f g es h = ap (λ (k : Kept). utters R k es) (λ j i. h i j)
+all_lines_same : (R : Reading) (f g : Kept) (es : List Event) → ((i : ℕ) → f i ≡ g i) → all_lines R f es ≡ all_lines R g es
+all_lines_same R f g es h = ap (λ (k : Kept). all_lines R k es) (λ j i. h i j)
 
 one_by : (R : Reading) (over : ℕ → Bool) (past : List Event) (e : Event) (b : Bool) → over e.whom.number ≡ b
     → filter (λ l. not (over l.number)) (tells R e (joined e.whom.number past)
-    (joined e.whom.number past ++ octet e.what) e.what) ≡ utters_kept R e (keeping over past e.whom.number)
-unfolding utters_kept keeping IsOf
+    (joined e.whom.number past ++ octet e.what) e.what) ≡ lines_for R e (keeping over past e.whom.number)
+unfolding lines_for keeping IsOf
 one_by R over past e true k =
     let ls = tells R e (joined e.whom.number past) (joined e.whom.number past ++ octet e.what) e.what in
     filter_drops (λ l. not (over l.number)) ls
@@ -240,18 +241,18 @@ one_by R over past e false k =
     filter_keeps (λ l. not (over l.number)) ls
     (each_weaker (IsOf e) (λ l. not (over l.number) ≡ true) (λ l h. rw (h.1, k) refl) ls
     (tells_of R e (joined e.whom.number past) (joined e.whom.number past ++ octet e.what) e.what))
-    ∙ rw (keeping, k, utters_kept, joined_own e) refl
+    ∙ rw (keeping, k, lines_for, joined_own e) refl
 
-pub heard_utters : (R : Reading) (over : ℕ → Bool) (past es : List Event)
-    → filter (λ l. not (over l.number)) (heard R past es) ≡ utters R (keeping over past) es
-unfolding heard utters
-heard_utters R over past [] = refl
-heard_utters R over past (e ∷ es) =
+pub heard_all_lines : (R : Reading) (over : ℕ → Bool) (past es : List Event)
+    → filter (λ l. not (over l.number)) (heard R past es) ≡ all_lines R (keeping over past) es
+unfolding heard all_lines
+heard_all_lines R over past [] = refl
+heard_all_lines R over past (e ∷ es) =
     filter_append_at R over past e es
-    ∙ rw (one_by R over past e (over e.whom.number) refl, heard_utters R over (past ++ e ∷ []) es)
-    (ap (λ (ls : List Line). utters_kept R e (keeping over past e.whom.number) ++ ls)
-    (utters_same R (keeping over (past ++ e ∷ [])) (taking (keeping over past) (e ∷ [])) es
-    (λ i. sym (taking_one over past e i))))
+    ∙ rw (one_by R over past e (over e.whom.number) refl, heard_all_lines R over (past ++ e ∷ []) es)
+    (ap (λ (ls : List Line). lines_for R e (keeping over past e.whom.number) ++ ls)
+    (all_lines_same R (keeping over (past ++ e ∷ [])) (kept_with (keeping over past) (e ∷ [])) es
+    (λ i. sym (with_one over past e i))))
   where
     filter_append_at : (R : Reading) (over : ℕ → Bool) (past : List Event) (e : Event) (es : List Event)
         → filter (λ l. not (over l.number)) (heard R past (e ∷ es)) ≡ filter (λ l. not (over l.number))
@@ -263,25 +264,25 @@ heard_utters R over past (e ∷ es) =
         (heard R (past ++ e ∷ []) es)
 
 -- It is enough that what is kept agrees at the messages that the events are about.
-pub utters_agree : (R : Reading) (f g : Kept) (es : List Event) → Each (λ e. f e.whom.number ≡ g e.whom.number) es → utters R f es ≡ utters R g es
-unfolding utters taking
-utters_agree R f g [] h = refl
-utters_agree R f g (e ∷ es) h =
-    rw h.0 (ap (λ (ls : List Line). utters_kept R e (g e.whom.number) ++ ls)
-    (utters_agree R (taking f (e ∷ [])) (taking g (e ∷ [])) es
-    (each_weaker (λ d. f d.whom.number ≡ g d.whom.number) (λ d. taking f (e ∷ []) d.whom.number ≡ taking g (e ∷ []) d.whom.number)
+pub all_lines_agree : (R : Reading) (f g : Kept) (es : List Event) → Each (λ e. f e.whom.number ≡ g e.whom.number) es → all_lines R f es ≡ all_lines R g es
+unfolding all_lines kept_with
+all_lines_agree R f g [] h = refl
+all_lines_agree R f g (e ∷ es) h =
+    rw h.0 (ap (λ (ls : List Line). lines_for R e (g e.whom.number) ++ ls)
+    (all_lines_agree R (kept_with f (e ∷ [])) (kept_with g (e ∷ [])) es
+    (each_weaker (λ d. f d.whom.number ≡ g d.whom.number) (λ d. kept_with f (e ∷ []) d.whom.number ≡ kept_with g (e ∷ []) d.whom.number)
     (λ d k. ap (option_map (λ xs. xs ++ joined d.whom.number (e ∷ []))) k) es h.1)))
 
 -- The new lines that stand are those that the machine writes.
-pub standing_utters : (R : Reading) (over : ℕ → Bool) (past es : List Event)
-    → standing over (by_class (heard R past es)) ≡ standing (λ i. false) (by_class (utters R (keeping over past) es))
-standing_utters R over past es =
+pub standing_all_lines : (R : Reading) (over : ℕ → Bool) (past es : List Event)
+    → standing over (by_class (heard R past es)) ≡ standing (λ i. false) (by_class (all_lines R (keeping over past) es))
+standing_all_lines R over past es =
     standing_drops over over (λ i. false) (by_class (heard R past es)) (λ i. sym (or_false (over i)))
-    ∙ rw (by_class_filter (λ l. not (over l.number)) (heard R past es), heard_utters R over past es) refl
+    ∙ rw (by_class_filter (λ l. not (over l.number)) (heard R past es), heard_all_lines R over past es) refl
 
 -- What holds of the messages of the events holds of the lines' messages.
-pub tells_number : (R : Reading) (P : ℕ → Type 0) (e : Event) (o : Option (List ℕ)) → P e.whom.number → Each (λ l. P l.number) (utters_kept R e o)
-unfolding utters_kept IsOf
+pub tells_number : (R : Reading) (P : ℕ → Type 0) (e : Event) (o : Option (List ℕ)) → P e.whom.number → Each (λ l. P l.number) (lines_for R e o)
+unfolding lines_for IsOf
 tells_number R P e None h = tt
 tells_number R P e (Some xs) h =
     each_weaker (IsOf e) (λ l. P l.number) (λ l k. subst P (sym k.1) h)
@@ -289,27 +290,27 @@ tells_number R P e (Some xs) h =
     (tells_of R e xs (xs ++ joined e.whom.number (e ∷ [])) e.what)
 
 -- and what holds of their places
-tells_place : (R : Reading) (P : ℕ → Type 0) (e : Event) (o : Option (List ℕ)) → P e.place → Each (λ l. P l.place) (utters_kept R e o)
-unfolding utters_kept IsOf
+tells_place : (R : Reading) (P : ℕ → Type 0) (e : Event) (o : Option (List ℕ)) → P e.place → Each (λ l. P l.place) (lines_for R e o)
+unfolding lines_for IsOf
 tells_place R P e None h = tt
 tells_place R P e (Some xs) h =
     each_weaker (IsOf e) (λ l. P l.place) (λ l k. subst P (sym k.0) h)
     (tells R e xs (xs ++ joined e.whom.number (e ∷ [])) e.what)
     (tells_of R e xs (xs ++ joined e.whom.number (e ∷ [])) e.what)
 
-pub utters_places : (R : Reading) (P : ℕ → Type 0) (known : Kept) (es : List Event) → Each (λ e. P e.place) es → Each (λ l. P l.place) (utters R known es)
-unfolding utters
-utters_places R P known [] h = tt
-utters_places R P known (e ∷ es) h =
-    each_append (λ l. P l.place) (utters_kept R e (known e.whom.number)) (utters R (taking known (e ∷ [])) es)
-    (tells_place R P e (known e.whom.number) h.0) (utters_places R P (taking known (e ∷ [])) es h.1)
+pub all_lines_places : (R : Reading) (P : ℕ → Type 0) (known : Kept) (es : List Event) → Each (λ e. P e.place) es → Each (λ l. P l.place) (all_lines R known es)
+unfolding all_lines
+all_lines_places R P known [] h = tt
+all_lines_places R P known (e ∷ es) h =
+    each_append (λ l. P l.place) (lines_for R e (known e.whom.number)) (all_lines R (kept_with known (e ∷ [])) es)
+    (tells_place R P e (known e.whom.number) h.0) (all_lines_places R P (kept_with known (e ∷ [])) es h.1)
 
-utters_each : (R : Reading) (P : ℕ → Type 0) (known : Kept) (es : List Event) → Each (λ e. P e.whom.number) es → Each (λ l. P l.number) (utters R known es)
-unfolding utters
-utters_each R P known [] h = tt
-utters_each R P known (e ∷ es) h =
-    each_append (λ l. P l.number) (utters_kept R e (known e.whom.number)) (utters R (taking known (e ∷ [])) es)
-    (tells_number R P e (known e.whom.number) h.0) (utters_each R P (taking known (e ∷ [])) es h.1)
+all_lines_each : (R : Reading) (P : ℕ → Type 0) (known : Kept) (es : List Event) → Each (λ e. P e.whom.number) es → Each (λ l. P l.number) (all_lines R known es)
+unfolding all_lines
+all_lines_each R P known [] h = tt
+all_lines_each R P known (e ∷ es) h =
+    each_append (λ l. P l.number) (lines_for R e (known e.whom.number)) (all_lines R (kept_with known (e ∷ [])) es)
+    (tells_number R P e (known e.whom.number) h.0) (all_lines_each R P (kept_with known (e ∷ [])) es h.1)
 
 pub classes_each : (P : Line → Type 0) (ls : List Line) (cs : List Class) → Each P ls → Each P (flat_map (λ c. filter (has_class c) ls) cs)
 classes_each P ls [] h = tt
@@ -328,10 +329,10 @@ standing_each P over (l ∷ ls) h =
     (standing_each P over ls h.1) (standing_each P (λ i. over i || is_last_of i l) ls h.1)
 
 pub written_each : (R : Reading) (P : ℕ → Type 0) (known : Kept) (es : List Event) → Each (λ e. P e.whom.number) es
-    → Each (λ l. P l.number) (standing (λ i. false) (by_class (utters R known es)))
+    → Each (λ l. P l.number) (standing (λ i. false) (by_class (all_lines R known es)))
 unfolding by_class
 written_each R P known es h =
-    standing_each (λ l. P l.number) (λ i. false) _ (classes_each (λ l. P l.number) (utters R known es) classes (utters_each R P known es h))
+    standing_each (λ l. P l.number) (λ i. false) _ (classes_each (λ l. P l.number) (all_lines R known es) classes (all_lines_each R P known es h))
 
 none_last_by : (i : ℕ) (l : Line) → l.number < i → is_last_of i l ≡ false
 unfolding is_last_of

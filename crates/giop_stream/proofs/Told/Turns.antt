@@ -6,13 +6,14 @@ use Rattle.std.specs.List.{AllByRecursion as Each}
 use Rattle.std.proofs.lemmas.Bool.{cases_lt, cases_eq, le-ltb, lt-ltb, eq-eqb, ne_eqb, and_parts, and_right}
 use Rattle.std.proofs.lemmas.List.{append-nil, length_push}
 use Rattle.giop_message.specs.Headers.{has_more, size, is_fragment, is_opener, is_cancel, has_name}
+use Rattle.giop_stream.specs.Rules.{Rules}
 use Rattle.giop_stream.specs.Framing.{Message}
 use Rattle.giop_message.specs.Reading.{Saying, Value, Fault, Reading, due, IsInTurn}
-use Rattle.giop_stream.specs.Effects.{IsBegun}
+use Rattle.giop_stream.specs.Effects.{IsBegun, lines_for, kept_with}
 use Rattle.giop_stream.specs.Events.{Happening, Begins, Takes, Closes, Title, Event, Open, title, place, own, about, opener_of, goes_past, at_header, at_octet, at_id, at_end, happens, octet, joined, now_of, header_acts, octet_acts, id_acts, end_acts, acts, Now}
 use Rattle.giop_stream.specs.Lines.{Line, Said, line, tells, is_last_of, standing}
 use Rattle.giop_stream.specs.State.{Kept}
-use Rattle.giop_stream.specs.Machine.{utters_kept, taking, utters}
+use Rattle.giop_stream.proofs.Told.Together.{all_lines}
 use Rattle.giop_stream.proofs.Lists.{each_filter}
 use Rattle.giop_stream.proofs.Told.Ordering.{rank_of, Rises, Fine, fine_of}
 use Rattle.giop_stream.proofs.Told.Spans.{Spans, spans_none, said_rank, SayingsRise, rank_said, said_each, said_rises, said_spans, both_say, value_spans}
@@ -73,8 +74,8 @@ event at whom what = record { place = at; whom = whom; what = what }
 module _ (R : Reading) (laws : IsInTurn R) where
   pair_by : (at : ℕ) (whom : Title) (x : ℕ) (o : Option (List ℕ))
       → (let take = event at whom (Takes x) in let more = option_map (λ xs. xs ++ joined whom.number (take ∷ [])) o in
-      Fine (utters_kept R take o ++ utters_kept R (event at whom Closes) more))
-  unfolding utters_kept tells
+      Fine (lines_for R take o ++ lines_for R (event at whom Closes) more))
+  unfolding lines_for tells
   pair_by at whom x None = fine_none
   pair_by at whom x (Some xs) =
       let all = xs ++ x ∷ [] in
@@ -85,25 +86,25 @@ module _ (R : Reading) (laws : IsInTurn R) where
       (both_say _ _ (laws.ordered.ordered header all (suc (length xs))) (laws.closing.closed header all)
       (laws.closing.over header xs x) (laws.closing.one_rest header xs x)))
 
-  pair_fine_at : (K : Kept) (at : ℕ) (whom : Title) (x : ℕ) → Fine (utters R K (event at whom (Takes x) ∷ event at whom Closes ∷ []))
-  unfolding utters taking
+  pair_fine_at : (K : Kept) (at : ℕ) (whom : Title) (x : ℕ) → Fine (all_lines R K (event at whom (Takes x) ∷ event at whom Closes ∷ []))
+  unfolding all_lines kept_with
   pair_fine_at K at whom x = rw (append-nil) (pair_by at whom x (K whom.number))
 
-  takes_alone : (K : Kept) (at : ℕ) (whom : Title) (x : ℕ) → Fine (utters R K (event at whom (Takes x) ∷ []))
+  takes_alone : (K : Kept) (at : ℕ) (whom : Title) (x : ℕ) → Fine (all_lines R K (event at whom (Takes x) ∷ []))
   unfolding Always
   takes_alone K at whom x = fine_of _ (always_one R 1 7 (event at whom (Takes x)) (tells_takes R laws.ordered x) K).rises
 
   -- the octet of a message, and perhaps its close
   takes_then : (K : Kept) (now : Now) (x : ℕ) (b : Bool) (es : List Event) → (es ≡ []) ⊎ (es ≡ own now Closes)
-      → Fine (utters R K (own now (Takes x) ++ (if b then es else [])))
+      → Fine (all_lines R K (own now (Takes x) ++ (if b then es else [])))
   unfolding own
   takes_then K now x false es h = takes_alone K now.place now.whom x
   takes_then K now x true es (inl h) = rw h (takes_alone K now.place now.whom x)
   takes_then K now x true es (inr h) = rw h (pair_fine_at K now.place now.whom x)
 
   passes_then : (K : Kept) (now : Now) (o : Option Open) (x : ℕ) (b : Bool) (es : List Event)
-      → (es ≡ []) ⊎ (es ≡ about now o Closes) → Fine (utters R K (about now o (Takes x) ++ (if b then es else [])))
-  unfolding about utters
+      → (es ≡ []) ⊎ (es ≡ about now o Closes) → Fine (all_lines R K (about now o (Takes x) ++ (if b then es else [])))
+  unfolding about all_lines
   passes_then K now None x false es h = fine_none
   passes_then K now None x true es (inl h) = rw h fine_none
   passes_then K now None x true es (inr h) = rw h fine_none
@@ -113,8 +114,8 @@ module _ (R : Reading) (laws : IsInTurn R) where
 
   -- the first octets of a message that begins with its request id
   named_takes : (at : ℕ) (whom : Title) (x : ℕ) (o : Option (List ℕ)) → has_name whom.header ≡ true
-      → ((xs : List ℕ) → o ≡ Some xs → length xs < 4) → Spans 1 1 (utters_kept R (event at whom (Takes x)) o)
-  unfolding utters_kept tells
+      → ((xs : List ℕ) → o ≡ Some xs → length xs < 4) → Spans 1 1 (lines_for R (event at whom (Takes x)) o)
+  unfolding lines_for tells
   named_takes at whom x None k few = spans_none 1 1
   named_takes at whom x (Some xs) k few =
       let short = few xs refl in
@@ -160,9 +161,9 @@ unnamed header h = go (is_opener header) (is_fragment header) (is_cancel header)
     go false false true h = absurd cc
     go false false false h = (refl, refl, refl)
 
-unnamed_id : (live : List Open) (m : Message) → has_name m.header ≡ false → at_id live m ≡ []
+unnamed_id : (most : ℕ) (live : List Open) (m : Message) → has_name m.header ≡ false → at_id most live m ≡ []
 unfolding id_acts
-unnamed_id live m h = let parts = unnamed m.header h in rw (id_acts, parts.0, parts.1, parts.2) refl
+unnamed_id most live m h = let parts = unnamed m.header h in rw (id_acts, parts.0, parts.1, parts.2) refl
 
 -- no message with an octet behind its request id is too short for one
 not_short : (m : Message) → (has_name m.header ≡ false) ⊎ (4 ≤ size m.header) → ends_short m ≡ false
@@ -176,7 +177,7 @@ short_begins R m short =
     let named : has_name m.header ≡ true = rw ((and_parts (nat_lt (size m.header) 4) (is_opener m.header || is_fragment m.header) short).1) refl in
     rw (named_accepted m.header named) (always_own R 0 0 (now_of m) Begins (tells_begins R))
 
-module _ (R : Reading) (laws : IsInTurn R) (K : Kept) (live : List Open) (m : Message) where
+module _ (R : Rules) (laws : IsInTurn R.reading) (K : Kept) (live : List Open) (m : Message) where
   abbrev x : ℕ
   x = (now_of m).octet
 
@@ -185,14 +186,14 @@ module _ (R : Reading) (laws : IsInTurn R) (K : Kept) (live : List Open) (m : Me
   close = if length m.payload == size m.header then at_end live m else []
 
   abbrev IsFine : Type 0
-  IsFine = Fine (utters R K (happens live m))
+  IsFine = Fine (all_lines R.reading K (happens R.most live m))
 
   own_named : has_name m.header ≡ true → 0 < length m.payload → length m.payload ≤ 4 → IsBegun K m
-      → Spans 1 1 (utters R K (own (now_of m) (Takes x)))
-  unfolding own utters
+      → Spans 1 1 (all_lines R.reading K (own (now_of m) (Takes x)))
+  unfolding own all_lines
   own_named k some short begun =
-      subst (Spans 1 1) (sym (append-nil (utters_kept R (event (place m) (title m) (Takes x)) (K m.number))))
-      (named_takes R laws (place m) (title m) x (K m.number) k (λ xs e. let less = begun some short xs e in omega arith))
+      subst (Spans 1 1) (sym (append-nil (lines_for R.reading (event (place m) (title m) (Takes x)) (K m.number))))
+      (named_takes R.reading laws (place m) (title m) x (K m.number) k (λ xs e. let less = begun some short xs e in omega arith))
 
   -- an octet of a message that does not begin with its request id, or one behind it
   plain_octet : 0 < length m.payload → (has_name m.header ≡ false) ⊎ (4 < length m.payload) → length m.payload ≤ size m.header → IsFine
@@ -200,9 +201,9 @@ module _ (R : Reading) (laws : IsInTurn R) (K : Kept) (live : List Open) (m : Me
   plain_octet some h fits =
       rw (happens, acts, ne_eqb (length m.payload) 0 (λ e. omega arith), second) (go (is_fragment m.header) refl)
     where
-      second : (if length m.payload == 4 then at_id live m else []) ≡ []
+      second : (if length m.payload == 4 then at_id R.most live m else []) ≡ []
       second = elim h [
-        | inl k ↦ rw (unnamed_id live m k) (both (length m.payload == 4))
+        | inl k ↦ rw (unnamed_id R.most live m k) (both (length m.payload == 4))
         | inr k ↦ rw (ne_eqb (length m.payload) 4 (λ e. omega arith)) refl
       ]
         where
@@ -213,13 +214,13 @@ module _ (R : Reading) (laws : IsInTurn R) (K : Kept) (live : List Open) (m : Me
       long : ends_short m ≡ false
       long = not_short m (elim h [ inl k ↦ inl k | inr k ↦ inr (omega arith) ])
 
-      go : (b : Bool) → is_fragment m.header ≡ b → Fine (utters R K (at_octet live m ++ close))
+      go : (b : Bool) → is_fragment m.header ≡ b → Fine (all_lines R.reading K (at_octet live m ++ close))
       go false f = unfold octet_acts goes_past in
-          rw (f) (takes_then R laws K (now_of m) x (length m.payload == size m.header) (at_end live m) (at_end_whose live m long f))
+          rw (f) (takes_then R.reading laws K (now_of m) x (length m.payload == size m.header) (at_end live m) (at_end_whose live m long f))
       go true f = unfold octet_acts goes_past in
           let past : 4 < length m.payload = elim h [ inl k ↦ absurd (let no = (unnamed m.header k).1 in cc) | inr k ↦ k ] in
           rw (f, lt-ltb 4 (length m.payload) past)
-          (passes_then R laws K (now_of m) (opener_of live m) x (length m.payload == size m.header) (at_end live m)
+          (passes_then R.reading laws K (now_of m) (opener_of live m) x (length m.payload == size m.header) (at_end live m)
           (at_end_past live m long f))
 
   -- an octet of a request id
@@ -228,17 +229,17 @@ module _ (R : Reading) (laws : IsInTurn R) (K : Kept) (live : List Open) (m : Me
   unfolding happens octet_acts goes_past
   named_octet some h short fits begun =
       rw (happens, acts, octet_acts, ne_eqb (length m.payload) 0 (λ e. omega arith), not_past m short)
-      (fine_of _ (join_spans R K 1 1 3 8 (own (now_of m) (Takes x)) _ (omega arith) (omega arith) (omega arith)
+      (fine_of _ (join_spans R.reading K 1 1 3 8 (own (now_of m) (Takes x)) _ (omega arith) (omega arith) (omega arith)
       (own_named h some short begun) (always_later R laws.closing live m fits)).rises)
 
-  first_rises : (b : Bool) → ends_short m ≡ b → Rises (utters R K (at_header m ++ close))
+  first_rises : (b : Bool) → ends_short m ≡ b → Rises (all_lines R.reading K (at_header m ++ close))
   unfolding Always
   first_rises true short =
-      (always_join R 0 0 5 8 (at_header m) close (omega arith) (omega arith) (omega arith) (short_begins R m short)
-      (always_if R 5 8 (length m.payload == size m.header) (at_end live m) [] (always_end R laws.closing live m) (always_none R 5 8)) K).rises
+      (always_join R.reading 0 0 5 8 (at_header m) close (omega arith) (omega arith) (omega arith) (short_begins R.reading m short)
+      (always_if R.reading 5 8 (length m.payload == size m.header) (at_end live m) [] (always_end R.reading laws.closing live m) (always_none R.reading 5 8)) K).rises
   first_rises false long =
-      (always_join R 0 5 6 8 (at_header m) close (omega arith) (omega arith) (omega arith) (always_header R (now_of m))
-      (always_if R 6 8 (length m.payload == size m.header) (at_end live m) [] (always_close R laws.closing live m long) (always_none R 6 8)) K).rises
+      (always_join R.reading 0 5 6 8 (at_header m) close (omega arith) (omega arith) (omega arith) (always_header R.reading (now_of m))
+      (always_if R.reading 6 8 (length m.payload == size m.header) (at_end live m) [] (always_close R.reading laws.closing live m long) (always_none R.reading 6 8)) K).rises
 
   first_octet : length m.payload ≡ 0 → IsFine
   unfolding happens
@@ -247,7 +248,7 @@ module _ (R : Reading) (laws : IsInTurn R) (K : Kept) (live : List Open) (m : Me
       (fine_of _ (first_rises (ends_short m) refl))
 
   -- The lines of an octet are in order, and those that stand have no two of one class.
-  pub happens_fine : length m.payload ≤ size m.header → (has_name m.header ≡ true → IsBegun K m) → Fine (utters R K (happens live m))
+  pub happens_fine : length m.payload ≤ size m.header → (has_name m.header ≡ true → IsBegun K m) → Fine (all_lines R.reading K (happens R.most live m))
   happens_fine fits begun = elim (cases_eq (length m.payload) 0) [
     | inl none ↦ first_octet none
     | inr some ↦ elim (cases_lt 4 (length m.payload)) [

@@ -9,6 +9,7 @@ use Rattle.giop_print.specs.Text.{hex}
 use Rattle.giop_print.specs.Text as print_text
 use Rattle.giop_print.specs.Lines.{type_word, continues_line, cancelled_line, fault_line, stream_fault_line, unfinished_line, total_line}
 use Rattle.giop_print.specs.Lines as print
+use Rattle.giop_stream.specs.Rules.{Rules, most_open}
 use Rattle.giop_stream.specs.Headers.{fronts, wrong, first_wrong, offence}
 use Rattle.giop_message.specs.Headers.{minor, kind, order, has_more, size, may_be_fragmented, is_opener, is_fragment, is_cancel, has_name}
 use Rattle.giop_stream.specs.Framing.{with_first, cut_from, limit, limited, cut, messages, read_of}
@@ -39,8 +40,12 @@ behind (x ∷ xs) = (Rest, rest_text 0 (x ∷ xs)) ∷ []
 unfoldable pub named_closes : ℕ → List ℕ → List ℕ → List (Saying × List ℕ)
 named_closes least header xs = if nat_lt (length xs) least then (Fault, codes "short") ∷ [] else behind (drop 4 xs) ++ (End, codes "end") ∷ []
 
-unfoldable pub small : ℕ → Reading
-small least = record { reads = named_reads; closes = named_closes least }
+unfoldable pub small_reading : ℕ → Reading
+small_reading least = record { reads = named_reads; closes = named_closes least }
+
+-- where as many messages may be open as in an engine that is made
+unfoldable pub small : ℕ → Rules
+small least = record { reading = small_reading least; most = most_open }
 
 unfoldable pub digit : ℕ → ℕ
 digit c = if nat_lt c 58 then c - 48 else c - 87
@@ -50,13 +55,13 @@ octets [] = []
 octets (a ∷ []) = []
 octets (a ∷ (b ∷ more)) = if a == 32 then octets (b ∷ more) else (16 * digit a + digit b) ∷ octets more
 
-record Writes (R : Reading) (p lines end : List ℕ) : Type 0 where
+record Writes (R : Rules) (p lines end : List ℕ) : Type 0 where
   text : text R p ≡ lines
   closing : closing R p ≡ end
 
 -- names what the rows compute with
 unfoldable pub rows : ℕ
-unfolding named_reads behind named_closes small digit octets digits num hex type_word print.start_line continues_line cancelled_line fault_line stream_fault_line unfinished_line total_line fronts wrong first_wrong offence minor kind order has_more size with_first cut_from limit limited cut messages read_of start_line said_line id_text rest_text is_inside is_truncated may_be_fragmented is_opener is_fragment is_cancel may_be_cancelled refused place own about id opener_of has_named goes_past header_acts octet_acts id_acts end_acts happens events_of changed opened events_from events open_after octet joined classes line tells told by_class in_order is_last_of standing said stop_line lines lines_text text start_count fault_count tally is_over heads unfinished final closing
+unfolding named_reads behind named_closes small_reading small digit octets digits num hex type_word print.start_line continues_line cancelled_line fault_line stream_fault_line unfinished_line total_line fronts wrong first_wrong offence minor kind order has_more size with_first cut_from limit limited cut messages read_of start_line said_line id_text rest_text is_inside is_truncated may_be_fragmented is_opener is_fragment is_cancel may_be_cancelled refused place own about id opener_of has_named goes_past header_acts octet_acts id_acts end_acts happens events_of changed opened events_from events open_after octet joined classes line tells told by_class in_order is_last_of standing said stop_line lines lines_text text start_count fault_count tally is_over heads unfinished final closing
 rows = 0
 
 -- ---- The rows.

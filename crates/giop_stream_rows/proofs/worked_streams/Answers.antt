@@ -1,4 +1,4 @@
-use Rattle.giop_stream_rows.proofs.Computing.{close_connection, little_request, interleaved, open_twice, cancelled, replied, raised}
+use Rattle.giop_stream_rows.proofs.Computing.{close_connection, little_request, interleaved, open_twice, one_open, cancelled, replied, raised}
 use Rattle.giop_stream_rows.proofs.Listed.{listed}
 use Rattle.giop_stream_rows.proofs.worked_streams.Goals as goal
 
@@ -8,6 +8,7 @@ returns c = record {
   little_request = little_request;
   interleaved = interleaved;
   open_twice = open_twice;
+  one_open = one_open;
   cancelled = cancelled;
   replied = replied;
   raised = raised;

@@ -9,7 +9,7 @@ unfolding added
 returns-in-Ok-Running-clause-fed g c =
     λ p h.
     let e = c.in-Ok-Running.ensures in (
-      record { reads = rw (e.same.0, e.same.1) refl; holds = e.held p h; written = e.text p h },
+      record { reads = rw (e.same.0, e.same.1, e.most) refl; holds = e.held p h; written = e.text p h },
       is_running (p ++ c.args.piece.now) (sym c.in-Ok-Running.field-0-is ∙ e.status p h),
     )
 
@@ -18,7 +18,7 @@ unfolding added
 returns-in-Ok-Stopped-clause-fed g c =
     λ p h.
     let e = c.in-Ok-Stopped.ensures in (
-      record { reads = rw (e.same.0, e.same.1) refl; holds = e.held p h; written = e.text p h },
+      record { reads = rw (e.same.0, e.same.1, e.most) refl; holds = e.held p h; written = e.text p h },
       is_stopped (p ++ c.args.piece.now) c.in-Ok-Stopped.field-0-0 (sym c.in-Ok-Stopped.field-0-is ∙ e.status p h),
     )
 

@@ -53,7 +53,7 @@ returns-then-not-branch-2-clause-ran g c =
     let u = rw c.if-not-branch-2.true at t.1 in
     let same = c.in_ok-turn.ensures.same in
     let kept = c.loop-turn.invariant.same in
-    (s.0 ++ t.0, ran_over _ (adds_up c.args.engine) c.close-then-not-branch-2.result p s.0 t.0 _ _ c.loop-turn._turn _ _ _ _ _ _ _ f u (omega (arith, c.loop-turn-test.true)) (same.0 ∙ kept.0, same.1 ∙ kept.1) (rw c.loop-turn.invariant.kept at (c.close-then-not-branch-2.ensures.closed ((p ++ s.0) ++ t.0) u.3.holds)))
+    (s.0 ++ t.0, ran_over _ (adds_up c.args.engine) c.close-then-not-branch-2.result p s.0 t.0 _ _ c.loop-turn._turn _ _ _ _ _ _ _ f u (omega (arith, c.loop-turn-test.true)) (same.0 ∙ kept.0, same.1 ∙ kept.1, same.2 ∙ kept.2) (rw c.loop-turn.invariant.kept at (c.close-then-not-branch-2.ensures.closed ((p ++ s.0) ++ t.0) u.3.holds)))
 
 pub returns-in_err-turn-clause-reads : goal.returns-in_err-turn-clause-reads
 returns-in_err-turn-clause-reads g c =
@@ -72,7 +72,10 @@ loop-turn-preserved g c =
           let t = c.in_ok-turn.ensures.turned (p ++ s.0) f.took.holds in
           (s.0 ++ t.0, going_more _ (adds_up c.args.engine) p s.0 t.0 _ _ c.loop-turn._turn _ _ _ _ _ _ f (rw c.if-not-branch-2.false at t.1));
       sound = c.in_ok-turn.ensures.leaves c.loop-turn.invariant.sound;
-      same = (c.in_ok-turn.ensures.same.0 ∙ c.loop-turn.invariant.same.0, c.in_ok-turn.ensures.same.1 ∙ c.loop-turn.invariant.same.1);
+      same =
+          let same = c.in_ok-turn.ensures.same in
+          let kept = c.loop-turn.invariant.same in
+          (same.0 ∙ kept.0, same.1 ∙ kept.1, same.2 ∙ kept.2);
       kept = c.loop-turn.invariant.kept;
       reads = one_more_read _ _ _ _ (c.loop-turn._turn + 1) c.loop-turn.invariant.reads c.in_ok-turn.ensures.reads (omega arith);
     }

@@ -1,5 +1,5 @@
 use Rattle.std.proofs.Common.{sym, ap, arith}
-use Rattle.giop_message.specs.MessageReading.{message_reading}
+use Rattle.giop_stream.specs.Rules.{rules}
 use Rattle.giop_stream.specs.Effects.{Effect, with_octet}
 use Rattle.giop_stream.proofs.Keep.Parts.{in_parts, some_come, come_is, takes_effect, taken_here, named_at, third_whose}
 use Rattle.giop_stream.proofs.Keep.Performing.{performs_on, first_failed, call_failed, then_failed, done_then, counts_as}
@@ -26,7 +26,7 @@ returns-in_err-taken-clause-does g c =
     let C = c.args.catalogue.now in
     let l = c.args.requests.now in
     let x = c.args.octet in
-    let parts = in_parts (message_reading C l) c' (with_octet m x) (some_come C l c.args.slots.now c' m c.args.now x h) in
+    let parts = in_parts (rules C l c.args.slots.now.most) c' (with_octet m x) (some_come C l c.args.slots.now c' m c.args.now x h) in
     let effect = takes_effect C l c.args.slots.now c' m c.args.now x h in
     let took = performs_on _ _ _ (ap (λ (p : Effect). p.lines) effect) (λ k. k) (c.in_err-taken.ensures.does c' _ h.keeps h.rising) in
     rw parts (first_failed _ _ c.from_residual.result _ _ c.from_residual.ensures.0 took)
@@ -37,13 +37,13 @@ returns-in_err-named-clause-does g c =
     let C = c.args.catalogue.now in
     let l = c.args.requests.now in
     let x = c.args.octet in
-    let parts = in_parts (message_reading C l) c' (with_octet m x) (some_come C l c.args.slots.now c' m c.args.now x h) in
+    let parts = in_parts (rules C l c.args.slots.now.most) c' (with_octet m x) (some_come C l c.args.slots.now c' m c.args.now x h) in
     let effect = takes_effect C l c.args.slots.now c' m c.args.now x h in
     let took = performs_on _ _ _ (ap (λ (p : Effect). p.lines) effect) (λ k. k) (c.in_ok-taken.ensures.does c' _ h.keeps h.rising) in
     let taken = taken_here C l c.args.slots.now c' m c.args.now x h c.take.new.self took.kept in
     rw parts (then_failed _ c.from_residual-in_err-named.result _ _ _ c.from_residual-in_err-named.ensures.0 took
     (first_failed _ _ c.from_residual-in_err-named.result _ _ c.from_residual-in_err-named.ensures.0
-    (c.in_err-named.ensures.does C l _ _ taken)))
+    (rw c.in_ok-taken.ensures.most at (c.in_err-named.ensures.does C l _ _ taken))))
 
 pub returns-in_err-ended-clause-does : goal.returns-in_err-ended-clause-does
 returns-in_err-ended-clause-does g c =
@@ -51,11 +51,11 @@ returns-in_err-ended-clause-does g c =
     let C = c.args.catalogue.now in
     let l = c.args.requests.now in
     let x = c.args.octet in
-    let parts = in_parts (message_reading C l) c' (with_octet m x) (some_come C l c.args.slots.now c' m c.args.now x h) in
+    let parts = in_parts (rules C l c.args.slots.now.most) c' (with_octet m x) (some_come C l c.args.slots.now c' m c.args.now x h) in
     let effect = takes_effect C l c.args.slots.now c' m c.args.now x h in
     let took = performs_on _ _ _ (ap (λ (p : Effect). p.lines) effect) (λ k. k) (c.in_ok-taken.ensures.does c' _ h.keeps h.rising) in
     let taken = taken_here C l c.args.slots.now c' m c.args.now x h c.take.new.self took.kept in
-    let named = c.in_ok-named.ensures.does C l _ _ taken in
+    let named = rw c.in_ok-taken.ensures.most at (c.in_ok-named.ensures.does C l _ _ taken) in
     let at = named_at C l c.args.slots.now c' m c.args.now x h c.names.new.slots named.kept in
     let come = come_is C l c.args.slots.now c' m c.args.now x h in
     let ended = call_failed _ c.from_residual-in_err-ended.result _ _ c.from_residual-in_err-ended.ensures.0 (c.in_err-ended.ensures.does l _ _ at come) in
@@ -68,12 +68,12 @@ returns-clause-does g c =
     let C = c.args.catalogue.now in
     let l = c.args.requests.now in
     let x = c.args.octet in
-    let parts = in_parts (message_reading C l) c' (with_octet m x) (some_come C l c.args.slots.now c' m c.args.now x h) in
+    let parts = in_parts (rules C l c.args.slots.now.most) c' (with_octet m x) (some_come C l c.args.slots.now c' m c.args.now x h) in
     let effect = takes_effect C l c.args.slots.now c' m c.args.now x h in
     let took = performs_on _ _ _ (ap (λ (p : Effect). p.lines) effect) (λ k. k) (c.in_ok-taken.ensures.does c' _ h.keeps h.rising) in
     let taken = taken_here C l c.args.slots.now c' m c.args.now x h c.take.new.self took.kept in
-    let named = c.in_ok-named.ensures.does C l _ _ taken in
+    let named = rw c.in_ok-taken.ensures.most at (c.in_ok-named.ensures.does C l _ _ taken) in
     let at = named_at C l c.args.slots.now c' m c.args.now x h c.names.new.slots named.kept in
     let come = come_is C l c.args.slots.now c' m c.args.now x h in
     let all = done_then _ _ _ _ _ took (done_then _ _ _ _ _ named (c.in_ok-ended.ensures.does l _ _ at come)) in
-    rw (parts, ← third_whose (message_reading C l) c' (with_octet m x)) (counts_as _ _ _ _ (sym c.count.ensures.value) all)
+    rw (parts, ← third_whose (rules C l c.args.slots.now.most) c' (with_octet m x)) (counts_as _ _ _ _ (sym c.count.ensures.value) all)

@@ -1,33 +1,33 @@
 use Rattle.std.proofs.Common.{length, refl, ap, ◌∙◌}
-use Rattle.giop_message.specs.MessageReading.{message_reading}
+use Rattle.giop_stream.specs.Rules.{rules, most_open}
 use Rattle.giop_stream.specs.Engine.{state_of}
 use Rattle.giop_stream.proofs.Restored.LoadedFields.{spells_left, room_for, totals_again, shows_again}
 use Rattle.giop_stream.proofs.loading.framing_of.Goals as goal
 
 pub returns-then-not-add_all-clause-again : goal.returns-then-not-add_all-clause-again
 returns-then-not-add_all-clause-again c l octets p s fixed_is records_are =
-    let R = message_reading c.args.catalogue.now l in
+    let R = rules c.args.catalogue.now l most_open in
     let bare = c.new-slots.ensures.bare in
-    let left = spells_left octets p c.args.catalogue.now l s c.args.fixed c.args.records.now fixed_is records_are in
+    let left = spells_left octets p c.args.catalogue.now l most_open s c.args.fixed c.args.records.now fixed_is records_are in
     let made = c.add_all.ensures.again l (state_of R p).slots (state_of R p).own left
     (room_for R p c.new-slots.result bare.no_slots) bare.no_own in
     cc (made.0, c.if-not-add_all.true)
 
 pub returns-then-not-may_be-clause-again : goal.returns-then-not-may_be-clause-again
 returns-then-not-may_be-clause-again c l octets p s fixed_is records_are =
-    let may = totals_again octets p c.args.catalogue.now l s c.stop_of-stopped.result c.len.result c.args.fixed fixed_is
+    let may = totals_again octets p c.args.catalogue.now l most_open s c.stop_of-stopped.result c.len.result c.args.fixed fixed_is
     c.stop_of-stopped.ensures (c.len.ensures.value ∙ ap length c.header_of-header.ensures.header) in
     let is = c.may_be.ensures.again may.running may.messages may.faults may.held in
     cc (is, c.if-not-may_be.true)
 
 pub returns-clause-again : goal.returns-clause-again
 returns-clause-again c l octets p s fixed_is records_are =
-    let R = message_reading c.args.catalogue.now l in
+    let R = rules c.args.catalogue.now l most_open in
     let bare = c.new-slots.ensures.bare in
-    let left = spells_left octets p c.args.catalogue.now l s c.args.fixed c.args.records.now fixed_is records_are in
+    let left = spells_left octets p c.args.catalogue.now l most_open s c.args.fixed c.args.records.now fixed_is records_are in
     let made = c.add_all.ensures.again l (state_of R p).slots (state_of R p).own left
     (room_for R p c.new-slots.result bare.no_slots) bare.no_own in
-    shows_again octets p c.args.catalogue.now l s _ c.new-slots.result c.add_all.new.slots bare.no_slots c.args.fixed fixed_is
+    shows_again octets p c.args.catalogue.now l most_open s _ c.new-slots.result c.add_all.new.slots bare.no_slots c.args.fixed fixed_is
     (record {
       totals = refl;
       stopped = c.stop_of-stopped.ensures;

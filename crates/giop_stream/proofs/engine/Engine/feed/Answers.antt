@@ -1,9 +1,11 @@
-use Rattle.std.proofs.Common.{◌++◌, ◌<◌, refl, ap, ◌∙◌, arith}
+use Rattle.std.proofs.Common.{ℕ, ◌++◌, ◌<◌, refl, sym, ap, subst, ◌∙◌, arith}
 use Rattle.std.proofs.lemmas.List.Elements.{All-append, All-from_get_or}
 use Rattle.giop_message.specs.Signatures.{said_by}
-use Rattle.giop_message.specs.MessageReading.{message_reading}
 use Rattle.giop_message.proofs.MessageLaws.{is_causal}
+use Rattle.giop_stream.specs.Rules.{rules}
 use Rattle.giop_stream.specs.Engine.{state_of}
+use Rattle.giop_stream.specs.Shown.{shown}
+use Rattle.giop_stream.specs.Showing.{Shows}
 use Rattle.giop_stream.specs.Holding.{status_of}
 use Rattle.giop_stream.proofs.Keep.Parts.{in_turn}
 use Rattle.giop_stream.proofs.Keep.Adding.{added_text}
@@ -15,12 +17,13 @@ returns-in-Ok-clause-held g c p h =
     let held = rw (← c.self.view_is) at h in
     let C = c.self.inside.catalogue.now in
     let l = c.self.inside.requests.now in
-    let R = message_reading C l in
+    let R = rules C l c.self.inside.framing.slots.most in
     let does = c.in-Ok.ensures.does (state_of R p) (record { stream = p; octets = held.octets; held = refl }) held.shows in
+    let now = rw (← run_holds R (is_causal (said_by C l)) (in_turn C l) p c.args.piece.now) at does.shows in
     record {
       sound = held.sound;
       octets = All-append (λ x. x < 256) p c.args.piece.now held.octets (All-from_get_or (λ x. x < 256) c.args.piece.now 0 (λ i below. omega (arith, c.type_inv.piece i)));
-      shows = rw (run_holds R (is_causal (said_by C l)) (in_turn C l) p c.args.piece.now) does.shows;
+      shows = subst (λ (n : ℕ). Shows C l (shown c.steps.new.self) (state_of (rules C l n) (p ++ c.args.piece.now))) (sym c.in-Ok.ensures.most) now;
     }
 
 pub returns-in-Ok-clause-status : goal.returns-in-Ok-clause-status
@@ -28,7 +31,7 @@ returns-in-Ok-clause-status g c p h =
     let held = rw (← c.self.view_is) at h in
     let C = c.self.inside.catalogue.now in
     let l = c.self.inside.requests.now in
-    let R = message_reading C l in
+    let R = rules C l c.self.inside.framing.slots.most in
     let does = c.in-Ok.ensures.does (state_of R p) (record { stream = p; octets = held.octets; held = refl }) held.shows in
     let now = rw (← run_holds R (is_causal (said_by C l)) (in_turn C l) p c.args.piece.now) at does.shows in
     c.status.ensures ∙ ap status_of (now.stopped ∙ stop_is R (p ++ c.args.piece.now))
@@ -38,7 +41,7 @@ returns-in-Ok-clause-text g c p h =
     let held = rw (← c.self.view_is) at h in
     let C = c.self.inside.catalogue.now in
     let l = c.self.inside.requests.now in
-    let R = message_reading C l in
+    let R = rules C l c.self.inside.framing.slots.most in
     let does = c.in-Ok.ensures.does (state_of R p) (record { stream = p; octets = held.octets; held = refl }) held.shows in
     rw (← c.self.view_is, added_text R (is_causal (said_by C l)) (in_turn C l) p c.args.piece.now) does.text
 
@@ -47,6 +50,6 @@ returns-in-Err-clause-text g c p h =
     let held = rw (← c.self.view_is) at h in
     let C = c.self.inside.catalogue.now in
     let l = c.self.inside.requests.now in
-    let R = message_reading C l in
+    let R = rules C l c.self.inside.framing.slots.most in
     let does = c.in-Err.ensures.does (state_of R p) (record { stream = p; octets = held.octets; held = refl }) held.shows in
     rw (← c.self.view_is, added_text R (is_causal (said_by C l)) (in_turn C l) p c.args.piece.now) does.text

@@ -1,6 +1,6 @@
 use Rattle.std.proofs.Common.{◌<◌, refl}
 use Rattle.std.proofs.lemmas.List.Elements.{All-nil}
-use Rattle.giop_message.specs.MessageReading.{message_reading}
+use Rattle.giop_stream.specs.Rules.{rules}
 use Rattle.giop_stream.proofs.Moves.EngineLaws.{start_is}
 use Rattle.giop_stream.proofs.engine.Engine.new.Goals as goal
 
@@ -11,4 +11,4 @@ pub returns-clause-holds : goal.returns-clause-holds
 returns-clause-holds c =
     let C = c.args.catalogue.now in
     let l = c.args.requests.now in
-    record { sound = refl; octets = All-nil (λ x. x < 256); shows = rw (start_is (message_reading C l)) (c.new.ensures.shows C l) }
+    record { sound = refl; octets = All-nil (λ x. x < 256); shows = rw (start_is (rules C l c.new.result.slots.most)) (c.new.ensures.shows C l) }

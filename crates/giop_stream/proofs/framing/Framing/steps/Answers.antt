@@ -2,13 +2,13 @@ use Rattle.std.proofs.Common.{◌≡◌, ℕ, ◌-◌, ◌<◌, List, [], ◌∷
 use Rattle.std.proofs.lemmas.List.{take-append-drop}
 use Rattle.std.proofs.lemmas.List.Elements.{All-from_get_or}
 use Rattle.giop_print.proofs.Writing.{writes_err, wrote-append, wrote-front}
-use Rattle.giop_message.specs.MessageReading.{message_reading}
+use Rattle.giop_stream.specs.Rules.{rules}
 use Rattle.giop_stream.specs.Shown.{shown}
 use Rattle.giop_stream.specs.Engine.{State}
 use Rattle.giop_stream.specs.Step.{run, run_state}
 use Rattle.giop_stream.specs.Showing.{IsReached, Shows}
 use Rattle.giop_stream.proofs.Keep.Performing.{nothing_text}
-use Rattle.giop_stream.proofs.Moves.Doing.{reached_on}
+use Rattle.giop_stream.proofs.Moves.Doing.{reached_on, reached_at}
 use Rattle.giop_stream.proofs.Moves.Settling.{on_err}
 use Rattle.giop_stream.proofs.Told.Further.{first_of, further, octets_come, run_within, run_state_on, run_text_on, one_run}
 use Rattle.giop_stream.proofs.framing.Framing.steps.Goals as goal
@@ -17,6 +17,7 @@ pub loop-octet-init : goal.loop-octet-init
 unfolding run run_state
 loop-octet-init g c = record {
   come = [];
+  most = refl;
   split = refl;
   shows = λ s r h. h;
   text = λ s r h. nothing_text _;
@@ -27,7 +28,7 @@ pub returns-in_err-step-clause-does : goal.returns-in_err-step-clause-does
 returns-in_err-step-clause-does g c s r h =
     let C = c.args.catalogue.now in
     let kept = c.args.requests.now in
-    let R = message_reading C kept in
+    let R = rules C kept c.args.self.now.slots.most in
     let so_far = c.loop-octet.invariant in
     let octet = c.in-Some.octet.now in
     let rest = c.loop-octet.rest.now in
@@ -35,8 +36,8 @@ returns-in_err-step-clause-does g c s r h =
     octets_come so_far.come rest c.args.piece.now so_far.split
     (All-from_get_or (λ x. x < 256) c.args.piece.now 0 (λ i below. omega (arith, c.type_inv.piece i))) in
     let does =
-    rw (← one_run R (run_state R s so_far.come) octet) at (c.in_err-step.ensures.does (run_state R s so_far.come)
-    (reached_on C kept s so_far.come octets r) (so_far.shows s r h)) in
+    rw (← one_run R (run_state R s so_far.come) octet) at (rw so_far.most at (c.in_err-step.ensures.does (run_state R s so_far.come)
+    (reached_at C kept _ _ _ (sym so_far.most) (reached_on C kept c.args.self.now.slots.most s so_far.come octets r)) (so_far.shows s r h))) in
     let split =
     run_within R s so_far.come (octet ∷ []) (drop 1 rest) c.args.piece.now
     (further so_far.come rest (octet ∷ []) _ c.args.piece.now so_far.split (first_of rest octet c.in-Some.ensures.value)) in
@@ -50,7 +51,7 @@ pub loop-octet-preserved-then-quiet-eq0 : goal.loop-octet-preserved-then-quiet-e
 loop-octet-preserved-then-quiet-eq0 g c =
     let C = c.args.catalogue.now in
     let kept = c.args.requests.now in
-    let R = message_reading C kept in
+    let R = rules C kept c.args.self.now.slots.most in
     let so_far = c.loop-octet.invariant in
     let octet = c.in-Some.octet.now in
     let rest = c.loop-octet.rest.now in
@@ -60,11 +61,12 @@ loop-octet-preserved-then-quiet-eq0 g c =
     let left : drop 1 rest ≡ take (length rest - 1) (drop 1 rest) = sym (take_all (length rest - 1) (drop 1 rest) (omega (arith, length-drop 1 rest))) in
     let parts : rest ≡ octet ∷ take (length rest - 1) (drop 1 rest) = first_of rest octet c.in-Some.ensures.value ∙ ap (λ (z : List ℕ). octet ∷ z) left in
     let next =
-    λ (s : State) (r : IsReached C kept s) (h : Shows C kept (shown c.args.self.now) s). rw
-    (← one_run R (run_state R s so_far.come) octet) at (c.in_ok-step.ensures.does (run_state R s so_far.come)
-    (reached_on C kept s so_far.come octets r) (so_far.shows s r h)) in
+    λ (s : State) (r : IsReached C kept c.args.self.now.slots.most s) (h : Shows C kept (shown c.args.self.now) s). rw
+    (← one_run R (run_state R s so_far.come) octet) at (rw so_far.most at (c.in_ok-step.ensures.does (run_state R s so_far.come)
+    (reached_at C kept _ _ _ (sym so_far.most) (reached_on C kept c.args.self.now.slots.most s so_far.come octets r)) (so_far.shows s r h))) in
     record {
       come = so_far.come ++ octet ∷ [];
+      most = c.in_ok-step.ensures.most ∙ so_far.most;
       split = further so_far.come rest (octet ∷ []) _ c.args.piece.now so_far.split parts;
       shows = λ s r h. rw (run_state_on R s so_far.come (octet ∷ [])) (next s r h).shows;
       text = λ s r h. rw (run_text_on R s so_far.come (octet ∷ [])) (wrote-append _ _ _ _ _ (so_far.text s r h) (next s r h).text);
@@ -75,14 +77,14 @@ pub returns-in_err-run-clause-does : goal.returns-in_err-run-clause-does
 returns-in_err-run-clause-does g c s r h =
     let C = c.args.catalogue.now in
     let kept = c.args.requests.now in
-    let R = message_reading C kept in
+    let R = rules C kept c.args.self.now.slots.most in
     let so_far = c.loop-octet.invariant in
     let n = c.quiet-quiet.result in
     let rest = c.loop-octet.rest.now in
     let octets =
     octets_come so_far.come rest c.args.piece.now so_far.split
     (All-from_get_or (λ x. x < 256) c.args.piece.now 0 (λ i below. omega (arith, c.type_inv.piece i))) in
-    let does = c.in_err-run.ensures.does (run_state R s so_far.come) (reached_on C kept s so_far.come octets r) (so_far.shows s r h) in
+    let does = rw so_far.most at (c.in_err-run.ensures.does (run_state R s so_far.come) (reached_at C kept _ _ _ (sym so_far.most) (reached_on C kept c.args.self.now.slots.most s so_far.come octets r)) (so_far.shows s r h)) in
     let split =
     run_within R s so_far.come (take n rest) (drop n rest) c.args.piece.now
     (further so_far.come rest (take n rest) (drop n rest) c.args.piece.now so_far.split (sym (take-append-drop n rest))) in
@@ -96,7 +98,7 @@ pub loop-octet-preserved : goal.loop-octet-preserved
 loop-octet-preserved g c =
     let C = c.args.catalogue.now in
     let kept = c.args.requests.now in
-    let R = message_reading C kept in
+    let R = rules C kept c.args.self.now.slots.most in
     let so_far = c.loop-octet.invariant in
     let n = c.quiet-quiet.result in
     let rest = c.loop-octet.rest.now in
@@ -105,10 +107,11 @@ loop-octet-preserved g c =
     (All-from_get_or (λ x. x < 256) c.args.piece.now 0 (λ i below. omega (arith, c.type_inv.piece i))) in
     let left : drop n rest ≡ take (length rest - n) (drop n rest) = sym (take_all (length rest - n) (drop n rest) (omega (arith, length-drop n rest))) in
     let next =
-    λ (s : State) (r : IsReached C kept s) (h : Shows C kept (shown c.args.self.now) s). c.in_ok-run.ensures.does
-    (run_state R s so_far.come) (reached_on C kept s so_far.come octets r) (so_far.shows s r h) in
+    λ (s : State) (r : IsReached C kept c.args.self.now.slots.most s) (h : Shows C kept (shown c.args.self.now) s). rw so_far.most at (c.in_ok-run.ensures.does
+    (run_state R s so_far.come) (reached_at C kept _ _ _ (sym so_far.most) (reached_on C kept c.args.self.now.slots.most s so_far.come octets r)) (so_far.shows s r h)) in
     record {
       come = so_far.come ++ take n rest;
+      most = c.in_ok-run.ensures.most ∙ so_far.most;
       split = further so_far.come rest (take n rest) _ c.args.piece.now so_far.split
           (sym (take-append-drop n rest) ∙ ap (λ (z : List ℕ). take n rest ++ z) left);
       shows = λ s r h. rw (run_state_on R s so_far.come (take n rest)) (next s r h).shows;

@@ -1,6 +1,6 @@
 use Rattle.std.proofs.Common.{◌≡◌, ℕ, ◌+◌, List, ◌++◌, length}
 use Rattle.giop_print.specs.Output.{Wrote}
-use Rattle.giop_message.specs.MessageReading.{message_reading}
+use Rattle.giop_stream.specs.Rules.{rules}
 use Rattle.giop_stream.specs.Keeping.{AreReady}
 use Rattle.giop_stream.specs.Engine.{State}
 use Rattle.giop_stream.specs.Step.{run, run_state}
@@ -14,11 +14,12 @@ abbrev pub invariant-loop-octet : goal.invariant-loop-octet
 invariant-loop-octet g l =
     record {
       come : List ℕ;
+      most : l.self.slots.most ≡ l.initial.self.slots.most;
       split : l.piece ≡ come ++ l.rest;
-      shows : (s : State) → IsReached l.catalogue l.requests s → Shows l.catalogue l.requests (shown l.initial.self) s
-          → Shows l.catalogue l.requests (shown l.self) (run_state (message_reading l.catalogue l.requests) s come);
-      text : (s : State) → IsReached l.catalogue l.requests s → Shows l.catalogue l.requests (shown l.initial.self) s →
-          Wrote (g.O.Out.log l.initial.out) (g.O.Out.log l.out) (lines_text (run (message_reading l.catalogue l.requests) s come));
+      shows : (s : State) → IsReached l.catalogue l.requests l.initial.self.slots.most s → Shows l.catalogue l.requests (shown l.initial.self) s
+          → Shows l.catalogue l.requests (shown l.self) (run_state (rules l.catalogue l.requests l.initial.self.slots.most) s come);
+      text : (s : State) → IsReached l.catalogue l.requests l.initial.self.slots.most s → Shows l.catalogue l.requests (shown l.initial.self) s →
+          Wrote (g.O.Out.log l.initial.out) (g.O.Out.log l.out) (lines_text (run (rules l.catalogue l.requests l.initial.self.slots.most) s come));
       ready : AreReady l.catalogue (l.self.totals.octets + 1) l.self.slots;
     }
 

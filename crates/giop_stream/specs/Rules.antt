@@ -1,0 +1,20 @@
+-- By what a stream is read: how each of its messages reads, and how many of them may be open at
+-- once (meaning).
+use Rattle.std.specs.Prelude.{ℕ}
+use Rattle.giop_sig.specs.Table.{Table}
+use Rattle.giop_message.specs.Reading.{Reading}
+use Rattle.giop_message.specs.Signatures.{Listed}
+use Rattle.giop_message.specs.MessageReading.{message_reading}
+use Rattle.giop_stream.specs.declared.slots.TheConstants.{MOST_OPEN}
+
+pub record Rules : Type 0 where
+  pub reading : Reading
+  pub most : ℕ
+
+-- by a table, what is known of requests, and so many messages
+abbrev pub rules : Table → Listed → ℕ → Rules
+rules C l most = record { reading = message_reading C l; most = most }
+
+-- how many may be open where an engine is made
+abbrev pub most_open : ℕ
+most_open = MOST_OPEN
