@@ -193,34 +193,39 @@ tag_in T = None
 abbrev pub switch_seg : Ty → Seg
 switch_seg T = Switch (tag_in T)
 
--- the line that an octet gives, if any
-abbrev pub IsSpoken : Ty → List Seg → ℕ → Spoken → List Line → Type 0
-IsSpoken T path at spokens.Nothing lines = lines ≡ []
-IsSpoken T path at spokens.Length lines = lines ≡ []
-IsSpoken T path at (spokens.Number number) lines =
+-- the line that an octet gives, if any, where these octets of a piece are held
+abbrev pub IsSpoken : Ty → List Seg → ℕ → Spoken → List ℕ → List Line → Type 0
+IsSpoken T path at spokens.Nothing piece lines = lines ≡ []
+IsSpoken T path at spokens.Length piece lines = lines ≡ []
+IsSpoken T path at (spokens.Number number) piece lines =
     (is : IsNumberOf T number) × (lines ≡ line at path (Number is.scalar is.n) ∷ [])
-IsSpoken T path at (spokens.Switch number) lines =
+IsSpoken T path at (spokens.Switch number) piece lines =
     (is : IsNumberOf (switch_of T) number)
     × (lines ≡ line at (path ++ switch_seg T ∷ []) (Number is.scalar is.n) ∷ [])
-IsSpoken T path at (spokens.Count count) lines = lines ≡ line at path (Count count) ∷ []
-IsSpoken T path at (spokens.Size size) lines = lines ≡ line at path (Size size) ∷ []
-IsSpoken T path at (spokens.Ordered order) lines = lines ≡ line at path (Ordered order) ∷ []
-IsSpoken T path at (spokens.Piece offset octets more) lines =
-    lines ≡ line at path (Piece T offset octets.items more) ∷ []
+IsSpoken T path at (spokens.Count count) piece lines = lines ≡ line at path (Count count) ∷ []
+IsSpoken T path at (spokens.Size size) piece lines = lines ≡ line at path (Size size) ∷ []
+IsSpoken T path at (spokens.Ordered order) piece lines = lines ≡ line at path (Ordered order) ∷ []
+IsSpoken T path at (spokens.Piece offset more) piece lines =
+    lines ≡ line at path (Piece T offset piece more) ∷ []
+
+-- what is held of a piece behind that line: a piece that is said is let go
+abbrev pub still_held : Spoken → List ℕ → List ℕ
+still_held (spokens.Piece offset more) piece = []
+still_held spoken piece = piece
 
 -- what can be written of a type: the kind of its line
 abbrev pub CanSpeak : Ty → Spoken → Type 0
 CanSpeak T (spokens.Number number) = IsNumberOf T number
 CanSpeak T (spokens.Switch number) = IsUnion (shape_in T) × IsNumberOf (switch_of T) number
-CanSpeak T (spokens.Piece offset octets more) = HasContent T × (length octets.items < 33)
+CanSpeak T (spokens.Piece offset more) = HasContent T
 CanSpeak T spoken = Unit {0}
 
--- the innermost part comes to this, with this line
+-- the innermost part comes to this, with this line, where these octets are held until it is said
 pub record Turns (C : Table) (T : Ty) (turn : Turn) (spoken : Spoken) (carry piece : List ℕ)
     (path : List Seg) (at : ℕ) (read : Read) : Type 0 where
   pub lines : List Line
-  pub comes : read ≡ turned C T turn carry piece lines at
-  pub says : IsSpoken T path at spoken lines
+  pub comes : read ≡ turned C T turn carry (still_held spoken piece) lines at
+  pub says : IsSpoken T path at spoken piece lines
 
 -- too great, where there is a bound
 abbrev pub over_by : Bool → Option Kind

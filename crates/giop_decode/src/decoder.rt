@@ -19,6 +19,7 @@ ghost use Rattle.giop_sig.specs.Types.{Ty};
 ghost use Rattle.giop_sig.specs.Fits.{IsFit, IsEmptyStruct};
 ghost use Rattle.giop_sig.specs.Trees.{tree};
 
+use crate::contents::let_go;
 use crate::frame::{Frame, begin, coding, go_on, has_ended, is_empty, is_inside, tick};
 use crate::leaf::{Leaf, Turn, hold, take_octet};
 use crate::line::say;
@@ -312,7 +313,8 @@ impl Decoder {
             self.root,
             self.outer.as_slice(),
             of,
-            &step.spoken,
+            step.spoken,
+            &self.piece,
             out,
         )?;
         let named = self.memory.hear(
@@ -320,8 +322,10 @@ impl Decoder {
             self.root,
             self.outer.as_slice(),
             of,
-            &step.spoken,
+            step.spoken,
+            &self.piece,
         );
+        let_go(step.spoken, &mut self.piece);
         self.at = (self.at + 1) % 8;
         tick(self.inside, &mut self.outer);
         self.settle(catalogue, of, step.turn);

@@ -16,11 +16,11 @@ ghost use Rattle.giop_sig.specs.Trees.{tree};
 use crate::encapsulation;
 use crate::leaf::{Leaf, Spoken, Step, Turn, refused};
 use crate::progress::Kind;
-use arrayvec::ArrayVec;
 use giop_cdr::{Carry, Number, Order, Prim, pad, size};
 use giop_sig::{Catalogue, Selected, Shape, TypeId};
 
 /// The size of the number that begins a type.
+#[inline(always)]
 pub(crate) fn width(catalogue: &Catalogue, t: TypeId) -> u8
     requires known { t.0 < length catalogue.now.types }
     ensures width { HasHead (tree catalogue.now t.0) →
@@ -36,6 +36,7 @@ pub(crate) fn width(catalogue: &Catalogue, t: TypeId) -> u8
 }
 
 /// The size of the number of a discriminator.
+#[inline(always)]
 fn switch_width(catalogue: &Catalogue, t: TypeId) -> u8
     requires known { t.0 < length catalogue.now.types }
     requires union { IsUnion (shape_in (tree catalogue.now t.0)) }
@@ -49,6 +50,7 @@ fn switch_width(catalogue: &Catalogue, t: TypeId) -> u8
 }
 
 /// Takes an octet of the padding before a number, or one that leaves the number incomplete, and answers whether it was one.
+#[inline(always)]
 #[tactic(auto, using(crate::proofs::Padding::number_laws))]
 pub(crate) fn hold_number(carry: &mut Carry, at: u8, width: u8, octet: u8) -> bool
     requires width { IsAlignment width }
@@ -104,6 +106,7 @@ fn hold_some(carry: &mut Carry, width: u8, octets: &[u8]) -> usize
 }
 
 /// Takes an octet of a number or of the padding before it, and answers whether the number is whole.
+#[inline(always)]
 #[tactic(auto, using(crate::proofs::Padding::number_laws))]
 pub(crate) fn take_number(carry: &mut Carry, at: u8, width: u8, octet: u8) -> bool
     requires width { IsAlignment width }
@@ -120,6 +123,7 @@ pub(crate) fn take_number(carry: &mut Carry, at: u8, width: u8, octet: u8) -> bo
 }
 
 /// Goes on behind the number that begins a type, whose octets are held.
+#[inline(always)]
 pub(crate) fn take_value(catalogue: &Catalogue, order: Order, of: TypeId, carry: &Carry) -> Step
     requires known { of.0 < length catalogue.now.types }
     requires head { HasHead (tree catalogue.now of.0) }
@@ -162,6 +166,7 @@ pub(crate) fn take_value(catalogue: &Catalogue, order: Order, of: TypeId, carry:
 }
 
 /// Goes on behind the number of a union's discriminator, whose octets are held.
+#[inline(always)]
 fn take_switch(catalogue: &Catalogue, order: Order, of: TypeId, carry: &Carry) -> Step
     requires known { of.0 < length catalogue.now.types }
     requires union { IsUnion (shape_in (tree catalogue.now of.0)) }
@@ -191,6 +196,7 @@ fn take_switch(catalogue: &Catalogue, order: Order, of: TypeId, carry: &Carry) -
 }
 
 /// Goes on behind the number of a union's discriminator, which is this value.
+#[inline(always)]
 fn take_selected(catalogue: &Catalogue, of: TypeId, number: Number) -> Step
     requires known { of.0 < length catalogue.now.types }
     requires union { IsUnion (shape_in (tree catalogue.now of.0)) }
@@ -218,6 +224,7 @@ fn take_selected(catalogue: &Catalogue, of: TypeId, number: Number) -> Step
 }
 
 /// Goes on behind the length of a string.
+#[inline(always)]
 fn take_length(catalogue: &Catalogue, of: TypeId, bound: Option<u32>, n: u32) -> Step
     requires { tree catalogue.now of.0 ≡ Text bound }
     ensures turns_in { TurnsIn (tree catalogue.now of.0) of.0 result.turn [] [] }
@@ -251,6 +258,7 @@ fn take_length(catalogue: &Catalogue, of: TypeId, bound: Option<u32>, n: u32) ->
 }
 
 /// Goes on behind the length of an octet sequence.
+#[inline(always)]
 fn take_size(catalogue: &Catalogue, of: TypeId, bound: Option<u32>, n: u32) -> Step
     requires { tree catalogue.now of.0 ≡ Octets bound }
     ensures turns_in { TurnsIn (tree catalogue.now of.0) of.0 result.turn [] [] }
@@ -281,6 +289,7 @@ fn take_size(catalogue: &Catalogue, of: TypeId, bound: Option<u32>, n: u32) -> S
 }
 
 /// Goes on behind the count of a sequence.
+#[inline(always)]
 fn take_count(catalogue: &Catalogue, of: TypeId, bound: Option<u32>, n: u32) -> Step
     requires is { (E : Ty) × (tree catalogue.now of.0 ≡ Sequence bound E) }
     requires fit { (d : ℕ) × IsFit d (tree catalogue.now of.0) }
@@ -331,12 +340,12 @@ fn long_of(order: Order, carry: &Carry) -> u32
 }
 
 /// The one piece of an empty content.
+#[inline(always)]
 fn empty_piece() -> Spoken
-    ensures { result ≡ Spoken.Piece 0 (record { items = [] }) false }
+    ensures { result ≡ Spoken.Piece 0 false }
 {
     Spoken::Piece {
         offset: 0,
-        octets: ArrayVec::new(),
         more: false,
     }
 }

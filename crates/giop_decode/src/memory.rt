@@ -164,16 +164,19 @@ impl Memory {
         root: Root,
         outer: &[Frame],
         of: TypeId,
-        spoken: &Spoken,
+        spoken: Spoken,
+        piece: &[u8],
     ) -> bool
         requires known { of.0 < length catalogue.now.types }
         requires known_outer { AreKnown catalogue.now outer.now }
-        requires speaks { CanSpeak (tree catalogue.now of.0) spoken.now }
+        requires speaks { CanSpeak (tree catalogue.now of.0) spoken }
         ensures hears { (root ≡ Root.Body → ⊥) → (h : Heard) (here at : ℕ) (lines : List Line) → Recalls self.old h →
-            IsSpoken (tree catalogue.now of.0) (path_in [] (places catalogue.now here outer.now)) at spoken.now lines →
-            Recalls self.new (hushed (hushes spoken.now) (heard (is_header_root root) h lines)) }
+            IsSpoken (tree catalogue.now of.0) (path_in [] (places catalogue.now here outer.now))
+            at spoken piece.now lines →
+            Recalls self.new (hushed (hushes spoken) (heard (is_header_root root) h lines)) }
         ensures named { (here at : ℕ) (lines : List Line) →
-            IsSpoken (tree catalogue.now of.0) (path_in [] (places catalogue.now here outer.now)) at spoken.now lines →
+            IsSpoken (tree catalogue.now of.0) (path_in [] (places catalogue.now here outer.now))
+            at spoken piece.now lines →
             result ≡ names_operation (is_header_root root) lines }
     {
         if root == Root::Body {
@@ -190,17 +193,17 @@ impl Memory {
             }
             Spoken::Number(number) => {
                 let is_id = is_header_member(catalogue, root, outer, b"request_id");
-                self.hear_number(catalogue, of, *number, is_id);
+                self.hear_number(catalogue, of, number, is_id);
                 false
             }
             Spoken::Switch(number) => {
-                self.hear_number(catalogue, catalogue.switch_type(of), *number, false);
+                self.hear_number(catalogue, catalogue.switch_type(of), number, false);
                 false
             }
-            Spoken::Piece { octets, more, .. } => match catalogue.shape(of) {
+            Spoken::Piece { more, .. } => match catalogue.shape(of) {
                 Shape::Text(_) => {
-                    self.hear_piece(octets, *more);
-                    !*more && is_header_member(catalogue, root, outer, b"operation")
+                    self.hear_piece(piece, more);
+                    !more && is_header_member(catalogue, root, outer, b"operation")
                 }
                 Shape::Octets(_) => false,
                 Shape::Encapsulation => false,

@@ -10,7 +10,7 @@ use Rattle.giop_decode.specs.Recalling.{leaf_in_string}
 use Rattle.giop_decode.specs.Moves.{stepped, leaf_in}
 use Rattle.giop_decode.specs.Spine.{plain, lines_of, with_front}
 use Rattle.giop_decode.specs.Steps.{around, path_in, step, coding_in}
-use Rattle.giop_decode.specs.Turns.{places, leaf_type, Link, coding_by, has_ended, ticked, turned}
+use Rattle.giop_decode.specs.Turns.{places, leaf_type, Link, coding_by, has_ended, ticked, turned, still_held}
 use Rattle.giop_sig.specs.Trees.{tree}
 use Rattle.giop_decode.proofs.decoder.Decoder.advance.Goals as goal
 
@@ -60,9 +60,9 @@ returns-clause-steps g c here h =
     let e = ap (λ l. step (plain d.order) [] ps (leaf_in C d l) here c.args.octet) c.in-Some.is ∙ ap (around (plain d.order) [] ps) t.comes in
     let pe : ps ≡ places C (here + 1) (ticked old) = sym (places_ticked C here old f.ahead) in
     let pt : ps ≡ places C (here + 1) c.tick.new.outer.items = pe ∙ ap (places C (here + 1)) (sym c.tick.ensures.ticked) in
-    let s = rw c.of-of.ensures at (c.settle.ensures.settles (plain d.order) [] (here + 1) t.lines) in
-    let come = e ∙ (ap (λ qs. around (plain d.order) [] qs (turned C T c.take_octet-step.result.turn c.take_octet-step.new.carry c.take_octet-step.new.piece.items t.lines (here + 1))) pt ∙ s) in
-    let n = rw (c.of-of.ensures, c.as_slice-3.ensures.value) at (c.hear-named.ensures.named here (here + 1) t.lines) in
+    let s = rw (c.of-of.ensures, c.let_go.ensures) at (c.settle.ensures.settles (plain d.order) [] (here + 1) t.lines) in
+    let come = e ∙ (ap (λ qs. around (plain d.order) [] qs (turned C T c.take_octet-step.result.turn c.take_octet-step.new.carry (still_held c.take_octet-step.result.spoken c.take_octet-step.new.piece.items) t.lines (here + 1))) pt ∙ s) in
+    let n = rw (c.of-of.ensures, c.as_slice-3.ensures.value, c.deref-2.ensures.0) at (c.hear-named.ensures.named here (here + 1) t.lines) in
     let ended : c.has_ended-ended.result ≡ has_ended c.settle.new.self.outer.items = rw (← c.as_slice-4.ensures.value) c.has_ended-ended.ensures in
     comes_by C T c.settle.new.self c.hear-named.result c.has_ended-ended.result c.take_octet-step.result.turn t.lines (here + 1) c.progress_of.result (stepped C d here c.args.octet)
     (rw c.settle.ensures.root (n t.says)) ended come c.progress_of.ensures
@@ -83,9 +83,9 @@ returns-in_err-say-clause-writes g c here h =
     let e = ap (λ l. step (plain d.order) [] ps (leaf_in C d l) here c.args.octet) c.in-Some.is ∙ ap (around (plain d.order) [] ps) t.comes in
     let pe : ps ≡ places C (here + 1) (ticked old) = sym (places_ticked C here old f.ahead) in
     let turn = c.take_octet-step.result.turn in
-    let ls = ap lines_of e ∙ (ap (λ qs. lines_of (around (plain d.order) [] qs (turned C T turn c.take_octet-step.new.carry c.take_octet-step.new.piece.items t.lines (here + 1)))) pe
-    ∙ lines_turned C (plain d.order) [] (ticked old) T turn c.take_octet-step.new.carry c.take_octet-step.new.piece.items t.lines (here + 1) (known_ticked C old f.ahead f.known_outer)) in
-    let w = rw (c.of-of.ensures, c.as_slice-2.ensures.value) at (c.in_err-say.ensures here (here + 1) t.lines) in
+    let ls = ap lines_of e ∙ (ap (λ qs. lines_of (around (plain d.order) [] qs (turned C T turn c.take_octet-step.new.carry (still_held c.take_octet-step.result.spoken c.take_octet-step.new.piece.items) t.lines (here + 1)))) pe
+    ∙ lines_turned C (plain d.order) [] (ticked old) T turn c.take_octet-step.new.carry (still_held c.take_octet-step.result.spoken c.take_octet-step.new.piece.items) t.lines (here + 1) (known_ticked C old f.ahead f.known_outer)) in
+    let w = rw (c.of-of.ensures, c.as_slice-2.ensures.value, c.deref.ensures.0) at (c.in_err-say.ensures here (here + 1) t.lines) in
     rw ls (writes_failed c.from_residual.result _ _ _ c.from_residual.ensures.0 (w t.says))
 
 pub returns-clause-writes : goal.returns-clause-writes
@@ -104,9 +104,9 @@ returns-clause-writes g c here h =
     let e = ap (λ l. step (plain d.order) [] ps (leaf_in C d l) here c.args.octet) c.in-Some.is ∙ ap (around (plain d.order) [] ps) t.comes in
     let pe : ps ≡ places C (here + 1) (ticked old) = sym (places_ticked C here old f.ahead) in
     let turn = c.take_octet-step.result.turn in
-    let ls = ap lines_of e ∙ (ap (λ qs. lines_of (around (plain d.order) [] qs (turned C T turn c.take_octet-step.new.carry c.take_octet-step.new.piece.items t.lines (here + 1)))) pe
-    ∙ lines_turned C (plain d.order) [] (ticked old) T turn c.take_octet-step.new.carry c.take_octet-step.new.piece.items t.lines (here + 1) (known_ticked C old f.ahead f.known_outer)) in
-    let w = rw (c.of-of.ensures, c.as_slice-2.ensures.value) at (c.in_ok-say.ensures here (here + 1) t.lines) in
+    let ls = ap lines_of e ∙ (ap (λ qs. lines_of (around (plain d.order) [] qs (turned C T turn c.take_octet-step.new.carry (still_held c.take_octet-step.result.spoken c.take_octet-step.new.piece.items) t.lines (here + 1)))) pe
+    ∙ lines_turned C (plain d.order) [] (ticked old) T turn c.take_octet-step.new.carry (still_held c.take_octet-step.result.spoken c.take_octet-step.new.piece.items) t.lines (here + 1) (known_ticked C old f.ahead f.known_outer)) in
+    let w = rw (c.of-of.ensures, c.as_slice-2.ensures.value, c.deref.ensures.0) at (c.in_ok-say.ensures here (here + 1) t.lines) in
     rw ls (w t.says)
 
 pub returns-clause-fits : goal.returns-clause-fits
@@ -141,11 +141,11 @@ returns-clause-minds g c here front h old_minds =
     let e = ap (λ l. step (plain d.order) [] ps (leaf_in C d l) here c.args.octet) c.in-Some.is ∙ ap (around (plain d.order) [] ps) t.comes in
     let pe : ps ≡ places C (here + 1) (ticked old) = sym (places_ticked C here old f.ahead) in
     let turn = c.take_octet-step.result.turn in
-    let ls = ap lines_of e ∙ (ap (λ qs. lines_of (around (plain d.order) [] qs (turned C T turn c.take_octet-step.new.carry c.take_octet-step.new.piece.items t.lines (here + 1)))) pe
-    ∙ lines_turned C (plain d.order) [] (ticked old) T turn c.take_octet-step.new.carry c.take_octet-step.new.piece.items t.lines (here + 1) (known_ticked C old f.ahead f.known_outer)) in
+    let ls = ap lines_of e ∙ (ap (λ qs. lines_of (around (plain d.order) [] qs (turned C T turn c.take_octet-step.new.carry (still_held c.take_octet-step.result.spoken c.take_octet-step.new.piece.items) t.lines (here + 1)))) pe
+    ∙ lines_turned C (plain d.order) [] (ticked old) T turn c.take_octet-step.new.carry (still_held c.take_octet-step.result.spoken c.take_octet-step.new.piece.items) t.lines (here + 1) (known_ticked C old f.ahead f.known_outer)) in
     let pt : ps ≡ places C (here + 1) c.tick.new.outer.items = pe ∙ ap (places C (here + 1)) (sym c.tick.ensures.ticked) in
-    let s = rw c.of-of.ensures at (c.settle.ensures.settles (plain d.order) [] (here + 1) t.lines) in
-    let come = e ∙ (ap (λ qs. around (plain d.order) [] qs (turned C T c.take_octet-step.result.turn c.take_octet-step.new.carry c.take_octet-step.new.piece.items t.lines (here + 1))) pt ∙ s) in
+    let s = rw (c.of-of.ensures, c.let_go.ensures) at (c.settle.ensures.settles (plain d.order) [] (here + 1) t.lines) in
+    let come = e ∙ (ap (λ qs. around (plain d.order) [] qs (turned C T c.take_octet-step.result.turn c.take_octet-step.new.carry (still_held c.take_octet-step.result.spoken c.take_octet-step.new.piece.items) t.lines (here + 1))) pt ∙ s) in
     let header = is_header_root d.root in
     let spoken = c.take_octet-step.result.spoken in
     let i = rw c.of-of.ensures at (c.settle.ensures.inside (here + 1) t.lines) in
@@ -153,10 +153,10 @@ returns-clause-minds g c here front h old_minds =
     let before : Recalls d.memory (hushed (leaf_in_string T leaf) (heard header nothing front)) =
     subst (λ b. Recalls d.memory (hushed b (heard header nothing front))) (leaf_inside C leaf d.carry d.piece.items)
     (rw c.in-Some.is at (recalls_by d.root d (standing C d front here) asked old_minds)) in
-    let now = rw (c.of-of.ensures, c.as_slice-3.ensures.value) at
+    let now = rw (c.of-of.ensures, c.as_slice-3.ensures.value, c.deref-2.ensures.0) at
     (c.hear-named.ensures.hears asked (hushed (leaf_in_string T leaf) (heard header nothing front)) here (here + 1) t.lines before) in
     rw (
       c.settle.ensures.memory,
-      ← heard_on header C leaf turn spoken (path_in [] ps) (here + 1) front t.lines (stepped C d here c.args.octet)
+      ← heard_on header C leaf turn spoken (path_in [] ps) (here + 1) c.take_octet-step.new.piece.items front t.lines (stepped C d here c.args.octet)
           c.take_octet-step.ensures.voices t.says (ap in_string come ∙ i) ls,
     ) (now t.says))
