@@ -49,6 +49,23 @@ fn switch_width(catalogue: &Catalogue, t: TypeId) -> u8
     }
 }
 
+/// How many octets of padding stand in front of a number of this width. Each width has an arm of its own, so that none waits
+/// for a division.
+#[inline(always)]
+fn padding_at(at: u8, width: u8) -> u8
+    requires { IsAlignment width }
+    ensures { result ≡ padding at width }
+{
+    let at = u64::from(at);
+    match width {
+        1 => pad(at, 1),
+        2 => pad(at, 2),
+        4 => pad(at, 4),
+        8 => pad(at, 8),
+        _ => unreachable!(),
+    }
+}
+
 /// Takes an octet of the padding before a number, or one that leaves the number incomplete, and answers whether it was one.
 #[inline(always)]
 #[tactic(auto, using(crate::proofs::Padding::number_laws))]
@@ -61,7 +78,7 @@ pub(crate) fn hold_number(carry: &mut Carry, at: u8, width: u8, octet: u8) -> bo
     ensures holds { IsTrue result → (origin here : ℕ) → (here - origin) % 8 ≡ at →
         number_step origin width here carry.old octet ≡ grab_of false carry.new (here + 1) }
 {
-    if carry.is_empty() && pad(u64::from(at), width) > 0 {
+    if carry.is_empty() && padding_at(at, width) > 0 {
         return true;
     }
     if carry.len() + 1 < usize::from(width) {
@@ -84,7 +101,7 @@ pub(crate) fn gather_number(carry: &mut Carry, at: u8, width: u8, octets: &[u8])
     if !carry.is_empty() {
         return hold_some(carry, width, octets);
     }
-    let padding = usize::from(pad(u64::from(at), width)).min(octets.len());
+    let padding = usize::from(padding_at(at, width)).min(octets.len());
     padding + hold_some(carry, width, &octets[padding..])
 }
 
