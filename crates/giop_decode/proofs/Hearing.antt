@@ -15,11 +15,10 @@ use Rattle.giop_decode.specs.Recalling.{Voices, hushes, leaf_in_string, turn_in_
 use Rattle.giop_decode.specs.Spine.{Leaf, Head, Opening, Held, Seg, Name, Index, Switch, Line, line, Value, Piece, Place, Content, Read, Done, Short, Fault, lines_of, with_front}
 use Rattle.giop_decode.specs.declared.frame.Frame.{Frame}
 use Rattle.giop_decode.specs.Steps.{path_in, seg_in}
-use Rattle.giop_decode.specs.Turns.{has_ended, leaf_of, leaf_type, place, part_in, places, AreKnown, IsSpoken}
+use Rattle.giop_decode.specs.Turns.{has_ended, leaf_of, leaf_type, place, part_in, places, IsSpoken}
 use Rattle.giop_decode.proofs.Resuming.{heard-append, lines_front}
 use Rattle.giop_print.specs.declared.path.Root.{Root}
 use Rattle.giop_print.specs.declared.path.Root.TheVariants as roots
-use Rattle.giop_sig.specs.declared.types.Shape.{Shape}
 use Rattle.std.specs.Prelude.{IfSome}
 use Rattle.giop_decode.specs.Fits.{IsEncapsulation}
 use Rattle.giop_decode.specs.Moves.{stopped_with}
@@ -27,7 +26,7 @@ use Rattle.giop_decode.specs.Reading.{cut_off}
 use Rattle.giop_decode.proofs.Surrounding.{shut}
 use Rattle.giop_sig.specs.Table.{Table}
 use Rattle.giop_sig.specs.Trees.{tree}
-use Rattle.giop_sig.specs.Types.{Cases, Ty, Single, Text, Octets, Struct, Union, Sequence, Array, Plain, Enum, HasMember, HasPlace, name_in, shape_in, Encapsulation, Tag}
+use Rattle.giop_sig.specs.Types.{Cases, Ty, Single, Text, Octets, Struct, Union, Sequence, Array, Plain, Enum, HasMember, name_in, shape_in, Encapsulation, Tag}
 
 content_in : (T : Ty) (total offset : ℕ) (piece : List ℕ) → in_content (Content T total offset piece) ≡ is_text T
 content_in (Text bound) total offset piece = refl

@@ -31,4 +31,5 @@ mod Left
 mod Taking
 mod Runs
 mod Gathering
+mod Whole
 pub mod ReadingLaws

@@ -1,5 +1,7 @@
 -- What the fields of a decoder stand for, and what one octet turns its innermost part into (steps).
-use Rattle.std.specs.Prelude.{◌≡◌, ℕ, ◌+◌, ◌-◌, ◌<◌, ◌≤◌, ◌^◌, ◌%◌, Bool, true, false, cond, eqb, List, [], ◌∷◌, ◌++◌, length, map, Option, Some, None, IfSome}
+use Rattle.std.specs.Prelude.{◌≡◌, ℕ, ◌+◌, ◌-◌, ◌<◌, ◌≤◌, ◌^◌, ◌%◌, Bool, true, false, cond, eqb, List, [], ◌∷◌, ◌++◌, length, map, take, get_or, Option, Some, None, IfSome}
+use Rattle.giop_cdr.specs.Numbers.{num}
+use Rattle.giop_decode.specs.Steps.{AreHeld, head_width, number_step}
 use Rattle.giop_cdr.specs.declared.order.Order.{Order}
 use Rattle.std.specs.List.{AllByRecursion, list_any}
 use Rattle.giop_cdr.specs.declared.number.Number.{Number as Taken}
@@ -236,3 +238,16 @@ over_by false = None
 abbrev pub grab_of : Bool → List ℕ → ℕ → Grab
 grab_of true held at = Got held at []
 grab_of false held at = Waiting held at
+
+-- A number of a type stands whole at the head of octets, behind its padding, where the first is at this offset modulo 8: all
+-- of these up to its last are held until that comes.
+pub record StandsWhole (T : Ty) (order : Order) (at : ℕ) (octets : List ℕ) (count : ℕ) (number : Taken) : Type 0 where
+  pub some : 0 < count
+  pub within : count ≤ length octets
+  pub held : List ℕ
+  pub are_held : AreHeld (head_width T) at [] (take (count - 1) octets) held
+  pub all : List ℕ
+  pub last : (origin here : ℕ) → (here - origin) % 8 ≡ (at + (count - 1)) % 8 →
+      number_step origin (head_width T) here held (get_or octets (count - 1) 0) ≡ grab_of true all (here + 1)
+  pub is : IsNumberOf T number
+  pub spelled : is.n ≡ num order all

@@ -7,7 +7,7 @@ use Rattle.giop_decode.specs.Heard.{in_string}
 use Rattle.giop_decode.specs.Moves.{told}
 use Rattle.giop_decode.specs.Spine.{plain}
 use Rattle.giop_decode.specs.Steps.{around}
-use Rattle.giop_decode.specs.Turns.{places, Link, has_ended, still_held, ticked, turned}
+use Rattle.giop_decode.specs.Turns.{places, Link, has_ended, still_held, turned}
 use Rattle.giop_sig.specs.Trees.{tree}
 use Rattle.giop_decode.proofs.decoder.Decoder.tell.Goals as goal
 
