@@ -9,7 +9,7 @@ use Rattle.giop_decode.specs.Reading.{cut_off}
 use Rattle.giop_decode.specs.Begins.{start_outer, start_leaf}
 use Rattle.giop_decode.specs.Steps.{around, step}
 use Rattle.giop_decode.proofs.Now.{around_mute, mute_lines}
-use Rattle.giop_decode.proofs.Surrounding.{around_shut, lines_shut, surrounds}
+use Rattle.giop_decode.proofs.Surrounding.{around_shut, known_ticked, lines_shut, places_ticked, surrounds}
 use Rattle.std.specs.Prelude.{cond, ltb}
 use Rattle.giop_decode.specs.declared.progress.Kind.TheVariants as kinds
 use Rattle.giop_decode.proofs.Resuming.{lines_front}
@@ -20,7 +20,7 @@ use Rattle.giop_decode.specs.declared.leaf.Leaf.{Leaf as Innermost}
 use Rattle.giop_decode.specs.declared.leaf.Leaf.TheVariants as innermost
 use Rattle.giop_decode.specs.declared.frame.Frame.{Frame}
 use Rattle.giop_decode.specs.Fits.{FitsIn, OpenFrom, Sound, leaf_ty}
-use Rattle.giop_decode.specs.Turns.{places, has_ended, is_inside, leaf_of, leaf_type, turned, AreKnown, AreAhead, Link, IsClean}
+use Rattle.giop_decode.specs.Turns.{places, has_ended, is_inside, leaf_of, leaf_type, ticked, turned, AreKnown, AreAhead, Link, IsClean}
 use Rattle.giop_decode.specs.Heard.{is_header_root, names_operation}
 use Rattle.giop_decode.specs.Holding.{Fits, GoesOn, IsHere, standing, standing_in}
 use Rattle.giop_decode.specs.Moves.{settled, stepped, stopped, leaf_in, Comes, IsGoing, IsProgress, IsMoved}
@@ -148,22 +148,28 @@ lines_entered C coding path frames true inner leaf lines at k =
     ap lines_of (around_shut C coding path at frames lines inner leaf k) ∙ lines_shut (has_ended frames) lines at (places C at frames ++ inner) leaf
 lines_entered C coding path frames false inner leaf lines at k = ap lines_of (around-fault coding path (places C at frames) lines at kinds.EncapShort (cut_off leaf))
 
--- nothing is said but by the innermost part
-pub lines_turned : (C : Table) (coding : Coding) (path : List Seg) (frames : List Frame) (T : Ty) (turn : Turn) (carry piece : List ℕ) (lines : List Line) (at : ℕ) → AreKnown C frames →
+lines_turned_at : (C : Table) (coding : Coding) (path : List Seg) (frames : List Frame) (T : Ty) (turn : Turn) (carry piece : List ℕ) (lines : List Line) (at : ℕ) → AreKnown C frames →
     lines_of (around coding path (places C at frames) (turned C T turn carry piece lines at)) ≡ lines
-lines_turned C coding path frames T (turns.Refused kind) carry piece lines at k = ap lines_of (around-fault coding path (places C at frames) lines at kind T)
-lines_turned C coding path frames T (turns.More leaf) carry piece lines at k =
+lines_turned_at C coding path frames T (turns.Refused kind) carry piece lines at k = ap lines_of (around-fault coding path (places C at frames) lines at kind T)
+lines_turned_at C coding path frames T (turns.More leaf) carry piece lines at k =
     ap lines_of (around_shut C coding path at frames lines [] (leaf_of C leaf carry piece) k) ∙ lines_shut (has_ended frames) lines at (places C at frames ++ []) (leaf_of C leaf carry piece)
-lines_turned C coding path frames T (turns.Opened count) carry piece lines at k =
+lines_turned_at C coding path frames T (turns.Opened count) carry piece lines at k =
     let inner = Part T 0 count ∷ start_outer (part_of T 0) in
     ap lines_of (around_shut C coding path at frames lines inner (start_leaf (part_of T 0)) k) ∙ lines_shut (has_ended frames) lines at (places C at frames ++ inner) (start_leaf (part_of T 0))
-lines_turned C coding path frames T (turns.Selected i) carry piece lines at k =
+lines_turned_at C coding path frames T (turns.Selected i) carry piece lines at k =
     let inner = Member T i ∷ start_outer (part_of T i) in
     ap lines_of (around_shut C coding path at frames lines inner (start_leaf (part_of T i)) k) ∙ lines_shut (has_ended frames) lines at (places C at frames ++ inner) (start_leaf (part_of T i))
-lines_turned C coding path frames T (turns.Entered order count) carry piece lines at k =
+lines_turned_at C coding path frames T (turns.Entered order count) carry piece lines at k =
     lines_entered C coding path frames (ltb at (at + (count - 1))) (Inside T (coded order (at - 1)) (at + (count - 1)) ∷ start_outer (part_of T 0)) (start_leaf (part_of T 0)) lines at k
-lines_turned C coding path frames T turns.Ended carry piece lines at k =
+lines_turned_at C coding path frames T turns.Ended carry piece lines at k =
     let ps = places C at frames in
     let inner = around coding path ps (Done [] at []) in
     let none : lines_of inner ≡ [] = mute_lines at inner (around_mute at coding path ps (Done [] at []) (refl, refl, refl)) in
     ap lines_of (around_done coding path ps lines at) ∙ (lines_front lines inner ∙ (ap (λ ls. lines ++ ls) none ∙ append-nil lines))
+
+-- nothing is said but by the innermost part
+pub lines_turned : (C : Table) (here : ℕ) (coding : Coding) (path : List Seg) (frames : List Frame) (T : Ty) (turn : Turn) (carry piece : List ℕ) (lines : List Line) → AreAhead frames → AreKnown C frames →
+    lines_of (around coding path (places C here frames) (turned C T turn carry piece lines (here + 1))) ≡ lines
+lines_turned C here coding path frames T turn carry piece lines ahead known =
+    ap (λ qs. lines_of (around coding path qs (turned C T turn carry piece lines (here + 1)))) (sym (places_ticked C here frames ahead))
+    ∙ lines_turned_at C coding path (ticked frames) T turn carry piece lines (here + 1) (known_ticked C frames ahead known)

@@ -15,11 +15,10 @@ use Rattle.giop_decode.specs.Recalling.{Voices, hushes, leaf_in_string, turn_in_
 use Rattle.giop_decode.specs.Spine.{Leaf, Head, Opening, Held, Seg, Name, Index, Switch, Line, line, Value, Piece, Place, Content, Read, Done, Short, Fault, lines_of, with_front}
 use Rattle.giop_decode.specs.declared.frame.Frame.{Frame}
 use Rattle.giop_decode.specs.Steps.{path_in, seg_in}
-use Rattle.giop_decode.specs.Turns.{has_ended, leaf_of, leaf_type, place, part_in, places, AreKnown, IsSpoken}
+use Rattle.giop_decode.specs.Turns.{has_ended, leaf_of, leaf_type, place, part_in, places, IsSpoken}
 use Rattle.giop_decode.proofs.Resuming.{heard-append, lines_front}
 use Rattle.giop_print.specs.declared.path.Root.{Root}
 use Rattle.giop_print.specs.declared.path.Root.TheVariants as roots
-use Rattle.giop_sig.specs.declared.types.Shape.{Shape}
 use Rattle.std.specs.Prelude.{IfSome}
 use Rattle.giop_decode.specs.Fits.{IsEncapsulation}
 use Rattle.giop_decode.specs.Moves.{stopped_with}
@@ -27,7 +26,7 @@ use Rattle.giop_decode.specs.Reading.{cut_off}
 use Rattle.giop_decode.proofs.Surrounding.{shut}
 use Rattle.giop_sig.specs.Table.{Table}
 use Rattle.giop_sig.specs.Trees.{tree}
-use Rattle.giop_sig.specs.Types.{Cases, Ty, Single, Text, Octets, Struct, Union, Sequence, Array, Plain, Enum, HasMember, HasPlace, name_in, shape_in, Encapsulation, Tag}
+use Rattle.giop_sig.specs.Types.{Cases, Ty, Single, Text, Octets, Struct, Union, Sequence, Array, Plain, Enum, HasMember, name_in, shape_in, Encapsulation, Tag}
 
 content_in : (T : Ty) (total offset : ℕ) (piece : List ℕ) → in_content (Content T total offset piece) ≡ is_text T
 content_in (Text bound) total offset piece = refl
@@ -107,26 +106,26 @@ piece_heard header (Encapsulation T) true more h path at offset octets k = let e
 piece_heard header (Array n T) false more h path at offset octets k = refl
 piece_heard header (Array n T) true more h path at offset octets k = let e = k refl in cc
 
-spoken_heard : (header : Bool) (T : Ty) (was : Bool) (turn : Turn) (spoken : Spoken) (path : List Seg) (at : ℕ) (lines : List Line) (h : Heard) →
-    Voices T was turn spoken → IsSpoken T path at spoken lines → (was ≡ true → is_text T ≡ true) →
+spoken_heard : (header : Bool) (T : Ty) (was : Bool) (turn : Turn) (spoken : Spoken) (path : List Seg) (at : ℕ) (piece : List ℕ) (lines : List Line) (h : Heard) →
+    Voices T was turn spoken → IsSpoken T path at spoken piece lines → (was ≡ true → is_text T ≡ true) →
     hushed (hushes spoken) (heard header (hushed was h) lines) ≡ hushed (turn_in_string T turn) (heard header h lines)
-spoken_heard header T was turn spokens.Nothing path at lines h v says k = rw (says, v) refl
-spoken_heard header T was turn spokens.Length path at lines h v says k = rw (says, v) (hushed_twice was h)
-spoken_heard header T was turn (spokens.Number number) path at lines h v says k = rw (v.0, v.1) refl
-spoken_heard header T was turn (spokens.Switch number) path at lines h v says k = rw (v.0, v.1) refl
-spoken_heard header T was turn (spokens.Count count) path at lines h v says k = rw (v.0, v.1) refl
-spoken_heard header T was turn (spokens.Size size) path at lines h v says k = rw (v.0, v.1, says) refl
-spoken_heard header T was turn (spokens.Ordered order) path at lines h v says k = rw (v.0, v.1, says) refl
-spoken_heard header T was turn (spokens.Piece offset octets more) path at lines h v says k = rw (says, v) (piece_heard header T was more h path at offset octets.items k)
+spoken_heard header T was turn spokens.Nothing path at piece lines h v says k = rw (says, v) refl
+spoken_heard header T was turn spokens.Length path at piece lines h v says k = rw (says, v) (hushed_twice was h)
+spoken_heard header T was turn (spokens.Number number) path at piece lines h v says k = rw (v.0, v.1) refl
+spoken_heard header T was turn (spokens.Switch number) path at piece lines h v says k = rw (v.0, v.1) refl
+spoken_heard header T was turn (spokens.Count count) path at piece lines h v says k = rw (v.0, v.1) refl
+spoken_heard header T was turn (spokens.Size size) path at piece lines h v says k = rw (v.0, v.1, says) refl
+spoken_heard header T was turn (spokens.Ordered order) path at piece lines h v says k = rw (v.0, v.1, says) refl
+spoken_heard header T was turn (spokens.Piece offset more) path at piece lines h v says k = rw (says, v) (piece_heard header T was more h path at offset piece k)
 
 -- What a reading leaves in mind, behind the lines of its front and of one octet.
-pub heard_on : (header : Bool) (C : Table) (leaf : Innermost) (turn : Turn) (spoken : Spoken) (path : List Seg) (at : ℕ) (front lines : List Line) (r : Read) →
-    Voices (tree C (leaf_type leaf)) (leaf_in_string (tree C (leaf_type leaf)) leaf) turn spoken → IsSpoken (tree C (leaf_type leaf)) path at spoken lines →
+pub heard_on : (header : Bool) (C : Table) (leaf : Innermost) (turn : Turn) (spoken : Spoken) (path : List Seg) (at : ℕ) (piece : List ℕ) (front lines : List Line) (r : Read) →
+    Voices (tree C (leaf_type leaf)) (leaf_in_string (tree C (leaf_type leaf)) leaf) turn spoken → IsSpoken (tree C (leaf_type leaf)) path at spoken piece lines →
     in_string r ≡ turn_in_string (tree C (leaf_type leaf)) turn → lines_of r ≡ lines →
     hushed (hushes spoken) (heard header (hushed (leaf_in_string (tree C (leaf_type leaf)) leaf) (heard header nothing front)) lines) ≡ heard_of header (with_front front r)
-heard_on header C leaf turn spoken path at front lines r v says inside are =
+heard_on header C leaf turn spoken path at piece front lines r v says inside are =
     let T = tree C (leaf_type leaf) in
-    spoken_heard header T (leaf_in_string T leaf) turn spoken path at lines (heard header nothing front) v says (text_inside T leaf)
+    spoken_heard header T (leaf_in_string T leaf) turn spoken path at piece lines (heard header nothing front) v says (text_inside T leaf)
     ∙ rw (front_inside front r, inside, lines_front front r, are, heard-append) refl
 
 -- ---- where something is minded

@@ -32,4 +32,5 @@ mod LastHeard
 mod Taking
 mod Runs
 mod Gathering
+mod Whole
 pub mod ReadingLaws

@@ -1,19 +1,22 @@
 -- What one octet does to a decoder's fields (steps).
-use Rattle.std.specs.Prelude.{◌≡◌, ℕ, Bool, true, false, List, [], Option, Some, None}
+use Rattle.std.specs.Prelude.{◌≡◌, ℕ, ◌+◌, ◌-◌, ◌<◌, Bool, true, false, List, [], length, Option, Some, None}
 use Rattle.giop_decode.specs.declared.decoder.Decoder.{Decoder}
 use Rattle.giop_decode.specs.declared.frame.Frame.{Frame}
 use Rattle.giop_decode.specs.declared.leaf.Leaf.{Leaf as Innermost}
 use Rattle.giop_decode.specs.declared.leaf.Turn.{Turn}
 use Rattle.giop_decode.specs.declared.leaf.Turn.TheVariants as turns
+use Rattle.giop_decode.specs.declared.leaf.Spoken.{Spoken}
 use Rattle.giop_decode.specs.declared.progress.Progress.{Progress}
 use Rattle.giop_decode.specs.declared.progress.Progress.TheVariants as progress
 use Rattle.giop_decode.specs.Spine.{plain, Line, Leaf, Head, Read, Fault, Done}
 use Rattle.giop_decode.specs.declared.progress.Kind.TheVariants as kinds
-use Rattle.giop_decode.specs.Steps.{step}
+use Rattle.giop_decode.specs.Fits.{OpenFrom}
+use Rattle.giop_decode.specs.Steps.{around, step}
 use Rattle.giop_decode.specs.Heard.{is_header_root, names_operation}
 use Rattle.giop_decode.specs.Holding.{standing}
-use Rattle.giop_decode.specs.Turns.{places, gone_to, leaf_of}
+use Rattle.giop_decode.specs.Turns.{places, gone_to, leaf_of, leaf_type, turned, still_held, is_inside, AreKnown, AreAhead, IsClean, Link}
 use Rattle.giop_sig.specs.Types.{Ty}
+use Rattle.giop_sig.specs.Fits.{IsFit}
 use Rattle.giop_sig.specs.Table.{Table}
 use Rattle.giop_sig.specs.Trees.{tree}
 
@@ -73,3 +76,29 @@ Comes C d p at r =
 abbrev pub IsMoved : Turn → Type 0
 IsMoved (turns.Refused kind) = ⊥
 IsMoved turn = Unit {0}
+
+-- the parts around an innermost part of this type, whatever is held of it
+pub record IsAround (C : Table) (d : Decoder) (of : ℕ) : Type 0 where
+  pub known : of < length C.types
+  pub known_outer : AreKnown C d.outer.items
+  pub inside : d.inside ≡ is_inside d.outer.items
+  pub ahead : AreAhead d.outer.items
+  pub are_open : (here : ℕ) × OpenFrom 24 (places C here d.outer.items)
+  pub room : length d.outer.items < 24
+  pub fit : IsFit (24 - length d.outer.items) (tree C of)
+  pub at : d.at < 8
+
+-- what a turn of that part comes to in the parts around it, with these lines
+abbrev pub told : Table → Decoder → ℕ → Turn → Spoken → List Line → ℕ → Read
+told C d of turn spoken lines here = around (plain d.order) [] (places C here d.outer.items)
+    (turned C (tree C of) turn d.carry (still_held spoken d.piece.items) lines (here + 1))
+
+-- the innermost part that comes next, and the parts around it
+pub record IsNext (C : Table) (d new : Decoder) (of : ℕ) : Type 0 where
+  pub known_outer : AreKnown C new.outer.items
+  pub inside : new.inside ≡ is_inside new.outer.items
+  pub ahead : AreAhead new.outer.items
+  pub known : (leaf : Innermost) → new.leaf ≡ Some leaf → leaf_type leaf < length C.types
+  pub clean : (leaf : Innermost) → new.leaf ≡ Some leaf → IsClean leaf new.carry new.piece.items
+  pub link : (root : ℕ) (leaf : Innermost) → Link C root d.outer.items of → new.leaf ≡ Some leaf →
+      Link C root new.outer.items (leaf_type leaf)

@@ -30,5 +30,5 @@ turn_in_string T turn = false
 abbrev pub Voices : Ty → Bool → Turn → Spoken → Type 0
 Voices T was turn spokens.Nothing = turn_in_string T turn ≡ was
 Voices T was turn spokens.Length = turn_in_string T turn ≡ true
-Voices T was turn (spokens.Piece offset octets more) = turn_in_string T turn ≡ is_text T && more
+Voices T was turn (spokens.Piece offset more) = turn_in_string T turn ≡ is_text T && more
 Voices T was turn spoken = (was ≡ false) × (turn_in_string T turn ≡ false)

@@ -1,5 +1,5 @@
 -- What a decoder that reads a list does with more octets, taken as a run (state).
-use Rattle.std.specs.Prelude.{◌≡◌, ℕ, ◌+◌, List, [], ◌∷◌, ◌++◌, length, take, drop, Result, MatchResult}
+use Rattle.std.specs.Prelude.{◌≡◌, ℕ, ◌+◌, false, List, [], ◌∷◌, ◌++◌, length, take, drop, Some, Result, MatchResult}
 use Rattle.giop_cdr.specs.declared.order.Order.{Order}
 use Rattle.giop_decode.specs.declared.decoder.Decoder.{Decoder}
 use Rattle.giop_decode.specs.declared.progress.Progress.{Progress}
@@ -13,6 +13,11 @@ use Rattle.giop_print.specs.Output.{OutLog, Wrote, WroteFront}
 use Rattle.giop_print.specs.declared.path.Root.{Root}
 use Rattle.giop_sig.specs.Types.{Ty}
 use Rattle.giop_sig.specs.Table.{Table}
+use Rattle.giop_sig.specs.Trees.{tree}
+use Rattle.giop_sig.specs.declared.types.TypeId.{TypeId}
+use Rattle.giop_cdr.specs.declared.number.Number.{Number as Taken}
+use Rattle.giop_decode.specs.declared.leaf.Leaf.TheVariants as innermost
+use Rattle.giop_decode.specs.Turns.{StandsWhole}
 
 -- the lines that octets more give
 abbrev pub dues : Order → Ty → ℕ → List ℕ → List ℕ → List Line
@@ -75,3 +80,12 @@ pub record Gathered (C : Table) (T : Ty) (order : Order) (at message : ℕ) (roo
 abbrev pub AllGathered : Table → Decoder → Decoder → List ℕ → Type 0
 AllGathered C d new octets = (T : Ty) (order : Order) (at message : ℕ) (root : Root) (s : List ℕ) →
     Reads C T order at message root d s → Gathered C T order at message root new s octets
+
+-- ---- a number whose octets come together
+
+-- a number comes next, whose octets stand whole at the head of these, in no encapsulation
+pub record ComesWhole (C : Table) (d : Decoder) (octets : List ℕ) (of : TypeId) (count : ℕ) (number : Taken) : Type 0 where
+  pub leaf : d.leaf ≡ Some (innermost.Number of)
+  pub outside : d.inside ≡ false
+  pub empty : d.carry ≡ []
+  pub stands : StandsWhole (tree C of.0) d.order d.at octets count number

@@ -1,5 +1,7 @@
 -- What the fields of a decoder stand for, and what one octet turns its innermost part into (steps).
-use Rattle.std.specs.Prelude.{◌≡◌, ℕ, ◌+◌, ◌-◌, ◌<◌, ◌≤◌, ◌^◌, ◌%◌, Bool, true, false, cond, eqb, List, [], ◌∷◌, ◌++◌, length, map, Option, Some, None, IfSome}
+use Rattle.std.specs.Prelude.{◌≡◌, ℕ, ◌+◌, ◌-◌, ◌<◌, ◌≤◌, ◌^◌, ◌%◌, Bool, true, false, cond, eqb, List, [], ◌∷◌, ◌++◌, length, map, take, get_or, Option, Some, None, IfSome}
+use Rattle.giop_cdr.specs.Numbers.{num}
+use Rattle.giop_decode.specs.Steps.{AreHeld, head_width, number_step}
 use Rattle.giop_cdr.specs.declared.order.Order.{Order}
 use Rattle.std.specs.List.{AllByRecursion, list_any}
 use Rattle.giop_cdr.specs.declared.number.Number.{Number as Taken}
@@ -193,34 +195,39 @@ tag_in T = None
 abbrev pub switch_seg : Ty → Seg
 switch_seg T = Switch (tag_in T)
 
--- the line that an octet gives, if any
-abbrev pub IsSpoken : Ty → List Seg → ℕ → Spoken → List Line → Type 0
-IsSpoken T path at spokens.Nothing lines = lines ≡ []
-IsSpoken T path at spokens.Length lines = lines ≡ []
-IsSpoken T path at (spokens.Number number) lines =
+-- the line that an octet gives, if any, where these octets of a piece are held
+abbrev pub IsSpoken : Ty → List Seg → ℕ → Spoken → List ℕ → List Line → Type 0
+IsSpoken T path at spokens.Nothing piece lines = lines ≡ []
+IsSpoken T path at spokens.Length piece lines = lines ≡ []
+IsSpoken T path at (spokens.Number number) piece lines =
     (is : IsNumberOf T number) × (lines ≡ line at path (Number is.scalar is.n) ∷ [])
-IsSpoken T path at (spokens.Switch number) lines =
+IsSpoken T path at (spokens.Switch number) piece lines =
     (is : IsNumberOf (switch_of T) number)
     × (lines ≡ line at (path ++ switch_seg T ∷ []) (Number is.scalar is.n) ∷ [])
-IsSpoken T path at (spokens.Count count) lines = lines ≡ line at path (Count count) ∷ []
-IsSpoken T path at (spokens.Size size) lines = lines ≡ line at path (Size size) ∷ []
-IsSpoken T path at (spokens.Ordered order) lines = lines ≡ line at path (Ordered order) ∷ []
-IsSpoken T path at (spokens.Piece offset octets more) lines =
-    lines ≡ line at path (Piece T offset octets.items more) ∷ []
+IsSpoken T path at (spokens.Count count) piece lines = lines ≡ line at path (Count count) ∷ []
+IsSpoken T path at (spokens.Size size) piece lines = lines ≡ line at path (Size size) ∷ []
+IsSpoken T path at (spokens.Ordered order) piece lines = lines ≡ line at path (Ordered order) ∷ []
+IsSpoken T path at (spokens.Piece offset more) piece lines =
+    lines ≡ line at path (Piece T offset piece more) ∷ []
+
+-- what is held of a piece behind that line: a piece that is said is let go
+abbrev pub still_held : Spoken → List ℕ → List ℕ
+still_held (spokens.Piece offset more) piece = []
+still_held spoken piece = piece
 
 -- what can be written of a type: the kind of its line
 abbrev pub CanSpeak : Ty → Spoken → Type 0
 CanSpeak T (spokens.Number number) = IsNumberOf T number
 CanSpeak T (spokens.Switch number) = IsUnion (shape_in T) × IsNumberOf (switch_of T) number
-CanSpeak T (spokens.Piece offset octets more) = HasContent T × (length octets.items < 33)
+CanSpeak T (spokens.Piece offset more) = HasContent T
 CanSpeak T spoken = Unit {0}
 
--- the innermost part comes to this, with this line
+-- the innermost part comes to this, with this line, where these octets are held until it is said
 pub record Turns (C : Table) (T : Ty) (turn : Turn) (spoken : Spoken) (carry piece : List ℕ)
     (path : List Seg) (at : ℕ) (read : Read) : Type 0 where
   pub lines : List Line
-  pub comes : read ≡ turned C T turn carry piece lines at
-  pub says : IsSpoken T path at spoken lines
+  pub comes : read ≡ turned C T turn carry (still_held spoken piece) lines at
+  pub says : IsSpoken T path at spoken piece lines
 
 -- too great, where there is a bound
 abbrev pub over_by : Bool → Option Kind
@@ -231,3 +238,16 @@ over_by false = None
 abbrev pub grab_of : Bool → List ℕ → ℕ → Grab
 grab_of true held at = Got held at []
 grab_of false held at = Waiting held at
+
+-- A number of a type stands whole at the head of octets, behind its padding, where the first is at this offset modulo 8: all
+-- of these up to its last are held until that comes.
+pub record StandsWhole (T : Ty) (order : Order) (at : ℕ) (octets : List ℕ) (count : ℕ) (number : Taken) : Type 0 where
+  pub some : 0 < count
+  pub within : count ≤ length octets
+  pub held : List ℕ
+  pub are_held : AreHeld (head_width T) at [] (take (count - 1) octets) held
+  pub all : List ℕ
+  pub last : (origin here : ℕ) → (here - origin) % 8 ≡ (at + (count - 1)) % 8 →
+      number_step origin (head_width T) here held (get_or octets (count - 1) 0) ≡ grab_of true all (here + 1)
+  pub is : IsNumberOf T number
+  pub spelled : is.n ≡ num order all

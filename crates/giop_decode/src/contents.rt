@@ -9,7 +9,7 @@ ghost use Rattle.giop_decode.specs.Pieces.{tail};
 ghost use Rattle.giop_decode.specs.Recalling.{Voices};
 ghost use Rattle.giop_decode.specs.Steps.{content_step};
 ghost use Rattle.giop_decode.specs.Fits.{HasContent, IsBare};
-ghost use Rattle.giop_decode.specs.Turns.{Turns, TurnsIn, CanSpeak};
+ghost use Rattle.giop_decode.specs.Turns.{Turns, TurnsIn, CanSpeak, still_held};
 ghost use Rattle.giop_sig.specs.Types.{Text, Octets};
 ghost use Rattle.giop_sig.specs.Trees.{tree};
 
@@ -17,7 +17,6 @@ use crate::leaf::{Leaf, Spoken, Step, Turn, refused};
 use crate::progress::Kind;
 use arrayvec::ArrayVec;
 use giop_sig::{Catalogue, Shape, TypeId};
-use std::mem;
 
 /// Takes an octet that leaves the piece incomplete, where so much of a content is left from the piece's start, and
 /// answers whether it was one.
@@ -51,6 +50,7 @@ pub(crate) fn gather_content(left: u32, octets: &[u8], piece: &mut ArrayVec<u8, 
 }
 
 /// Takes an octet of a content, whose piece begins at an offset.
+#[inline(always)]
 pub(crate) fn take_content(
     catalogue: &Catalogue,
     of: TypeId,
@@ -65,7 +65,8 @@ pub(crate) fn take_content(
     requires room_full { 32 < total - offset → array_vec_len piece.old < 32 }
     requires room_last { total - offset ≤ 32 →
         array_vec_len piece.old < total - offset + tail (tree catalogue.now of.0) }
-    ensures turns_in { TurnsIn (tree catalogue.now of.0) of.0 result.turn [] piece.new.items }
+    ensures turns_in { TurnsIn (tree catalogue.now of.0) of.0 result.turn []
+        (still_held result.spoken piece.new.items) }
     ensures speaks { CanSpeak (tree catalogue.now of.0) result.spoken }
     ensures voices { Voices (tree catalogue.now of.0) (is_text (tree catalogue.now of.0))
         result.turn result.spoken }
@@ -86,7 +87,7 @@ pub(crate) fn take_content(
                 total,
                 offset: offset + 32,
             }),
-            spoken: taken_piece(piece, offset, true),
+            spoken: Spoken::Piece { offset, more: true },
         };
     }
     match catalogue.shape(of) {
@@ -100,7 +101,10 @@ pub(crate) fn take_content(
             }
             Step {
                 turn: Turn::Ended,
-                spoken: taken_piece(piece, offset, false),
+                spoken: Spoken::Piece {
+                    offset,
+                    more: false,
+                },
             }
         }
         Shape::Octets(_) => take_last(catalogue, of, total, offset, octet, piece),
@@ -110,6 +114,7 @@ pub(crate) fn take_content(
 }
 
 /// Takes an octet of a content's last piece, behind which nothing stands.
+#[inline(always)]
 fn take_last(
     catalogue: &Catalogue,
     of: TypeId,
@@ -122,7 +127,8 @@ fn take_last(
     requires ahead { offset ≤ total }
     requires last { total - offset ≤ 32 }
     requires room { array_vec_len piece.old < total - offset }
-    ensures turns_in { TurnsIn (tree catalogue.now of.0) of.0 result.turn [] piece.new.items }
+    ensures turns_in { TurnsIn (tree catalogue.now of.0) of.0 result.turn []
+        (still_held result.spoken piece.new.items) }
     ensures speaks { CanSpeak (tree catalogue.now of.0) result.spoken }
     ensures voices { Voices (tree catalogue.now of.0) (is_text (tree catalogue.now of.0))
         result.turn result.spoken }
@@ -139,11 +145,15 @@ fn take_last(
     }
     Step {
         turn: Turn::Ended,
-        spoken: taken_piece(piece, offset, false),
+        spoken: Spoken::Piece {
+            offset,
+            more: false,
+        },
     }
 }
 
 /// A content that goes on with nothing to say.
+#[inline(always)]
 fn goes_on(of: TypeId, total: u32, offset: u32) -> Step
     ensures turn { result.turn ≡ Turn.More (Leaf.Content of total offset) }
     ensures spoken { result.spoken ≡ Spoken.Nothing }
@@ -154,14 +164,19 @@ fn goes_on(of: TypeId, total: u32, offset: u32) -> Step
     }
 }
 
-/// Lets go of a piece, to be said.
-fn taken_piece(piece: &mut ArrayVec<u8, 32>, offset: u32, more: bool) -> Spoken
-    ensures is { result ≡ Spoken.Piece offset piece.old more }
-    ensures empty { piece.new.items ≡ [] }
+/// Lets go of the piece that is held, if it was said.
+#[inline(always)]
+pub(crate) fn let_go(spoken: Spoken, piece: &mut ArrayVec<u8, 32>)
+    ensures { piece.new.items ≡ still_held spoken piece.old.items }
 {
-    Spoken::Piece {
-        offset,
-        octets: mem::take(piece),
-        more,
+    match spoken {
+        Spoken::Piece { .. } => piece.clear(),
+        Spoken::Nothing => {}
+        Spoken::Length => {}
+        Spoken::Number(_) => {}
+        Spoken::Switch(_) => {}
+        Spoken::Count(_) => {}
+        Spoken::Size(_) => {}
+        Spoken::Ordered(_) => {}
     }
 }

@@ -8,19 +8,20 @@ ghost use Rattle.giop_decode.specs.Spine.{Coding, Seg, Line, Read, lines_of, wit
 ghost use Rattle.giop_decode.specs.Spelling.{lines_text};
 ghost use Rattle.giop_print.specs.Output.{Writes};
 ghost use Rattle.giop_print.specs.declared.path.Root.{Root as PathRoot};
-ghost use Rattle.giop_decode.specs.Steps.{around};
+ghost use Rattle.giop_decode.specs.Steps.{around, path_in};
 ghost use Rattle.giop_decode.specs.Fits.{OpenFrom};
-ghost use Rattle.giop_decode.specs.Turns.{places, AreKnown, Link, TurnsIn, turned, leaf_type, IsClean, StandAt, is_inside};
-ghost use Rattle.giop_decode.specs.Heard.{heard_of, in_string, is_header_root};
-ghost use Rattle.giop_decode.specs.Recalling.{turn_in_string};
-ghost use Rattle.giop_decode.specs.Holding.{Fits, IsDone, IsHere, Reads, Takes, Minds, GoesOn, standing, due};
-ghost use Rattle.giop_decode.specs.Moves.{settled, stepped, Comes, IsProgress, IsGoing, IsMoved};
+ghost use Rattle.giop_decode.specs.Turns.{places, AreKnown, Link, TurnsIn, CanSpeak, IsSpoken, turned, still_held, leaf_type, IsClean, StandAt, is_inside};
+ghost use Rattle.giop_decode.specs.Heard.{Heard, heard, heard_of, hushed, in_string, is_header_root};
+ghost use Rattle.giop_decode.specs.Recalling.{hushes, turn_in_string};
+ghost use Rattle.giop_decode.specs.Holding.{Fits, IsDone, IsHere, Reads, Recalls, Takes, Minds, GoesOn, standing, due};
+ghost use Rattle.giop_decode.specs.Moves.{settled, stepped, told, Comes, IsAround, IsNext, IsProgress, IsGoing, IsMoved};
 ghost use Rattle.giop_sig.specs.Types.{Ty};
 ghost use Rattle.giop_sig.specs.Fits.{IsFit, IsEmptyStruct};
 ghost use Rattle.giop_sig.specs.Trees.{tree};
 
+use crate::contents::let_go;
 use crate::frame::{Frame, begin, coding, go_on, has_ended, is_empty, is_inside, tick};
-use crate::leaf::{Leaf, Turn, hold, take_octet};
+use crate::leaf::{Leaf, Step, Turn, hold, take_octet};
 use crate::line::say;
 use crate::memory::Memory;
 use crate::progress::{Kind, Progress};
@@ -308,13 +309,60 @@ impl Decoder {
             &mut self.carry,
             &mut self.piece,
         );
+        let progress = self.tell(catalogue, of, step, out)?;
+        Ok(progress)
+    }
+
+    /// Says and hears what the innermost part, of this type, gives to say by an octet, and goes on from what it has come
+    /// to.
+    #[inline(always)]
+    pub(crate) fn tell<O: Out>(
+        &mut self,
+        catalogue: &Catalogue,
+        of: TypeId,
+        step: Step,
+        out: &mut O,
+    ) -> Result<Progress, OutFault>
+        requires around { IsAround catalogue.now self.old of.0 }
+        requires turns_in { TurnsIn (tree catalogue.now of.0) of.0 step.turn
+            self.old.carry (still_held step.spoken self.old.piece.items) }
+        requires speaks { CanSpeak (tree catalogue.now of.0) step.spoken }
+        ensures order { OnOk result (self.new.order ≡ self.old.order) }
+        ensures root { OnOk result (self.new.root ≡ self.old.root) }
+        ensures message { OnOk result (self.new.message ≡ self.old.message) }
+        ensures here { OnOk result ((here : ℕ) → IsHere self.old here → IsHere self.new (here + 1)) }
+        ensures next { IfOk result (λ p. GoesOn p → IsNext catalogue.now self.old self.new of.0) }
+        ensures writes { (here at : ℕ) (lines : List Line) →
+            IsSpoken (tree catalogue.now of.0)
+            (path_in [] (places catalogue.now here self.old.outer.items))
+            at step.spoken self.old.piece.items lines →
+            Writes result (O.log out.old) (O.log out.new)
+            (lines_text self.old.message self.old.root lines) }
+        ensures steps { IfOk result (λ p. (here : ℕ) (lines : List Line) →
+            IsSpoken (tree catalogue.now of.0)
+            (path_in [] (places catalogue.now here self.old.outer.items))
+            (here + 1) step.spoken self.old.piece.items lines →
+            Comes catalogue.now self.new p (here + 1)
+            (told catalogue.now self.old of.0 step.turn step.spoken lines here)) }
+        ensures inside { OnOk result ((here : ℕ) (lines : List Line) →
+            in_string (told catalogue.now self.old of.0 step.turn step.spoken lines here)
+            ≡ turn_in_string (tree catalogue.now of.0) step.turn) }
+        ensures hears { OnOk result ((self.old.root ≡ Root.Body → ⊥) →
+            (h : Heard) (here at : ℕ) (lines : List Line) → Recalls self.old.memory h →
+            IsSpoken (tree catalogue.now of.0)
+            (path_in [] (places catalogue.now here self.old.outer.items))
+            at step.spoken self.old.piece.items lines →
+            Recalls self.new.memory (hushed (hushes step.spoken)
+            (heard (is_header_root self.old.root) h lines))) }
+    {
         say(
             catalogue,
             self.message,
             self.root,
             self.outer.as_slice(),
             of,
-            &step.spoken,
+            step.spoken,
+            &self.piece,
             out,
         )?;
         let named = self.memory.hear(
@@ -322,8 +370,10 @@ impl Decoder {
             self.root,
             self.outer.as_slice(),
             of,
-            &step.spoken,
+            step.spoken,
+            &self.piece,
         );
+        let_go(step.spoken, &mut self.piece);
         self.at = (self.at + 1) % 8;
         tick(self.inside, &mut self.outer);
         self.settle(catalogue, of, step.turn);

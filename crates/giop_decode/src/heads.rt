@@ -1,14 +1,15 @@
 //! The number that begins an innermost part, and what follows it.
 
-ghost use Rattle.std.specs.Prelude.{◌≡◌, ℕ, ◌+◌, ◌-◌, ◌%◌, ◌<◌, ◌≤◌, List, [], ◌++◌, length, take, IsTrue, false};
+ghost use Rattle.std.specs.Prelude.{◌≡◌, ℕ, ◌+◌, ◌-◌, ◌%◌, ◌<◌, ◌≤◌, List, [], ◌++◌, length, take, IsTrue, IfSome, Some, false};
 ghost use Rattle.giop_cdr.specs.Alignment.{IsAlignment, padding};
-ghost use Rattle.giop_cdr.specs.Numbers.{num};
+ghost use Rattle.giop_cdr.specs.Numbers.{AreOctets, num, number_of};
+ghost use Rattle.giop_cdr.specs.Primitives.{size_of};
 ghost use Rattle.giop_decode.specs.Spine.{Coding, Seg};
 ghost use Rattle.giop_decode.specs.Pieces.{over};
 ghost use Rattle.giop_decode.specs.Recalling.{Voices};
 ghost use Rattle.giop_decode.specs.Steps.{after, head_width, number_step, AreHeld};
 ghost use Rattle.giop_decode.specs.Fits.{HasHead};
-ghost use Rattle.giop_decode.specs.Turns.{Turns, TurnsIn, CanSpeak, IsNumberOf, over_by, grab_of};
+ghost use Rattle.giop_decode.specs.Turns.{Turns, TurnsIn, CanSpeak, IsNumberOf, StandsWhole, over_by, grab_of};
 ghost use Rattle.giop_sig.specs.Types.{Ty, Text, Octets, Sequence, switch_of, shape_in, IsUnion};
 ghost use Rattle.giop_sig.specs.Fits.{IsFit};
 ghost use Rattle.giop_sig.specs.Trees.{tree};
@@ -16,11 +17,11 @@ ghost use Rattle.giop_sig.specs.Trees.{tree};
 use crate::encapsulation;
 use crate::leaf::{Leaf, Spoken, Step, Turn, refused};
 use crate::progress::Kind;
-use arrayvec::ArrayVec;
 use giop_cdr::{Carry, Number, Order, Prim, pad, size};
 use giop_sig::{Catalogue, Selected, Shape, TypeId};
 
 /// The size of the number that begins a type.
+#[inline(always)]
 pub(crate) fn width(catalogue: &Catalogue, t: TypeId) -> u8
     requires known { t.0 < length catalogue.now.types }
     ensures width { HasHead (tree catalogue.now t.0) →
@@ -36,6 +37,7 @@ pub(crate) fn width(catalogue: &Catalogue, t: TypeId) -> u8
 }
 
 /// The size of the number of a discriminator.
+#[inline(always)]
 fn switch_width(catalogue: &Catalogue, t: TypeId) -> u8
     requires known { t.0 < length catalogue.now.types }
     requires union { IsUnion (shape_in (tree catalogue.now t.0)) }
@@ -49,7 +51,25 @@ fn switch_width(catalogue: &Catalogue, t: TypeId) -> u8
     }
 }
 
+/// How many octets of padding stand in front of a number of this width. Each width has an arm of its own, so that none waits
+/// for a division.
+#[inline(always)]
+fn padding_at(at: u8, width: u8) -> u8
+    requires { IsAlignment width }
+    ensures { result ≡ padding at width }
+{
+    let at = u64::from(at);
+    match width {
+        1 => pad(at, 1),
+        2 => pad(at, 2),
+        4 => pad(at, 4),
+        8 => pad(at, 8),
+        _ => unreachable!(),
+    }
+}
+
 /// Takes an octet of the padding before a number, or one that leaves the number incomplete, and answers whether it was one.
+#[inline(always)]
 #[tactic(auto, using(crate::proofs::Padding::number_laws))]
 pub(crate) fn hold_number(carry: &mut Carry, at: u8, width: u8, octet: u8) -> bool
     requires width { IsAlignment width }
@@ -60,7 +80,7 @@ pub(crate) fn hold_number(carry: &mut Carry, at: u8, width: u8, octet: u8) -> bo
     ensures holds { IsTrue result → (origin here : ℕ) → (here - origin) % 8 ≡ at →
         number_step origin width here carry.old octet ≡ grab_of false carry.new (here + 1) }
 {
-    if carry.is_empty() && pad(u64::from(at), width) > 0 {
+    if carry.is_empty() && padding_at(at, width) > 0 {
         return true;
     }
     if carry.len() + 1 < usize::from(width) {
@@ -83,8 +103,72 @@ pub(crate) fn gather_number(carry: &mut Carry, at: u8, width: u8, octets: &[u8])
     if !carry.is_empty() {
         return hold_some(carry, width, octets);
     }
-    let padding = usize::from(pad(u64::from(at), width)).min(octets.len());
+    let padding = usize::from(padding_at(at, width)).min(octets.len());
     padding + hold_some(carry, width, &octets[padding..])
+}
+
+/// The number of a type, where that is a primitive and stands whole at the head of these octets, the first of which is at this
+/// offset modulo 8, and how many octets it takes with its padding.
+#[inline(always)]
+pub(crate) fn whole_number(
+    catalogue: &Catalogue,
+    order: Order,
+    at: u8,
+    of: TypeId,
+    octets: &[u8],
+) -> Option<(usize, Number)>
+    requires known { of.0 < length catalogue.now.types }
+    requires small { at < 8 }
+    ensures { IfSome result (λ whole.
+        StandsWhole (tree catalogue.now of.0) order at octets.now whole.0 whole.1) }
+{
+    match catalogue.shape(of) {
+        Shape::Prim(prim) => {
+            let width = size(prim);
+            let padding = usize::from(padding_at(at, width));
+            let count = padding + usize::from(width);
+            if octets.len() < count {
+                return None;
+            }
+            match number_of(order, prim, &octets[padding..count]) {
+                Some(number) => Some((count, number)),
+                None => None,
+            }
+        }
+        _ => None,
+    }
+}
+
+/// The number that a primitive's octets spell. Each width has an arm of its own, in which their number is a constant.
+#[inline(always)]
+fn number_of(order: Order, prim: Prim, octets: &[u8]) -> Option<Number>
+    requires { length octets.now ≡ size_of prim }
+    ensures value { IfSome result (λ number. number_of prim order octets.now ≡ Some number) }
+    ensures octets { AreOctets octets.now }
+{
+    match size(prim) {
+        1 => spelled(order, prim, &octets[..1]),
+        2 => spelled(order, prim, &octets[..2]),
+        4 => spelled(order, prim, &octets[..4]),
+        _ => spelled(order, prim, &octets[..8]),
+    }
+}
+
+/// The number that a primitive's octets spell.
+#[inline(always)]
+fn spelled(order: Order, prim: Prim, octets: &[u8]) -> Option<Number>
+    requires { length octets.now ≡ size_of prim }
+    ensures value { IfSome result (λ number. number_of prim order octets.now ≡ Some number) }
+    ensures octets { AreOctets octets.now }
+{
+    let mut carry = Carry::new();
+    for octet in octets {
+        carry.push(*octet);
+    }
+    match carry.value(order, prim) {
+        Ok(number) => Some(number),
+        Err(_) => None,
+    }
 }
 
 /// Holds octets that leave the number incomplete, all that stand there together, and answers how many there were.
@@ -105,6 +189,7 @@ fn hold_some(carry: &mut Carry, width: u8, octets: &[u8]) -> usize
 }
 
 /// Takes an octet of a number or of the padding before it, and answers whether the number is whole.
+#[inline(always)]
 #[tactic(auto, using(crate::proofs::Padding::number_laws))]
 pub(crate) fn take_number(carry: &mut Carry, at: u8, width: u8, octet: u8) -> bool
     requires width { IsAlignment width }
@@ -121,6 +206,7 @@ pub(crate) fn take_number(carry: &mut Carry, at: u8, width: u8, octet: u8) -> bo
 }
 
 /// Goes on behind the number that begins a type, whose octets are held.
+#[inline(always)]
 pub(crate) fn take_value(catalogue: &Catalogue, order: Order, of: TypeId, carry: &Carry) -> Step
     requires known { of.0 < length catalogue.now.types }
     requires head { HasHead (tree catalogue.now of.0) }
@@ -163,6 +249,7 @@ pub(crate) fn take_value(catalogue: &Catalogue, order: Order, of: TypeId, carry:
 }
 
 /// Goes on behind the number of a union's discriminator, whose octets are held.
+#[inline(always)]
 fn take_switch(catalogue: &Catalogue, order: Order, of: TypeId, carry: &Carry) -> Step
     requires known { of.0 < length catalogue.now.types }
     requires union { IsUnion (shape_in (tree catalogue.now of.0)) }
@@ -192,6 +279,7 @@ fn take_switch(catalogue: &Catalogue, order: Order, of: TypeId, carry: &Carry) -
 }
 
 /// Goes on behind the number of a union's discriminator, which is this value.
+#[inline(always)]
 fn take_selected(catalogue: &Catalogue, of: TypeId, number: Number) -> Step
     requires known { of.0 < length catalogue.now.types }
     requires union { IsUnion (shape_in (tree catalogue.now of.0)) }
@@ -219,6 +307,7 @@ fn take_selected(catalogue: &Catalogue, of: TypeId, number: Number) -> Step
 }
 
 /// Goes on behind the length of a string.
+#[inline(always)]
 fn take_length(catalogue: &Catalogue, of: TypeId, bound: Option<u32>, n: u32) -> Step
     requires { tree catalogue.now of.0 ≡ Text bound }
     ensures turns_in { TurnsIn (tree catalogue.now of.0) of.0 result.turn [] [] }
@@ -252,6 +341,7 @@ fn take_length(catalogue: &Catalogue, of: TypeId, bound: Option<u32>, n: u32) ->
 }
 
 /// Goes on behind the length of an octet sequence.
+#[inline(always)]
 fn take_size(catalogue: &Catalogue, of: TypeId, bound: Option<u32>, n: u32) -> Step
     requires { tree catalogue.now of.0 ≡ Octets bound }
     ensures turns_in { TurnsIn (tree catalogue.now of.0) of.0 result.turn [] [] }
@@ -282,6 +372,7 @@ fn take_size(catalogue: &Catalogue, of: TypeId, bound: Option<u32>, n: u32) -> S
 }
 
 /// Goes on behind the count of a sequence.
+#[inline(always)]
 fn take_count(catalogue: &Catalogue, of: TypeId, bound: Option<u32>, n: u32) -> Step
     requires is { (E : Ty) × (tree catalogue.now of.0 ≡ Sequence bound E) }
     requires fit { (d : ℕ) × IsFit d (tree catalogue.now of.0) }
@@ -332,12 +423,12 @@ fn long_of(order: Order, carry: &Carry) -> u32
 }
 
 /// The one piece of an empty content.
+#[inline(always)]
 fn empty_piece() -> Spoken
-    ensures { result ≡ Spoken.Piece 0 (record { items = [] }) false }
+    ensures { result ≡ Spoken.Piece 0 false }
 {
     Spoken::Piece {
         offset: 0,
-        octets: ArrayVec::new(),
         more: false,
     }
 }

@@ -5,7 +5,7 @@ ghost use Rattle.giop_decode.specs.Spine.{Coding, Seg, Short};
 ghost use Rattle.giop_decode.specs.Recalling.{Voices, leaf_in_string};
 ghost use Rattle.giop_decode.specs.Steps.{leaf_step};
 ghost use Rattle.giop_decode.specs.Fits.{FitsIn};
-ghost use Rattle.giop_decode.specs.Turns.{leaf_of, leaf_type, Turns, TurnsIn, CanSpeak, IsClean};
+ghost use Rattle.giop_decode.specs.Turns.{leaf_of, leaf_type, Turns, TurnsIn, CanSpeak, IsClean, still_held};
 ghost use Rattle.giop_sig.specs.Fits.{IsFit};
 ghost use Rattle.giop_sig.specs.Trees.{tree};
 
@@ -71,7 +71,7 @@ pub(crate) enum Turn {
 }
 
 /// What an octet gives to say.
-#[derive(Debug, Drop, PartialEq, Eq)]
+#[derive(Clone, Copy, Debug, PartialEq, Eq)]
 pub(crate) enum Spoken {
     /// Nothing.
     Nothing,
@@ -87,25 +87,24 @@ pub(crate) enum Spoken {
     Size(u32),
     /// The byte order of an encapsulation.
     Ordered(Order),
-    /// A piece of a content.
+    /// The piece of a content that is held, which is let go once that is said.
     Piece {
         /// Where it begins in the content.
         offset: u32,
-        /// Its octets.
-        octets: ArrayVec<u8, 32>,
         /// Whether it isn't the last.
         more: bool,
     },
 }
 
 /// What an octet does.
-#[derive(Debug, Drop)]
+#[derive(Clone, Copy, Debug)]
 pub(crate) struct Step {
     pub(crate) turn: Turn,
     pub(crate) spoken: Spoken,
 }
 
 /// An octet that breaks a rule.
+#[inline(always)]
 pub(crate) fn refused(kind: Kind) -> Step
     ensures turn { result.turn ≡ Turn.Refused kind }
     ensures spoken { result.spoken ≡ Spoken.Nothing }
@@ -146,6 +145,7 @@ pub(crate) fn hold(
 }
 
 /// Takes an octet of the innermost part.
+#[inline(always)]
 pub(crate) fn take_octet(
     catalogue: &Catalogue,
     order: Order,
@@ -161,7 +161,7 @@ pub(crate) fn take_octet(
     requires fit { (d : ℕ) × IsFit d (tree catalogue.now (leaf_type leaf)) }
     requires clean { IsClean leaf carry.old piece.old.items }
     ensures turns_in { TurnsIn (tree catalogue.now (leaf_type leaf)) (leaf_type leaf)
-        result.turn carry.new piece.new.items }
+        result.turn carry.new (still_held result.spoken piece.new.items) }
     ensures speaks { CanSpeak (tree catalogue.now (leaf_type leaf)) result.spoken }
     ensures voices { Voices (tree catalogue.now (leaf_type leaf))
         (leaf_in_string (tree catalogue.now (leaf_type leaf)) leaf) result.turn result.spoken }

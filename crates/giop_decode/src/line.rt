@@ -91,23 +91,26 @@ fn octets_line<O: Out>(
     }
 }
 
-/// Says what an octet of an innermost part of this type gives to say.
+/// Says what an octet of an innermost part of this type gives to say, where these octets of a piece are held.
+#[inline(always)]
 pub(crate) fn say<O: Out>(
     catalogue: &Catalogue,
     message: u64,
     root: Root,
     outer: &[Frame],
     of: TypeId,
-    spoken: &Spoken,
+    spoken: Spoken,
+    piece: &[u8],
     out: &mut O,
 ) -> Result<(), OutFault>
     requires known { of.0 < length catalogue.now.types }
     requires known_outer { AreKnown catalogue.now outer.now }
     requires room { length outer.now < 24 }
-    requires speaks { CanSpeak (tree catalogue.now of.0) spoken.now }
+    requires speaks { CanSpeak (tree catalogue.now of.0) spoken }
+    requires short { length piece.now < 33 }
     ensures { (here at : ℕ) (lines : List Line) →
         IsSpoken (tree catalogue.now of.0) (path_in [] (places catalogue.now here outer.now))
-        at spoken.now lines →
+        at spoken piece.now lines →
         Writes result (O.log out.old) (O.log out.new) (lines_text message root lines) }
 {
     let here = Here {
@@ -119,7 +122,7 @@ pub(crate) fn say<O: Out>(
     match spoken {
         Spoken::Nothing => Ok(()),
         Spoken::Length => Ok(()),
-        Spoken::Number(number) => number_line(catalogue, message, &here, of, *number, out),
+        Spoken::Number(number) => number_line(catalogue, message, &here, of, number, out),
         Spoken::Switch(number) => {
             let path = Here {
                 catalogue,
@@ -128,15 +131,13 @@ pub(crate) fn say<O: Out>(
                 switch: Some(of),
             };
             let switch = catalogue.switch_type(of);
-            number_line(catalogue, message, &path, switch, *number, out)
+            number_line(catalogue, message, &path, switch, number, out)
         }
-        Spoken::Count(count) => value_line(out, message, &here, Value::Count(*count)),
-        Spoken::Size(size) => encapsulation_line(out, message, &here, *size),
-        Spoken::Ordered(order) => order_line(out, message, &here, *order),
-        Spoken::Piece {
-            offset,
-            octets,
-            more,
-        } => octets_line(catalogue, message, &here, of, octets, *offset, *more, out),
+        Spoken::Count(count) => value_line(out, message, &here, Value::Count(count)),
+        Spoken::Size(size) => encapsulation_line(out, message, &here, size),
+        Spoken::Ordered(order) => order_line(out, message, &here, order),
+        Spoken::Piece { offset, more } => {
+            octets_line(catalogue, message, &here, of, piece, offset, more, out)
+        }
     }
 }

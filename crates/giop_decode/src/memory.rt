@@ -68,8 +68,7 @@ impl Memory {
 
     /// The last string, where that has ended and is a name.
     pub(crate) fn name(&self) -> Option<&[u8]>
-        ensures { (h : Heard) → Recalls self.now h →
-            option_map (λ octets. octets.now) result ≡ h.name }
+        ensures { (h : Heard) → Recalls self.now h → option_map (λ octets. octets.now) result ≡ h.name }
     {
         match self.buffer {
             Buffer::Whole => Some(&self.name),
@@ -95,8 +94,7 @@ impl Memory {
 
     /// Hears a piece of a string.
     fn extend(&mut self, octets: &[u8])
-        ensures hears { (h : Heard) → Recalls self.old h →
-            Recalls self.new (with_piece h octets.now) }
+        ensures hears { (h : Heard) → Recalls self.old h → Recalls self.new (with_piece h octets.now) }
         ensures begun { self.new.buffer ≡ Buffer.Whole → ⊥ }
     {
         self.forget();
@@ -126,8 +124,7 @@ impl Memory {
 
     /// Hears a piece of a string, which may be its last.
     fn hear_piece(&mut self, octets: &[u8], more: bool)
-        ensures { (h : Heard) → Recalls self.old h →
-            Recalls self.new (heard_piece h octets.now more) }
+        ensures { (h : Heard) → Recalls self.old h → Recalls self.new (heard_piece h octets.now more) }
     {
         self.extend(octets);
         if !more {
@@ -139,8 +136,7 @@ impl Memory {
     fn hear_number(&mut self, catalogue: &Catalogue, t: TypeId, number: Number, is_id: bool)
         requires known { t.0 < length catalogue.now.types }
         requires number { IsNumberOf (tree catalogue.now t.0) number }
-        ensures { (h : Heard) (is : IsNumberOf (tree catalogue.now t.0) number) →
-            Recalls self.old h →
+        ensures { (h : Heard) (is : IsNumberOf (tree catalogue.now t.0) number) → Recalls self.old h →
             Recalls self.new (hear_value is_id h (spines.Number is.scalar is.n)) }
     {
         match catalogue.shape(t) {
@@ -168,19 +164,19 @@ impl Memory {
         root: Root,
         outer: &[Frame],
         of: TypeId,
-        spoken: &Spoken,
+        spoken: Spoken,
+        piece: &[u8],
     ) -> bool
         requires known { of.0 < length catalogue.now.types }
         requires known_outer { AreKnown catalogue.now outer.now }
-        requires speaks { CanSpeak (tree catalogue.now of.0) spoken.now }
-        ensures hears { (root ≡ Root.Body → ⊥) →
-            (h : Heard) (here at : ℕ) (lines : List Line) → Recalls self.old h →
+        requires speaks { CanSpeak (tree catalogue.now of.0) spoken }
+        ensures hears { (root ≡ Root.Body → ⊥) → (h : Heard) (here at : ℕ) (lines : List Line) → Recalls self.old h →
             IsSpoken (tree catalogue.now of.0) (path_in [] (places catalogue.now here outer.now))
-            at spoken.now lines →
-            Recalls self.new (hushed (hushes spoken.now) (heard (is_header_root root) h lines)) }
+            at spoken piece.now lines →
+            Recalls self.new (hushed (hushes spoken) (heard (is_header_root root) h lines)) }
         ensures named { (here at : ℕ) (lines : List Line) →
             IsSpoken (tree catalogue.now of.0) (path_in [] (places catalogue.now here outer.now))
-            at spoken.now lines →
+            at spoken piece.now lines →
             result ≡ names_operation (is_header_root root) lines }
     {
         if root == Root::Body {
@@ -197,17 +193,17 @@ impl Memory {
             }
             Spoken::Number(number) => {
                 let is_id = is_header_member(catalogue, root, outer, b"request_id");
-                self.hear_number(catalogue, of, *number, is_id);
+                self.hear_number(catalogue, of, number, is_id);
                 false
             }
             Spoken::Switch(number) => {
-                self.hear_number(catalogue, catalogue.switch_type(of), *number, false);
+                self.hear_number(catalogue, catalogue.switch_type(of), number, false);
                 false
             }
-            Spoken::Piece { octets, more, .. } => match catalogue.shape(of) {
+            Spoken::Piece { more, .. } => match catalogue.shape(of) {
                 Shape::Text(_) => {
-                    self.hear_piece(octets, *more);
-                    !*more && is_header_member(catalogue, root, outer, b"operation")
+                    self.hear_piece(piece, more);
+                    !more && is_header_member(catalogue, root, outer, b"operation")
                 }
                 Shape::Octets(_) => false,
                 Shape::Encapsulation => false,

@@ -1,19 +1,20 @@
 //! Octets taken together: a run of them, up to the one behind which its caller has something to do.
 
-ghost use Rattle.std.specs.Prelude.{◌≡◌, ℕ, ◌+◌, ◌%◌, ◌^◌, ◌<◌, ◌≤◌, List, length, take, IfOk};
+ghost use Rattle.std.specs.Prelude.{◌≡◌, ℕ, ◌+◌, ◌%◌, ◌^◌, ◌<◌, ◌≤◌, List, length, take, IfOk, IfSome};
 ghost use Rattle.giop_cdr.specs.declared.order.Order.{Order as ByteOrder};
 ghost use Rattle.giop_decode.specs.Holding.{Fits, GoesOn, IsDone, Reads};
-ghost use Rattle.giop_decode.specs.Runs.{TakesRun, WritesRun, AllGathered};
+ghost use Rattle.giop_decode.specs.Runs.{TakesRun, WritesRun, AllGathered, ComesWhole};
 ghost use Rattle.giop_print.specs.declared.path.Root.{Root as PathRoot};
 ghost use Rattle.giop_sig.specs.Types.{Ty};
 
 use crate::contents::gather_content;
 use crate::decoder::Decoder;
-use crate::heads::{gather_number, width};
-use crate::leaf::Leaf;
+use crate::heads::{gather_number, whole_number, width};
+use crate::leaf::{Leaf, Spoken, Step, Turn};
 use crate::progress::Progress;
+use giop_cdr::Number;
 use giop_print::{Out, OutFault};
-use giop_sig::Catalogue;
+use giop_sig::{Catalogue, TypeId};
 
 impl Decoder {
     /// Takes octets of the value, and writes what they give to say: all of them, or as many as there are up to one that
@@ -53,8 +54,9 @@ impl Decoder {
         Ok((taken, Progress::More))
     }
 
-    /// Takes some of the octets, of which there is one: those that only add to what is held together, and one more.
-    #[inline(always)]
+    /// Takes some of the octets, of which there is one: a number that stands whole at their head, or those that only add to
+    /// what is held together, and one more.
+    #[inline(never)]
     fn take_some<O: Out>(
         &mut self,
         catalogue: &Catalogue,
@@ -77,12 +79,43 @@ impl Decoder {
         ensures fits { IfOk result (λ taken. GoesOn taken.1 → Fits catalogue.now self.new) }
         ensures done { IfOk result (λ taken. taken.1 ≡ Progress.Done → IsDone self.new) }
     {
+        if let Some((of, count, number)) = self.number_ahead(catalogue, octets) {
+            self.at = further(self.at, count - 1);
+            let step = Step {
+                turn: Turn::Ended,
+                spoken: Spoken::Number(number),
+            };
+            let progress = self.tell(catalogue, of, step, out)?;
+            return Ok((count, progress));
+        }
         let gathered = self.gather(catalogue, octets);
         if gathered == octets.len() {
             return Ok((gathered, Progress::More));
         }
         let progress = self.advance(catalogue, octets[gathered], out)?;
         Ok((gathered + 1, progress))
+    }
+
+    /// The number that comes next, its type and how many octets it takes, where it stands whole at the head of these, in no
+    /// encapsulation, and none of it is held.
+    #[inline(always)]
+    fn number_ahead(&self, catalogue: &Catalogue, octets: &[u8]) -> Option<(TypeId, usize, Number)>
+        requires { Fits catalogue.now self.now }
+        ensures { IfSome result (λ whole.
+            ComesWhole catalogue.now self.now octets.now whole.0 whole.1 whole.2) }
+    {
+        if self.inside || !self.carry.is_empty() {
+            return None;
+        }
+        match self.leaf {
+            Some(Leaf::Number(of)) => match whole_number(
+                catalogue, self.order, self.at, of, octets,
+            ) {
+                Some((count, number)) => Some((of, count, number)),
+                None => None,
+            },
+            _ => None,
+        }
     }
 
     /// Takes the octets that only add to what is held, all that stand there together, and answers how many there were.

@@ -25,8 +25,7 @@ returns-clause-holds c =
     let size = length-take-le n (drop p octets) within in
     let held = rw (rest_from p octets, none) at c.hold_some-2.ensures.held in
     let l = length-drop p octets in
-    let pads = rw c.from.ensures at c.pad.ensures.value in
-    let few : p ≡ min (padding c.args.at c.args.width) (length octets) = omega (arith, c.min-padding.ensures, c.from-2.ensures, pads) in
+    let few : p ≡ min (padding c.args.at c.args.width) (length octets) = omega (arith, c.min-padding.ensures, c.from.ensures, c.padding_at.ensures) in
     rw (none, held, take-add p n octets)
     (padded_held c.args.width c.args.at p octets (take n (drop p octets)) c.requires.width c.requires.small (omega (arith, few)) (omega (arith, few))
     (λ some. omega (arith, few, size, within, l, some)) (omega (arith, size, c.hold_some-2.ensures.room, ap length none)))

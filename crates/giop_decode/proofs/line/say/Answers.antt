@@ -36,9 +36,8 @@ pub returns-in-Piece : goal.returns-in-Piece
 returns-in-Piece g c here at lines h =
     let path = path_in [] (places c.args.catalogue.now here c.args.outer.now) in
     let k = rw c.in-Piece.is at h in
-    let w = rw c.deref.ensures.0 at c.octets_line.ensures in
     rw (← said_one c.args.message c.args.root at path _ _ lines
-    (stands_at c.args.catalogue.now here c.args.root c.args.outer.now) k) w
+    (stands_at c.args.catalogue.now here c.args.root c.args.outer.now) k) c.octets_line.ensures
 
 pub returns-in-Switch : goal.returns-in-Switch
 returns-in-Switch g c here at lines h =
