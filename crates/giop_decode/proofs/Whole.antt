@@ -2,8 +2,8 @@
 use Rattle.std.proofs.Common.{◌≡◌, ℕ, ◌+◌, ◌-◌, ◌%◌, ◌^◌, false, ◌<◌, ◌≤◌, List, [], ◌∷◌, ◌++◌, length, take, drop, get_or, Some, refl, sym, ◌∙◌, ap, subst, arith, length-drop, take-add}
 use Rattle.std.proofs.lemmas.List.{get_or-drop, length-take-le}
 use Rattle.giop_cdr.proofs.NumberLaws.{num_bound}
-use Rattle.giop_cdr.proofs.PaddingLaws.{padding-aligned, padding_below}
-use Rattle.giop_cdr.specs.Alignment.{padding}
+use Rattle.giop_cdr.proofs.PaddingLaws.{by_alignment, padding-aligned}
+use Rattle.giop_cdr.specs.Alignment.{IsAlignment, padding}
 use Rattle.giop_cdr.specs.Numbers.{AreOctets, num, taken_as}
 use Rattle.giop_cdr.specs.Primitives.{size_of}
 use Rattle.giop_cdr.specs.declared.number.Number.{Number as Taken}
@@ -37,6 +37,11 @@ use Rattle.giop_decode.proofs.Runs.{take_more}
 use Rattle.giop_decode.proofs.Shapes.{aligned}
 use Rattle.giop_decode.proofs.Turning.{number_prim}
 use Rattle.giop_sig.specs.Types.{Plain, Ty, Single}
+
+-- padding is smaller than the size
+padding_below : (at size : ℕ) → IsAlignment size → padding at size < size
+unfolding padding
+padding_below at size h = by_alignment (λ n. (n - at % n) % n < n) size h (omega arith) (omega arith) (omega arith) (omega arith)
 
 pub stands_whole : (T : Ty) (p : Primitive) (order : Order) (at pad count : ℕ) (octets : List ℕ) (number : Taken) → T ≡ Single (Plain p) → at < 8 → pad ≡ padding at (size_of p) →
     count ≡ pad + size_of p → count ≤ length octets → taken_as p (num order (take (count - pad) (drop pad octets))) ≡ Some number → AreOctets (take (count - pad) (drop pad octets)) →
