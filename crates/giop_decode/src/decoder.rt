@@ -330,7 +330,8 @@ impl Decoder {
         ensures order { OnOk result (self.new.order ≡ self.old.order) }
         ensures root { OnOk result (self.new.root ≡ self.old.root) }
         ensures message { OnOk result (self.new.message ≡ self.old.message) }
-        ensures here { OnOk result ((here : ℕ) → IsHere self.old here → IsHere self.new (here + 1)) }
+        ensures here { OnOk result ((here : ℕ) → IsHere self.old here →
+            IsHere self.new (here + 1)) }
         ensures next { IfOk result (λ p. GoesOn p → IsNext catalogue.now self.old self.new of.0) }
         ensures writes { (here at : ℕ) (lines : List Line) →
             IsSpoken (tree catalogue.now of.0)

@@ -68,7 +68,8 @@ impl Memory {
 
     /// The last string, where that has ended and is a name.
     pub(crate) fn name(&self) -> Option<&[u8]>
-        ensures { (h : Heard) → Recalls self.now h → option_map (λ octets. octets.now) result ≡ h.name }
+        ensures { (h : Heard) → Recalls self.now h →
+            option_map (λ octets. octets.now) result ≡ h.name }
     {
         match self.buffer {
             Buffer::Whole => Some(&self.name),
@@ -94,7 +95,8 @@ impl Memory {
 
     /// Hears a piece of a string.
     fn extend(&mut self, octets: &[u8])
-        ensures hears { (h : Heard) → Recalls self.old h → Recalls self.new (with_piece h octets.now) }
+        ensures hears { (h : Heard) → Recalls self.old h →
+            Recalls self.new (with_piece h octets.now) }
         ensures begun { self.new.buffer ≡ Buffer.Whole → ⊥ }
     {
         self.forget();
@@ -124,7 +126,8 @@ impl Memory {
 
     /// Hears a piece of a string, which may be its last.
     fn hear_piece(&mut self, octets: &[u8], more: bool)
-        ensures { (h : Heard) → Recalls self.old h → Recalls self.new (heard_piece h octets.now more) }
+        ensures { (h : Heard) → Recalls self.old h →
+            Recalls self.new (heard_piece h octets.now more) }
     {
         self.extend(octets);
         if !more {
@@ -136,7 +139,8 @@ impl Memory {
     fn hear_number(&mut self, catalogue: &Catalogue, t: TypeId, number: Number, is_id: bool)
         requires known { t.0 < length catalogue.now.types }
         requires number { IsNumberOf (tree catalogue.now t.0) number }
-        ensures { (h : Heard) (is : IsNumberOf (tree catalogue.now t.0) number) → Recalls self.old h →
+        ensures { (h : Heard) (is : IsNumberOf (tree catalogue.now t.0) number) →
+            Recalls self.old h →
             Recalls self.new (hear_value is_id h (spines.Number is.scalar is.n)) }
     {
         match catalogue.shape(t) {
@@ -170,7 +174,8 @@ impl Memory {
         requires known { of.0 < length catalogue.now.types }
         requires known_outer { AreKnown catalogue.now outer.now }
         requires speaks { CanSpeak (tree catalogue.now of.0) spoken }
-        ensures hears { (root ≡ Root.Body → ⊥) → (h : Heard) (here at : ℕ) (lines : List Line) → Recalls self.old h →
+        ensures hears { (root ≡ Root.Body → ⊥) →
+            (h : Heard) (here at : ℕ) (lines : List Line) → Recalls self.old h →
             IsSpoken (tree catalogue.now of.0) (path_in [] (places catalogue.now here outer.now))
             at spoken piece.now lines →
             Recalls self.new (hushed (hushes spoken) (heard (is_header_root root) h lines)) }

@@ -28,7 +28,8 @@ impl Decoder {
         ensures stored { (C : Table) → Fits C self.now →
             Stored self.now fixed.new (take (frame_size * result) frames.new) }
         // The octets behind them are as they were.
-        ensures behind { drop (frame_size * result) frames.new ≡ drop (frame_size * result) frames.old }
+        ensures behind { drop (frame_size * result) frames.new
+            ≡ drop (frame_size * result) frames.old }
     {
         let Some(leaf) = self.leaf else {
             return 0;

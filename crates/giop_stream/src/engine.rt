@@ -52,7 +52,8 @@ impl<'a> Model for Engine<'a> {
     ghost use Rattle.giop_stream.specs.Keeping.{AreReady};
     ghost use Rattle.giop_stream.specs.Holding.{AreOf};
 
-    ghost invariant = { λ e. AreOf e.catalogue.now e.requests.now × AreReady e.catalogue.now (e.framing.totals.octets + 1) e.framing.slots };
+    ghost invariant = { λ e. AreOf e.catalogue.now e.requests.now
+        × AreReady e.catalogue.now (e.framing.totals.octets + 1) e.framing.slots };
 }
 
 impl<'a> Engine<'a> {
@@ -106,11 +107,13 @@ impl<'a> Engine<'a> {
     /// Reads a piece of the stream, and writes the lines that it completes. Behind a stream fault it reads nothing.
     pub fn feed<O: Out>(&mut self, piece: &[u8], out: &mut O) -> Result<Status, Stop>
         // It then holds what it held, and the piece.
-        ensures held { (p : List ℕ) → Holds self.old p → OnOk result (Holds self.new (p ++ piece.now)) }
+        ensures held { (p : List ℕ) → Holds self.old p →
+            OnOk result (Holds self.new (p ++ piece.now)) }
         // What the piece adds to the text is written.
         ensures text { (p : List ℕ) → Holds self.old p
             → StopWrites result (O.log out.old) (O.log out.new)
-            (drop (length (text (rules_of self.old) p)) (text (rules_of self.old) (p ++ piece.now))) }
+            (drop (length (text (rules_of self.old) p))
+            (text (rules_of self.old) (p ++ piece.now))) }
         // It says whether the stream has a fault.
         ensures status { (p : List ℕ) → Holds self.old p
             → IfOk result (λ s. s ≡ status_of (fault_of (cut (p ++ piece.now)).stop)) }
@@ -148,7 +151,8 @@ impl<'a> Engine<'a> {
         ensures totals { (p : List ℕ) → Holds self.entry p →
             IfOk result (λ t. t ≡ final (rules_of self.entry) p) }
         // A failed engine writes nothing, and no other answers that it was failed.
-        ensures failed { self.entry.failed ≡ true → (result ≡ Err Stop.Failed) × (O.log out.new ≡ O.log out.old) }
+        ensures failed { self.entry.failed ≡ true →
+            (result ≡ Err Stop.Failed) × (O.log out.new ≡ O.log out.old) }
         ensures sound { result ≡ Err Stop.Failed → self.entry.failed ≡ true }
     {
         if self.failed {
@@ -169,7 +173,8 @@ impl<'a> Engine<'a> {
         // The octets behind them are as they were.
         ensures behind { IfOk result (λ n. drop n into.new ≡ drop n into.old) }
         // It is refused exactly where the engine was failed; nothing is written then.
-        ensures failed { self.now.failed ≡ true → (result ≡ Err Stop.Failed) × (into.new ≡ into.old) }
+        ensures failed { self.now.failed ≡ true →
+            (result ≡ Err Stop.Failed) × (into.new ≡ into.old) }
         ensures sound { self.now.failed ≡ false → IsOk result }
     {
         if self.failed {

@@ -23,7 +23,8 @@ pub fn each_slot()
     ensures stays { (R : Reading) (c : Tracked) (e : Event) (k : ℕ) (o : Open) →
         stays e.what ≡ true → Rising c.live → slice_get c.live k ≡ Some o → e.whom ≡ o.opener →
         slots_at (tracked_at R c e)
-        ≡ slice_set (slots_at c) k (record { open_as = o; octets = octets_then R e (c.known o.opener.number) }) }
+        ≡ slice_set (slots_at c) k
+        (record { open_as = o; octets = octets_then R e (c.known o.opener.number) }) }
     // and none where that isn't open.
     ensures own { (R : Reading) (c : Tracked) (e : Event) →
         stays e.what ≡ true → IsNotOpen e.whom.number c.live →

@@ -31,7 +31,8 @@ pub fn write(
     requires ready { AreReady catalogue.now (framing.now.totals.octets + 1) framing.now.slots }
     requires empty { out.old.items ≡ [] }
     ensures whole { IsPutWhole catalogue.now requests.now (shown framing.now) out.new.items }
-    ensures long { length (fixed_octets (fixed_of catalogue.now requests.now (shown framing.now))) ≡ 96 }
+    ensures long { let f = fixed_of catalogue.now requests.now (shown framing.now) in
+        length (fixed_octets f) ≡ 96 }
     ensures few { length framing.now.slots.slots.items ≤ most_open }
 {
     fixed_part(framing, catalogue, requests).write(out);

@@ -108,8 +108,8 @@ impl Slots {
         requires limit { before + length octets.now ≤ 2 ^ 48 }
         ensures does { (c : Tracked) (whose : Option Title) →
             Keeps catalogue.now requests.now self.old c whose → Rising c.live →
-            TakesEffect catalogue.now requests.now one_if result (O.log out.old) (O.log out.new) self.new
-            (run_effect catalogue.now requests.now before c whose octets.now) whose }
+            TakesEffect catalogue.now requests.now one_if result (O.log out.old) (O.log out.new)
+            self.new (run_effect catalogue.now requests.now before c whose octets.now) whose }
         ensures ready { OnOk result
             (AreReady catalogue.now (before + length octets.now + 1) self.new) }
         ensures most { self.new.most ≡ self.old.most }
