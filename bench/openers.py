@@ -25,8 +25,8 @@ def split(draw, whole):
     return parts
 
 
-def calls(draw):
-    left = [split(draw, call(draw)) for _ in range(OPEN)]
+def calls(draw, many=OPEN):
+    left = [split(draw, call(draw)) for _ in range(many)]
     out = b""
     while left:
         for parts in left:

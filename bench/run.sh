@@ -1,9 +1,10 @@
 #!/bin/sh
-# Octets a second and peak memory of the dumper, beside xxd, over seven streams: bench/run.sh [OCTETS [DUMPER]].
+# Octets a second and peak memory of the dumper, beside xxd, over eight streams: bench/run.sh [OCTETS [DUMPER]].
 #   mixed      messages of every type, without a signature file
 #   typed      calls of about 380 octets whose parameters are typed
 #   fragments  calls with octet sequences of 262,144 octets, in Fragments
 #   openers    sixteen calls at a time, whose Fragments come in turn
+#   many       the same with 4,096 calls at a time, by --open 4096
 #   large      one call with one octet sequence
 #   doubles    calls with sequences of 8,192 doubles
 #   captured   real calls to a naming service, again and again
@@ -42,10 +43,11 @@ figures() {
     ' "$work/$1.runs"
 }
 
-for name in mixed typed fragments openers large doubles captured; do
+for name in mixed typed fragments openers many large doubles captured; do
     case $name in
         mixed) set -- ;;
         captured) set -- --signatures "$top/examples/naming.sig" ;;
+        many) set -- --signatures "$top/bench/calls.sig" --open 4096 ;;
         *) set -- --signatures "$top/bench/calls.sig" ;;
     esac
     case $name in

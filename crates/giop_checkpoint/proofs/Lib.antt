@@ -1,4 +1,5 @@
 pub mod Puts
+mod Versions
 mod Places
 mod States
 pub mod Fronts

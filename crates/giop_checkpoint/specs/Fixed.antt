@@ -1,7 +1,8 @@
 -- The fixed part of a checkpoint, octet for octet (docs/FORMATS.md, Checkpoints; state).
-use Rattle.std.specs.Prelude.{◌≡◌, ℕ, ◌+◌, ◌-◌, ◌^◌, ◌<◌, ◌≤◌, List, [], ◌∷◌, ◌++◌, length, replicate, codes, Option, Some, None}
+use Rattle.std.specs.Prelude.{◌≡◌, ℕ, ◌+◌, ◌-◌, ◌^◌, ◌<◌, ◌≤◌, List, [], ◌∷◌, ◌++◌, length, replicate, codes}
 use Rattle.giop_octets.specs.Fields.{four, eight}
-use Rattle.giop_checkpoint.specs.declared.sizes.TheConstants.{VERSION, MOST_RECORDS}
+use Rattle.giop_checkpoint.specs.Layouts.{version_of, OpenHasRange, IsAmong, owner_octet, limit_octets}
+use Rattle.giop_checkpoint.specs.declared.layout.Layout.{Layout}
 use Rattle.giop_checkpoint.specs.declared.fault.StreamFault.{StreamFault}
 use Rattle.giop_checkpoint.specs.declared.fault.StreamFault.TheVariants as faults
 use Rattle.giop_checkpoint.specs.declared.fixed.Counts.{Counts}
@@ -16,14 +17,10 @@ PlaceHasRange (Header held) = length held.items ≤ 11
 PlaceHasRange (Payload header left) = (length header ≡ 12) × (left < 2 ^ 32)
 PlaceHasRange (Stopped fault) = Unit {0}
 
--- the payload's record is one of so many
-abbrev pub IsAmong : ℕ → Option ℕ → Type 0
-IsAmong records None = Unit {0}
-IsAmong records (Some k) = k < records
-
 -- the fields behind the counts
-pub record HasRange (f : Fixed) : Type 0 where
-  pub records : f.records ≤ MOST_RECORDS
+pub record HasRange (layout : Layout) (f : Fixed) : Type 0 where
+  pub most_open : OpenHasRange layout f.most_open
+  pub records : f.records ≤ f.most_open + 1
   pub octets : f.octets ≤ 2 ^ 48 + 1
   pub messages : f.messages ≤ 2 ^ 45
   pub faults : f.faults ≤ 2 ^ 45 + 1
@@ -44,17 +41,13 @@ fault_octet faults.Version = 2
 fault_octet faults.ByteOrder = 3
 fault_octet faults.StreamLimit = 5
 
-abbrev pub owner_octet : Option ℕ → ℕ
-owner_octet None = 255
-owner_octet (Some k) = k
-
--- Four octets for the place, the stream fault's number, how many header octets are held and the payload's record; the header
--- octets; the payload octets still to come.
-abbrev pub place_octets : Place → Option ℕ → List ℕ
+-- Four octets for the place, the stream fault's number, how many header octets are held and, by layout 2, the payload's
+-- record; the header octets; the payload octets still to come.
+abbrev pub place_octets : Place → ℕ → List ℕ
 place_octets (Header held) owner =
-    (0 ∷ 0 ∷ length held.items ∷ owner_octet owner ∷ []) ++ held.items ++ replicate (12 - length held.items) 0 ++ eight 0
-place_octets (Payload header left) owner = (1 ∷ 0 ∷ 0 ∷ owner_octet owner ∷ []) ++ header ++ eight left
-place_octets (Stopped fault) owner = (2 ∷ fault_octet fault ∷ 0 ∷ owner_octet owner ∷ []) ++ replicate 12 0 ++ eight 0
+    (0 ∷ 0 ∷ length held.items ∷ owner ∷ []) ++ held.items ++ replicate (12 - length held.items) 0 ++ eight 0
+place_octets (Payload header left) owner = (1 ∷ 0 ∷ 0 ∷ owner ∷ []) ++ header ++ eight left
+place_octets (Stopped fault) owner = (2 ∷ fault_octet fault ∷ 0 ∷ owner ∷ []) ++ replicate 12 0 ++ eight 0
 
 -- These fields by themselves.
 abbrev pub place_octet : Place → ℕ
@@ -83,9 +76,11 @@ left_in (Payload header left) = left
 left_in (Stopped fault) = 0
 
 -- the octets behind the counts
-unfoldable pub state_octets : Fixed → List ℕ
-state_octets f =
-    four f.records ++ eight f.octets ++ eight f.messages ++ eight f.faults ++ place_octets f.place f.owner ++ replicate 16 0
+unfoldable pub state_octets : Layout → Fixed → List ℕ
+state_octets layout f =
+    four f.records ++ eight f.octets ++ eight f.messages ++ eight f.faults
+    ++ place_octets f.place (owner_octet layout f.owner) ++ limit_octets layout f.most_open f.owner
 
-unfoldable pub fixed_octets : Fixed → List ℕ
-fixed_octets f = magic ++ four VERSION ++ counts_octets f.counts ++ state_octets f
+unfoldable pub fixed_octets : Layout → Fixed → List ℕ
+fixed_octets layout f =
+    magic ++ four (version_of layout) ++ counts_octets f.counts ++ state_octets layout f

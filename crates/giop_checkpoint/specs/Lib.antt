@@ -1,3 +1,4 @@
+pub mod Layouts
 pub mod Fixed
 pub mod Records
 pub mod Refusals

@@ -1,11 +1,13 @@
--- The checks of a checkpoint in their order, and the first one that fails (docs/FORMATS.md, Checkpoints; state).
+-- The checks of a checkpoint in their order, and the first one that fails. Want of memory is none of them (docs/FORMATS.md, Checkpoints; state).
 use Rattle.std.specs.Prelude.{◌≡◌, ◌≤◌, ◌⊎◌, ℕ, List, length, take, drop}
 use Rattle.giop_octets.specs.Fields.{four}
-use Rattle.giop_checkpoint.specs.declared.sizes.TheConstants.{FIXED_SIZE, VERSION}
+use Rattle.giop_checkpoint.specs.declared.sizes.TheConstants.{FIXED_SIZE}
+use Rattle.giop_checkpoint.specs.declared.layout.Layout.{Layout}
 use Rattle.giop_checkpoint.specs.declared.fault.LoadFault.{LoadFault}
 use Rattle.giop_checkpoint.specs.declared.fault.LoadFault.TheVariants as faults
 use Rattle.giop_checkpoint.specs.declared.fixed.Counts.{Counts}
 use Rattle.giop_checkpoint.specs.declared.fixed.Fixed.{Fixed}
+use Rattle.giop_checkpoint.specs.Layouts.{version_of}
 use Rattle.giop_checkpoint.specs.Fixed.{HasRange, magic, counts_octets, state_octets}
 use Rattle.giop_checkpoint.specs.Records.{AreRecords}
 
@@ -15,17 +17,23 @@ IsLong s = FIXED_SIZE ≤ length s
 abbrev pub HasMagic : List ℕ → Type 0
 HasMagic s = take 8 s ≡ magic
 
+-- its version is this layout's
+abbrev pub IsLaidOut : List ℕ → Layout → Type 0
+IsLaidOut s layout = take 4 (drop 8 s) ≡ four (version_of layout)
+
 abbrev pub HasVersion : List ℕ → Type 0
-HasVersion s = take 4 (drop 8 s) ≡ four VERSION
+HasVersion s = (layout : Layout) × IsLaidOut s layout
 
 abbrev pub HasCounts : Counts → List ℕ → Type 0
 HasCounts c s = take 16 (drop 12 s) ≡ counts_octets c
 
 -- these are its fields behind the counts, each in its range
 pub record HasState (c : Counts) (f : Fixed) (s : List ℕ) : Type 0 where
+  pub layout : Layout
+  pub laid_out : IsLaidOut s layout
   pub counts : f.counts ≡ c
-  pub octets : take 68 (drop 28 s) ≡ state_octets f
-  pub range : HasRange f
+  pub octets : take 68 (drop 28 s) ≡ state_octets layout f
+  pub range : HasRange layout f
 
 abbrev pub HasRecords : Fixed → List ℕ → Type 0
 HasRecords f s = AreRecords f.records (drop FIXED_SIZE s)
@@ -41,6 +49,7 @@ IsNotOurs c s faults.Magic = IsLong s × (HasMagic s → ⊥)
 IsNotOurs c s faults.Version = IsLong s × HasMagic s × (HasVersion s → ⊥)
 IsNotOurs c s faults.Catalogue = IsLong s × HasMagic s × HasVersion s × (HasCounts c s → ⊥)
 IsNotOurs c s faults.State = ⊥
+IsNotOurs c s faults.OutOfMemory = ⊥
 
 -- and behind them: a field out of its range, and then octets that aren't those of the records
 abbrev pub IsOutOfRange : Counts → List ℕ → LoadFault → Type 0
@@ -49,6 +58,7 @@ IsOutOfRange c s faults.Version = ⊥
 IsOutOfRange c s faults.Catalogue = ⊥
 IsOutOfRange c s faults.Length = (f : Fixed) × HasState c f s × (HasRecords f s → ⊥)
 IsOutOfRange c s faults.State = (f : Fixed) → HasState c f s → ⊥
+IsOutOfRange c s faults.OutOfMemory = ⊥
 
 -- the first check that fails
 abbrev pub Refused : Counts → List ℕ → LoadFault → Type 0

@@ -25,7 +25,7 @@ pub enum LoadFault {
     /// It doesn't begin with the text `GIOPDUMP`.
     #[error("magic")]
     Magic = 1,
-    /// Its layout is of another version.
+    /// Its layout is of a version that isn't read.
     #[error("version")]
     Version = 2,
     /// It was saved with another catalogue or another request list, by what these have.
@@ -37,4 +37,7 @@ pub enum LoadFault {
     /// A field is out of its range.
     #[error("state")]
     State = 5,
+    /// There is no memory for as many open messages as it allows. No check of its octets answers this.
+    #[error("out-of-memory")]
+    OutOfMemory = 6,
 }

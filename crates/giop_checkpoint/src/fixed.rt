@@ -2,12 +2,12 @@
 
 ghost use Rattle.std.specs.Prelude.{◌≡◌, ℕ, List, ◌+◌, ◌≤◌, ◌∷◌, ◌++◌, length, Option, Some};
 ghost use Rattle.arrayvec.specs.ArrayVec.{array_vec_len};
-ghost use Rattle.giop_octets.specs.Fields.{four};
-ghost use Rattle.giop_checkpoint.specs.Fixed.{HasRange, magic, fault_octet, counts_octets, place_octets, state_octets, fixed_octets};
-ghost use Rattle.giop_checkpoint.specs.declared.fixed.Fixed.{Fixed as FixedPart};
+ghost use Rattle.giop_checkpoint.specs.Layouts.{OwnerFits};
+ghost use Rattle.giop_checkpoint.specs.Fixed.{magic, fault_octet, counts_octets, place_octets, state_octets, fixed_octets};
+ghost use Rattle.giop_checkpoint.specs.declared.layout.Layout.TheVariants.{Third};
 
 use crate::fault::StreamFault;
-use crate::sizes::VERSION;
+use crate::layout::Layout;
 use arrayvec::ArrayVec;
 use giop_octets::{eight_at, four_at, put_eight, put_four, put_octets, put_zeros};
 
@@ -36,7 +36,9 @@ pub enum Place {
 #[derive(Drop)]
 pub struct Fixed {
     pub counts: Counts,
-    /// How many records there are, at most 17.
+    /// How many messages may be open at once: 1 to 4,096.
+    pub most_open: u32,
+    /// How many records there are, at most one more than that.
     pub records: u32,
     /// The octets read, the offending one of a stream fault among them: at most 2^48 + 1.
     pub octets: u64,
@@ -46,34 +48,35 @@ pub struct Fixed {
     pub faults: u64,
     pub place: Place,
     /// The record whose message the payload belongs to, counted from 0.
-    pub owner: Option<u8>,
+    pub owner: Option<u32>,
 }
 
 impl Fixed {
-    /// Writes the fixed part.
+    /// Writes the fixed part, in layout 3.
     pub fn write<const N: usize>(&self, out: &mut ArrayVec<u8, N>)
         requires room { array_vec_len out.old + 96 ≤ N }
-        ensures put { out.new.items ≡ out.old.items ++ fixed_octets self.now }
+        ensures put { out.new.items ≡ out.old.items ++ fixed_octets Third self.now }
         ensures len { array_vec_len out.new ≡ array_vec_len out.old + 96 }
     {
         put_octets(out, &magic());
-        put_octets(out, &version());
+        put_octets(out, &Layout::Third.version());
         self.counts.write(out);
-        self.write_state(out);
+        self.write_state(Layout::Third, out);
     }
 
     /// Writes what stands behind the counts.
-    pub(crate) fn write_state<const N: usize>(&self, out: &mut ArrayVec<u8, N>)
+    pub(crate) fn write_state<const N: usize>(&self, layout: Layout, out: &mut ArrayVec<u8, N>)
         requires room { array_vec_len out.old + 68 ≤ N }
-        ensures put { out.new.items ≡ out.old.items ++ state_octets self.now }
+        requires owner { OwnerFits layout self.now.owner }
+        ensures put { out.new.items ≡ out.old.items ++ state_octets layout self.now }
         ensures len { array_vec_len out.new ≡ array_vec_len out.old + 68 }
     {
         put_four(out, self.records);
         put_eight(out, self.octets);
         put_eight(out, self.messages);
         put_eight(out, self.faults);
-        self.place.write(self.owner, out);
-        put_zeros(out, 16);
+        self.place.write(layout.owner_octet(self.owner), out);
+        layout.write_limits(self.most_open, self.owner, out);
     }
 }
 
@@ -92,13 +95,12 @@ impl Counts {
 }
 
 impl Place {
-    /// Writes the place, with the record of the payload.
-    fn write<const N: usize>(&self, owner: Option<u8>, out: &mut ArrayVec<u8, N>)
+    /// Writes the place, with the octet that names the payload's record.
+    fn write<const N: usize>(&self, owner: u8, out: &mut ArrayVec<u8, N>)
         requires room { array_vec_len out.old + 24 ≤ N }
         ensures put { out.new.items ≡ out.old.items ++ place_octets self.now owner }
         ensures len { array_vec_len out.new ≡ array_vec_len out.old + 24 }
     {
-        let owner = owner.unwrap_or(255);
         match self {
             Place::Header(held) => {
                 put_octets(out, &[0, 0, held.len() as u8, owner]);
@@ -126,14 +128,6 @@ pub fn magic() -> [u8; 8]
     ensures { result ≡ magic }
 {
     *b"GIOPDUMP"
-}
-
-/// The octets of the layout's version.
-#[tactic(auto, unfolding(giop_octets::specs::Fields::four))]
-pub fn version() -> [u8; 4]
-    ensures { result ≡ four VERSION }
-{
-    VERSION.to_be_bytes()
 }
 
 /// The octet of a stream fault: its number.

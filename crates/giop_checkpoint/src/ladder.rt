@@ -3,20 +3,24 @@
 ghost use Rattle.std.specs.Prelude.{◌≡◌, ◌↔◌, ℕ, List, ◌++◌, ◌≤◌, drop, length, IfOk, IfErr, IsOkAnd, IsTrue};
 ghost use Rattle.giop_checkpoint.specs.Fixed.{HasRange, counts_octets, fixed_octets};
 ghost use Rattle.giop_checkpoint.specs.Records.{AreRecords};
-ghost use Rattle.giop_checkpoint.specs.Refusals.{IsOurs, IsNotOurs, Refused, Passes};
+ghost use Rattle.giop_checkpoint.specs.Refusals.{IsLaidOut, IsOurs, IsNotOurs, Refused, Passes};
 ghost use Rattle.giop_checkpoint.specs.declared.fixed.Fixed.{Fixed as FixedPart};
+ghost use Rattle.giop_checkpoint.specs.declared.layout.Layout.{Layout as LayoutOf};
 
 use crate::fault::LoadFault;
-use crate::fixed::{Counts, Fixed, magic, version};
+use crate::fixed::{Counts, Fixed, magic};
+use crate::layout::Layout;
 use crate::record::are_records;
 use crate::sizes::FIXED_SIZE;
 use crate::state::{same, state_at};
 use arrayvec::ArrayVec;
 
-/// What stands behind the counts, where all up to there is as it is written now, with these counts.
-fn behind_counts<'a>(octets: &'a [u8], counts: Counts) -> Result<&'a [u8], LoadFault>
-    ensures ours { IfOk result (λ rest. IsOurs counts octets.now) }
-    ensures rest { IfOk result (λ rest. rest.now ≡ drop 28 octets.now) }
+/// The layout, and what stands behind the counts, where all up to there is as it is written by this layout, with these
+/// counts.
+fn behind_counts<'a>(octets: &'a [u8], counts: Counts) -> Result<(Layout, &'a [u8]), LoadFault>
+    ensures ours { IfOk result (λ r. IsOurs counts octets.now) }
+    ensures layout { IfOk result (λ r. IsLaidOut octets.now r.0) }
+    ensures rest { IfOk result (λ r. r.1.now ≡ drop 28 octets.now) }
     ensures refused { IfErr result (λ why. IsNotOurs counts octets.now why) }
 {
     if octets.len() < FIXED_SIZE {
@@ -26,15 +30,15 @@ fn behind_counts<'a>(octets: &'a [u8], counts: Counts) -> Result<&'a [u8], LoadF
     if !same(text, &magic()) {
         return Err(LoadFault::Magic);
     }
-    let (layout, behind) = behind.split_at(4);
-    if !same(layout, &version()) {
+    let (version, behind) = behind.split_at(4);
+    let Some(layout) = Layout::of(version) else {
         return Err(LoadFault::Version);
-    }
+    };
     let (read_with, behind) = behind.split_at(16);
     if !counts.are(read_with) {
         return Err(LoadFault::Catalogue);
     }
-    Ok(behind)
+    Ok((layout, behind))
 }
 
 /// The fixed part of a checkpoint, and the octets of its records, each of which is whole. These are the counts of the
@@ -42,18 +46,18 @@ fn behind_counts<'a>(octets: &'a [u8], counts: Counts) -> Result<&'a [u8], LoadF
 pub fn fixed_part<'a>(octets: &'a [u8], counts: Counts) -> Result<(Fixed, &'a [u8]), LoadFault>
     ensures passes { IfOk result (λ r. Passes counts octets.now r.0 r.1.now) }
     ensures refused { IfErr result (λ why. Refused counts octets.now why) }
-    // What was written is read.
-    ensures again { (f : FixedPart) (records : List ℕ) → f.counts ≡ counts → HasRange f →
-        AreRecords f.records records →
-        octets.now ≡ fixed_octets f ++ records → IsOkAnd result (λ r. (r.0 ≡ f)
+    // What is written by either layout is read.
+    ensures again { (layout : LayoutOf) (f : FixedPart) (records : List ℕ) → f.counts ≡ counts →
+        HasRange layout f → AreRecords f.records records →
+        octets.now ≡ fixed_octets layout f ++ records → IsOkAnd result (λ r. (r.0 ≡ f)
         × (r.1.now ≡ records)) }
 {
-    let behind = match behind_counts(octets, counts) {
-        Ok(behind) => behind,
+    let (layout, behind) = match behind_counts(octets, counts) {
+        Ok(front) => front,
         Err(why) => return Err(why),
     };
     let (state, records) = behind.split_at(68);
-    let Some(fixed) = state_at(counts, state) else {
+    let Some(fixed) = state_at(layout, counts, state) else {
         return Err(LoadFault::State);
     };
     if !are_records(fixed.records, records) {

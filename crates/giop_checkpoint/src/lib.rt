@@ -4,6 +4,7 @@
 mod fault;
 mod fixed;
 mod ladder;
+mod layout;
 mod record;
 mod sizes;
 mod state;
@@ -11,7 +12,8 @@ mod state;
 pub use fault::{LoadFault, StreamFault};
 pub use fixed::{Counts, Fixed, Place};
 pub use ladder::fixed_part;
+pub use layout::Layout;
 pub use record::{FirstRecord, Record, Standing, first_record};
 pub use sizes::{
-    FIXED_SIZE, FRAME_SIZE, MESSAGE_SIZE, MOST_FRAMES, MOST_RECORDS, RECORD_SIZE, VERSION,
+    FIXED_SIZE, FRAME_SIZE, MESSAGE_SIZE, MOST_FRAMES, MOST_OPEN, RECORD_SIZE, SECOND_OPEN,
 };

@@ -1,13 +1,13 @@
-//! The sizes of a checkpoint's layout, and its version.
-
-/// The layout's version.
-pub const VERSION: u32 = 2;
+//! The sizes of a checkpoint's layouts.
 
 /// The octets of the fixed part.
 pub const FIXED_SIZE: usize = 96;
 
-/// The greatest number of records.
-pub const MOST_RECORDS: u32 = 17;
+/// How many messages at most may be open at once.
+pub const MOST_OPEN: u32 = 4096;
+
+/// How many messages may be open at once by layout 2, which doesn't say it.
+pub const SECOND_OPEN: u32 = 16;
 
 /// The octets of a record in front of its frames: 32 of its own, and those of its message.
 pub const RECORD_SIZE: usize = 256;

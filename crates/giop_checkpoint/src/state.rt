@@ -1,35 +1,37 @@
 //! The fields of the fixed part behind the counts, as they are read.
 
 ghost use Rattle.std.specs.Prelude.{◌≡◌, ◌↔◌, ℕ, List, ◌+◌, ◌≤◌, ◌++◌, length, Option, Some, IfSome, IsTrue};
-ghost use Rattle.giop_checkpoint.specs.Fixed.{HasRange, PlaceHasRange, IsAmong, fault_octet, owner_octet, place_octets, place_octet, fault_in, held_in, header_in, left_in, state_octets};
+ghost use Rattle.giop_checkpoint.specs.Layouts.{OpenHasRange, IsAmong, number_or, owner_octet, limit_octets};
+ghost use Rattle.giop_checkpoint.specs.Fixed.{HasRange, PlaceHasRange, fault_octet, place_octets, place_octet, fault_in, held_in, header_in, left_in, state_octets};
 ghost use Rattle.giop_checkpoint.specs.declared.fixed.Fixed.{Fixed as FixedPart};
 ghost use Rattle.giop_checkpoint.specs.declared.fixed.Place.{Place as PlaceOf};
 ghost use Rattle.giop_checkpoint.specs.declared.fault.StreamFault.{StreamFault as Fault};
 
 use crate::fault::StreamFault;
 use crate::fixed::{Counts, Fixed, Place};
-use crate::sizes::MOST_RECORDS;
+use crate::layout::Layout;
+use crate::sizes::SECOND_OPEN;
 use arrayvec::ArrayVec;
 use giop_octets::{eight_at, four_at, octet_at, octets_at};
 
-/// The fixed part with these counts, where the octets behind them are its fields: each in its range, and zero where nothing
-/// is.
-pub fn state_at(counts: Counts, octets: &[u8]) -> Option<Fixed>
+/// The fixed part with these counts, where the octets behind them are its fields by this layout: each in its range, and zero
+/// where nothing is.
+pub fn state_at(layout: Layout, counts: Counts, octets: &[u8]) -> Option<Fixed>
     requires long { length octets.now ≡ 68 }
     ensures counts { IfSome result (λ f. f.counts ≡ counts) }
-    ensures octets { IfSome result (λ f. octets.now ≡ state_octets f) }
-    ensures range { IfSome result (λ f. HasRange f) }
-    ensures again { (f : FixedPart) → f.counts ≡ counts → HasRange f →
-        octets.now ≡ state_octets f → result ≡ Some f }
+    ensures octets { IfSome result (λ f. octets.now ≡ state_octets layout f) }
+    ensures range { IfSome result (λ f. HasRange layout f) }
+    ensures again { (f : FixedPart) → f.counts ≡ counts → HasRange layout f →
+        octets.now ≡ state_octets layout f → result ≡ Some f }
 {
-    let Some(fixed) = parsed(counts, octets) else {
+    let Some(fixed) = parsed(layout, counts, octets) else {
         return None;
     };
-    if !fixed.is_in_range() {
+    if !fixed.is_in_range(layout) {
         return None;
     }
     let mut again: ArrayVec<u8, 68> = ArrayVec::new();
-    fixed.write_state(&mut again);
+    fixed.write_state(layout, &mut again);
     if !same(again.as_slice(), octets) {
         return None;
     }
@@ -37,25 +39,27 @@ pub fn state_at(counts: Counts, octets: &[u8]) -> Option<Fixed>
 }
 
 /// What octets say, those without a use and the ranges apart.
-fn parsed(counts: Counts, octets: &[u8]) -> Option<Fixed>
+fn parsed(layout: Layout, counts: Counts, octets: &[u8]) -> Option<Fixed>
     requires long { length octets.now ≡ 68 }
     ensures counts { IfSome result (λ f. f.counts ≡ counts) }
     ensures place { IfSome result (λ f. PlaceHasRange f.place) }
-    ensures again { (f : FixedPart) → f.counts ≡ counts → HasRange f →
-        octets.now ≡ state_octets f → result ≡ Some f }
+    ensures again { (f : FixedPart) → f.counts ≡ counts → HasRange layout f →
+        octets.now ≡ state_octets layout f → result ≡ Some f }
 {
     let (_, behind) = octets.split_at(28);
+    let (_, limits) = octets.split_at(52);
     let Some(place) = place_at(behind) else {
         return None;
     };
     Some(Fixed {
         counts,
+        most_open: open_at(layout, limits),
         records: four_at(octets, 0),
         octets: eight_at(octets, 4),
         messages: eight_at(octets, 12),
         faults: eight_at(octets, 20),
         place,
-        owner: owner_of(octet_at(octets, 31)),
+        owner: owner_at(layout, octet_at(octets, 31), limits),
     })
 }
 
@@ -63,7 +67,7 @@ fn parsed(counts: Counts, octets: &[u8]) -> Option<Fixed>
 fn place_at(octets: &[u8]) -> Option<Place>
     requires long { 24 ≤ length octets.now }
     ensures range { IfSome result (λ place. PlaceHasRange place) }
-    ensures again { (place : PlaceOf) (owner : Option ℕ) (rest : List ℕ) → PlaceHasRange place →
+    ensures again { (place : PlaceOf) (owner : ℕ) (rest : List ℕ) → PlaceHasRange place →
         octets.now ≡ place_octets place owner ++ rest → result ≡ Some place }
 {
     place_of(
@@ -124,11 +128,37 @@ fn fault_of(number: u8) -> Option<StreamFault>
     }
 }
 
-/// The record that an octet names.
-fn owner_of(octet: u8) -> Option<u8>
-    ensures { (owner : Option ℕ) → IsAmong 255 owner → octet ≡ owner_octet owner → result ≡ owner }
+/// How many messages may be open at once, by the octets behind the place.
+fn open_at(layout: Layout, octets: &[u8]) -> u32
+    requires long { length octets.now ≡ 16 }
+    ensures { (n : ℕ) (owner : Option ℕ) → OpenHasRange layout n →
+        octets.now ≡ limit_octets layout n owner → result ≡ n }
 {
-    if octet == 255 { None } else { Some(octet) }
+    match layout {
+        Layout::Second => SECOND_OPEN,
+        Layout::Third => four_at(octets, 0),
+    }
+}
+
+/// The payload's record, by the octet of the place that names it and the octets behind the place.
+fn owner_at(layout: Layout, octet: u8, octets: &[u8]) -> Option<u32>
+    requires long { length octets.now ≡ 16 }
+    ensures { (n : ℕ) (owner : Option ℕ) → OpenHasRange layout n → IsAmong (n + 1) owner →
+        octet ≡ owner_octet layout owner → octets.now ≡ limit_octets layout n owner →
+        result ≡ owner }
+{
+    match layout {
+        Layout::Second => owner_of(u32::from(octet), 255),
+        Layout::Third => owner_of(four_at(octets, 4), 4_294_967_295),
+    }
+}
+
+/// The record that a number names, where this one names none.
+fn owner_of(number: u32, nobody: u32) -> Option<u32>
+    ensures { (owner : Option ℕ) → IsAmong nobody owner → number ≡ number_or nobody owner →
+        result ≡ owner }
+{
+    if number == nobody { None } else { Some(number) }
 }
 
 /// Whether octets are the same.
@@ -140,11 +170,12 @@ pub fn same(octets: &[u8], others: &[u8]) -> bool
 
 impl Fixed {
     /// Whether each field is in its range, but for the place.
-    fn is_in_range(&self) -> bool
+    fn is_in_range(&self, layout: Layout) -> bool
         requires { PlaceHasRange self.now.place }
-        ensures { IsTrue result ↔ HasRange self.now }
+        ensures { IsTrue result ↔ HasRange layout self.now }
     {
-        self.records <= MOST_RECORDS
+        layout.allows(self.most_open)
+            && u64::from(self.records) <= u64::from(self.most_open) + 1
             && self.octets <= (1 << 48) + 1
             && self.messages <= 1 << 45
             && self.faults <= (1 << 45) + 1
@@ -153,11 +184,11 @@ impl Fixed {
 }
 
 /// Whether there is such a record, where one is named.
-fn is_among(records: u32, owner: Option<u8>) -> bool
+fn is_among(records: u32, owner: Option<u32>) -> bool
     ensures { IsTrue result ↔ IsAmong records owner }
 {
     match owner {
-        Some(record) => u32::from(record) < records,
+        Some(record) => record < records,
         None => true,
     }
 }

@@ -1,10 +1,16 @@
 -- What the steps up to the run and the save behind it say of the program.
-use Rattle.std.proofs.Common.{◌≡◌, ℕ, List, refl, Option, Some, None, Result, Ok, Err, IfSome, IfErr, inl, inr}
-use Rattle.giop_run.specs.Console.{run_of}
-use Rattle.giop_run.specs.Files.{Folder, Asked, Refused}
+use Rattle.std.proofs.Common.{◌≡◌, ℕ, List, refl, Option, Some, None, Result, Ok, Err, IfSome, IfErr, OnOk, ◌⊎◌, inl, inr}
+use Rattle.giop_sig.specs.Table.{Table}
+use Rattle.giop_message.specs.Signatures.{Listed}
+use Rattle.giop_stream.specs.Checkpoint.{counts_of}
+use Rattle.giop_stream.specs.Holding.{AreOf}
+use Rattle.giop_stream.specs.declared.status.Totals.{Totals}
+use Rattle.giop_run.specs.Console.{Dumped, run_of}
+use Rattle.giop_run.specs.Files.{Folder, Asked, GoesOn, ReadsBy, Refused, NoCheckpoint, NoStream, stream_of, way_by}
 use Rattle.giop_run.specs.Saving.{Saved}
 use Rattle.giop_run.specs.Performing.{Task, Performed, FailedBy, Did, Kept}
 use Rattle.giop_run.specs.declared.running.Report.{Report}
+use Rattle.giop_run.specs.declared.fault.RunFault.{RunFault}
 use Rattle.giop_run.specs.declared.fault.RunFault.TheVariants as fault
 use Rattle.giop_run.specs.declared.fault.ProgramFault.{ProgramFault}
 use Rattle.giop_run.specs.declared.fault.ProgramFault.TheVariants as faults
@@ -22,35 +28,53 @@ not_words held asked (inr (inl (C, c, q))) = q
 not_words held asked (inr (inr (C, l, r, inl q))) = q
 not_words held asked (inr (inr (C, l, r, inr q))) = q
 
-failed_by : (t : Task) (before after : List ℕ) (why : ProgramFault) (x y : _)
-    → IfSome (run_of (Err why)) (λ ran. Performed t before after ran x y)
+failed_by : (t : Task) (why : ProgramFault) (x y : _)
+    → IfSome (run_of (Err why)) (λ ran. Performed t ran x y)
     → (run_of (Err why) ≡ None → Refused t.held t.asked why)
     → (run_of (Err why) ≡ None → y ≡ x)
     → (run_of (Err why) ≡ Some (Err fault.Failed) → ⊥)
     → FailedBy t why x y
-failed_by t before after (faults.Run fault.Failed) x y d r u s = absurd (s refl)
-failed_by t before after (faults.Run fault.Read) x y d r u s = record { before = before; after = after; run = d }
-failed_by t before after (faults.Run fault.Turns) x y d r u s = record { before = before; after = after; run = d }
-failed_by t before after (faults.Run fault.Out) x y d r u s = record { before = before; after = after; run = d }
-failed_by t before after (faults.Unwritable name) x y d r u s = absurd (not_unwritable t.held t.asked name (r refl))
-failed_by t before after faults.Words x y d r u s = absurd (not_words t.held t.asked (r refl))
-failed_by t before after (faults.Signatures name why) x y d r u s = record { refused = r refl; unwritten = u refl }
-failed_by t before after (faults.Requests name why) x y d r u s = record { refused = r refl; unwritten = u refl }
-failed_by t before after (faults.Checkpoint name why) x y d r u s = record { refused = r refl; unwritten = u refl }
-failed_by t before after (faults.Unreadable name) x y d r u s = record { refused = r refl; unwritten = u refl }
-failed_by t before after faults.OutOfMemory x y d r u s = record { refused = r refl; unwritten = u refl }
+failed_by t (faults.Run fault.Failed) x y d r u s = absurd (s refl)
+failed_by t (faults.Run fault.Read) x y d r u s = record { run = d }
+failed_by t (faults.Run fault.Turns) x y d r u s = record { run = d }
+failed_by t (faults.Run fault.Out) x y d r u s = record { run = d }
+failed_by t (faults.Unwritable name) x y d r u s = absurd (not_unwritable t.held t.asked name (r refl))
+failed_by t faults.Words x y d r u s = absurd (not_words t.held t.asked (r refl))
+failed_by t (faults.Signatures name why) x y d r u s = record { refused = r refl; unwritten = u refl }
+failed_by t (faults.Requests name why) x y d r u s = record { refused = r refl; unwritten = u refl }
+failed_by t (faults.Checkpoint name why) x y d r u s = record { refused = r refl; unwritten = u refl }
+failed_by t (faults.Unreadable name) x y d r u s = record { refused = r refl; unwritten = u refl }
+failed_by t faults.OutOfMemory x y d r u s = record { refused = r refl; unwritten = u refl }
 
--- by what the steps up to the run did, and the save behind it
-pub did_by : (t : Task) (before after : List ℕ) (ran result : Result Report ProgramFault) (x y : _)
-    (a b : Option (List Saved))
-    → IfSome (run_of ran) (λ r. Performed t before after r x y)
-    → (run_of ran ≡ None → IfErr ran (Refused t.held t.asked))
+performed : (t : Task) (C : Table) (l : Listed) (r : Result Report RunFault) (x y : _) → AreOf C l → ReadsBy t.held t.asked C l
+    → GoesOn t.held t.asked.resume t.asked.most C l (λ n p. Dumped (way_by C l n t.asked) r p (stream_of t.held t.given t.asked.stream) x y)
+    → Performed t r x y
+performed t C l r x y of by d = record { table = C; listed = l; of = of; reads = by; dumped = d }
+
+-- by what the run did with a catalogue and a list, and the save behind it
+pub did_by : (t : Task) (C : Table) (l : Listed) (ran : Result Report ProgramFault) (result : Result Totals ProgramFault)
+    (x y : _) (a b : Option (List Saved)) → AreOf C l → ReadsBy t.held t.asked C l
+    → IfSome (run_of ran) (λ r. GoesOn t.held t.asked.resume t.asked.most C l
+    (λ n p. Dumped (way_by C l n t.asked) r p (stream_of t.held t.given t.asked.stream) x y))
+    → (run_of ran ≡ None → IfErr ran (λ why. NoCheckpoint t.held t.asked.resume (counts_of C l) why ⊎ NoStream t.asked.stream why))
     → (run_of ran ≡ None → y ≡ x)
     → (run_of ran ≡ Some (Err fault.Failed) → ⊥)
-    → Kept t.asked.save ran result after a b → Did t result x y a b
-did_by t before after (Ok report) (Ok same) x y a b d r u s k =
-    rw k.0 (record { before = before; after = after; run = d; saved = k.1 })
-did_by t before after (Ok report) (Err why) x y a b d r u s k =
-    rw k.1.1 (record { named = k.1.2; report = report; before = before; after = after; run = d }, k.0)
-did_by t before after (Err why) result x y a b d r u s k =
-    rw k.0 (failed_by t before after why x y d r u s, k.1)
+    → Kept t.asked.save ran result a b → Did t result x y a b
+did_by t C l (Ok report) (Ok totals) x y a b of by d r u s k =
+    record { report = report; run = performed t C l (Ok report) x y of by d; totals_are = k.0; saved = k.1 }
+did_by t C l (Ok report) (Err why) x y a b of by d r u s k =
+    rw k.1.1 (record { named = k.1.2; report = report; run = performed t C l (Ok report) x y of by d }, k.0)
+did_by t C l (Err why) result x y a b of by d r u s k =
+    rw k.0 (failed_by t why x y (performed_by (run_of (Err why)) d) (λ e. inr (inr (C, l, by, r e))) u s, k.1)
+  where
+    performed_by : (ran : Option (Result Report RunFault)) → IfSome ran (λ r. GoesOn t.held t.asked.resume t.asked.most C l
+        (λ n p. Dumped (way_by C l n t.asked) r p (stream_of t.held t.given t.asked.stream) x y)) → IfSome ran (λ r. Performed t r x y)
+    performed_by None d = tt
+    performed_by (Some r) d = performed t C l r x y of by d
+
+-- the last step comes to its end only where the run did
+pub kept_ok : (asked : Option (List ℕ)) (ran : Result Report ProgramFault) (result : Result Totals ProgramFault)
+    (a b : Option (List Saved)) (P : Type 0) → Kept asked ran result a b → OnOk ran P → OnOk result P
+kept_ok asked (Ok report) (Ok totals) a b P k p = p
+kept_ok asked (Ok report) (Err why) a b P k p = tt
+kept_ok asked (Err why) result a b P k p = rw k.0 tt

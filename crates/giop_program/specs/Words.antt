@@ -10,5 +10,6 @@ asked_of words =
       requests = option_map (λ name. name.now) words.requests;
       resume = option_map (λ name. name.now) words.resume;
       save = option_map (λ name. name.now) words.save;
+      most = words.most;
       stream = option_map (λ name. name.now) words.stream;
     }

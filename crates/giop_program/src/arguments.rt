@@ -1,7 +1,15 @@
-//! The program's words: which files it reads (docs/FORMATS.md, The program).
+//! The program's words: which files it reads, and how many messages may be open (docs/FORMATS.md, The program).
 
+ghost use Rattle.std.specs.Prelude.{◌≡◌, ◌≤◌, ℕ, Some, None};
+ghost use Rattle.giop_stream.specs.Rules.{most_open};
+
+use clap::builder::ValueParser;
 use clap::{Arg, Command, Error};
+use giop_stream::MOST_OPEN;
 use std::alloc::{AllocError, Global};
+
+/// How many messages may be open where nothing is said.
+const DEFAULT_OPEN: u32 = 16;
 
 const ABOUT: &str = "Dumps one direction of a GIOP connection, one text line per value";
 
@@ -16,6 +24,9 @@ const RESUME_HELP: &str =
 
 const SAVE_HELP: &str =
     "Where a checkpoint is saved at the end of STREAM, in place of the closing lines";
+
+const OPEN_HELP: &str =
+    "How many messages may be open at once, 1 to 4096; of a checkpoint its own number holds";
 
 const STREAM_HELP: &str = "The octets of one direction; standard input where it is missing";
 
@@ -51,8 +62,11 @@ pub struct Arguments<'a> {
     pub resume: Option<&'a str>,
     /// The file that a checkpoint is saved in; None where the stream ends.
     pub save: Option<&'a str>,
+    /// How many messages of a new stream may be open at once.
+    pub most: u32,
     /// The file with the stream's octets; None for standard input.
     pub stream: Option<&'a str>,
+    ghost range: { (1 ≤ most) × (most ≤ most_open) },
 }
 
 /// An option that takes the name of a file.
@@ -61,6 +75,16 @@ fn file_option<'a>(alloc: Global, name: &'a str, help: &'a str) -> Arg<'a> {
         .long(name)
         .value_name("FILE")
         .help(help)
+}
+
+/// The option that takes how many messages may be open, 16 where it is missing.
+fn open_option<'a>(alloc: Global) -> Arg<'a> {
+    Arg::new(alloc, "open")
+        .long("open")
+        .value_name("N")
+        .value_parser(ValueParser::unsigned(1, u64::from(MOST_OPEN)))
+        .help(OPEN_HELP)
+        .default_value("16")
 }
 
 /// The command as `clap` reads it, with its help.
@@ -73,6 +97,7 @@ fn command<'a>(alloc: Global) -> Result<Command<'a>, AllocError> {
         .arg(file_option(alloc, "requests", REQUESTS_HELP))?
         .arg(file_option(alloc, "resume", RESUME_HELP))?
         .arg(file_option(alloc, "save", SAVE_HELP))?
+        .arg(open_option(alloc))?
         .arg(Arg::new(alloc, "STREAM").help(STREAM_HELP))
 }
 
@@ -86,7 +111,20 @@ impl<'a> Arguments<'a> {
             requests: matches.get_str("requests"),
             resume: matches.get_str("resume"),
             save: matches.get_str("save"),
+            most: most_of(matches.get_one::<u32>("open")),
             stream: matches.get_str("STREAM"),
         })
+    }
+}
+
+/// How many messages may be open, by the word for it, which `clap` has found in its range.
+fn most_of(word: Option<u32>) -> u32
+    ensures range { (1 ≤ result) × (result ≤ most_open) }
+    ensures word { (n : ℕ) → word ≡ Some n → 1 ≤ n → n ≤ most_open → result ≡ n }
+    ensures missing { word ≡ None → result ≡ 16 }
+{
+    match word {
+        None => DEFAULT_OPEN,
+        Some(most) => most.max(1).min(MOST_OPEN),
     }
 }

@@ -1,15 +1,14 @@
 //! The program's steps: words, signatures, requests, checkpoint, the opening of the stream, the run, the save. The first
 //! that fails decides the status.
 
-ghost use Rattle.std.specs.Prelude.{◌≡◌, ◌≢◌, ◌≤◌, ◌⊎◌, ℕ, List, [], false, None, Some, IfSome, IfErr, OnOk, OnErr, option_map};
+ghost use Rattle.std.specs.Prelude.{◌≡◌, ◌≢◌, ◌≤◌, ◌⊎◌, ℕ, List, [], false, None, Some, IfSome, IfOk, IfErr, OnOk, option_map};
 ghost use Rattle.clap.specs.Values.{kind_of};
-ghost use Rattle.giop_message.specs.Signatures.{Listed};
 ghost use Rattle.giop_stream.specs.Checkpoint.{counts_of};
 ghost use Rattle.giop_stream.specs.Holding.{AreOf, Holds};
-ghost use Rattle.giop_run.specs.Running.{way_of};
+ghost use Rattle.giop_run.specs.Running.{HasKept, way_of};
 ghost use Rattle.giop_run.specs.Console.{Dumped, exit_status, run_of};
-ghost use Rattle.giop_run.specs.Files.{GoesOn, RequestsOf, Refused, NoCheckpoint, NoRequests, NoStream, ending_of, stream_of, way_by};
-ghost use Rattle.giop_run.specs.Performing.{Did, Kept, Performed, task_of};
+ghost use Rattle.giop_run.specs.Files.{GoesOn, NoCheckpoint, NoStream, ending_of, stream_of, way_by};
+ghost use Rattle.giop_run.specs.Performing.{Did, Kept, task_of};
 ghost use Rattle.giop_program.specs.Words.{asked_of};
 
 use super::arguments::Arguments;
@@ -20,7 +19,7 @@ use giop_run::{
     dump, requests, resumed, status, unreadable,
 };
 use giop_sig::{Catalogue, Requests};
-use giop_stream::Engine;
+use giop_stream::{Engine, Totals};
 use std::env;
 use std::io::Read;
 
@@ -64,80 +63,31 @@ pub fn performed<'a, R: Inputs + AllocGlobal, O: Flush, F: Saves>(
     asked: Arguments<'a>,
     out: &mut O,
     files: &mut F,
-) -> Result<Report, ProgramFault<'a>>
+) -> Result<Totals, ProgramFault<'a>>
     ensures did { Did (task_of (R.held rt.now) (R.given rt.now) (asked_of asked.entry)) result
         (O.log out.old) (O.log out.new) (F.saved files.old) (F.saved files.new) }
     ensures flushed { OnOk result (O.kept out.new ≡ []) }
 {
     let save = asked.save;
-    let mut into = [0; 14_240];
-    let ran = ran(rt, asked, out, &mut into);
-    kept(files, save, ran, &into)
-}
-
-/// The steps from the words to the run.
-fn ran<'a, R: Inputs + AllocGlobal, O: Flush>(
-    rt: &R,
-    asked: Arguments<'a>,
-    out: &mut O,
-    into: &mut [u8; 14_240],
-) -> Result<Report, ProgramFault<'a>>
-    // A run reads what the words name: the stream, by the catalogue and the list of the files, from the checkpoint on.
-    ensures dumped { let task = task_of (R.held rt.now) (R.given rt.now) (asked_of asked.entry) in
-        IfSome (run_of result) (λ ran.
-        Performed task into.old into.new ran (O.log out.old) (O.log out.new)) }
-    // A step before the run that fails tells the file of that step, and writes nothing.
-    ensures refused { run_of result ≡ None
-        → IfErr result (Refused (R.held rt.now) (asked_of asked.entry)) }
-    ensures unwritten { run_of result ≡ None → O.log out.new ≡ O.log out.old }
-    ensures sound { run_of result ≢ Some (Err RunFault.Failed) }
-    ensures flushed { OnOk result (O.kept out.new ≡ []) }
-{
     let catalogue = catalogue(rt, asked.signatures)?;
-    listed(rt, asked, out, into, &catalogue)
-}
-
-/// The steps behind the signatures.
-fn listed<'a, R: Inputs + AllocGlobal, O: Flush>(
-    rt: &R,
-    asked: Arguments<'a>,
-    out: &mut O,
-    into: &mut [u8; 14_240],
-    catalogue: &Catalogue,
-) -> Result<Report, ProgramFault<'a>>
-    ensures dumped { let asked = asked_of asked.entry in let held = R.held rt.now in
-        IfSome (run_of result) (λ ran. (l : Listed)
-        × AreOf catalogue.now l × RequestsOf held asked.requests catalogue.now l
-        × GoesOn held asked.resume catalogue.now l (λ p. Dumped
-        (way_by catalogue.now l asked into.old into.new) ran p
-        (stream_of held (R.given rt.now) asked.stream) (O.log out.old) (O.log out.new))) }
-    ensures refused { let held = R.held rt.now in let asked = asked_of asked.entry in
-        run_of result ≡ None → IfErr result (λ fault. NoRequests held asked.requests fault
-        ⊎ ((l : Listed) × RequestsOf held asked.requests catalogue.now l
-        × (NoCheckpoint held asked.resume (counts_of catalogue.now l) fault
-        ⊎ NoStream asked.stream fault))) }
-    ensures unwritten { run_of result ≡ None → O.log out.new ≡ O.log out.old }
-    ensures sound { run_of result ≢ Some (Err RunFault.Failed) }
-    ensures flushed { OnOk result (O.kept out.new ≡ []) }
-{
-    let requests = requests(rt, asked.requests, catalogue)?;
-    begun(rt, asked, out, into, catalogue, &requests)
+    let requests = requests(rt, asked.requests, &catalogue)?;
+    let ran = begun(rt, asked, out, &catalogue, &requests);
+    kept(files, save, ran)
 }
 
 /// The steps behind the request list.
-fn begun<'a, R: Inputs + AllocGlobal, O: Flush>(
+fn begun<'a, 'c, R: Inputs + AllocGlobal, O: Flush>(
     rt: &R,
     asked: Arguments<'a>,
     out: &mut O,
-    into: &mut [u8; 14_240],
-    catalogue: &Catalogue,
-    requests: &Requests,
-) -> Result<Report, ProgramFault<'a>>
+    catalogue: &'c Catalogue,
+    requests: &'c Requests,
+) -> Result<Report<'c>, ProgramFault<'a>>
     requires of { AreOf catalogue.now requests.now }
     ensures dumped { let asked = asked_of asked.entry in let held = R.held rt.now in
         IfSome (run_of result) (λ ran.
-        GoesOn held asked.resume catalogue.now requests.now (λ p. Dumped
-        (way_by catalogue.now requests.now asked into.old into.new) ran p
+        GoesOn held asked.resume asked.most catalogue.now requests.now (λ n p. Dumped
+        (way_by catalogue.now requests.now n asked) ran p
         (stream_of held (R.given rt.now) asked.stream) (O.log out.old) (O.log out.new))) }
     ensures refused { let held = R.held rt.now in let asked = asked_of asked.entry in
         run_of result ≡ None → IfErr result (λ fault.
@@ -145,95 +95,97 @@ fn begun<'a, R: Inputs + AllocGlobal, O: Flush>(
         ⊎ NoStream asked.stream fault) }
     ensures unwritten { run_of result ≡ None → O.log out.new ≡ O.log out.old }
     ensures sound { run_of result ≢ Some (Err RunFault.Failed) }
+    ensures kept { IfOk result (λ report.
+        HasKept (ending_of (asked_of asked.entry).save) report.kept) }
     ensures flushed { OnOk result (O.kept out.new ≡ []) }
 {
-    let engine = resumed(rt, asked.resume, catalogue, requests)?;
+    let engine = resumed(rt, asked.resume, asked.most, catalogue, requests)?;
     let ending = ending_for(asked.save);
     match asked.stream {
-        None => dumped(rt.standard_input(), out, engine, ending, into),
-        Some(name) => opened(rt, name, out, engine, ending, into),
+        None => dumped(rt.standard_input(), out, engine, ending),
+        Some(name) => opened(rt, name, out, engine, ending),
     }
 }
 
-/// How a run ends: by a save where a file for it is named.
+/// How a run ends: its engine is kept where a file for its checkpoint is named.
 fn ending_for(save: Option<&str>) -> Ending
     ensures { result ≡ ending_of (option_map (λ name. name.now) save.entry) }
 {
     match save {
         None => Ending::Finish,
-        Some(_) => Ending::Save,
+        Some(_) => Ending::Keep,
     }
 }
 
 /// Dumps a file.
-fn opened<'a, R: Inputs, O: Flush>(
+fn opened<'a, 'c, R: Inputs, O: Flush>(
     rt: &R,
     name: &'a str,
     out: &mut O,
-    engine: Engine,
+    engine: Engine<'c>,
     ending: Ending,
-    into: &mut [u8; 14_240],
-) -> Result<Report, ProgramFault<'a>>
+) -> Result<Report<'c>, ProgramFault<'a>>
     requires sound { engine.failed ≡ false }
     ensures dumped { IfSome (run_of result) (λ ran. (p : List ℕ) → Holds engine.entry p
-        → Dumped (way_of engine.entry ending into.old into.new) ran p
+        → Dumped (way_of engine.entry ending) ran p
         (R.held rt.now name.entry.now) (O.log out.old) (O.log out.new)) }
     ensures refused { run_of result ≡ None → IfErr result (NoStream (Some name.entry.now)) }
     ensures unwritten { run_of result ≡ None → O.log out.new ≡ O.log out.old }
     ensures sound { run_of result ≢ Some (Err RunFault.Failed) }
+    ensures kept { IfOk result (λ report. HasKept ending report.kept) }
     ensures flushed { OnOk result (O.kept out.new ≡ []) }
 {
     match rt.open(name) {
-        Ok(file) => dumped(file, out, engine, ending, into),
+        Ok(file) => dumped(file, out, engine, ending),
         Err(error) => Err(unreadable(name, &error)),
     }
 }
 
 /// Dumps what a reader gives.
-fn dumped<'a, R: Read + Drop, O: Flush>(
+fn dumped<'a, 'c, R: Read + Drop, O: Flush>(
     reader: R,
     out: &mut O,
-    engine: Engine,
+    engine: Engine<'c>,
     ending: Ending,
-    into: &mut [u8; 14_240],
-) -> Result<Report, ProgramFault<'a>>
+) -> Result<Report<'c>, ProgramFault<'a>>
     requires sound { engine.failed ≡ false }
     ensures dumped { IfSome (run_of result) (λ ran. (p : List ℕ) → Holds engine.entry p
-        → Dumped (way_of engine.entry ending into.old into.new) ran p
+        → Dumped (way_of engine.entry ending) ran p
         (R.remaining reader) (O.log out.old) (O.log out.new)) }
     ensures reached { run_of result ≢ None }
     ensures sound { run_of result ≢ Some (Err RunFault.Failed) }
+    ensures kept { IfOk result (λ report. HasKept ending report.kept) }
     ensures flushed { OnOk result (O.kept out.new ≡ []) }
 {
-    match dump(reader, out, engine, ending, into) {
+    match dump(reader, out, engine, ending) {
         Ok(report) => Ok(report),
         Err(fault) => Err(ProgramFault::Run(fault)),
     }
 }
 
-/// Saves the checkpoint of a run that came to its end in the file that was asked for.
+/// Saves the checkpoint of the engine that a run has kept in the file that was asked for.
 fn kept<'a, F: Saves>(
     files: &mut F,
     save: Option<&'a str>,
     ran: Result<Report, ProgramFault<'a>>,
-    into: &[u8; 14_240],
-) -> Result<Report, ProgramFault<'a>>
-    ensures { Kept (option_map (λ n. n.now) save.entry) ran.entry result into.now
+) -> Result<Totals, ProgramFault<'a>>
+    requires kept { IfOk ran (λ report.
+        HasKept (ending_of (option_map (λ n. n.now) save)) report.kept) }
+    ensures { Kept (option_map (λ n. n.now) save.entry) ran.entry result
         (F.saved files.old) (F.saved files.new) }
 {
     let report = ran?;
-    let Some(name) = save else {
-        return Ok(report);
+    let (Some(name), Some(engine)) = (save, &report.kept) else {
+        return Ok(report.totals);
     };
-    let octets = &into[..report.saved.min(into.len())];
-    match files.save(name, octets) {
-        Ok(()) => Ok(report),
+    match files.save(name, engine) {
+        Ok(()) => Ok(report.totals),
         Err(_) => Err(ProgramFault::Unwritable { name }),
     }
 }
 
 /// Prints why the program came to no end, and answers its status.
-fn told(rt: &HostRuntime, ended: &Result<Report, ProgramFault>) -> u8
+fn told(rt: &HostRuntime, ended: &Result<Totals, ProgramFault>) -> u8
     ensures { result ≡ exit_status ended.now }
 {
     if let Err(fault) = ended {

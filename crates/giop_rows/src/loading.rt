@@ -2,12 +2,14 @@
 
 ghost use Rattle.giop_stream.specs.Holding.{AreOf};
 
+use super::engine::engine_for;
 use super::row::Row;
-use super::saving::{ended, front};
+use super::saving::ended;
 use super::trying::is_as_told;
 use giop_print::Sheet;
 use giop_sig::{Catalogue, Requests};
 use giop_stream::Engine;
+use std::alloc::Global;
 use std::{fmt, io};
 
 /// The status of the program that refuses a checkpoint.
@@ -53,12 +55,23 @@ fn is_loaded_at(
 {
     let mut room = [0; 16_384];
     let mut sheet = Sheet::new(&mut room);
-    let status = resumed(catalogue, requests, stream, at, &mut sheet);
+    let engine = engine_for(rt.alloc(), catalogue, requests, row)?;
+    let status = resumed(
+        rt.alloc(),
+        engine,
+        catalogue,
+        requests,
+        stream,
+        at,
+        &mut sheet,
+    );
     is_as_told(rt, row, &Loaded(at), sheet.held(), status)
 }
 
-/// Feeds so many octets to an engine, and the others to one that is loaded from its checkpoint: the status of the program.
+/// Feeds so many octets to a new engine, and the others to one that is loaded from its checkpoint: the status of the program.
 fn resumed(
+    alloc: Global,
+    engine: Engine,
     catalogue: &Catalogue,
     requests: &Requests,
     stream: &[u8],
@@ -68,11 +81,12 @@ fn resumed(
     requires of { AreOf catalogue.now requests.now }
 {
     let (first, rest) = stream.split_at(at.min(stream.len()));
-    let mut engine = Engine::new(catalogue, requests);
+    let mut engine = engine;
     let _fed = engine.feed(first, sheet);
     let mut octets = [0; 14_240];
-    let saved = engine.save(&mut octets).unwrap_or(0);
-    let Ok(mut engine) = Engine::load(catalogue, requests, front(&octets, saved)) else {
+    let mut saved = Sheet::new(&mut octets);
+    let _saved = engine.save(&mut saved);
+    let Ok(mut engine) = Engine::load(alloc, catalogue, requests, saved.held()) else {
         return REFUSED;
     };
     let _fed = engine.feed(rest, sheet);

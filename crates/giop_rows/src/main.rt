@@ -3,9 +3,11 @@
 //! `stdin` has sets of rows, and between two sets a line `=`. The parts of a set stand between empty lines. Its first
 //! part is the files of its rows: a signature file, or none, a line `requests` and a request list, in which `I..J NAME`
 //! stands for a line for each id from I to J. Each other part is a row: its name, `status` with 0 or 1, perhaps a line
-//! `early`, perhaps a line `checkpoints`, the octets of its stream in hexadecimal text, in any number of lines, a line
-//! `lines`, and the lines of its dump. The rows that are named `generated` were made by chance, and have their lines from
-//! a reference that was written apart from the dumper; so has what stands behind `early` and `checkpoints`.
+//! `open` with the number of messages that may be open (16 where it is missing), perhaps a line `early`, perhaps a line
+//! `checkpoints`, the octets of its stream in hexadecimal text, in any number of lines, a line `lines`, and the lines of
+//! its dump. The rows that are named `generated` were made by chance, and have their lines from a reference that was
+//! written apart from the dumper; so has what stands behind `early` and `checkpoints`. So have the rows whose names end
+//! with how many messages are open: those of 16 that have other lines where one may be, for 1, 2 and 4096.
 //!
 //! `early` tells what is written where the stream ends behind 0, 1, 2, .. of its octets, in words `L:M.F`: the first L
 //! lines of the dump, and a closing with M messages and F faults. `t` behind that says that there is a truncated line,
@@ -23,6 +25,7 @@
 mod checkpoints;
 mod difference;
 mod early;
+mod engine;
 mod faulty;
 mod loading;
 mod row;

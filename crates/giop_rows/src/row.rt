@@ -2,12 +2,13 @@
 
 use std::alloc::Global;
 
-/// A row: its name, the status of the program, what is written where its stream ends early (or nothing), its checkpoints
-/// (or nothing), the octets in hexadecimal text, and the lines, the last one's end left out.
+/// A row: its name, the status of the program, how many messages may be open, what is written where its stream ends early
+/// (or nothing), its checkpoints (or nothing), the octets in hexadecimal text, and the lines, the last one's end left out.
 #[derive(Clone, Copy)]
 pub struct Row<'a> {
     pub name: &'a str,
     pub status: u8,
+    pub most: u32,
     pub early: &'a str,
     pub checkpoints: &'a str,
     pub stream: &'a str,
@@ -21,17 +22,27 @@ impl<'a> Row<'a> {
         let mut parts = head.splitn(3, '\n');
         let name = parts.next()?;
         let status = parts.next()?.strip_prefix("status ")?.parse().ok()?;
-        let (early, rest) = named(parts.next().unwrap_or(""), "early ");
+        let (open, rest) = named(parts.next().unwrap_or(""), "open ");
+        let (early, rest) = named(rest, "early ");
         let (checkpoints, stream) = named(rest, "checkpoints ");
         Some(Row {
             name,
             status,
+            most: most_of(open)?,
             early,
             checkpoints,
             stream,
             lines,
         })
     }
+}
+
+/// How many messages may be open by this word, 16 where there is none.
+fn most_of(word: &str) -> Option<u32> {
+    if word.is_empty() {
+        return Some(16);
+    }
+    word.parse().ok()
 }
 
 /// What stands behind a name in the first line of a text, and the other lines. Nothing, and the text, where the name

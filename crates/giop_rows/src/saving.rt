@@ -4,11 +4,13 @@ ghost use Rattle.giop_stream.specs.Holding.{AreOf};
 
 use super::checkpoints::{Checkpoints, NO_OCTETS, hashed};
 use super::difference::Difference;
+use super::engine::engine_for;
 use super::row::Row;
 use super::trying::{differs, is_as_told, malformed};
 use giop_print::Sheet;
 use giop_sig::{Catalogue, Requests};
 use giop_stream::Engine;
+use std::alloc::Global;
 use std::io;
 
 /// The way in which it is dumped.
@@ -51,7 +53,18 @@ fn is_saved_as_told(
 {
     let mut room = [0; 16_384];
     let mut sheet = Sheet::new(&mut room);
-    match saved(catalogue, requests, stream, told, &mut sheet) {
+    let engine = engine_for(rt.alloc(), catalogue, requests, row)?;
+    let most = most(row.most, catalogue.depth());
+    match saved(
+        rt.alloc(),
+        engine,
+        most,
+        catalogue,
+        requests,
+        stream,
+        told,
+        &mut sheet,
+    ) {
         Ok(engine) => {
             let status = ended(engine, &mut sheet);
             is_as_told(rt, row, &WAY, sheet.held(), status)
@@ -60,9 +73,13 @@ fn is_saved_as_told(
     }
 }
 
-/// The engine that is fed a stream octet by octet, and saved and loaded in front of each and at the end; or the first
-/// checkpoint that differs in its length, or is too long, or is refused, or how their fixed parts differ.
+/// The engine that goes on from a new one, fed a stream octet by octet, and saved and loaded in front of each and at the
+/// end; or the first checkpoint that differs in its length, or is above this one, or is refused, or how their fixed parts
+/// differ.
 fn saved<'a>(
+    alloc: Global,
+    engine: Engine<'a>,
+    most: usize,
     catalogue: &'a Catalogue,
     requests: &'a Requests,
     stream: &[u8],
@@ -71,18 +88,19 @@ fn saved<'a>(
 ) -> Result<Engine<'a>, Difference<'static, 'static>>
     requires of { AreOf catalogue.now requests.now }
 {
-    let most = most(catalogue.depth());
     let mut octets = [0; 14_240];
-    let mut engine = Engine::new(catalogue, requests);
+    let mut engine = engine;
     let mut hash = NO_OCTETS;
     for (at, wanted) in told.lengths.iter().enumerate() {
         let wanted = *wanted;
-        let got = engine.save(&mut octets).unwrap_or(0);
+        let mut saved = Sheet::new(&mut octets);
+        let _saved = engine.save(&mut saved);
+        let got = saved.held().len();
         if got != wanted || got > most {
             return Err(Difference::Length { at, wanted, got });
         }
-        hash = hashed(hash, fixed_part(&octets));
-        engine = match Engine::load(catalogue, requests, front(&octets, got)) {
+        hash = hashed(hash, front(saved.held(), FIXED));
+        engine = match Engine::load(alloc, catalogue, requests, saved.held()) {
             Ok(engine) => engine,
             Err(why) => return Err(Difference::Refused { at, why }),
         };
@@ -97,19 +115,15 @@ fn saved<'a>(
     })
 }
 
-/// The greatest length of a checkpoint by types of this depth.
-fn most(depth: u8) -> usize {
-    FIXED + 17 * (256 + 24 * usize::from(depth))
+/// The greatest length of a checkpoint by types of this depth, where so many messages may be open.
+fn most(open: u32, depth: u8) -> usize {
+    let records = (open as usize).min(4096) + 1;
+    FIXED + records * (256 + 24 * usize::from(depth))
 }
 
 /// So many octets, from the front.
-pub fn front(octets: &[u8], length: usize) -> &[u8] {
+fn front(octets: &[u8], length: usize) -> &[u8] {
     octets.split_at(length.min(octets.len())).0
-}
-
-/// The fixed part of a checkpoint.
-fn fixed_part(octets: &[u8; 14_240]) -> &[u8] {
-    &octets[..FIXED]
 }
 
 /// The octet behind so many others, alone; none at the end of the stream.

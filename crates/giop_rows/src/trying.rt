@@ -4,15 +4,16 @@ ghost use Rattle.giop_stream.specs.Holding.{AreOf};
 
 use super::difference::{Difference, compare, compare_front};
 use super::early::Early;
+use super::engine::engine_for;
 use super::faulty::Narrow;
 use super::loading::is_loaded;
 use super::row::Row;
 use super::saving::is_saved;
 use super::way::Way;
 use giop_print::{Sheet, Written};
-use giop_run::{ProgramFault, Report, RunFault, status};
+use giop_run::{ProgramFault, RunFault, status};
 use giop_sig::{Catalogue, Requests};
-use giop_stream::Engine;
+use giop_stream::{Engine, Totals};
 use std::{fmt, io};
 
 /// Dumps a row in every way, up to the first in which it differs, which is told.
@@ -26,7 +27,13 @@ pub fn is_dumped_each_way(
     requires of { AreOf catalogue.now requests.now }
 {
     for way in [Way::Whole, Way::Narrow] {
-        if !is_dumped(rt, Engine::new(catalogue, requests), row, stream, way)? {
+        if !is_dumped(
+            rt,
+            engine_for(rt.alloc(), catalogue, requests, row)?,
+            row,
+            stream,
+            way,
+        )? {
             return Ok(false);
         }
     }
@@ -51,7 +58,13 @@ fn is_dumped_cut(
 {
     for at in 0..stream.len() + 1 {
         for way in Way::at(at) {
-            if !is_dumped(rt, Engine::new(catalogue, requests), row, stream, way)? {
+            if !is_dumped(
+                rt,
+                engine_for(rt.alloc(), catalogue, requests, row)?,
+                row,
+                stream,
+                way,
+            )? {
                 return Ok(false);
             }
         }
@@ -102,9 +115,23 @@ fn is_dumped_alike(
     requires of { AreOf catalogue.now requests.now }
 {
     for at in from..from.saturating_add(count) {
-        let ended = is_dumped_to(rt, Engine::new(catalogue, requests), row, stream, early, at)?;
+        let ended = is_dumped_to(
+            rt,
+            engine_for(rt.alloc(), catalogue, requests, row)?,
+            row,
+            stream,
+            early,
+            at,
+        )?;
         if !ended
-            || !is_dumped_up_to(rt, Engine::new(catalogue, requests), row, stream, early, at)?
+            || !is_dumped_up_to(
+                rt,
+                engine_for(rt.alloc(), catalogue, requests, row)?,
+                row,
+                stream,
+                early,
+                at,
+            )?
         {
             return Ok(false);
         }
@@ -167,7 +194,13 @@ fn is_dumped_over_failing(
 {
     for puts in 0..row.lines.len() {
         let way = Way::Failing(puts);
-        match dumped_over(rt, Engine::new(catalogue, requests), row, stream, way)? {
+        match dumped_over(
+            rt,
+            engine_for(rt.alloc(), catalogue, requests, row)?,
+            row,
+            stream,
+            way,
+        )? {
             Failed::Rightly => {}
             Failed::Never => return Ok(true),
             Failed::Wrongly => return Ok(false),
@@ -197,8 +230,8 @@ fn dumped_over(
     let mut room = [0; 16_384];
     let mut sheet = Sheet::new(&mut room);
     let found = match dump(engine, stream, way, &mut sheet) {
-        Ok(report) => {
-            if is_as_told(rt, row, &way, sheet.held(), status_of(Ok(report)))? {
+        Ok(totals) => {
+            if is_as_told(rt, row, &way, sheet.held(), status_of(Ok(totals)))? {
                 return Ok(Failed::Never);
             }
             return Ok(Failed::Wrongly);
@@ -229,7 +262,7 @@ fn is_dumped(
 }
 
 /// Dumps a stream in one way, over a writer to a sheet. There is one sort of out, since the engine is built for each.
-fn dump(engine: Engine, stream: &[u8], way: Way, sheet: &mut Sheet) -> Result<Report, RunFault> {
+fn dump(engine: Engine, stream: &[u8], way: Way, sheet: &mut Sheet) -> Result<Totals, RunFault> {
     let (width, puts) = way.puts();
     way.dump(
         engine,
@@ -239,9 +272,9 @@ fn dump(engine: Engine, stream: &[u8], way: Way, sheet: &mut Sheet) -> Result<Re
 }
 
 /// The status of the program after such a run.
-fn status_of(ended: Result<Report, RunFault>) -> u8 {
+fn status_of(ended: Result<Totals, RunFault>) -> u8 {
     match ended {
-        Ok(report) => status(&Ok(report)),
+        Ok(totals) => status(&Ok(totals)),
         Err(fault) => status(&Err(ProgramFault::Run(fault))),
     }
 }

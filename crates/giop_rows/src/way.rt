@@ -2,8 +2,8 @@
 
 use super::faulty::Octets;
 use giop_print::Out;
-use giop_run::{Ending, Piecewise, Reading, Report, RunFault, run};
-use giop_stream::{Engine, Stop};
+use giop_run::{Ending, Piecewise, Reading, RunFault, Source, run};
+use giop_stream::{Engine, Stop, Totals};
 use std::fmt;
 
 /// A way of dumping a stream.
@@ -46,7 +46,7 @@ impl Way {
         engine: Engine,
         stream: &[u8],
         out: &mut O,
-    ) -> Result<Report, RunFault> {
+    ) -> Result<Totals, RunFault> {
         match self {
             Way::Whole | Way::Narrow => read(engine, Octets::whole(stream), out),
             Way::Cut(at) => cut(engine, stream, at, out),
@@ -77,17 +77,23 @@ fn front(stream: &[u8], at: usize) -> &[u8] {
     stream.split_at(at.min(stream.len())).0
 }
 
-fn read<O: Out>(engine: Engine, octets: Octets, out: &mut O) -> Result<Report, RunFault> {
-    run(
-        &mut Reading::new(octets),
-        out,
-        engine,
-        Ending::Finish,
-        &mut [0; 14_240],
-    )
+/// Runs a source to the stream's end: its totals.
+fn finished<S: Source, O: Out>(
+    source: &mut S,
+    out: &mut O,
+    engine: Engine,
+) -> Result<Totals, RunFault> {
+    match run(source, out, engine, Ending::Finish) {
+        Ok(report) => Ok(report.totals),
+        Err(fault) => Err(fault),
+    }
 }
 
-fn cut<O: Out>(engine: Engine, stream: &[u8], at: usize, out: &mut O) -> Result<Report, RunFault> {
+fn read<O: Out>(engine: Engine, octets: Octets, out: &mut O) -> Result<Totals, RunFault> {
+    finished(&mut Reading::new(octets), out, engine)
+}
+
+fn cut<O: Out>(engine: Engine, stream: &[u8], at: usize, out: &mut O) -> Result<Totals, RunFault> {
     let mut engine = engine;
     let (front, rest) = stream.split_at(at.min(stream.len()));
     match engine.feed(front, out) {
@@ -96,7 +102,7 @@ fn cut<O: Out>(engine: Engine, stream: &[u8], at: usize, out: &mut O) -> Result<
         Err(Stop::Failed) => return Err(RunFault::Failed),
     }
     let mut source = Piecewise::new(rest, 4096);
-    run(&mut source, out, engine, Ending::Finish, &mut [0; 14_240])
+    finished(&mut source, out, engine)
 }
 
 fn pieces<O: Out>(
@@ -104,13 +110,13 @@ fn pieces<O: Out>(
     stream: &[u8],
     step: usize,
     out: &mut O,
-) -> Result<Report, RunFault> {
+) -> Result<Totals, RunFault> {
     let mut source = Piecewise::new(stream, step.max(1));
-    run(&mut source, out, engine, Ending::Finish, &mut [0; 14_240])
+    finished(&mut source, out, engine)
 }
 
 /// Feeds a stream. Where a put fails the engine is failed: it is fed once more, and run to its finish.
-fn failing<O: Out>(engine: Engine, stream: &[u8], out: &mut O) -> Result<Report, RunFault> {
+fn failing<O: Out>(engine: Engine, stream: &[u8], out: &mut O) -> Result<Totals, RunFault> {
     let mut engine = engine;
     match engine.feed(stream, out) {
         Ok(_) => {}
@@ -121,5 +127,5 @@ fn failing<O: Out>(engine: Engine, stream: &[u8], out: &mut O) -> Result<Report,
         },
     }
     let mut nothing = Piecewise::new(&[], 1);
-    run(&mut nothing, out, engine, Ending::Finish, &mut [0; 14_240])
+    finished(&mut nothing, out, engine)
 }

@@ -1,16 +1,42 @@
--- Why no engine is made of the checkpoint in a file.
-use Rattle.std.proofs.Common.{◌≡◌, ℕ, List, Some, Result, Ok, Err, IfErr, Bor, refl}
+-- Why no engine is made of the checkpoint in a file, and what one that is made of it holds.
+use Rattle.std.proofs.Common.{◌≡◌, ◌≢◌, ℕ, List, Some, Result, Ok, Err, IfOk, IfErr, Bor, refl}
 use Rattle.giop_checkpoint.specs.declared.fixed.Counts.{Counts}
 use Rattle.giop_checkpoint.specs.declared.fault.LoadFault.{LoadFault}
-use Rattle.giop_stream.specs.Checkpoint.{IsRefused}
-use Rattle.giop_run.specs.Files.{Folder, IsFront, NoCheckpoint, checkpoint_most}
+use Rattle.giop_checkpoint.specs.declared.fault.LoadFault.TheVariants as refusals
+use Rattle.giop_checkpoint.specs.Refusals.{IsOurs}
+use Rattle.giop_sig.specs.Table.{Table}
+use Rattle.giop_message.specs.Signatures.{Listed}
+use Rattle.giop_stream.specs.Remembering.{EngineMemory}
+use Rattle.giop_stream.specs.Holding.{Holds}
+use Rattle.giop_stream.specs.Checkpoint.{counts_of, IsRefused, Spells}
+use Rattle.giop_run.specs.Files.{Folder, GoesOn, IsFront, NoCheckpoint, checkpoint_most}
 use Rattle.giop_run.specs.declared.fault.ProgramFault.{ProgramFault}
 use Rattle.giop_run.specs.declared.fault.ProgramFault.TheVariants as faults
 
 -- the octets of the file are refused
 pub not_resumed : {A : Type 0} → (r : Result A ProgramFault) (held : Folder) (name : Bor (List ℕ)) (counts : Counts) (octets : List ℕ)
     → IsFront checkpoint_most (held name.now) octets
-    → IfErr r (λ why. (fault : LoadFault) × (why ≡ faults.Checkpoint name fault) × IsRefused counts octets fault)
+    → IfErr r (λ why. (fault : LoadFault) × (fault ≡ refusals.OutOfMemory → why ≡ faults.OutOfMemory)
+    × (fault ≢ refusals.OutOfMemory → why ≡ faults.Checkpoint name fault) × IsRefused counts octets fault)
     → IfErr r (NoCheckpoint held (Some name.now) counts)
 not_resumed (Ok engine) held name counts octets front refused = tt
-not_resumed (Err why) held name counts octets front (fault, is, refused) = rw is (refl, (octets, front, refused))
+not_resumed (Err why) held name counts octets front (refusals.OutOfMemory, memory, is, refused) = rw (memory refl) tt
+not_resumed (Err why) held name counts octets front (refusals.Magic, memory, is, refused) =
+    rw (is (λ e. cc)) (refl, (octets, front, refused))
+not_resumed (Err why) held name counts octets front (refusals.Version, memory, is, refused) =
+    rw (is (λ e. cc)) (refl, (octets, front, refused))
+not_resumed (Err why) held name counts octets front (refusals.Catalogue, memory, is, refused) =
+    rw (is (λ e. cc)) (refl, (octets, front, refused))
+not_resumed (Err why) held name counts octets front (refusals.Length, memory, is, refused) =
+    rw (is (λ e. cc)) (refl, (octets, front, refused))
+not_resumed (Err why) held name counts octets front (refusals.State, memory, is, refused) =
+    rw (is (λ e. cc)) (refl, (octets, front, refused))
+
+-- and those of a file that aren't: the engine holds what they are a checkpoint of
+pub is_resumed : {E : Type 0} (r : Result EngineMemory E) (held : Folder) (name : Bor (List ℕ)) (most : ℕ) (C : Table) (l : Listed)
+    (octets : List ℕ) → IsFront checkpoint_most (held name.now) octets
+    → IfOk r (λ e. (n : ℕ) (p : List ℕ) → Spells octets C l n p → (e.most ≡ n) × Holds e p)
+    → IfOk r (λ e. IsOurs (counts_of C l) octets)
+    → IfOk r (λ e. GoesOn held (Some name.now) most C l (λ n p. (e.most ≡ n) × Holds e p))
+is_resumed (Ok e) held name most C l octets front again ours = (octets, front, ours, again)
+is_resumed (Err why) held name most C l octets front again ours = tt

@@ -1,5 +1,5 @@
 -- Turn after turn, to the end of a run.
-use Rattle.std.proofs.Common.{◌≡◌, ℕ, ◌+◌, ◌^◌, ◌<◌, ◌≤◌, List, [], ◌++◌, drop, refl, sym, subst, ap, ◌∙◌, append-nil, append_assoc, arith, Bool, Result, Ok, Err, true, false, inl, inr, Option}
+use Rattle.std.proofs.Common.{◌≡◌, ℕ, ◌+◌, ◌^◌, ◌<◌, ◌≤◌, List, [], ◌++◌, refl, sym, subst, ap, ◌∙◌, append-nil, append_assoc, arith, Bool, Result, Ok, Err, true, false, inl, inr, Option, Some, None}
 use Rattle.std.proofs.lemmas.List.Elements.{All-nil, All-append}
 use Rattle.giop_print.specs.Output.{OutLog, counted}
 use Rattle.giop_stream.specs.Rules.{Rules}
@@ -7,7 +7,6 @@ use Rattle.giop_stream.specs.Stream.{closing}
 use Rattle.giop_stream.specs.Engine.{state_of}
 use Rattle.giop_stream.specs.Holding.{added, Holds, rules_of}
 use Rattle.giop_stream.specs.Remembering.{EngineMemory}
-use Rattle.giop_stream.specs.Checkpoint.{Saves}
 use Rattle.giop_print.proofs.Writing.{wrote-append, wrote-front, front-append, wrote-nil}
 use Rattle.giop_run.specs.SourceLog.{SourceLog}
 use Rattle.giop_run.specs.Running.{Given, IsOver, ReadsSpent, Ran, Way, way_of, reads_by, end_text}
@@ -39,7 +38,7 @@ turned_by : (Q R : Rules) (r : Result Bool RunFault) (p s : List ℕ) (e : Engin
 turned_by Q R r p s e a b x y q t = subst (λ z. Turned z r p s e a b x y) q t
 
 -- an engine that reads by what a run reads by closed it
-closed_by : (w : Way) (d : EngineMemory) (r : Result Report RunFault) (p : List ℕ) (x y : OutLog) → (d.table ≡ w.table) × (d.listed ≡ w.listed) × (d.most ≡ w.most) → Closed (way_of d w.ending w.before w.after) r p x y → Closed w r p x y
+closed_by : (w : Way) (d : EngineMemory) (r : Result Report RunFault) (p : List ℕ) (x y : OutLog) → (d.table ≡ w.table) × (d.listed ≡ w.listed) × (d.most ≡ w.most) → Closed (way_of d w.ending) r p x y → Closed w r p x y
 closed_by w d r p x y (t, l, n) q = rw (t, l, n) at q
 
 -- nothing was read
@@ -64,34 +63,38 @@ going_flushed R p s e k a b x y z kept g f =
     }
 
 -- the finish of a stream, where it or the flush may fail
-pub closed_flushed : (e : EngineMemory) (t : Totals) (p room : List ℕ) (x y z : OutLog) (kept : List ℕ) → Completed (rules_of e) (Ok t) p x y → Flushed y z kept → Closed (way_of e endings.Finish room room) (Ok (record { totals = t; saved = 0 })) p x z
-closed_flushed e t p room x y z kept (w, f) q =
+pub closed_flushed : (e : EngineMemory) (t : Totals) (p : List ℕ) (x y z : OutLog) (kept : List ℕ)
+    → Completed (rules_of e) (Ok t) p x y → Flushed y z kept → Closed (way_of e endings.Finish) (Ok (record { totals = t; kept = None })) p x z
+closed_flushed e t p x y z kept (w, f) q =
     record {
       written = wrote_flushed x y z (closing (rules_of e) p) kept w q;
-      ended = record { totals = f; saved = refl; room = refl };
+      ended = record { totals = f; kept = refl };
     }
 
-pub closed_cut : (e : EngineMemory) (t : Totals) (p room : List ℕ) (x y z : OutLog) → Completed (rules_of e) (Ok t) p x y → FlushFailed y z → Closed (way_of e endings.Finish room room) (Err fault.Out) p x z
-closed_cut e t p room x y z (w, f) q =
+pub closed_cut : (e : EngineMemory) (t : Totals) (p : List ℕ) (x y z : OutLog)
+    → Completed (rules_of e) (Ok t) p x y → FlushFailed y z → Closed (way_of e endings.Finish) (Err fault.Out) p x z
+closed_cut e t p x y z (w, f) q =
     rw append-nil at (wrote-front x y z (closing (rules_of e) p) [] w (flush_front y z [] q))
 
-pub closed_unfinished : (e : EngineMemory) (r : RunFault) (p room : List ℕ) (x y : OutLog) → Completed (rules_of e) (Err r) p x y → Closed (way_of e endings.Finish room room) (Err r) p x y
-closed_unfinished e fault.Out p room x y f = f
-closed_unfinished e fault.Read p room x y f = absurd f
-closed_unfinished e fault.Turns p room x y f = absurd f
-closed_unfinished e fault.Failed p room x y f = absurd f
+pub closed_unfinished : (e : EngineMemory) (r : RunFault) (p : List ℕ) (x y : OutLog)
+    → Completed (rules_of e) (Err r) p x y → Closed (way_of e endings.Finish) (Err r) p x y
+closed_unfinished e fault.Out p x y f = f
+closed_unfinished e fault.Read p x y f = absurd f
+closed_unfinished e fault.Turns p x y f = absurd f
+closed_unfinished e fault.Failed p x y f = absurd f
 
--- a checkpoint of a stream, where its flush may fail
-pub closed_saved : (e : EngineMemory) (n : ℕ) (p before after : List ℕ) (x y : OutLog) (kept : List ℕ) → Holds e p → Flushed x y kept → Saves n after e.table e.listed e.most p → drop n after ≡ drop n before → Closed (way_of e endings.Save before after) (Ok (record { totals = e.stream.totals; saved = n })) p x y
+-- an engine that is kept, where its flush may fail
+pub closed_kept : (e : EngineMemory) (p : List ℕ) (x y : OutLog) (kept : List ℕ) → Holds e p → Flushed x y kept
+    → Closed (way_of e endings.Keep) (Ok (record { totals = e.stream.totals; kept = Some e })) p x y
 unfolding state_of
-closed_saved e n p before after x y kept h f s d =
+closed_kept e p x y kept h f =
     record {
       written = wrote_flushed x x y [] kept (wrote-nil x) f;
-      ended = record { totals = h.shows.totals; saved = s; room = d };
+      ended = record { totals = h.shows.totals; engine = e; kept = refl; holds = h; same = refl };
     }
 
-pub closed_unsaved : (e : EngineMemory) (p before after : List ℕ) (x y : OutLog) → FlushFailed x y → Closed (way_of e endings.Save before after) (Err fault.Out) p x y
-closed_unsaved e p before after x y f = flush_front x y [] f
+pub closed_unkept : (e : EngineMemory) (p : List ℕ) (x y : OutLog) → FlushFailed x y → Closed (way_of e endings.Keep) (Err fault.Out) p x y
+closed_unkept e p x y f = flush_front x y [] f
 
 -- all turns
 
@@ -256,7 +259,7 @@ over_on w adds (Err fault.Turns) p s t e d k a b c x y z o g u h q = absurd q
 over_on w adds (Err fault.Failed) p s t e d k a b c x y z o g u h q = absurd q
 
 pub ran_over : (w : Way) → AddsUp (reads_by w) → (r : Result Report RunFault) (p s t : List ℕ) (e d : EngineMemory) (k : ℕ) (a b c : SourceLog) (x y z o : OutLog) → Going (reads_by w) p s e k a b x y → Turned (rules_of e) (Ok false) (p ++ s) t d b c y z → k < 2 ^ 40
-    → (d.table ≡ w.table) × (d.listed ≡ w.listed) × (d.most ≡ w.most) → Closed (way_of d w.ending w.before w.after) r ((p ++ s) ++ t) z o → Ran w r p (s ++ t) a c x o
+    → (d.table ≡ w.table) × (d.listed ≡ w.listed) × (d.most ≡ w.most) → Closed (way_of d w.ending) r ((p ++ s) ++ t) z o → Ran w r p (s ++ t) a c x o
 ran_over w adds r p s t e d k a b c x y z o g u h same q =
     let v = turned_by (rules_of e) (reads_by w) (Ok false) (p ++ s) t d b c y z g.took.reads u in
     over_on w adds r p s t e d k a b c x y z o g v h (closed_by w d r ((p ++ s) ++ t) z o same q)
@@ -277,7 +280,7 @@ stopped_on w (Err fault.Read) p e a x y z f q = absurd q
 stopped_on w (Err fault.Turns) p e a x y z f q = absurd q
 stopped_on w (Err fault.Failed) p e a x y z f q = absurd q
 
-pub ran_stopped : (w : Way) (r : Result Report RunFault) (p : List ℕ) (e : EngineMemory) (a : SourceLog) (x y z : OutLog) → Fed (reads_by w) (Ok false) p [] e x y → (e.table ≡ w.table) × (e.listed ≡ w.listed) × (e.most ≡ w.most) → Closed (way_of e w.ending w.before w.after) r (p ++ []) y z → Ran w r p [] a a x z
+pub ran_stopped : (w : Way) (r : Result Report RunFault) (p : List ℕ) (e : EngineMemory) (a : SourceLog) (x y z : OutLog) → Fed (reads_by w) (Ok false) p [] e x y → (e.table ≡ w.table) × (e.listed ≡ w.listed) × (e.most ≡ w.most) → Closed (way_of e w.ending) r (p ++ []) y z → Ran w r p [] a a x z
 ran_stopped w r p e a x y z f same q = stopped_on w r p e a x y z f (closed_by w e r (p ++ []) y z same q)
 
 -- the empty piece failed

@@ -1,6 +1,7 @@
 -- What the program did with a reader and an out, and the status that says so (meaning).
 use Rattle.std.specs.Prelude.{◌≡◌, ℕ, ◌==◌, List, Option, Some, None, Result, Ok, Err, if◌then◌else◌}
 use Rattle.giop_print.specs.Output.{OutLog}
+use Rattle.giop_stream.specs.declared.status.Totals.{Totals}
 use Rattle.giop_run.specs.SourceLog.{SourceLog}
 use Rattle.giop_run.specs.Running.{Way, Ran}
 use Rattle.giop_run.specs.declared.running.Report.{Report}
@@ -50,6 +51,6 @@ run_of (Ok report) = Some (Ok report)
 run_of (Err fault) = ran_as (run_fault fault)
 
 -- the program's status: whether a fault was counted, or what failed
-abbrev pub exit_status : Result Report ProgramFault → ℕ
-exit_status (Ok report) = if report.totals.faults == 0 then 0 else 1
+abbrev pub exit_status : Result Totals ProgramFault → ℕ
+exit_status (Ok totals) = if totals.faults == 0 then 0 else 1
 exit_status (Err fault) = fault_status fault

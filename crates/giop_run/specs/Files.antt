@@ -12,7 +12,6 @@ use Rattle.giop_sig.specs.RequestList.{Entry, Lists, IsOf, IsRefusedAs}
 use Rattle.giop_message.specs.Signatures.{Listed}
 use Rattle.giop_checkpoint.specs.declared.fixed.Counts.{Counts}
 use Rattle.giop_checkpoint.specs.Refusals.{IsOurs}
-use Rattle.giop_stream.specs.Rules.{most_open}
 use Rattle.giop_stream.specs.Checkpoint.{counts_of, IsRefused, Spells}
 use Rattle.giop_run.specs.Running.{Way}
 use Rattle.giop_run.specs.declared.running.Ending.{Ending}
@@ -36,7 +35,7 @@ abbrev pub requests_most : ℕ
 requests_most = 16777216
 
 abbrev pub checkpoint_most : ℕ
-checkpoint_most = 14240
+checkpoint_most = 3408800
 
 -- a text spells a valid file of signatures, of which this is the table
 pub record Declares (text : List ℕ) (C : Table) : Type 0 where
@@ -63,12 +62,14 @@ RequestsOf held None C kept = kept ≡ []
 RequestsOf held (Some name) C kept =
     (text : List ℕ) × IsFront requests_most (held name) text × Requests text C kept
 
--- Of each stream that the octets of the checkpoint's file are a checkpoint of this is so; without a file of no octets.
-abbrev pub GoesOn : Folder → Option (List ℕ) → Table → Listed → (List ℕ → Type 0) → Type 0
-GoesOn held None C kept Is = Is []
-GoesOn held (Some name) C kept Is =
+-- Of each stream that the octets of the checkpoint's file are a checkpoint of, and of how many messages may be open in it,
+-- this is so; without a file of no octets, and of as many as are asked for.
+abbrev pub GoesOn : Folder → Option (List ℕ) → ℕ → Table → Listed → (ℕ → List ℕ → Type 0) → Type 0
+GoesOn held None most C kept Is = Is most []
+GoesOn held (Some name) most C kept Is =
     (octets : List ℕ) × IsFront checkpoint_most (held name) octets
-    × IsOurs (counts_of C kept) octets × ((p : List ℕ) → Spells octets C kept most_open p → Is p)
+    × IsOurs (counts_of C kept) octets
+    × ((n : ℕ) (p : List ℕ) → Spells octets C kept n p → Is n p)
 
 -- what the stream gives: that of the file, or without one of standard input
 abbrev pub stream_of : Folder → Option (List ℕ) → Option (List ℕ) → Option (List ℕ)
@@ -129,30 +130,24 @@ NoStream asked (faults.Checkpoint name why) = ⊥
 NoStream asked (faults.Unwritable name) = ⊥
 NoStream asked (faults.Run why) = ⊥
 
--- the texts of the names that the words give
+-- the texts of the names that the words give, and how many messages of a new stream may be open
 pub record Asked : Type 0 where
   pub signatures : Option (List ℕ)
   pub requests : Option (List ℕ)
   pub resume : Option (List ℕ)
   pub save : Option (List ℕ)
+  pub most : ℕ
   pub stream : Option (List ℕ)
 
--- how a run ends: by a save where a file for it is asked for
+-- how a run ends: its engine is kept where a file to save is asked for
 abbrev pub ending_of : Option (List ℕ) → Ending
 ending_of None = endings.Finish
-ending_of (Some name) = endings.Save
+ending_of (Some name) = endings.Keep
 
--- what it reads by and how it ends, with the octets for a checkpoint before it and after it
-abbrev pub way_by : Table → Listed → Asked → List ℕ → List ℕ → Way
-way_by C kept asked before after =
-    record {
-      table = C;
-      listed = kept;
-      most = most_open;
-      ending = ending_of asked.save;
-      before = before;
-      after = after;
-    }
+-- what it reads by, where so many messages may be open, and how it ends
+abbrev pub way_by : Table → Listed → ℕ → Asked → Way
+way_by C kept n asked =
+    record { table = C; listed = kept; most = n; ending = ending_of asked.save }
 
 -- what a run reads by: the catalogue and the list of the files
 pub record ReadsBy (held : Folder) (asked : Asked) (C : Table) (kept : Listed) : Type 0 where

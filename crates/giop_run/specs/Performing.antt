@@ -1,9 +1,11 @@
 -- What the program did behind its words (meaning): x and y are its out before and after it, a and b the files saved.
-use Rattle.std.specs.Prelude.{◌≡◌, ℕ, List, [], ◌∷◌, take, Option, None, Some, Result, Ok, Err}
+use Rattle.std.specs.Prelude.{◌≡◌, ℕ, List, Option, None, Some, Result, Ok, Err}
 use Rattle.giop_print.specs.Output.{OutLog}
 use Rattle.giop_sig.specs.Table.{Table}
 use Rattle.giop_message.specs.Signatures.{Listed}
 use Rattle.giop_stream.specs.Holding.{AreOf}
+use Rattle.giop_stream.specs.Remembering.{EngineMemory}
+use Rattle.giop_stream.specs.declared.status.Totals.{Totals}
 use Rattle.giop_run.specs.Console.{Dumped}
 use Rattle.giop_run.specs.Files.{Folder, Asked, GoesOn, ReadsBy, Refused, stream_of, way_by}
 use Rattle.giop_run.specs.Saving.{Saved, SavedMore}
@@ -23,41 +25,39 @@ abbrev pub task_of : Folder → Option (List ℕ) → Asked → Task
 task_of held given asked = record { held = held; given = given; asked = asked }
 
 -- A run read what the words name: the stream, by the catalogue and the list of the files, from the checkpoint on.
--- `before` and `after` are the octets for a checkpoint.
-pub record Performed (t : Task) (before after : List ℕ) (ran : Result Report RunFault) (x y : OutLog) : Type 0 where
+pub record Performed (t : Task) (ran : Result Report RunFault) (x y : OutLog) : Type 0 where
   pub table : Table
   pub listed : Listed
   pub of : AreOf table listed
   pub reads : ReadsBy t.held t.asked table listed
-  pub dumped : GoesOn t.held t.asked.resume table listed (λ p. Dumped
-      (way_by table listed t.asked before after) ran p
+  pub dumped : GoesOn t.held t.asked.resume t.asked.most table listed (λ n p. Dumped
+      (way_by table listed n t.asked) ran p
       (stream_of t.held t.given t.asked.stream) x y)
 
--- these octets in the file that was asked for, or nothing
-abbrev pub saved_in : Option (List ℕ) → List ℕ → List Saved
-saved_in None octets = []
-saved_in (Some name) octets = record { name = name; octets = octets } ∷ []
+-- the checkpoint of the engine that was kept is saved in the file that was asked for, or nothing is
+abbrev pub SavedIn : Option (List ℕ) → Option EngineMemory → Option (List Saved)
+    → Option (List Saved) → Type 0
+SavedIn None kept a b = b ≡ a
+SavedIn (Some name) None a b = ⊥
+SavedIn (Some name) (Some e) a b = SavedMore a b name e
 
 -- The run came to its end, and its checkpoint is saved where that was asked for.
-pub record Completed (t : Task) (report : Report) (x y : OutLog) (a b : Option (List Saved)) : Type 0 where
-  pub before : List ℕ
-  pub after : List ℕ
-  pub run : Performed t before after (Ok report) x y
-  pub saved : SavedMore a b (saved_in t.asked.save (take report.saved after))
+pub record Completed (t : Task) (totals : Totals) (x y : OutLog) (a b : Option (List Saved))
+    : Type 0 where
+  pub report : Report
+  pub run : Performed t (Ok report) x y
+  pub totals_are : totals ≡ report.totals
+  pub saved : SavedIn t.asked.save report.kept a b
 
 -- The run failed.
 pub record Broken (t : Task) (why : RunFault) (x y : OutLog) : Type 0 where
-  pub before : List ℕ
-  pub after : List ℕ
-  pub run : Performed t before after (Err why) x y
+  pub run : Performed t (Err why) x y
 
 -- The run came to its end, and the file for its checkpoint can't be written.
 pub record Unsaved (t : Task) (name : List ℕ) (x y : OutLog) : Type 0 where
   pub named : t.asked.save ≡ Some name
   pub report : Report
-  pub before : List ℕ
-  pub after : List ℕ
-  pub run : Performed t before after (Ok report) x y
+  pub run : Performed t (Ok report) x y
 
 -- A step before the run failed: nothing is written.
 pub record NotRun (t : Task) (why : ProgramFault) (x y : OutLog) : Type 0 where
@@ -79,15 +79,16 @@ FailedBy t (faults.Unreadable name) x y = NotRun t (faults.Unreadable name) x y
 FailedBy t faults.OutOfMemory x y = NotRun t faults.OutOfMemory x y
 
 -- and by its answer; where it failed nothing is saved
-abbrev pub Did : Task → Result Report ProgramFault → OutLog → OutLog → Option (List Saved) → Option (List Saved) → Type 0
-Did t (Ok report) x y a b = Completed t report x y a b
+abbrev pub Did : Task → Result Totals ProgramFault → OutLog → OutLog → Option (List Saved)
+    → Option (List Saved) → Type 0
+Did t (Ok totals) x y a b = Completed t totals x y a b
 Did t (Err why) x y a b = FailedBy t why x y × (b ≡ a)
 
 -- what the last step did: its answer is the run's, or that the file which was asked for can't be written
-abbrev pub Kept : Option (List ℕ) → Result Report ProgramFault → Result Report ProgramFault → List ℕ
+abbrev pub Kept : Option (List ℕ) → Result Report ProgramFault → Result Totals ProgramFault
     → Option (List Saved) → Option (List Saved) → Type 0
-Kept asked (Ok report) (Ok same) octets a b =
-    (same ≡ report) × SavedMore a b (saved_in asked (take report.saved octets))
-Kept asked (Ok report) (Err why) octets a b =
+Kept asked (Ok report) (Ok totals) a b =
+    (totals ≡ report.totals) × SavedIn asked report.kept a b
+Kept asked (Ok report) (Err why) a b =
     (b ≡ a) × ((name : _) × (why ≡ faults.Unwritable name) × (asked ≡ Some name.now))
-Kept asked (Err why) result octets a b = (result ≡ Err why) × (b ≡ a)
+Kept asked (Err why) result a b = (result ≡ Err why) × (b ≡ a)

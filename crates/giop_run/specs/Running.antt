@@ -1,5 +1,5 @@
 -- What a run did (meaning): p is the stream that its engine held, s are the octets that its source gave, w its way.
-use Rattle.std.specs.Prelude.{◌≡◌, ℕ, ◌+◌, ◌^◌, ◌≤◌, ◌<◌, List, [], ◌++◌, length, drop, IsSome, Result, Ok, Err, ◌⊎◌}
+use Rattle.std.specs.Prelude.{◌≡◌, ℕ, ◌+◌, ◌^◌, ◌≤◌, ◌<◌, List, [], ◌++◌, length, Option, None, Some, IsSome, Result, Ok, Err, ◌⊎◌}
 use Rattle.std.specs.Io.KnownBytes.{Consumes, IsAtEnd}
 use Rattle.giop_cdr.specs.Numbers.{AreOctets}
 use Rattle.giop_print.specs.Output.{OutLog, counted, Wrote, WroteFront}
@@ -8,9 +8,8 @@ use Rattle.giop_message.specs.Signatures.{Listed}
 use Rattle.giop_stream.specs.Rules.{Rules, rules}
 use Rattle.giop_stream.specs.Framing.{cut}
 use Rattle.giop_stream.specs.Stream.{closing, final, tally}
-use Rattle.giop_stream.specs.Holding.{added}
+use Rattle.giop_stream.specs.Holding.{added, Holds}
 use Rattle.giop_stream.specs.Remembering.{EngineMemory}
-use Rattle.giop_stream.specs.Checkpoint.{Saves}
 use Rattle.giop_run.specs.SourceLog.{SourceLog}
 use Rattle.giop_run.specs.declared.running.Ending.{Ending}
 use Rattle.giop_run.specs.declared.running.Ending.TheVariants as endings
@@ -18,26 +17,16 @@ use Rattle.giop_run.specs.declared.running.Report.{Report}
 use Rattle.giop_run.specs.declared.fault.RunFault.{RunFault}
 use Rattle.giop_run.specs.declared.fault.RunFault.TheVariants as fault
 
--- what a run reads by and how it ends, with the octets for a checkpoint before it and after it
+-- what a run reads by and how it ends
 pub record Way : Type 0 where
   pub table : Table
   pub listed : Listed
   pub most : ℕ  -- so many messages may be open at once
   pub ending : Ending
-  pub before : List ℕ
-  pub after : List ℕ
 
 -- the way of a run of this engine
-abbrev pub way_of : EngineMemory → Ending → List ℕ → List ℕ → Way
-way_of e ending before after =
-    record {
-      table = e.table;
-      listed = e.listed;
-      most = e.most;
-      ending = ending;
-      before = before;
-      after = after;
-    }
+abbrev pub way_of : EngineMemory → Ending → Way
+way_of e ending = record { table = e.table; listed = e.listed; most = e.most; ending = ending }
 
 -- how it reads a message
 abbrev pub reads_by : Way → Rules
@@ -46,24 +35,30 @@ reads_by w = rules w.table w.listed w.most
 -- what an ending writes behind the lines of the stream p: its closing, or nothing where the stream goes on later
 abbrev pub end_text : Ending → Rules → List ℕ → List ℕ
 end_text endings.Finish R p = closing R p
-end_text endings.Save R p = []
+end_text endings.Keep R p = []
 
--- the finish of the stream p: a truncated end is counted, and nothing is saved
+-- an engine is kept where the ending says so
+abbrev pub HasKept : Ending → Option EngineMemory → Type 0
+HasKept endings.Finish kept = kept ≡ None
+HasKept endings.Keep kept = IsSome kept
+
+-- the finish of the stream p: a truncated end is counted, and no engine is kept
 pub record IsFinish (w : Way) (report : Report) (p : List ℕ) : Type 0 where
   pub totals : report.totals ≡ final (reads_by w) p
-  pub saved : report.saved ≡ 0
-  pub room : w.after ≡ w.before
+  pub kept : report.kept ≡ None
 
--- the stream p was saved: the first octets of those for a checkpoint are its checkpoint, and the others are as they were
-pub record IsSave (w : Way) (report : Report) (p : List ℕ) : Type 0 where
+-- the stream p goes on later: an engine is kept that holds it, and reads as the run did
+pub record IsKept (w : Way) (report : Report) (p : List ℕ) : Type 0 where
   pub totals : report.totals ≡ tally (reads_by w) p
-  pub saved : Saves report.saved w.after w.table w.listed w.most p
-  pub room : drop report.saved w.after ≡ drop report.saved w.before
+  pub engine : EngineMemory
+  pub kept : report.kept ≡ Some engine
+  pub holds : Holds engine p
+  pub same : way_of engine w.ending ≡ w
 
--- what an ending says of the stream p, and has saved of it
+-- what an ending says of the stream p, and keeps of it
 abbrev pub EndsAs : Ending → Way → Report → List ℕ → Type 0
 EndsAs endings.Finish w report p = IsFinish w report p
-EndsAs endings.Save w report p = IsSave w report p
+EndsAs endings.Keep w report p = IsKept w report p
 
 -- the stream p has a fault, so that no octet after it is read
 abbrev pub IsStopped : List ℕ → Type 0

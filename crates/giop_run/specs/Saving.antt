@@ -1,19 +1,27 @@
 -- What is saved in files (meaning).
 use Rattle.std.specs.Prelude.{◌≡◌, ℕ, List, [], ◌∷◌, ◌++◌, Option, None, Some, Result, MatchResult}
+use Rattle.giop_stream.specs.Checkpoint.{Spells}
+use Rattle.giop_stream.specs.Holding.{Holds}
+use Rattle.giop_stream.specs.Remembering.{EngineMemory}
 
 -- a file that was written whole: its name and its octets
 pub record Saved : Type 0 where
   pub name : List ℕ
   pub octets : List ℕ
 
--- these files were saved, where it is told which ones are
-abbrev pub SavedMore : Option (List Saved) → Option (List Saved) → List Saved → Type 0
-SavedMore None after files = Unit {0}
-SavedMore (Some before) after files = after ≡ Some (before ++ files)
+-- These octets are the checkpoint of each stream that the engine holds.
+abbrev pub SpellsAll : EngineMemory → List ℕ → Type 0
+SpellsAll e octets = (p : List ℕ) → Holds e p → Spells octets e.table e.listed e.most p
 
--- what a save did: all the octets are in the file of the name, or nothing is saved
-abbrev pub SavesOne : {A E : Type 0} → Result A E → Option (List Saved) → Option (List Saved) → List ℕ → List ℕ → Type 0
-SavesOne result before after name octets =
-    MatchResult result
-    (λ _. SavedMore before after (record { name = name; octets = octets } ∷ []))
-    (λ _. after ≡ before)
+-- a checkpoint of the engine was saved in the file of this name, where it is told what is saved
+abbrev pub SavedMore : Option (List Saved) → Option (List Saved) → List ℕ → EngineMemory → Type 0
+SavedMore None after name e = Unit {0}
+SavedMore (Some before) after name e =
+    (octets : List ℕ) × SpellsAll e octets
+    × (after ≡ Some (before ++ record { name = name; octets = octets } ∷ []))
+
+-- what a save did: the engine's checkpoint is in the file of the name, or nothing is saved
+abbrev pub SavesOne : {A E : Type 0} → Result A E → Option (List Saved) → Option (List Saved) → List ℕ
+    → EngineMemory → Type 0
+SavesOne result before after name e =
+    MatchResult result (λ _. SavedMore before after name e) (λ _. after ≡ before)

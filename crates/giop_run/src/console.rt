@@ -1,41 +1,41 @@
 //! What the program does with a reader and an out, and its status.
 
-ghost use Rattle.std.specs.Prelude.{◌≡◌, List, ℕ, [], true, Err, OnOk, OnErr};
+ghost use Rattle.std.specs.Prelude.{◌≡◌, List, ℕ, [], true, Err, OnOk, IfOk};
 ghost use Rattle.giop_stream.specs.Holding.{Holds};
-ghost use Rattle.giop_run.specs.Running.{way_of};
+ghost use Rattle.giop_run.specs.Running.{HasKept, way_of};
 ghost use Rattle.giop_run.specs.Console.{Dumped, exit_status};
 
 use super::fault::{ProgramFault, RunFault};
 use super::flush::{Flush, Flushed};
 use super::reading::Reading;
 use super::running::{Ending, Report, run_by};
-use giop_stream::Engine;
+use giop_stream::{Engine, Totals};
 use std::io::Read;
 
 /// Dumps what the reader gives to an engine, and flushes the lines before each read and at the end.
-pub fn dump<R: Read + Drop, O: Flush>(
+pub fn dump<'a, R: Read + Drop, O: Flush>(
     reader: R,
     out: &mut O,
-    engine: Engine,
+    engine: Engine<'a>,
     ending: Ending,
-    into: &mut [u8; 14_240],
-) -> Result<Report, RunFault>
+) -> Result<Report<'a>, RunFault>
     ensures dumped { (p : List ℕ) → Holds engine.entry p
-        → Dumped (way_of engine.entry ending into.old into.new) result p (R.remaining reader) (O.log out.old) (O.log out.new) }
-    ensures kept { OnErr result (into.new ≡ into.old) }
+        → Dumped (way_of engine.entry ending) result p
+        (R.remaining reader) (O.log out.old) (O.log out.new) }
+    ensures kept { IfOk result (λ report. HasKept ending report.kept) }
     ensures sound { result ≡ Err RunFault.Failed → engine.entry.failed ≡ true }
     ensures flushed { OnOk result (O.kept out.new ≡ []) }
 {
     let mut source = Reading::new(reader);
-    run_by::<Reading<R>, O, Flushed>(&mut source, out, engine, ending, into)
+    run_by::<Reading<R>, O, Flushed>(&mut source, out, engine, ending)
 }
 
 /// The status that the program ends with: 0, or 1 where a fault was counted, or that of what failed.
-pub fn status(ended: &Result<Report, ProgramFault>) -> u8
+pub fn status(ended: &Result<Totals, ProgramFault>) -> u8
     ensures { result ≡ exit_status ended.now }
 {
     match ended {
-        Ok(report) if report.totals.faults == 0 => 0,
+        Ok(totals) if totals.faults == 0 => 0,
         Ok(_) => 1,
         Err(fault) => fault.status(),
     }

@@ -99,6 +99,18 @@ impl<'a> ProgramFault<'a> {
         ProgramFault::Requests { name, fault }
     }
 
+    /// What the refusal of the checkpoint of this name is to the program.
+    pub fn of_checkpoint(name: &'a str, fault: LoadFault) -> ProgramFault<'a>
+        ensures memory { fault ≡ LoadFault.OutOfMemory → result ≡ ProgramFault.OutOfMemory }
+        ensures refused { fault ≢ LoadFault.OutOfMemory
+            → result ≡ ProgramFault.Checkpoint name.entry fault }
+    {
+        if fault == LoadFault::OutOfMemory {
+            return ProgramFault::OutOfMemory;
+        }
+        ProgramFault::Checkpoint { name, fault }
+    }
+
     /// The status that the program ends with.
     pub fn status(&self) -> u8
         ensures { result ≡ fault_status self.now }

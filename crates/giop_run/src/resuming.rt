@@ -1,6 +1,6 @@
 //! The engine that a run begins with: a new one, or one that goes on from the checkpoint of a file.
 
-ghost use Rattle.std.specs.Prelude.{◌≡◌, List, ℕ, [], false, None, IfOk, IfErr, IfSome, option_map};
+ghost use Rattle.std.specs.Prelude.{◌≡◌, ◌≢◌, ◌≤◌, List, ℕ, [], false, None, IfOk, IfErr, IfSome, option_map};
 ghost use Rattle.giop_checkpoint.specs.Refusals.{IsOurs};
 ghost use Rattle.giop_stream.specs.Rules.{most_open};
 ghost use Rattle.giop_stream.specs.Checkpoint.{counts_of, IsRefused, Spells};
@@ -13,57 +13,65 @@ use super::files::contents;
 use super::inputs::Inputs;
 use giop_checkpoint::LoadFault;
 use giop_sig::{Catalogue, Requests};
-use giop_stream::Engine;
+use giop_stream::{Engine, NewFault};
+use std::alloc::Global;
 
 /// The greatest number of octets of a checkpoint. Longer ones are refused by their reader.
-const CHECKPOINT_MOST: u64 = 14_240;
+const CHECKPOINT_MOST: u64 = 3_408_800;
 
 /// The engine of a checkpoint's octets.
 fn loaded<'a, 'c>(
+    alloc: Global,
     name: &'a str,
     octets: &[u8],
     catalogue: &'c Catalogue,
     requests: &'c Requests,
 ) -> Result<Engine<'c>, ProgramFault<'a>>
     requires of { AreOf catalogue.now requests.now }
-    ensures again { IfOk result (λ e. (p : List ℕ)
-        → Spells octets.now catalogue.now requests.now most_open p → Holds e p) }
+    ensures again { IfOk result (λ e. (n : ℕ) (p : List ℕ)
+        → Spells octets.now catalogue.now requests.now n p → (e.most ≡ n) × Holds e p) }
     ensures ours { IfOk result (λ e. IsOurs (counts_of catalogue.now requests.now) octets.now) }
     ensures err { IfErr result (λ fault. (why : LoadFault)
-        × (fault ≡ ProgramFault.Checkpoint name.entry why)
+        × (why ≡ LoadFault.OutOfMemory → fault ≡ ProgramFault.OutOfMemory)
+        × (why ≢ LoadFault.OutOfMemory → fault ≡ ProgramFault.Checkpoint name.entry why)
         × IsRefused (counts_of catalogue.now requests.now) octets.now why) }
     ensures sound { IfOk result (λ e. e.failed ≡ false) }
     ensures table { IfOk result (λ e. e.table ≡ catalogue.now) }
     ensures listed { IfOk result (λ e. e.listed ≡ requests.now) }
-    ensures most { IfOk result (λ e. e.most ≡ most_open) }
 {
-    match Engine::load(catalogue, requests, octets) {
+    match Engine::load(alloc, catalogue, requests, octets) {
         Ok(engine) => Ok(engine),
-        Err(fault) => Err(ProgramFault::Checkpoint { name, fault }),
+        Err(fault) => Err(ProgramFault::of_checkpoint(name, fault)),
     }
 }
 
-/// The engine that goes on from the checkpoint of a file, or without one a new engine.
+/// The engine that goes on from the checkpoint of a file, or without one a new engine, of whose messages so many may be
+/// open at once.
 pub fn resumed<'a, 'c, R: Inputs + AllocGlobal>(
     rt: &R,
     name: Option<&'a str>,
+    most: u32,
     catalogue: &'c Catalogue,
     requests: &'c Requests,
 ) -> Result<Engine<'c>, ProgramFault<'a>>
     requires of { AreOf catalogue.now requests.now }
+    requires range { (1 ≤ most) × (most ≤ most_open) }
     ensures ok { let asked = option_map (λ n. n.now) name.entry in
-        IfOk result (λ e. GoesOn (R.held rt.now) asked catalogue.now requests.now (Holds e)) }
+        IfOk result (λ e. GoesOn (R.held rt.now) asked most catalogue.now requests.now
+        (λ n p. (e.most ≡ n) × Holds e p)) }
     ensures err { let asked = option_map (λ n. n.now) name.entry in IfErr result
         (NoCheckpoint (R.held rt.now) asked (counts_of catalogue.now requests.now)) }
     ensures file { IfErr result (λ fault. run_fault fault ≡ None) }
     ensures sound { IfOk result (λ e. e.failed ≡ false) }
     ensures table { IfOk result (λ e. e.table ≡ catalogue.now) }
     ensures listed { IfOk result (λ e. e.listed ≡ requests.now) }
-    ensures most { IfOk result (λ e. e.most ≡ most_open) }
 {
     let Some(name) = name else {
-        return Ok(Engine::new(catalogue, requests));
+        return match Engine::new(rt.alloc(), catalogue, requests, most) {
+            Ok(engine) => Ok(engine),
+            Err(NewFault::OutOfMemory) => Err(ProgramFault::OutOfMemory),
+        };
     };
     let octets = contents(rt, name, CHECKPOINT_MOST)?;
-    loaded(name, &octets, catalogue, requests)
+    loaded(rt.alloc(), name, &octets, catalogue, requests)
 }

@@ -1,13 +1,12 @@
 //! A run: octets from a source go through an engine to an out, up to the stream's end.
 
-ghost use Rattle.std.specs.Prelude.{◌≡◌, ◌+◌, ◌^◌, ◌≤◌, Err, true, false, List, [], ℕ, drop, MatchResult, IfOk, OnOk, IfErr, OnErr};
+ghost use Rattle.std.specs.Prelude.{◌≡◌, ◌+◌, ◌^◌, ◌≤◌, Err, true, false, List, [], ℕ, MatchResult, IfOk, OnOk, IfErr};
 ghost use Rattle.giop_print.specs.Output.{counted};
 ghost use Rattle.giop_cdr.specs.Numbers.{AreOctets};
 ghost use Rattle.giop_stream.specs.Holding.{Holds, rules_of};
 ghost use Rattle.giop_run.specs.SourceLog.{Gave, ReadFailed};
 ghost use Rattle.giop_run.specs.Flushing.{Flushes};
-ghost use Rattle.giop_stream.specs.Checkpoint.{Saves};
-ghost use Rattle.giop_run.specs.Running.{Ran, Refused, way_of};
+ghost use Rattle.giop_run.specs.Running.{HasKept, Ran, Refused, way_of};
 ghost use Rattle.giop_run.specs.Turns.{Fed, Turned, Completed, Closed};
 
 use super::fault::{RunFault, SourceFault};
@@ -27,71 +26,71 @@ const ROOM: usize = 4096;
 pub enum Ending {
     /// It writes the closing lines.
     Finish,
-    /// It saves a checkpoint, from which the stream goes on later.
-    Save,
+    /// It writes none, and gives its engine back: the stream goes on with it, or with a checkpoint that it saves.
+    Keep,
 }
 
 /// What a run did.
-#[derive(Clone, Copy, Debug, PartialEq, Eq)]
-pub struct Report {
-    /// The totals of the stream.
+#[derive(Drop)]
+pub struct Report<'a> {
+    /// The totals of the stream: those of what was read by `Ending::Keep`.
     pub totals: Totals,
-    /// How many octets of a checkpoint were saved: none by `Ending::Finish`.
-    pub saved: usize,
+    /// The engine, which holds all that was read: none by `Ending::Finish`.
+    pub kept: Option<Engine<'a>>,
 }
 
-/// Reads the source to its end or to a stream fault, writes the lines of what it gave, and ends the stream, or puts its
-/// checkpoint at the front of `into`.
+/// Reads the source to its end or to a stream fault, writes the lines of what it gave, and ends the stream, or keeps its
+/// engine.
 ///
 /// A stream that has a fault already is ended with no read. After a fault of the run what was written stays: the lines
 /// of all that was read, or after a failed put a front of them.
-pub fn run<S: Source, O: Out>(
+pub fn run<'a, S: Source, O: Out>(
     source: &mut S,
     out: &mut O,
-    engine: Engine,
+    engine: Engine<'a>,
     ending: Ending,
-    into: &mut [u8; 14_240],
-) -> Result<Report, RunFault>
+) -> Result<Report<'a>, RunFault>
     ensures ran { (p : List ℕ) → Holds engine.entry p → (s : List ℕ)
-        × Ran (way_of engine.entry ending into.old into.new) result p s (S.log source.old) (S.log source.new) (O.log out.old) (O.log out.new) }
+        × Ran (way_of engine.entry ending) result p s
+        (S.log source.old) (S.log source.new) (O.log out.old) (O.log out.new) }
     ensures failed { engine.entry.failed ≡ true
         → Refused result (S.log source.old) (S.log source.new) (O.log out.old) (O.log out.new) }
     // Of every engine, also of one that holds no stream.
     ensures sound { result ≡ Err RunFault.Failed → engine.entry.failed ≡ true }
     ensures reads { (S.log source.new).reads ≤ (S.log source.old).reads + 2 ^ 40 }
-    ensures kept { OnErr result (into.new ≡ into.old) }
+    ensures kept { IfOk result (λ report. HasKept ending report.kept) }
 {
-    run_by::<S, O, Nothing>(source, out, engine, ending, into)
+    run_by::<S, O, Nothing>(source, out, engine, ending)
 }
 
 /// A run that does `F` to its out before each read, so that a live stream shows its lines as they come, and at the end.
 /// A flush that fails is a failed put.
-pub(crate) fn run_by<S: Source, O: Out, F: Between<O>>(
+pub(crate) fn run_by<'a, S: Source, O: Out, F: Between<O>>(
     source: &mut S,
     out: &mut O,
-    engine: Engine,
+    engine: Engine<'a>,
     ending: Ending,
-    into: &mut [u8; 14_240],
-) -> Result<Report, RunFault>
+) -> Result<Report<'a>, RunFault>
     ensures ran { (p : List ℕ) → Holds engine.entry p → (s : List ℕ)
-        × Ran (way_of engine.entry ending into.old into.new) result p s (S.log source.old) (S.log source.new) (O.log out.old) (O.log out.new) }
+        × Ran (way_of engine.entry ending) result p s
+        (S.log source.old) (S.log source.new) (O.log out.old) (O.log out.new) }
     ensures failed { engine.entry.failed ≡ true
         → Refused result (S.log source.old) (S.log source.new) (O.log out.old) (O.log out.new) }
     // Of every engine, also of one that holds no stream.
     ensures sound { result ≡ Err RunFault.Failed → engine.entry.failed ≡ true }
     ensures reads { (S.log source.new).reads ≤ (S.log source.old).reads + 2 ^ 40 }
-    ensures kept { OnErr result (into.new ≡ into.old) }
+    ensures kept { IfOk result (λ report. HasKept ending report.kept) }
     ensures flushed { OnOk result (F.left out.new ≡ []) }
 {
     let mut engine = engine;
     if !feed(&mut engine, &[], out)? {
-        return close::<O, F>(engine, out, ending, into);
+        return close::<O, F>(engine, out, ending);
     }
     let mut buffer = [0; ROOM];
     for _turn in 0..TURNS {
         flush::<O, F>(out)?;
         if !turn(source, out, &mut engine, &mut buffer)? {
-            return close::<O, F>(engine, out, ending, into);
+            return close::<O, F>(engine, out, ending);
         }
     }
     flush::<O, F>(out)?;
@@ -164,67 +163,53 @@ fn feed<O: Out>(engine: &mut Engine, piece: &[u8], out: &mut O) -> Result<bool, 
 }
 
 /// Ends a run as it is to end.
-fn close<O: Out, F: Between<O>>(
-    engine: Engine,
+fn close<'a, O: Out, F: Between<O>>(
+    engine: Engine<'a>,
     out: &mut O,
     ending: Ending,
-    into: &mut [u8; 14_240],
-) -> Result<Report, RunFault>
+) -> Result<Report<'a>, RunFault>
     ensures closed { (p : List ℕ) → Holds engine.entry p
-        → Closed (way_of engine.entry ending into.old into.new) result p (O.log out.old) (O.log out.new) }
+        → Closed (way_of engine.entry ending) result p (O.log out.old) (O.log out.new) }
     ensures sound { result ≡ Err RunFault.Failed → engine.entry.failed ≡ true }
-    ensures kept { OnErr result (into.new ≡ into.old) }
+    ensures kept { IfOk result (λ report. HasKept ending report.kept) }
     ensures flushed { OnOk result (F.left out.new ≡ []) }
 {
     match ending {
         Ending::Finish => finished::<O, F>(engine, out),
-        Ending::Save => saved::<O, F>(&engine, out, into),
+        Ending::Keep => kept::<O, F>(engine, out),
     }
 }
 
 /// Ends the stream, flushes the out, and reports the totals.
-fn finished<O: Out, F: Between<O>>(engine: Engine, out: &mut O) -> Result<Report, RunFault>
-    ensures closed { (p room : List ℕ) → Holds engine.entry p
-        → Closed (way_of engine.entry Ending.Finish room room) result p (O.log out.old) (O.log out.new) }
+fn finished<'a, O: Out, F: Between<O>>(
+    engine: Engine<'a>,
+    out: &mut O,
+) -> Result<Report<'a>, RunFault>
+    ensures closed { (p : List ℕ) → Holds engine.entry p
+        → Closed (way_of engine.entry Ending.Finish) result p (O.log out.old) (O.log out.new) }
     ensures sound { result ≡ Err RunFault.Failed → engine.entry.failed ≡ true }
+    ensures kept { IfOk result (λ report. HasKept Ending.Finish report.kept) }
     ensures flushed { OnOk result (F.left out.new ≡ []) }
 {
     let totals = finish(engine, out)?;
     flush::<O, F>(out)?;
-    Ok(Report { totals, saved: 0 })
+    Ok(Report { totals, kept: None })
 }
 
-/// Flushes the out, and saves the stream's checkpoint.
-fn saved<O: Out, F: Between<O>>(
-    engine: &Engine,
-    out: &mut O,
-    into: &mut [u8; 14_240],
-) -> Result<Report, RunFault>
-    ensures closed { (p : List ℕ) → Holds engine.now p
-        → Closed (way_of engine.now Ending.Save into.old into.new) result p (O.log out.old) (O.log out.new) }
-    ensures sound { result ≡ Err RunFault.Failed → engine.now.failed ≡ true }
-    ensures kept { OnErr result (into.new ≡ into.old) }
+/// Flushes the out, and keeps the engine.
+fn kept<'a, O: Out, F: Between<O>>(engine: Engine<'a>, out: &mut O) -> Result<Report<'a>, RunFault>
+    ensures closed { (p : List ℕ) → Holds engine.entry p
+        → Closed (way_of engine.entry Ending.Keep) result p (O.log out.old) (O.log out.new) }
+    ensures sound { result ≡ Err RunFault.Failed → engine.entry.failed ≡ true }
+    ensures kept { IfOk result (λ report. HasKept Ending.Keep report.kept) }
     ensures flushed { OnOk result (F.left out.new ≡ []) }
 {
     flush::<O, F>(out)?;
-    let saved = save(engine, into)?;
     let totals = engine.totals();
-    Ok(Report { totals, saved })
-}
-
-/// Saves the stream's checkpoint: how many octets it has.
-fn save(engine: &Engine, into: &mut [u8; 14_240]) -> Result<usize, RunFault>
-    ensures saves { (p : List ℕ) → Holds engine.now p
-        → IfOk result (λ n. Saves n into.new engine.now.table engine.now.listed engine.now.most p) }
-    ensures behind { IfOk result (λ n. drop n into.new ≡ drop n into.old) }
-    ensures cause { IfErr result (λ fault. fault ≡ RunFault.Failed) }
-    ensures failed { OnErr result (engine.now.failed ≡ true) }
-    ensures kept { OnErr result (into.new ≡ into.old) }
-{
-    match engine.save(into) {
-        Ok(octets) => Ok(octets),
-        Err(_) => Err(RunFault::Failed),
-    }
+    Ok(Report {
+        totals,
+        kept: Some(engine),
+    })
 }
 
 /// Ends the stream.

@@ -4,18 +4,20 @@ ghost use Rattle.std.specs.Prelude.{List, Option, None};
 ghost use Rattle.giop_run.specs.Saving.{Saved, SavesOne};
 
 use super::patient::Patient;
+use giop_print::Written;
+use giop_stream::Engine;
 use std::fs::{File, Permissions};
-use std::io::{ErrorKind, Write};
+use std::io::ErrorKind;
 use std::{fs, io};
 
-/// Files that octets are saved in.
+/// Files that checkpoints are saved in.
 pub trait Saves {
     /// The files that were saved, where that is told.
     ghost saved: { Self → Option (List Saved) };
 
-    /// Saves octets in the file of a name. An `Err` leaves a plain file of that name as it was.
-    fn save(&mut self, name: &str, octets: &[u8]) -> io::Result<()>
-        ensures { SavesOne result (saved self.old) (saved self.new) name.now octets.now };
+    /// Saves the checkpoint of an engine in the file of a name. An `Err` leaves a plain file of that name as it was.
+    fn save(&mut self, name: &str, engine: &Engine) -> io::Result<()>
+        ensures { SavesOne result (saved self.old) (saved self.new) name.now engine.now };
 }
 
 /// The system's files, which tell nothing.
@@ -34,17 +36,17 @@ impl<'a> Disk<'a> {
 impl Saves for Disk<'_> {
     ghost saved = { λ _. None };
 
-    fn save(&mut self, name: &str, octets: &[u8]) -> io::Result<()> {
+    fn save(&mut self, name: &str, engine: &Engine) -> io::Result<()> {
         match fs::metadata(self.rt, name) {
             Ok(found) if found.is_file() => replaced(
                 self.rt,
                 name,
-                octets,
+                engine,
                 Some(found.permissions()),
             ),
             // A device or a pipe has no old octets, and keeps its name.
-            Ok(_) => Patient::new(File::create(self.rt, name)?).write_all(octets),
-            Err(_) => replaced(self.rt, name, octets, None),
+            Ok(_) => put_into(&File::create(self.rt, name)?, engine),
+            Err(_) => replaced(self.rt, name, engine, None),
         }
     }
 }
@@ -55,11 +57,11 @@ const NAME_ROOM: usize = 4096;
 /// What stands behind a file's name in the name of the file that takes its place.
 const SUFFIX: [u8; 14] = *b".giopdump-part";
 
-/// Writes the octets beside the file, and then gives them its name.
+/// Writes the checkpoint beside the file, and then gives it its name.
 fn replaced(
     rt: &HostRuntime,
     name: &str,
-    octets: &[u8],
+    engine: &Engine,
     permissions: Option<Permissions>,
 ) -> io::Result<()> {
     let mut room = [0; NAME_ROOM];
@@ -68,7 +70,7 @@ fn replaced(
     };
     // One that is left of a save that was broken off.
     let _ = fs::remove_file(rt, beside);
-    let renamed = match written(rt, beside, octets, permissions) {
+    let renamed = match written(rt, beside, engine, permissions) {
         Ok(()) => fs::rename(rt, beside, name),
         Err(error) => Err(error),
     };
@@ -82,15 +84,24 @@ fn replaced(
 fn written(
     rt: &HostRuntime,
     name: &str,
-    octets: &[u8],
+    engine: &Engine,
     permissions: Option<Permissions>,
 ) -> io::Result<()> {
     let file = File::create_new(rt, name)?;
     if let Some(permissions) = permissions {
         file.set_permissions(permissions)?;
     }
-    Patient::new(&file).write_all(octets)?;
+    put_into(&file, engine)?;
     file.sync_all()
+}
+
+/// Writes the checkpoint into a file.
+fn put_into(file: &File, engine: &Engine) -> io::Result<()> {
+    let mut out = Written::new(Patient::new(file));
+    match engine.save(&mut out) {
+        Ok(_) => Ok(()),
+        Err(_) => Err(io::Error::from(ErrorKind::WriteZero)),
+    }
 }
 
 /// The name of the file beside one.

@@ -1,10 +1,11 @@
 //! What the tests have in common: the types by which streams are read, octets of hexadecimal text, and a
 //! CloseConnection.
 
-ghost use Rattle.std.specs.Prelude.{IfOk};
+ghost use Rattle.std.specs.Prelude.{◌≡◌, false, IfOk};
 ghost use Rattle.giop_stream.specs.Holding.{AreOf};
 
 use giop_sig::{Catalogue, Requests};
+use giop_stream::Engine;
 use std::alloc::{AllocError, Global};
 use std::test::Fail;
 
@@ -15,6 +16,19 @@ pub fn built_in(alloc: Global) -> Result<(Catalogue, Requests), Fail>
     let catalogue = Catalogue::builtin(alloc)?;
     let requests = Requests::parse(alloc, b"", &catalogue)?;
     Ok((catalogue, requests))
+}
+
+/// A new engine, of 16 open messages.
+pub fn engine<'a>(
+    alloc: Global,
+    catalogue: &'a Catalogue,
+    requests: &'a Requests,
+) -> Result<Engine<'a>, Fail>
+    requires of { AreOf catalogue.now requests.now }
+    ensures sound { IfOk result (λ e. e.failed ≡ false) }
+{
+    let engine = Engine::new(alloc, catalogue, requests, 16)?;
+    Ok(engine)
 }
 
 /// The octets of hexadecimal text, in which spaces stand anywhere.

@@ -2,11 +2,11 @@
 
 ghost use Rattle.giop_stream.specs.Holding.{AreOf};
 
-use super::close::{CLOSE, CLOSED, COMPLETED, NOTHING, REFUSED, WRONG, built_in};
+use super::close::{CLOSE, CLOSED, COMPLETED, NOTHING, REFUSED, WRONG, built_in, engine};
 use super::fakes::{FailingReader, FailingWriter};
-use giop_run::{Ending, Lines, ProgramFault, Report, RunFault, dump, status};
+use giop_run::{Ending, Flush, Lines, ProgramFault, RunFault, dump, status};
 use giop_sig::{Catalogue, Requests};
-use giop_stream::Engine;
+use giop_stream::{Engine, Totals};
 use std::cell::{Cell, RefCell};
 use std::io;
 use std::io::{ErrorKind, Read};
@@ -14,10 +14,22 @@ use std::process::Abort;
 use std::test::Fail;
 
 /// The status of the program after such a run.
-fn status_of(dumped: Result<Report, RunFault>) -> u8 {
+fn status_of(dumped: Result<Totals, RunFault>) -> u8 {
     match dumped {
-        Ok(report) => status(&Ok(report)),
+        Ok(totals) => status(&Ok(totals)),
         Err(fault) => status(&Err(ProgramFault::Run(fault))),
+    }
+}
+
+/// Dumps what a reader gives to the stream's end: its totals.
+fn finished<R: Read + Drop, O: Flush>(
+    reader: R,
+    out: &mut O,
+    engine: Engine,
+) -> Result<Totals, RunFault> {
+    match dump(reader, out, engine, Ending::Finish) {
+        Ok(report) => Ok(report.totals),
+        Err(fault) => Err(fault),
     }
 }
 
@@ -55,14 +67,7 @@ fn is_watched(
 {
     let mut lines = Lines::new(rt.alloc(), FailingWriter::new(held, 100))?;
     let reader = WatchingReader { reads: 0, held };
-    Ok(dump(
-        reader,
-        &mut lines,
-        Engine::new(catalogue, requests),
-        Ending::Finish,
-        &mut [0; 14_240],
-    )
-    .is_ok())
+    Ok(finished(reader, &mut lines, engine(rt.alloc(), catalogue, requests)?).is_ok())
 }
 
 fn watches(
@@ -95,13 +100,7 @@ fn dumps(
     requires of { AreOf catalogue.now requests.now }
 {
     let mut lines = Lines::new(rt.alloc(), Vec::new(rt.alloc()))?;
-    let dumped = dump(
-        stream,
-        &mut lines,
-        Engine::new(catalogue, requests),
-        Ending::Finish,
-        &mut [0; 14_240],
-    );
+    let dumped = finished(stream, &mut lines, engine(rt.alloc(), catalogue, requests)?);
     assert!(rt; lines.writer().as_slice() == want);
     Ok(status_of(dumped))
 }
@@ -133,23 +132,17 @@ fn dump_by_octets(
     requests: &Requests,
     reader: FailingReader,
     writer: FailingWriter,
-) -> Result<Result<Report, RunFault>, Fail>
+) -> Result<Result<Totals, RunFault>, Fail>
     requires of { AreOf catalogue.now requests.now }
 {
     let mut lines = Lines::new(rt.alloc(), writer)?;
-    Ok(dump(
-        reader,
-        &mut lines,
-        Engine::new(catalogue, requests),
-        Ending::Finish,
-        &mut [0; 14_240],
-    ))
+    Ok(finished(reader, &mut lines, engine(rt.alloc(), catalogue, requests)?))
 }
 
 /// What differs where a write fails. Three writes of at most 16 octets flush the first two lines, and three more the
 /// closing.
 fn write_differs(
-    dumped: Result<Report, RunFault>,
+    dumped: Result<Totals, RunFault>,
     reads: usize,
     held: &[u8],
     fails_at: usize,
@@ -207,7 +200,7 @@ fn a_failing_flush_is_a_failed_write(rt: HostRuntime) -> Result<(), Fail> {
 }
 
 /// What differs where a read fails: the lines of what was read are written.
-fn read_differs(dumped: Result<Report, RunFault>, held: &[u8], fails_at: usize) -> &'static str {
+fn read_differs(dumped: Result<Totals, RunFault>, held: &[u8], fails_at: usize) -> &'static str {
     if dumped != Err(RunFault::Read) || status_of(dumped) != 4 {
         return "the answer";
     }

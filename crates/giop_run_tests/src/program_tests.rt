@@ -3,8 +3,11 @@
 ghost use Rattle.std.specs.Prelude.{None};
 
 use super::close::octets;
+use super::words_tests::number_of;
+use giop_print::Sheet;
 use giop_program::{Arguments, performed};
-use giop_run::{Disk, Lines, ProgramFault, Report, Saves, status};
+use giop_run::{Disk, Lines, ProgramFault, Saves, status};
+use giop_stream::{Engine, Totals};
 use std::alloc::{AllocError, Global};
 use std::io::ErrorKind;
 use std::process::Abort;
@@ -245,13 +248,14 @@ fn asked(line: &str) -> Arguments {
         resume: file_of(words.next()),
         save: file_of(words.next()),
         stream: file_of(words.next()),
+        most: number_of(words.next()),
     }
 }
 
 /// Whether the program ended with this status, and said this.
 fn is_told(
     alloc: Global,
-    ended: &Result<Report, ProgramFault>,
+    ended: &Result<Totals, ProgramFault>,
     want: &str,
 ) -> Result<bool, AllocError> {
     let (number, says) = want.split_once(' ').unwrap_or((want, ""));
@@ -339,8 +343,11 @@ struct Unwritable {
 impl Saves for Unwritable {
     ghost saved = { λ _. None };
 
-    fn save(&mut self, _name: &str, octets: &[u8]) -> io::Result<()> {
-        self.tries = self.tries.saturating_add(octets.len());
+    fn save(&mut self, _name: &str, engine: &Engine) -> io::Result<()> {
+        let mut octets = [0; 2048];
+        let mut out = Sheet::new(&mut octets);
+        let _saved = engine.save(&mut out);
+        self.tries = self.tries.saturating_add(out.held().len());
         Err(io::Error::from(ErrorKind::StorageFull))
     }
 }
@@ -354,6 +361,7 @@ fn tries_to_save(rt: &HostRuntime, save: Option<&str>) -> Result<(bool, usize), 
         resume: None,
         save,
         stream: Some("nothing.giop"),
+        most: 16,
     };
     let mut files = Unwritable { tries: 0 };
     let mut lines = Lines::new(rt.alloc(), Vec::new(rt.alloc()))?;

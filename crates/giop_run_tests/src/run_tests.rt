@@ -2,49 +2,59 @@
 
 ghost use Rattle.giop_stream.specs.Holding.{AreOf};
 
-use super::close::{CLOSE, CLOSED, COMPLETED, NOTHING, REFUSED, WRONG, built_in};
+use super::close::{CLOSE, CLOSED, COMPLETED, NOTHING, REFUSED, WRONG, built_in, engine};
 use super::fakes::{FailingReader, FailingWriter, InterruptedReader};
-use giop_print::{Sheet, Written};
-use giop_run::{Ending, Piecewise, Reading, Report, RunFault, run};
+use giop_print::{Out, Sheet, Written};
+use giop_run::{Ending, Piecewise, Reading, RunFault, Source, run};
 use giop_sig::{Catalogue, Requests};
 use giop_stream::{Engine, Status, Stop, Totals};
 use std::cell::{Cell, RefCell};
 use std::process::Abort;
 use std::test::Fail;
 
+/// Runs a source to the stream's end: its totals.
+fn finished<S: Source, O: Out>(
+    source: &mut S,
+    out: &mut O,
+    engine: Engine,
+) -> Result<Totals, RunFault> {
+    match run(source, out, engine, Ending::Finish) {
+        Ok(report) => Ok(report.totals),
+        Err(fault) => Err(fault),
+    }
+}
+
 /// Runs what a reader gives, all of it at its first read.
 fn reads(rt: &impl Abort, engine: Engine, stream: &[u8], want: &[u8]) {
     let mut room = [0; 512];
     let mut sheet = Sheet::new(&mut room);
     let mut source = Reading::new(stream);
-    let ran = run(
-        &mut source,
-        &mut sheet,
-        engine,
-        Ending::Finish,
-        &mut [0; 14_240],
-    );
+    let ran = finished(&mut source, &mut sheet, engine);
     assert!(rt; ran.is_ok() && sheet.held() == want);
 }
 
-fn each_reader(rt: &impl Abort, catalogue: &Catalogue, requests: &Requests)
+fn each_reader(
+    rt: &(impl Abort + AllocGlobal),
+    catalogue: &Catalogue,
+    requests: &Requests,
+) -> Result<(), Fail>
     requires of { AreOf catalogue.now requests.now }
 {
-    reads(rt, Engine::new(catalogue, requests), b"", NOTHING);
-    reads(rt, Engine::new(catalogue, requests), CLOSE, CLOSED);
-    reads(rt, Engine::new(catalogue, requests), WRONG, REFUSED);
+    reads(rt, engine(rt.alloc(), catalogue, requests)?, b"", NOTHING);
+    reads(rt, engine(rt.alloc(), catalogue, requests)?, CLOSE, CLOSED);
+    reads(rt, engine(rt.alloc(), catalogue, requests)?, WRONG, REFUSED);
+    Ok(())
 }
 
 #[test]
 fn lines_come_from_a_reader(rt: HostRuntime) -> Result<(), Fail> {
     let known = built_in(rt.alloc())?;
-    each_reader(&rt, &known.0, &known.1);
-    Ok(())
+    each_reader(&rt, &known.0, &known.1)
 }
 
 /// What differs where read number `fails_at` of thirteen fails.
 fn read_differs(
-    ran: Result<Report, RunFault>,
+    ran: Result<Totals, RunFault>,
     reads: usize,
     held: &[u8],
     fails_at: usize,
@@ -73,35 +83,33 @@ fn fails_at_a_read(rt: &impl Abort, engine: Engine, fails_at: usize) {
     let mut sheet = Sheet::new(&mut room);
     let reads = Cell::new(0);
     let mut source = Reading::new(FailingReader::new(CLOSE, &reads, fails_at));
-    let ran = run(
-        &mut source,
-        &mut sheet,
-        engine,
-        Ending::Finish,
-        &mut [0; 14_240],
-    );
+    let ran = finished(&mut source, &mut sheet, engine);
     let differs = read_differs(ran, reads.get(), sheet.held(), fails_at);
     assert!(rt; differs.is_empty(), "read {fails_at}: {differs}");
 }
 
-fn each_read_fails(rt: &impl Abort, catalogue: &Catalogue, requests: &Requests)
+fn each_read_fails(
+    rt: &(impl Abort + AllocGlobal),
+    catalogue: &Catalogue,
+    requests: &Requests,
+) -> Result<(), Fail>
     requires of { AreOf catalogue.now requests.now }
 {
     for fails_at in 0..14 {
-        fails_at_a_read(rt, Engine::new(catalogue, requests), fails_at);
+        fails_at_a_read(rt, engine(rt.alloc(), catalogue, requests)?, fails_at);
     }
+    Ok(())
 }
 
 #[test]
 fn a_failing_read_ends_the_run_and_keeps_the_lines(rt: HostRuntime) -> Result<(), Fail> {
     let known = built_in(rt.alloc())?;
-    each_read_fails(&rt, &known.0, &known.1);
-    Ok(())
+    each_read_fails(&rt, &known.0, &known.1)
 }
 
 /// What differs where so many reads are interrupted: 65,536 of them are a failure.
 fn interrupt_differs(
-    ran: Result<Report, RunFault>,
+    ran: Result<Totals, RunFault>,
     reads: usize,
     held: &[u8],
     interrupts: usize,
@@ -132,34 +140,32 @@ fn tries_again(rt: &impl Abort, engine: Engine, interrupts: usize) {
     let mut sheet = Sheet::new(&mut room);
     let reads = Cell::new(0);
     let mut source = Reading::new(InterruptedReader::new(CLOSE, &reads, interrupts));
-    let ran = run(
-        &mut source,
-        &mut sheet,
-        engine,
-        Ending::Finish,
-        &mut [0; 14_240],
-    );
+    let ran = finished(&mut source, &mut sheet, engine);
     let differs = interrupt_differs(ran, reads.get(), sheet.held(), interrupts);
     assert!(rt; differs.is_empty(), "{interrupts} interrupted: {differs}");
 }
 
-fn each_interrupt(rt: &impl Abort, catalogue: &Catalogue, requests: &Requests)
+fn each_interrupt(
+    rt: &(impl Abort + AllocGlobal),
+    catalogue: &Catalogue,
+    requests: &Requests,
+) -> Result<(), Fail>
     requires of { AreOf catalogue.now requests.now }
 {
     for interrupts in [0, 1, 2, 65_535, 65_536] {
-        tries_again(rt, Engine::new(catalogue, requests), interrupts);
+        tries_again(rt, engine(rt.alloc(), catalogue, requests)?, interrupts);
     }
+    Ok(())
 }
 
 #[test]
 fn an_interrupted_read_is_tried_again(rt: HostRuntime) -> Result<(), Fail> {
     let known = built_in(rt.alloc())?;
-    each_interrupt(&rt, &known.0, &known.1);
-    Ok(())
+    each_interrupt(&rt, &known.0, &known.1)
 }
 
 /// What differs where a write may fail.
-fn put_differs(ran: Result<Report, RunFault>, held: &[u8]) -> &'static str {
+fn put_differs(ran: Result<Totals, RunFault>, held: &[u8]) -> &'static str {
     if !CLOSED.starts_with(held) {
         return "the lines";
     }
@@ -175,38 +181,36 @@ fn fails_at_a_put(rt: &(impl Abort + AllocGlobal), engine: Engine, fails_at: usi
     let held = RefCell::new(Vec::new(rt.alloc()));
     let mut out = Written::new(FailingWriter::new(&held, fails_at));
     let mut source = Piecewise::new(CLOSE, 12);
-    let ran = run(
-        &mut source,
-        &mut out,
-        engine,
-        Ending::Finish,
-        &mut [0; 14_240],
-    );
+    let ran = finished(&mut source, &mut out, engine);
     let held = held.into_inner();
     let differs = put_differs(ran, &held);
     assert!(rt; differs.is_empty(), "write {fails_at}: {differs}");
     ran.is_ok()
 }
 
-fn each_put_fails(rt: &(impl Abort + AllocGlobal), catalogue: &Catalogue, requests: &Requests)
+fn each_put_fails(
+    rt: &(impl Abort + AllocGlobal),
+    catalogue: &Catalogue,
+    requests: &Requests,
+) -> Result<(), Fail>
     requires of { AreOf catalogue.now requests.now }
 {
     let mut ended = 0;
     for fails_at in 0..20 {
-        if fails_at_a_put(rt, Engine::new(catalogue, requests), fails_at) {
+        if fails_at_a_put(rt, engine(rt.alloc(), catalogue, requests)?, fails_at) {
             ended = fails_at.max(ended);
         } else {
             assert!(rt; ended == 0, "write {fails_at}");
         }
     }
     assert!(rt; ended == 19);
+    Ok(())
 }
 
 #[test]
 fn a_failing_put_ends_the_run_and_keeps_a_front(rt: HostRuntime) -> Result<(), Fail> {
     let known = built_in(rt.alloc())?;
-    each_put_fails(&rt, &known.0, &known.1);
-    Ok(())
+    each_put_fails(&rt, &known.0, &known.1)
 }
 
 /// What differs in an engine of which a put failed.
@@ -245,30 +249,28 @@ fn reads_nothing(rt: &impl Abort, engine: Engine) {
     let mut sheet = Sheet::new(&mut wide);
     let reads = Cell::new(0);
     let mut source = Reading::new(FailingReader::new(CLOSE, &reads, 100));
-    let ran = run(
-        &mut source,
-        &mut sheet,
-        engine,
-        Ending::Finish,
-        &mut [0; 14_240],
-    );
+    let ran = finished(&mut source, &mut sheet, engine);
     let untouched = reads.get() == 0 && sheet.held().is_empty();
     assert!(rt; ran == Err(RunFault::Failed) && untouched);
 }
 
-fn each_room_fails(rt: &impl Abort, catalogue: &Catalogue, requests: &Requests)
+fn each_room_fails(
+    rt: &(impl Abort + AllocGlobal),
+    catalogue: &Catalogue,
+    requests: &Requests,
+) -> Result<(), Fail>
     requires of { AreOf catalogue.now requests.now }
 {
     for room in 0..COMPLETED {
-        fails_for_good(rt, Engine::new(catalogue, requests), room);
+        fails_for_good(rt, engine(rt.alloc(), catalogue, requests)?, room);
     }
+    Ok(())
 }
 
 #[test]
 fn a_failed_engine_reads_and_writes_nothing(rt: HostRuntime) -> Result<(), Fail> {
     let known = built_in(rt.alloc())?;
-    each_room_fails(&rt, &known.0, &known.1);
-    Ok(())
+    each_room_fails(&rt, &known.0, &known.1)
 }
 
 /// What differs on a sheet with so much room.
@@ -306,17 +308,21 @@ fn keeps_what_fits(rt: &impl Abort, engine: Engine, room: usize) {
     assert!(rt; fits && differs.is_empty(), "room {room}: {differs}");
 }
 
-fn each_room(rt: &impl Abort, catalogue: &Catalogue, requests: &Requests)
+fn each_room(
+    rt: &(impl Abort + AllocGlobal),
+    catalogue: &Catalogue,
+    requests: &Requests,
+) -> Result<(), Fail>
     requires of { AreOf catalogue.now requests.now }
 {
     for room in 0..84 {
-        keeps_what_fits(rt, Engine::new(catalogue, requests), room);
+        keeps_what_fits(rt, engine(rt.alloc(), catalogue, requests)?, room);
     }
+    Ok(())
 }
 
 #[test]
 fn a_full_sheet_keeps_what_fits(rt: HostRuntime) -> Result<(), Fail> {
     let known = built_in(rt.alloc())?;
-    each_room(&rt, &known.0, &known.1);
-    Ok(())
+    each_room(&rt, &known.0, &known.1)
 }

@@ -1,13 +1,17 @@
 //! The program's words.
 
+ghost use Rattle.std.specs.Prelude.{◌≤◌};
+ghost use Rattle.giop_stream.specs.Rules.{most_open};
+
 use clap::error::ErrorKind as WordsKind;
 use giop_program::Arguments;
+use giop_stream::MOST_OPEN;
 use std::alloc::{AllocError, Global};
 use std::process::Abort;
 use std::test::Fail;
 
 /// Words behind the program's name, and behind `>` the signature file, the request list, the checkpoint to go on from, the
-/// file to save and the stream that they ask for, or why nothing is read.
+/// file to save, the stream and perhaps the number of open messages that they ask for, or why nothing is read.
 static WORDS: &str = "\
 > _ _ _ _ _
 one.giop > _ _ _ _ one.giop
@@ -35,6 +39,17 @@ one two > unknown
 --signatures a --signatures b > conflict
 --save a --save b > conflict
 --requests=a --requests=a > conflict
+--open 1 > _ _ _ _ _ 1
+one.giop --open=4096 > _ _ _ _ one.giop 4096
+--resume c --open 2 > _ _ c _ _ 2
+--open 0 > number
+--open 4097 > number
+--open 4294967312 > number
+--open x > number
+--open 1x > number
+--open -1 > unknown
+--open > value
+--open 1 --open 2 > conflict
 ";
 
 /// The file that a word names.
@@ -45,6 +60,16 @@ fn file_of<'a>(word: Option<&'a str>) -> Option<&'a str> {
     }
 }
 
+/// How many messages may be open by a word, 16 where there is none.
+pub fn number_of(word: Option<&str>) -> u32
+    ensures { (1 ≤ result) × (result ≤ most_open) }
+{
+    match word {
+        Some(number) => number.parse::<u32>().unwrap_or(1).max(1).min(MOST_OPEN),
+        None => 16,
+    }
+}
+
 /// What is wanted of some words: the files, or the kind of what is printed and the status.
 fn wanted(text: &str) -> Result<Arguments, (WordsKind, i32)> {
     match text {
@@ -52,12 +77,13 @@ fn wanted(text: &str) -> Result<Arguments, (WordsKind, i32)> {
         "version" => Err((WordsKind::DisplayVersion, 0)),
         "unknown" => Err((WordsKind::UnknownArgument, 2)),
         "value" => Err((WordsKind::InvalidValue, 2)),
+        "number" => Err((WordsKind::ValueValidation, 2)),
         "conflict" => Err((WordsKind::ArgumentConflict, 2)),
         files => Ok(files_of(files)),
     }
 }
 
-/// The files that a row wants, in order.
+/// The files that a row wants, in order, and the number.
 fn files_of(text: &str) -> Arguments {
     let mut words = text.split(' ');
     Arguments {
@@ -66,6 +92,7 @@ fn files_of(text: &str) -> Arguments {
         resume: file_of(words.next()),
         save: file_of(words.next()),
         stream: file_of(words.next()),
+        most: number_of(words.next()),
     }
 }
 

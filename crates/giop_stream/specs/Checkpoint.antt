@@ -1,6 +1,8 @@
 -- Which fields of an engine a checkpoint has, and which streams its octets spell (docs/FORMATS.md, Checkpoints; state).
-use Rattle.std.specs.Prelude.{◌≡◌, ◌≤◌, ◌⊎◌, ℕ, ◌+◌, ◌-◌, ◌*◌, List, [], ◌∷◌, ◌++◌, length, take, flat_map, replicate, nat_lt, Option, Some, None, if◌then◌else◌}
+use Rattle.std.specs.Prelude.{◌≡◌, ◌≤◌, ◌⊎◌, ℕ, ◌+◌, ◌-◌, ◌*◌, List, [], ◌∷◌, ◌++◌, length, flat_map, replicate, nat_lt, Option, Some, None, Result, Ok, Err, IfOk, if◌then◌else◌}
 use Rattle.giop_cdr.specs.Numbers.{AreOctets}
+use Rattle.giop_print.specs.declared.sink.OutFault.{OutFault}
+use Rattle.giop_print.specs.Output.{OutLog, Writes}
 use Rattle.giop_sig.specs.Table.{Table}
 use Rattle.giop_sig.specs.Trees.{depth_of}
 use Rattle.giop_message.specs.declared.message.Message.{Message}
@@ -8,7 +10,9 @@ use Rattle.giop_message.specs.Holding.{Fits}
 use Rattle.giop_message.specs.Headers.{size}
 use Rattle.giop_stream.specs.Rules.{rules}
 use Rattle.giop_message.specs.Signatures.{Listed}
-use Rattle.giop_checkpoint.specs.declared.sizes.TheConstants.{FIXED_SIZE, RECORD_SIZE, MESSAGE_SIZE, FRAME_SIZE, MOST_RECORDS}
+use Rattle.giop_checkpoint.specs.declared.sizes.TheConstants.{FIXED_SIZE, RECORD_SIZE, MESSAGE_SIZE, FRAME_SIZE}
+use Rattle.giop_checkpoint.specs.declared.layout.Layout.{Layout}
+use Rattle.giop_checkpoint.specs.declared.layout.Layout.TheVariants.{Third}
 use Rattle.giop_checkpoint.specs.declared.fault.StreamFault.{StreamFault}
 use Rattle.giop_checkpoint.specs.declared.fault.LoadFault.{LoadFault}
 use Rattle.giop_checkpoint.specs.declared.fault.LoadFault.TheVariants as refusals
@@ -18,13 +22,16 @@ use Rattle.giop_checkpoint.specs.declared.fixed.Place.{Place}
 use Rattle.giop_checkpoint.specs.declared.fixed.Place.TheVariants.{Header, Payload, Stopped}
 use Rattle.giop_checkpoint.specs.declared.record.Standing.{Standing}
 use Rattle.giop_checkpoint.specs.declared.record.Standing.TheVariants as standings
+use Rattle.giop_checkpoint.specs.Layouts.{OpenHasRange}
 use Rattle.giop_checkpoint.specs.Fixed.{fixed_octets}
 use Rattle.giop_checkpoint.specs.Records.{Entry, EntryHasRange, entry_octets}
 use Rattle.giop_checkpoint.specs.Refusals.{HasState, HasRecords, IsOurs, IsNotOurs, IsOutOfRange, Refused}
 use Rattle.giop_message.specs.Stored.{Stored}
-use Rattle.giop_stream.specs.declared.slots.Slot.{Slot}
+use Rattle.giop_stream.specs.Keeping.{Kept_slot}
 use Rattle.giop_stream.specs.declared.slots.Payload.{Payload as Whose}
 use Rattle.giop_stream.specs.declared.slots.Payload.TheVariants as payload
+use Rattle.giop_stream.specs.declared.fault.Stop.{Stop}
+use Rattle.giop_stream.specs.Holding.{StopWrites}
 use Rattle.giop_stream.specs.Keeping.{AreReady}
 use Rattle.giop_stream.specs.Remembering.{Memory}
 use Rattle.giop_stream.specs.Engine.{state_of}
@@ -60,12 +67,13 @@ count_own (Some m) = 1
 unfoldable pub fixed_of : Table → Listed → Memory → Fixed
 fixed_of C l m = record {
   counts = counts_of C l;
-  records = length m.slots.slots.items + count_own m.slots.own;
+  most_open = m.slots.slots.most;
+  records = length m.slots.slots.entries + count_own m.slots.own;
   octets = m.totals.octets;
   messages = m.totals.messages;
   faults = m.totals.faults;
   place = place_of m.stopped m.header m.come;
-  owner = owner_of m.slots.payload (length m.slots.slots.items) m.slots.own;
+  owner = owner_of m.slots.payload (length m.slots.slots.entries) m.slots.own;
 }
 
 -- ---- the records
@@ -85,12 +93,12 @@ IsStored None e = (e.message ≡ replicate MESSAGE_SIZE 0) × (e.frames ≡ [])
 IsStored (Some m) e = IsHeld m e
 
 -- the record of an open message
-pub record IsOpen (slot : Slot) (e : Entry) : Type 0 where
+pub record IsOpen (slot : Kept_slot) (e : Entry) : Type 0 where
   pub range : EntryHasRange e
-  pub standing : e.record_is.standing ≡ standing_of slot.message slot.id
-  pub number : e.record_is.number ≡ slot.number
-  pub header : e.record_is.header ≡ slot.header
-  pub message : IsStored slot.message e
+  pub standing : e.record_is.standing ≡ standing_of slot.value.message slot.key
+  pub number : e.record_is.number ≡ slot.value.number
+  pub header : e.record_is.header ≡ slot.value.header
+  pub message : IsStored slot.value.message e
 
 -- the record of a message that isn't over
 pub record IsKept (standing : Standing) (number : ℕ) (header : List ℕ) (m : Message) (e : Entry) : Type 0 where
@@ -111,7 +119,7 @@ IsLast (Some m) [] = ⊥
 IsLast (Some m) (e ∷ es) = IsCurrent m e × (es ≡ [])
 
 -- the open messages in their order, and then the current one
-abbrev pub AreEntries : List Slot → Option Message → List Entry → Type 0
+abbrev pub AreEntries : List Kept_slot → Option Message → List Entry → Type 0
 AreEntries [] own es = IsLast own es
 AreEntries (slot ∷ slots) own [] = ⊥
 AreEntries (slot ∷ slots) own (e ∷ es) = IsOpen slot e × AreEntries slots own es
@@ -128,46 +136,70 @@ pub record IsPut (before after : List ℕ) (Are : List Entry → Type 0) : Type 
   pub are : Are entries
   pub put : after ≡ before ++ flat_map entry_octets entries
 
-abbrev pub AreOpen : List Slot → List Entry → Type 0
+abbrev pub AreOpen : List Kept_slot → List Entry → Type 0
 AreOpen slots entries = AreEntries slots None entries
+
+-- ---- what a call puts: all of these octets, their number its answer, or a front of them before a put failed
+
+pub record Puts (result : Result ℕ OutFault) (before after : OutLog) (octets : List ℕ)
+    : Type 0 where
+  pub written : Writes result before after octets
+  pub count : IfOk result (λ n. n ≡ length octets)
+
+-- octets of which this is so
+pub record PutsSuch (result : Result ℕ OutFault) (before after : OutLog)
+    (Is : List ℕ → Type 0) : Type 0 where
+  pub octets : List ℕ
+  pub is : Is octets
+  pub puts : Puts result before after octets
 
 -- ---- a checkpoint
 
-unfoldable pub checkpoint_octets : Table → Listed → Memory → List Entry → List ℕ
-checkpoint_octets C l m entries = fixed_octets (fixed_of C l m) ++ flat_map entry_octets entries
+unfoldable pub checkpoint_octets : Layout → Table → Listed → Memory → List Entry → List ℕ
+checkpoint_octets layout C l m entries =
+    fixed_octets layout (fixed_of C l m) ++ flat_map entry_octets entries
 
--- the checkpoint of this memory
-pub record IsPutWhole (C : Table) (l : Listed) (m : Memory) (octets : List ℕ) : Type 0 where
+-- the checkpoint of this memory, in this layout
+pub record IsPutWhole (layout : Layout) (C : Table) (l : Listed) (m : Memory) (octets : List ℕ)
+    : Type 0 where
   pub entries : List Entry
-  pub are : AreEntries m.slots.slots.items m.slots.own entries
-  pub put : octets ≡ checkpoint_octets C l m entries
+  pub are : AreEntries m.slots.slots.entries m.slots.own entries
+  pub put : octets ≡ checkpoint_octets layout C l m entries
 
 -- These octets are the checkpoint of an engine that holds the stream p, by this table and list, where
--- so many messages may be open.
+-- so many messages may be open. Layout 3 says how many; by layout 2 they are 16.
 pub record Spells (octets : List ℕ) (C : Table) (l : Listed) (most : ℕ) (p : List ℕ) : Type 0 where
+  pub layout : Layout
   pub memory : Memory
   pub entries : List Entry
-  pub octets_are : octets ≡ checkpoint_octets C l memory entries
-  pub entries_are : AreEntries memory.slots.slots.items memory.slots.own entries
+  pub octets_are : octets ≡ checkpoint_octets layout C l memory entries
+  pub allows : OpenHasRange layout most
+  pub limit : memory.slots.slots.most ≡ most
+  pub entries_are : AreEntries memory.slots.slots.entries memory.slots.own entries
   pub stream : AreOctets p
   pub shows : Shows C l memory (state_of (rules C l most) p)
   pub ready : AreReady C (memory.totals.octets + 1) memory.slots
 
--- the greatest checkpoint for a catalogue of this depth
-unfoldable pub checkpoint_limit : ℕ → ℕ
-checkpoint_limit depth = FIXED_SIZE + MOST_RECORDS * (RECORD_SIZE + FRAME_SIZE * depth)
+-- the greatest checkpoint where so many messages may be open, for a catalogue of this depth
+unfoldable pub checkpoint_limit : ℕ → ℕ → ℕ
+checkpoint_limit most depth = FIXED_SIZE + (most + 1) * (RECORD_SIZE + FRAME_SIZE * depth)
 
 -- how many octets records have with their frames
 abbrev pub entries_size : List Entry → ℕ
 entries_size [] = 0
 entries_size (e ∷ es) = (RECORD_SIZE + FRAME_SIZE * e.record_is.frames) + entries_size es
 
--- The first so many octets are a checkpoint of p: the fixed part, and each record with its frames.
-pub record Saves (n : ℕ) (octets : List ℕ) (C : Table) (l : Listed) (most : ℕ) (p : List ℕ)
-    : Type 0 where
-  pub spells : Spells (take n octets) C l most p
-  pub size : n ≡ FIXED_SIZE + entries_size spells.entries
-  pub within : n ≤ checkpoint_limit (depth_of C.types)
+-- What a save did: a checkpoint of p was written in layout 3, the fixed part and each record with its
+-- frames, and its length is the answer; or a front of it before a put failed.
+pub record Saves (result : Result ℕ Stop) (before after : OutLog)
+    (C : Table) (l : Listed) (most : ℕ) (p : List ℕ) : Type 0 where
+  pub octets : List ℕ
+  pub spells : Spells octets C l most p
+  pub third : spells.layout ≡ Third
+  pub written : StopWrites result before after octets
+  pub count : IfOk result (λ n. n ≡ length octets)
+  pub size : length octets ≡ FIXED_SIZE + entries_size spells.entries
+  pub within : length octets ≤ checkpoint_limit most (depth_of C.types)
 
 -- ---- what is no checkpoint
 
@@ -175,10 +207,20 @@ pub record Saves (n : ℕ) (octets : List ℕ) (C : Table) (l : Listed) (most : 
 abbrev pub PassesLengths : Counts → List ℕ → Type 0
 PassesLengths c s = (f : Fixed) × HasState c f s × HasRecords f s
 
--- the first check that fails
+-- these fields allow so many open messages
+abbrev pub Allows : Counts → List ℕ → ℕ → Type 0
+Allows c s n = (f : Fixed) × HasState c f s × (f.most_open ≡ n)
+
+-- the first check that fails, or behind that of the lengths no memory for the open messages
 abbrev pub IsRefused : Counts → List ℕ → LoadFault → Type 0
 IsRefused c s refusals.Magic = IsNotOurs c s refusals.Magic
 IsRefused c s refusals.Version = IsNotOurs c s refusals.Version
 IsRefused c s refusals.Catalogue = IsNotOurs c s refusals.Catalogue
 IsRefused c s refusals.Length = Refused c s refusals.Length
+IsRefused c s refusals.OutOfMemory = IsOurs c s × PassesLengths c s
 IsRefused c s refusals.State = IsOurs c s × (IsOutOfRange c s refusals.State ⊎ PassesLengths c s)
+
+-- so is what was loaded, unless there wasn't enough memory
+abbrev pub OrNoMemory : {A : Type 0} → Result A LoadFault → (A → Type 0) → Type 0
+OrNoMemory (Ok x) Is = Is x
+OrNoMemory (Err why) Is = why ≡ refusals.OutOfMemory

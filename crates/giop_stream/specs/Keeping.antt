@@ -6,7 +6,8 @@ use Rattle.giop_message.specs.declared.message.Message.{Message as Kept_message}
 use Rattle.giop_message.specs.Signatures.{Listed}
 use Rattle.giop_message.specs.MessageReading.{message_reading}
 use Rattle.giop_message.specs.Holding.{Follows, Fits, reach}
-use Rattle.giop_stream.specs.declared.slots.Slot.{Slot as Kept_slot}
+use Rattle.giop_roster.specs.declared.roster.Entry.{Entry}
+use Rattle.giop_stream.specs.declared.slots.Slot.{Slot as Contents}
 use Rattle.giop_stream.specs.declared.slots.Slots.{Slots}
 use Rattle.giop_stream.specs.declared.slots.Payload.{Payload}
 use Rattle.giop_stream.specs.declared.slots.Payload.TheVariants.{Own, Open, Nobody}
@@ -14,6 +15,18 @@ use Rattle.giop_stream.specs.Events.{Title, Event, Happening}
 use Rattle.giop_stream.specs.Events as events
 use Rattle.giop_stream.specs.State.{Slot, slots_of}
 use Rattle.giop_stream.specs.Effects.{Tracked, Effect, one_effect, no_effect}
+
+-- An open message, under its request id.
+abbrev pub Kept_slot : Type 0
+Kept_slot = Entry Contents
+
+abbrev pub kept_as : ℕ → ℕ → List ℕ → Option Kept_message → Kept_slot
+kept_as id number header message =
+    record { key = id; value = record { number = number; header = header; message = message } }
+
+-- and of which this is kept from now on
+abbrev pub with_message : Kept_slot → Option Kept_message → Kept_slot
+with_message slot message = kept_as slot.key slot.value.number slot.value.header message
 
 -- A message is kept of which these octets have come, or none where it is over.
 abbrev pub IsKept : Table → Listed → Option Kept_message → Title → Option (List ℕ) → Type 0
@@ -30,13 +43,13 @@ IsReady C at (Some m) = Fits C m × (reach m < at)
 -- and each that is kept can
 pub record AreReady (C : Table) (at : ℕ) (s : Slots) : Type 0 where
   pub own_ready : IsReady C at s.own
-  pub each_ready : Each (λ slot. IsReady C at slot.message) s.slots.items
+  pub each_ready : Each (λ slot. IsReady C at slot.value.message) s.slots.entries
 
 pub record IsSlot (C : Table) (l : Listed) (kept : Kept_slot) (slot : Slot) : Type 0 where
-  pub number : kept.number ≡ slot.open_as.opener.number
-  pub header : kept.header ≡ slot.open_as.opener.header
-  pub id : kept.id ≡ slot.open_as.id
-  pub message : IsKept C l kept.message slot.open_as.opener slot.octets
+  pub number : kept.value.number ≡ slot.open_as.opener.number
+  pub header : kept.value.header ≡ slot.open_as.opener.header
+  pub id : kept.key ≡ slot.open_as.id
+  pub message : IsKept C l kept.value.message slot.open_as.opener slot.octets
 
 abbrev pub AreSlots : Table → Listed → List Kept_slot → List Slot → Type 0
 AreSlots C l [] [] = Unit {0}
@@ -54,12 +67,12 @@ IsWhose C l (Open k) own c None = ⊥
 IsWhose C l Nobody own c (Some w) = ⊥
 
 pub record Keeps (C : Table) (l : Listed) (s : Slots) (c : Tracked) (whose : Option Title) : Type 0 where
-  pub slots : AreSlots C l s.slots.items (slots_of c.known c.live)
+  pub slots : AreSlots C l s.slots.entries (slots_of c.known c.live)
   pub payload : IsWhose C l s.payload s.own c whose
 
 -- no message is kept
 pub record IsBare (s : Slots) : Type 0 where
-  pub no_slots : s.slots.items ≡ []
+  pub no_slots : s.slots.entries ≡ []
   pub no_own : s.own ≡ None
   pub nobody : s.payload ≡ Nobody
 

@@ -1,5 +1,5 @@
 -- What the parts of a checkpoint say of an engine's fields (state); and what is known of its records while they are read.
-use Rattle.std.specs.Prelude.{◌≡◌, ℕ, ◌-◌, Bool, false, not, ◌&&◌, List, [], ◌++◌, length, flat_map, Option, Some, None, nat_lt, nat_le, if◌then◌else◌}
+use Rattle.std.specs.Prelude.{◌≡◌, ◌⊎◌, ℕ, ◌-◌, Bool, false, not, ◌&&◌, List, [], ◌∷◌, ◌++◌, length, flat_map, Option, Some, None, nat_lt, nat_le, if◌then◌else◌}
 use Rattle.std.specs.List.{AllByRecursion as Each}
 use Rattle.giop_sig.specs.Table.{Table}
 use Rattle.giop_message.specs.Headers.{size, is_fragment}
@@ -10,13 +10,12 @@ use Rattle.giop_checkpoint.specs.declared.fixed.Place.{Place}
 use Rattle.giop_checkpoint.specs.declared.fixed.Place.TheVariants.{Header, Payload, Stopped}
 use Rattle.giop_checkpoint.specs.declared.record.FirstRecord.{FirstRecord}
 use Rattle.giop_checkpoint.specs.Records.{Entry, entry_octets}
-use Rattle.giop_stream.specs.declared.slots.Slot.{Slot}
 use Rattle.giop_stream.specs.declared.slots.Slots.{Slots}
 use Rattle.giop_stream.specs.declared.slots.Payload.{Payload as Whose}
 use Rattle.giop_stream.specs.declared.slots.Payload.TheVariants as payload
 use Rattle.giop_stream.specs.State.{Slot as Held}
 use Rattle.giop_stream.specs.Engine.{Own}
-use Rattle.giop_stream.specs.Keeping.{IsReady, IsSlot, AreSlots}
+use Rattle.giop_stream.specs.Keeping.{Kept_slot, kept_as, IsReady, IsSlot, AreSlots}
 use Rattle.giop_stream.specs.Showing.{IsOwn}
 use Rattle.giop_stream.specs.Checkpoint.{IsOpen, IsCurrent, AreEntries}
 
@@ -62,18 +61,18 @@ pub record IsEntry (first : FirstRecord) (e : Entry) : Type 0 where
   pub frames : first.frames.now ≡ e.frames
 
 -- the open message of it
-abbrev pub pushed : FirstRecord → ℕ → Option Message → Slot
+abbrev pub pushed : FirstRecord → ℕ → Option Message → Kept_slot
 pushed first id message =
-    record { number = first.«record».number; header = first.«record».header; id = id; message = message }
+    kept_as id first.«record».number first.«record».header message
 
 -- It is the entry of an open message, of which this is to know.
 pub record IsOpenEntry (C : Table) (l : Listed) (at : ℕ) (first : FirstRecord) (held : Held) : Type 0 where
-  pub kept : Slot
+  pub kept : Kept_slot
   pub entry : Entry
   pub entry_is : IsOpen kept entry
   pub read : IsEntry first entry
   pub slot_is : IsSlot C l kept held
-  pub ready : IsReady C at kept.message
+  pub ready : IsReady C at kept.value.message
 
 -- It is the entry of the current message, of which this is to know.
 pub record IsCurrentEntry (C : Table) (l : Listed) (at : ℕ) (first : FirstRecord) (own : Own) : Type 0 where
@@ -89,7 +88,7 @@ pub record IsCurrentEntry (C : Table) (l : Listed) (at : ℕ) (first : FirstReco
 -- These octets are so many entries, of messages of which this is to know.
 pub record AreLeft (C : Table) (l : Listed) (at count : ℕ) (octets : List ℕ) (held : List Held) (own : Option Own)
     : Type 0 where
-  pub kept : List Slot
+  pub kept : List Kept_slot
   pub current : Option Message
   pub entries : List Entry
   pub entries_are : AreEntries kept current entries
@@ -97,11 +96,38 @@ pub record AreLeft (C : Table) (l : Listed) (at count : ℕ) (octets : List ℕ)
   pub octets_are : octets ≡ flat_map entry_octets entries
   pub slots_are : AreSlots C l kept held
   pub own_is : IsOwn C l current own
-  pub each_ready : Each (λ slot. IsReady C at slot.message) kept
+  pub each_ready : Each (λ slot. IsReady C at slot.value.message) kept
   pub own_ready : IsReady C at current
 
 -- Open messages of which this is to know were added.
 pub record HasAdded (C : Table) (l : Listed) (before after : Slots) (held : List Held) : Type 0 where
-  pub kept : List Slot
+  pub kept : List Kept_slot
   pub are : AreSlots C l kept held
-  pub put : after.slots.items ≡ before.slots.items ++ kept
+  pub put : after.slots.entries ≡ before.slots.entries ++ kept
+
+-- The first of so many records was added, that of an open message; these octets are the others.
+pub record HasAddedOpen (C : Table) (l : Listed) (at count : ℕ) (before after : Slots)
+    (rest : List ℕ) (held : List Held) (own : Option Own) : Type 0 where
+  pub here : Held
+  pub others : List Held
+  pub held_are : held ≡ here ∷ others
+  pub added : HasAdded C l before after (here ∷ [])
+  pub same_own : after.own ≡ before.own
+  pub left : AreLeft C l at (count - 1) rest others own
+
+-- It was that of the current message, which is the last.
+pub record HasAddedOwn (C : Table) (l : Listed) (count : ℕ) (before after : Slots)
+    (held : List Held) (own : Option Own) : Type 0 where
+  pub here : Own
+  pub no_held : held ≡ []
+  pub own_here : own ≡ Some here
+  pub same : after.slots ≡ before.slots
+  pub is : IsOwn C l after.own (Some here)
+  pub last : count - 1 ≡ 0
+
+-- It was one or the other.
+abbrev pub HasAddedFirst : Table → Listed → ℕ → ℕ → Slots → Slots → List ℕ → List Held → Option Own
+    → Type 0
+HasAddedFirst C l at count before after rest held own =
+    HasAddedOpen C l at count before after rest held own
+    ⊎ HasAddedOwn C l count before after held own

@@ -28,14 +28,13 @@ use giop_sig::{Catalogue, Requests};
 
 /// At the request id of a message that opens.
 fn opens<O: Out>(slots: &mut Slots, now: Current, id: u32, out: &mut O) -> Result<bool, OutFault>
-    requires room { slots.old.most ≤ most_open }
     ensures does { (C : Table) (l : Listed) (c : Tracked) (m : Message) →
         IsNamed C l slots.old c m now id →
         is_fragment m.header ≡ false → is_opener m.header ≡ true →
         TakesEffect C l one_if result (O.log out.old) (O.log out.new) slots.new
-        (effects (message_reading C l) c (at_id slots.old.most c.live m)) (Some (title m)) }
+        (effects (message_reading C l) c (at_id slots.old.slots.most c.live m)) (Some (title m)) }
     ensures ready { (C : Table) (n : ℕ) → AreReady C n slots.old → AreReady C n slots.new }
-    ensures most { slots.new.most ≡ slots.old.most }
+    ensures most { slots.new.slots.most ≡ slots.old.slots.most }
 {
     if slots.find(id).is_some() {
         return slots.impose(now.number, ImposedFault::IdOpen, now.place, out);
@@ -53,14 +52,14 @@ fn cancels<O: Out>(slots: &mut Slots, now: Current, id: u32, out: &mut O) -> Res
         IsNamed C l slots.old c m now id →
         is_fragment m.header ≡ false → is_opener m.header ≡ false → is_cancel m.header ≡ true →
         TakesEffect C l never result (O.log out.old) (O.log out.new) slots.new
-        (effects (message_reading C l) c (at_id slots.old.most c.live m)) (Some (title m)) }
+        (effects (message_reading C l) c (at_id slots.old.slots.most c.live m)) (Some (title m)) }
     ensures ready { (C : Table) (n : ℕ) → AreReady C n slots.old → AreReady C n slots.new }
-    ensures most { slots.new.most ≡ slots.old.most }
+    ensures most { slots.new.slots.most ≡ slots.old.slots.most }
 {
     let Some(k) = slots.find(id) else {
         return Ok(());
     };
-    if may_be_cancelled(&slots.slots[k].header) {
+    if may_be_cancelled(&slots.at(k).header) {
         return slots.cancel(k, now.number, now.place, out);
     }
     Ok(())
@@ -72,9 +71,9 @@ fn fails<O: Out>(slots: &mut Slots, now: Current, out: &mut O) -> Result<bool, O
         IsNamed C l slots.old c m now id →
         is_fragment m.header ≡ true → opener_of c.live m ≡ None →
         TakesEffect C l one_if result (O.log out.old) (O.log out.new) slots.new
-        (effects (message_reading C l) c (at_id slots.old.most c.live m)) None }
+        (effects (message_reading C l) c (at_id slots.old.slots.most c.live m)) None }
     ensures ready { (C : Table) (n : ℕ) → AreReady C n slots.old → AreReady C n slots.new }
-    ensures most { slots.new.most ≡ slots.old.most }
+    ensures most { slots.new.slots.most ≡ slots.old.slots.most }
 {
     let faulted = slots.impose(now.number, ImposedFault::NoOpen, now.place, out);
     slots.lose();
@@ -84,17 +83,17 @@ fn fails<O: Out>(slots: &mut Slots, now: Current, out: &mut O) -> Result<bool, O
 /// A Fragment continues the open message at this place.
 #[tactic(auto, using(giop_print::proofs::Writing::writes_then, giop_print::proofs::Writing::writes_err))]
 fn passes<O: Out>(slots: &mut Slots, k: usize, now: Current, out: &mut O) -> Result<bool, OutFault>
-    requires { k < length slots.old.slots.items }
+    requires { k < length slots.old.slots.entries }
     ensures does { (C : Table) (l : Listed) (c : Tracked) (m : Message) (id : ℕ) (o : Open) →
         IsNamed C l slots.old c m now id →
         is_fragment m.header ≡ true → opener_of c.live m ≡ Some o → slice_get c.live k ≡ Some o →
         TakesEffect C l one_if result (O.log out.old) (O.log out.new) slots.new
-        (effects (message_reading C l) c (at_id slots.old.most c.live m)) (Some o.opener) }
+        (effects (message_reading C l) c (at_id slots.old.slots.most c.live m)) (Some o.opener) }
     ensures ready { (C : Table) (n : ℕ) → AreReady C n slots.old → AreReady C n slots.new }
-    ensures most { slots.new.most ≡ slots.old.most }
+    ensures most { slots.new.slots.most ≡ slots.old.slots.most }
 {
-    let number = slots.slots[k].number;
-    let order = order_of(&slots.slots[k].header);
+    let opener = slots.at(k);
+    let (number, order) = (opener.number, order_of(&opener.header));
     slots.pass_on(k);
     continues_line(out, now.number, number)?;
     if same_order(order_of(&now.header), order) {
@@ -113,10 +112,10 @@ fn continues<O: Out>(
     ensures does { (C : Table) (l : Listed) (c : Tracked) (m : Message) →
         IsNamed C l slots.old c m now id → is_fragment m.header ≡ true →
         TakesEffect C l one_if result (O.log out.old) (O.log out.new) slots.new
-        (effects (message_reading C l) c (at_id slots.old.most c.live m))
+        (effects (message_reading C l) c (at_id slots.old.slots.most c.live m))
         (opener_title (opener_of c.live m)) }
     ensures ready { (C : Table) (n : ℕ) → AreReady C n slots.old → AreReady C n slots.new }
-    ensures most { slots.new.most ≡ slots.old.most }
+    ensures most { slots.new.slots.most ≡ slots.old.slots.most }
 {
     match slots.find(id) {
         Some(k) => passes(slots, k, now, out),
@@ -131,13 +130,13 @@ pub fn named<O: Out>(
     id: u32,
     out: &mut O,
 ) -> Result<bool, OutFault>
-    requires room { slots.old.most ≤ most_open }
     ensures does { (C : Table) (l : Listed) (c : Tracked) (m : Message) →
         IsNamed C l slots.old c m now id →
         TakesEffect C l one_if result (O.log out.old) (O.log out.new) slots.new
-        (effects (message_reading C l) c (at_id slots.old.most c.live m)) (whose_named c.live m) }
+        (effects (message_reading C l) c (at_id slots.old.slots.most c.live m))
+        (whose_named c.live m) }
     ensures ready { (C : Table) (n : ℕ) → AreReady C n slots.old → AreReady C n slots.new }
-    ensures most { slots.new.most ≡ slots.old.most }
+    ensures most { slots.new.slots.most ≡ slots.old.slots.most }
 {
     if is_fragment(&now.header) {
         return continues(slots, now, id, out);
@@ -165,7 +164,7 @@ pub fn ends<O: Out>(
         TakesEffect catalogue.now l one_if result (O.log out.old) (O.log out.new) slots.new
         (effects (message_reading catalogue.now l) c (at_end c.live m)) None }
     ensures ready { AreReady catalogue.now (now.place + 1) slots.new }
-    ensures most { slots.new.most ≡ slots.old.most }
+    ensures most { slots.new.slots.most ≡ slots.old.slots.most }
 {
     if is_short(&now.header) {
         let faulted = slots.impose(now.number, ImposedFault::Short, now.place, out);
@@ -181,13 +180,13 @@ pub fn ends<O: Out>(
 
 /// What an octet does where it is the last of a request id.
 fn names<O: Out>(slots: &mut Slots, now: Current, out: &mut O) -> Result<bool, OutFault>
-    requires room { slots.old.most ≤ most_open }
     ensures does { (C : Table) (l : Listed) (c : Tracked) (m : Message) →
         IsTaken C l slots.old c m now →
         TakesEffect C l one_if result (O.log out.old) (O.log out.new) slots.new
-        (effects (message_reading C l) c (id_events slots.old.most c.live m)) (whose c.live m) }
+        (effects (message_reading C l) c (id_events slots.old.slots.most c.live m))
+        (whose c.live m) }
     ensures ready { (C : Table) (n : ℕ) → AreReady C n slots.old → AreReady C n slots.new }
-    ensures most { slots.new.most ≡ slots.old.most }
+    ensures most { slots.new.slots.most ≡ slots.old.slots.most }
 {
     if now.come == 4 {
         let id = slots.request_id();
@@ -209,7 +208,7 @@ fn finishes<O: Out>(
         TakesEffect catalogue.now l one_if result (O.log out.old) (O.log out.new) slots.new
         (effects (message_reading catalogue.now l) c (end_events c.live m)) (whose_after c.live m) }
     ensures ready { AreReady catalogue.now (now.place + 1) slots.new }
-    ensures most { slots.new.most ≡ slots.old.most }
+    ensures most { slots.new.slots.most ≡ slots.old.slots.most }
 {
     if now.come == size_of(&now.header) {
         return ends(slots, catalogue, now, out);
@@ -234,19 +233,18 @@ pub fn octet<O: Out>(
     now: Current,
     out: &mut O,
 ) -> Result<u8, OutFault>
-    requires room { slots.old.most ≤ most_open }
     requires ready { AreReady catalogue.now now.place slots.old }
     requires of { AreOf catalogue.now requests.now }
     requires limit { now.place ≤ 2 ^ 48 }
     ensures does { (c : Tracked) (m : Message) →
         IsNext catalogue.now requests.now slots.old c m now octet →
         (let R = message_reading catalogue.now requests.now in
-        let effect = effects R c (happens slots.old.most c.live (with_octet m octet)) in
+        let effect = effects R c (happens slots.old.slots.most c.live (with_octet m octet)) in
         TakesEffect catalogue.now requests.now all result (O.log out.old) (O.log out.new) slots.new
         effect (whose_after effect.tracked.live (with_octet m octet))) }
     ensures few { IfOk result (λ faults. faults ≤ 3) }
     ensures ready { OnOk result (AreReady catalogue.now (now.place + 1) slots.new) }
-    ensures most { slots.new.most ≡ slots.old.most }
+    ensures most { slots.new.slots.most ≡ slots.old.slots.most }
 {
     let before = now.place - 1;
     let taken = slots.take(catalogue, requests, &[octet], before, out)?;
@@ -269,7 +267,7 @@ fn starts<O: Out>(
         TakesEffect catalogue.now l one_if result (O.log out.old) (O.log out.new) slots.new
         (effects (message_reading catalogue.now l) c (at_header m)) (Some (title m)) }
     ensures ready { OnOk result (AreReady catalogue.now (now.place + 1) slots.new) }
-    ensures most { slots.new.most ≡ slots.old.most }
+    ensures most { slots.new.slots.most ≡ slots.old.slots.most }
 {
     start_line(out, now.number, &now.header)?;
     slots.begin(catalogue, now.number, now.header);
@@ -290,12 +288,12 @@ pub fn header<O: Out>(
     ensures does { (l : Listed) (c : Tracked) (who : Option Title) (m : Message) →
         IsFirst catalogue.now l slots.old c who m now →
         (let R = message_reading catalogue.now l in
-        let effect = effects R c (happens slots.old.most c.live m) in
+        let effect = effects R c (happens slots.old.slots.most c.live m) in
         TakesEffect catalogue.now l all result (O.log out.old) (O.log out.new) slots.new
         effect (whose_after effect.tracked.live m)) }
     ensures few { IfOk result (λ faults. faults ≤ 3) }
     ensures ready { OnOk result (AreReady catalogue.now (now.place + 1) slots.new) }
-    ensures most { slots.new.most ≡ slots.old.most }
+    ensures most { slots.new.slots.most ≡ slots.old.slots.most }
 {
     let refused = starts(slots, catalogue, now, out)?;
     let ended = finishes(slots, catalogue, now, out)?;

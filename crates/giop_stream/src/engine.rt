@@ -1,7 +1,8 @@
 //! The engine: one direction of a connection in, its lines out.
 
-ghost use Rattle.std.specs.Prelude.{◌≡◌, ◌≤◌, ◌++◌, ◌+◌, Err, ℕ, List, [], true, false, length, drop, IfOk, IfErr, OnOk, IsOk, IsOkAnd};
+ghost use Rattle.std.specs.Prelude.{◌≡◌, ◌≤◌, ◌++◌, ◌+◌, Err, ℕ, List, [], true, false, length, drop, IfOk, IfErr, OnOk, OnErr};
 ghost use Rattle.std.specs.List.{concat};
+ghost use Rattle.giop_print.specs.Output.{counted};
 ghost use Rattle.giop_sig.specs.Table.{Table};
 ghost use Rattle.giop_sig.specs.Trees.{depth_of};
 ghost use Rattle.giop_checkpoint.specs.Refusals.{IsOurs};
@@ -11,20 +12,20 @@ ghost use Rattle.giop_stream.specs.Framing.{cut, fault_of};
 ghost use Rattle.giop_stream.specs.Stream.{text, closing, final};
 ghost use Rattle.giop_stream.specs.Holding.{AreOf, Holds, StopWrites, Leaves, added, rules_of, status_of};
 ghost use Rattle.giop_stream.specs.Pieces.{fed, remaining, whole_text};
-ghost use Rattle.giop_stream.specs.Checkpoint.{counts_of, checkpoint_limit, IsRefused, Saves, Spells};
+ghost use Rattle.giop_stream.specs.Checkpoint.{counts_of, checkpoint_limit, Allows, IsRefused, OrNoMemory, Saves, Spells};
 
-use crate::fault::{LoadFault, Stop};
+use crate::fault::{LoadFault, NewFault, Stop};
 use crate::framing::Framing;
-use crate::slots::MOST_OPEN;
 use crate::status::{Status, Totals};
 use crate::{loading, saving};
-use arrayvec::ArrayVec;
 use giop_print::Out;
 use giop_sig::{Catalogue, Requests};
+use std::alloc::Global;
 use std::marker::Model;
 
 /// Reads one direction of a connection in pieces of any size, and writes its lines, each at the octet that completes it:
-/// by the types of a catalogue, and by what is known of the requests that its replies answer. It takes no memory.
+/// by the types of a catalogue, and by what is known of the requests that its replies answer. Once it is made or loaded it
+/// takes no memory.
 #[derive(Drop)]
 pub struct Engine<'a> {
     catalogue: &'a Catalogue,
@@ -44,7 +45,7 @@ impl<'a> Model for Engine<'a> {
       failed = e.failed;
       table = e.catalogue.now;
       listed = e.requests.now;
-      most = e.framing.slots.most;
+      most = e.framing.slots.slots.most;
       stream = shown e.framing;
     } };
 
@@ -58,42 +59,56 @@ impl<'a> Model for Engine<'a> {
 
 impl<'a> Engine<'a> {
     /// An engine that has read nothing, for these types and what is known of requests for their operations.
-    pub fn new(catalogue: &'a Catalogue, requests: &'a Requests) -> Engine<'a>
+    /// Room for so many open messages is made here, and refused only where there isn't enough memory.
+    pub fn new(
+        alloc: Global,
+        catalogue: &'a Catalogue,
+        requests: &'a Requests,
+        most: u32,
+    ) -> Result<Engine<'a>, NewFault>
         requires of { AreOf catalogue.now requests.now }
-        ensures holds { Holds result [] }
-        ensures table { result.table ≡ catalogue.now }
-        ensures listed { result.listed ≡ requests.now }
-        ensures most { result.most ≡ most_open }
+        requires range { (1 ≤ most) × (most ≤ most_open) }
+        ensures holds { IfOk result (λ e. Holds e []) }
+        ensures table { IfOk result (λ e. e.table ≡ catalogue.now) }
+        ensures listed { IfOk result (λ e. e.listed ≡ requests.now) }
+        ensures most { IfOk result (λ e. e.most ≡ most) }
     {
-        Engine {
+        let Ok(framing) = Framing::new(alloc, most as usize) else {
+            return Err(NewFault::OutOfMemory);
+        };
+        Ok(Engine {
             catalogue,
             requests,
-            framing: Framing::new(MOST_OPEN),
+            framing,
             failed: false,
-        }
+        })
     }
 
     /// The engine that a checkpoint was saved of, by the same types and the same list: it goes on from there. From any
-    /// other octets that pass the checks it is an engine that is safe to use (docs/FORMATS.md, Checkpoints).
+    /// other octets that pass the checks it is an engine that is safe to use (docs/FORMATS.md, Checkpoints). Room for as
+    /// many open messages as it allows is made here, behind the check of its length.
     pub fn load(
+        alloc: Global,
         catalogue: &'a Catalogue,
         requests: &'a Requests,
         octets: &[u8],
     ) -> Result<Engine<'a>, LoadFault>
         requires of { AreOf catalogue.now requests.now }
-        // It holds the stream that the octets are the checkpoint of.
-        ensures again { (p : List ℕ) → Spells octets.now catalogue.now requests.now most_open p →
-            IsOkAnd result (λ e. Holds e p) }
-        // The first check that fails refuses them.
+        // It holds the stream that the octets are the checkpoint of, with as many open messages allowed,
+        ensures again { (n : ℕ) (p : List ℕ) → Spells octets.now catalogue.now requests.now n p →
+            OrNoMemory result (λ e. (e.most ≡ n) × Holds e p) }
+        // which are those that the octets allow.
+        ensures most { IfOk result (λ e.
+            Allows (counts_of catalogue.now requests.now) octets.now e.most) }
+        // The first check that fails refuses them, or want of memory.
         ensures refused { IfErr result (λ why.
             IsRefused (counts_of catalogue.now requests.now) octets.now why) }
         ensures ours { IfOk result (λ e. IsOurs (counts_of catalogue.now requests.now) octets.now) }
         ensures sound { IfOk result (λ e. e.failed ≡ false) }
         ensures table { IfOk result (λ e. e.table ≡ catalogue.now) }
         ensures listed { IfOk result (λ e. e.listed ≡ requests.now) }
-        ensures most { IfOk result (λ e. e.most ≡ most_open) }
     {
-        match loading::read(catalogue, requests, octets) {
+        match loading::read(alloc, catalogue, requests, octets) {
             Ok(framing) => Ok(Engine {
                 catalogue,
                 requests,
@@ -129,7 +144,6 @@ impl<'a> Engine<'a> {
             return Err(Stop::Failed);
         }
         let (totals, stopped) = (self.framing.totals, self.framing.stopped);
-        let most = self.framing.slots.most;
         match self
             .framing
             .steps(self.catalogue, self.requests, piece, out)
@@ -137,7 +151,7 @@ impl<'a> Engine<'a> {
             Ok(()) => Ok(self.framing.status()),
             Err(fault) => {
                 self.failed = true;
-                self.framing = Framing::only(totals, stopped, most);
+                self.framing.fail(totals, stopped);
                 Err(Stop::Out(fault))
             }
         }
@@ -164,27 +178,28 @@ impl<'a> Engine<'a> {
         }
     }
 
-    /// Writes the checkpoint of what was read into the front of these octets, and says how many it has
-    /// (docs/FORMATS.md, Checkpoints).
-    pub fn save(&self, into: &mut [u8; 14_240]) -> Result<usize, Stop>
-        // They are the checkpoint of each stream that it holds.
+    /// Writes the checkpoint of what was read, and says how many octets it has (docs/FORMATS.md, Checkpoints). A failed put
+    /// leaves the engine as it was.
+    pub fn save<O: Out>(&self, out: &mut O) -> Result<u64, Stop>
+        // It is the checkpoint of each stream that it holds; of that a front is written before a put fails.
         ensures saves { (p : List ℕ) → Holds self.now p →
-            IfOk result (λ n. Saves n into.new self.now.table self.now.listed self.now.most p) }
-        // The octets behind them are as they were.
-        ensures behind { IfOk result (λ n. drop n into.new ≡ drop n into.old) }
-        // It is refused exactly where the engine was failed; nothing is written then.
+            Saves result (O.log out.old) (O.log out.new)
+            self.now.table self.now.listed self.now.most p }
+        // It is refused where the engine was failed, and nothing is written then,
         ensures failed { self.now.failed ≡ true →
-            (result ≡ Err Stop.Failed) × (into.new ≡ into.old) }
-        ensures sound { self.now.failed ≡ false → IsOk result }
+            (result ≡ Err Stop.Failed) × (O.log out.new ≡ O.log out.old) }
+        ensures sound { result ≡ Err Stop.Failed → self.now.failed ≡ true }
+        // and else only where a put fails.
+        ensures cause { self.now.failed ≡ false →
+            OnErr result ((O.log out.new).failures ≡ counted (O.log out.old).failures) }
     {
         if self.failed {
             return Err(Stop::Failed);
         }
-        let mut out: ArrayVec<u8, 14_240> = ArrayVec::new();
-        saving::write(&self.framing, self.catalogue, self.requests, &mut out);
-        let len = out.len();
-        into[..len].copy_from_slice(out.as_slice());
-        Ok(len)
+        match saving::write(&self.framing, self.catalogue, self.requests, out) {
+            Ok(count) => Ok(count),
+            Err(fault) => Err(Stop::Out(fault)),
+        }
     }
 
     /// The totals of what was read; after a failed put those from before that call.
@@ -228,5 +243,5 @@ pub fn remaining()
         ≡ whole_text (rules C l n) (p ++ q) }
     // However long the front is, its checkpoint has at most so many octets.
     ensures within { (C : Table) (l : Listed) (n : ℕ) (octets p : List ℕ) → Spells octets C l n p →
-        n ≤ most_open → length octets ≤ checkpoint_limit (depth_of C.types) }
+        length octets ≤ checkpoint_limit n (depth_of C.types) }
 {}

@@ -31,10 +31,18 @@ pub enum ImposedFault {
     FragmentOrder,
 }
 
+/// Why there is no new engine.
+#[derive(Clone, Copy, Debug, PartialEq, Eq, Error)]
+pub enum NewFault {
+    /// There wasn't enough memory for its open messages.
+    #[error("out of memory")]
+    OutOfMemory = 1,
+}
+
 /// Why a call wrote less than was due.
 #[derive(Clone, Copy, Debug, PartialEq, Eq, Error)]
 pub enum Stop {
-    /// A put failed in this call; a front of what was due is written, and the engine is failed from now on.
+    /// A put failed in this call; a front of what was due is written. A feed leaves the engine failed, a save as it was.
     #[error("{0}")]
     Out(OutFault),
     /// The engine was failed before the call; nothing is written.

@@ -1,6 +1,6 @@
 //! What is remembered of a stream, and what an octet of it does: headers, payloads, and what ends the stream.
 
-ghost use Rattle.std.specs.Prelude.{◌≡◌, ◌+◌, ◌*◌, ◌++◌, ◌∷◌, ◌^◌, ◌≤◌, ◌<◌, ℕ, List, [], length, None, OnOk, if◌then◌else◌};
+ghost use Rattle.std.specs.Prelude.{◌≡◌, ◌+◌, ◌*◌, ◌++◌, ◌∷◌, ◌^◌, ◌≤◌, ◌<◌, ℕ, List, [], length, None, IfOk, OnOk, if◌then◌else◌};
 ghost use Rattle.arrayvec.specs.ArrayVec.{array_vec_len};
 ghost use Rattle.giop_stream.specs.Rules.{most_open};
 
@@ -14,6 +14,7 @@ use crate::status::Totals;
 use arrayvec::ArrayVec;
 use giop_print::{Out, OutFault};
 use giop_sig::{Catalogue, Requests};
+use std::alloc::{AllocError, Global};
 
 /// The number of octets that are read of a stream.
 pub const LIMIT: u64 = 281_474_976_710_656;
@@ -33,7 +34,8 @@ pub struct Framing {
     ghost few_messages: { totals.messages ≤ totals.octets },
     ghost few_faults: { totals.faults ≤ 3 * totals.octets },
     ghost held: { array_vec_len header ≤ totals.octets },
-    ghost room: { slots.most ≤ most_open },
+    ghost room: { slots.slots.most ≤ most_open },
+    ghost some: { 1 ≤ slots.slots.most },
 }
 
 impl Framing {
@@ -54,42 +56,44 @@ impl Framing {
     ghost use Rattle.giop_stream.specs.Steps.{held_on, stop, settle};
 
     /// Nothing read, where so many messages may be open.
-    pub fn new(most: usize) -> Framing
-        requires { most ≤ most_open }
-        ensures most { result.slots.most ≡ most }
-        ensures shows { (C : Table) (l : Listed) → Shows C l (shown result) one.fresh }
-        ensures ready { (C : Table) → AreReady C (result.totals.octets + 1) result.slots }
+    pub fn new(alloc: Global, most: usize) -> Result<Framing, AllocError>
+        requires room { most ≤ most_open }
+        requires some { 1 ≤ most }
+        ensures most { IfOk result (λ f. f.slots.slots.most ≡ most) }
+        ensures shows { IfOk result (λ f. (C : Table) (l : Listed) →
+            Shows C l (shown f) one.fresh) }
+        ensures ready { IfOk result (λ f. (C : Table) →
+            AreReady C (f.totals.octets + 1) f.slots) }
     {
         let totals = Totals {
             messages: 0,
             faults: 0,
             octets: 0,
         };
-        Framing::only(totals, None, most)
+        Ok(Framing {
+            totals,
+            stopped: None,
+            header: ArrayVec::new(),
+            come: 0,
+            slots: Slots::new(alloc, most)?,
+        })
     }
 
-    /// What is left where a put failed: the totals from before, and no message.
-    pub fn only(totals: Totals, stopped: Option<StreamFault>, most: usize) -> Framing
+    /// Lets go of all but the totals and the stream fault from before, where a put failed.
+    pub fn fail(&mut self, totals: Totals, stopped: Option<StreamFault>)
         requires read { totals.octets ≤ 2 ^ 48 + 1 }
         requires running { stopped ≡ None → totals.octets ≤ 2 ^ 48 }
         requires few_messages { totals.messages ≤ totals.octets }
         requires few_faults { totals.faults ≤ 3 * totals.octets }
-        requires room { most ≤ most_open }
-        ensures totals { result.totals ≡ totals }
-        ensures stopped { result.stopped ≡ stopped }
-        ensures header { result.header.items ≡ [] }
-        ensures come { result.come ≡ 0 }
-        ensures slots { IsBare result.slots }
-        ensures most { result.slots.most ≡ most }
-        ensures ready { (C : Table) → AreReady C (result.totals.octets + 1) result.slots }
+        ensures totals { self.new.totals ≡ totals }
+        ensures most { self.new.slots.slots.most ≡ self.old.slots.slots.most }
+        ensures ready { (C : Table) → AreReady C (self.new.totals.octets + 1) self.new.slots }
     {
-        Framing {
-            totals,
-            stopped,
-            header: ArrayVec::new(),
-            come: 0,
-            slots: Slots::new(most),
-        }
+        self.totals = totals;
+        self.stopped = stopped;
+        self.header.clear();
+        self.come = 0;
+        self.slots.clear();
     }
 
     /// The end of the reading, by the octet at this place: no header is held then, and no payload comes.
@@ -100,7 +104,7 @@ impl Framing {
         requires faults { self.old.totals.faults < 3 * place }
         ensures state { OnOk result (shown self.new ≡ stop (shown self.old) fault place) }
         ensures text { Writes result (O.log out.old) (O.log out.new) (stop_text fault place) }
-        ensures most { self.new.slots.most ≡ self.old.slots.most }
+        ensures most { self.new.slots.slots.most ≡ self.old.slots.slots.most }
     {
         self.totals.octets = place;
         self.totals.faults += 1;
@@ -114,7 +118,7 @@ impl Framing {
     #[tactic(auto, unfolding(crate::specs::Steps::settle))]
     fn settle(&mut self, size: u32)
         ensures state { shown self.new ≡ settle (shown self.old) size }
-        ensures most { self.new.slots.most ≡ self.old.slots.most }
+        ensures most { self.new.slots.slots.most ≡ self.old.slots.slots.most }
     {
         if self.come == size {
             self.header.clear();
@@ -150,13 +154,13 @@ impl Framing {
         requires ready { AreReady catalogue.now self.old.totals.octets self.old.slots }
         // It does the step of the octet that was held last.
         ensures does { (l : Listed) (s : State) (m : Memory) (x : ℕ) →
-            IsReached catalogue.now l self.old.slots.most s →
+            IsReached catalogue.now l self.old.slots.slots.most s →
             Shows catalogue.now l m s → shown self.old ≡ held_on m x →
             Does catalogue.now l result (O.log out.old) (O.log out.new) (shown self.new)
-            (one.step (rules catalogue.now l self.old.slots.most) s x) }
+            (one.step (rules catalogue.now l self.old.slots.slots.most) s x) }
         ensures ready { OnOk result
             (AreReady catalogue.now (self.new.totals.octets + 1) self.new.slots) }
-        ensures most { self.new.slots.most ≡ self.old.slots.most }
+        ensures most { self.new.slots.slots.most ≡ self.old.slots.slots.most }
     {
         self.totals.messages += 1;
         let now = self.current();
@@ -177,13 +181,14 @@ impl Framing {
         requires running { self.old.stopped ≡ None }
         requires limit { self.old.totals.octets < 2 ^ 48 }
         requires ready { AreReady catalogue.now (self.old.totals.octets + 1) self.old.slots }
-        ensures does { (l : Listed) (s : State) → IsReached catalogue.now l self.old.slots.most s →
+        ensures does { (l : Listed) (s : State) →
+            IsReached catalogue.now l self.old.slots.slots.most s →
             Shows catalogue.now l (shown self.old) s →
             Does catalogue.now l result (O.log out.old) (O.log out.new) (shown self.new)
-            (one.step (rules catalogue.now l self.old.slots.most) s octet) }
+            (one.step (rules catalogue.now l self.old.slots.slots.most) s octet) }
         ensures ready { OnOk result
             (AreReady catalogue.now (self.new.totals.octets + 1) self.new.slots) }
-        ensures most { self.new.slots.most ≡ self.old.slots.most }
+        ensures most { self.new.slots.slots.most ≡ self.old.slots.slots.most }
     {
         self.totals.octets += 1;
         self.header.push(octet);
@@ -209,13 +214,14 @@ impl Framing {
         requires limit { self.old.totals.octets < 2 ^ 48 }
         requires of { AreOf catalogue.now requests.now }
         requires ready { AreReady catalogue.now (self.old.totals.octets + 1) self.old.slots }
-        ensures does { (s : State) → IsReached catalogue.now requests.now self.old.slots.most s →
+        ensures does { (s : State) →
+            IsReached catalogue.now requests.now self.old.slots.slots.most s →
             Shows catalogue.now requests.now (shown self.old) s →
             Does catalogue.now requests.now result (O.log out.old) (O.log out.new) (shown self.new)
-            (one.step (rules catalogue.now requests.now self.old.slots.most) s octet) }
+            (one.step (rules catalogue.now requests.now self.old.slots.slots.most) s octet) }
         ensures ready { OnOk result
             (AreReady catalogue.now (self.new.totals.octets + 1) self.new.slots) }
-        ensures most { self.new.slots.most ≡ self.old.slots.most }
+        ensures most { self.new.slots.slots.most ≡ self.old.slots.slots.most }
     {
         self.totals.octets += 1;
         self.come = self.come.saturating_add(1);
@@ -236,13 +242,14 @@ impl Framing {
     ) -> Result<(), OutFault>
         requires of { AreOf catalogue.now requests.now }
         requires ready { AreReady catalogue.now (self.old.totals.octets + 1) self.old.slots }
-        ensures does { (s : State) → IsReached catalogue.now requests.now self.old.slots.most s →
+        ensures does { (s : State) →
+            IsReached catalogue.now requests.now self.old.slots.slots.most s →
             Shows catalogue.now requests.now (shown self.old) s →
             Does catalogue.now requests.now result (O.log out.old) (O.log out.new) (shown self.new)
-            (one.step (rules catalogue.now requests.now self.old.slots.most) s octet) }
+            (one.step (rules catalogue.now requests.now self.old.slots.slots.most) s octet) }
         ensures ready { OnOk result
             (AreReady catalogue.now (self.new.totals.octets + 1) self.new.slots) }
-        ensures most { self.new.slots.most ≡ self.old.slots.most }
+        ensures most { self.new.slots.slots.most ≡ self.old.slots.slots.most }
     {
         if self.stopped.is_some() {
             return Ok(());

@@ -19,6 +19,7 @@ mod slots;
 mod status;
 
 pub use engine::{Engine, any_pieces, remaining, text_begins};
-pub use fault::{ImposedFault, LoadFault, Stop, StreamFault};
+pub use fault::{ImposedFault, LoadFault, NewFault, Stop, StreamFault};
 pub use laws::{behind_a_stop, each_joined, each_slot, each_step, one_of_each, open_messages};
+pub use slots::MOST_OPEN;
 pub use status::{Status, Totals};

@@ -1,29 +1,28 @@
 //! The checkpoint of an engine, read: its fixed part, and its records, each in its range (docs/FORMATS.md, Checkpoints).
 
-ghost use Rattle.std.specs.Prelude.{◌≡◌, ℕ, List, ◌+◌, ◌<◌, ◌≤◌, ◌^◌, ◌*◌, length, true, Option, Some, None, IfOk, IfErr, IfSome, IsSomeAnd, IsOkAnd, [], ◌∷◌, ◌++◌, flat_map, replicate};
+ghost use Rattle.std.specs.Prelude.{◌≡◌, ℕ, List, ◌+◌, ◌<◌, ◌≤◌, ◌^◌, ◌*◌, length, drop, true, Option, Some, None, IfOk, IfErr, IfSome, IsSomeAnd, [], ◌∷◌, ◌++◌, flat_map, replicate};
 ghost use Rattle.giop_sig.specs.Table.{Table};
 ghost use Rattle.giop_message.specs.Holding.{Follows};
 ghost use Rattle.giop_message.specs.Signatures.{Listed};
 ghost use Rattle.giop_message.specs.Stored.{Stored};
 ghost use Rattle.giop_message.specs.declared.message.Message.{Message as Kept_message};
-ghost use Rattle.giop_checkpoint.specs.Fixed.{HasRange};
-ghost use Rattle.giop_checkpoint.specs.Records.{AreRecords, entry_octets};
+ghost use Rattle.giop_checkpoint.specs.Records.{AreRecords, entry_octets, used};
 ghost use Rattle.giop_checkpoint.specs.Refusals.{IsOurs};
 ghost use Rattle.giop_checkpoint.specs.declared.record.Standing.TheVariants as standings;
 ghost use Rattle.giop_stream.specs.Rules.{rules, most_open};
 ghost use Rattle.giop_stream.specs.State.{Slot as Held};
-ghost use Rattle.giop_stream.specs.Keeping.{AreReady, IsReady};
+ghost use Rattle.giop_stream.specs.Keeping.{AreReady, IsBare, IsReady};
 ghost use Rattle.giop_stream.specs.Shown.{shown};
 ghost use Rattle.giop_stream.specs.Engine.{state_of, Own};
 ghost use Rattle.giop_stream.specs.Showing.{Shows, IsOwn};
-ghost use Rattle.giop_stream.specs.Checkpoint.{counts_of, fixed_of, IsRefused, Spells};
-ghost use Rattle.giop_stream.specs.Reloading.{stop_in, header_in, come_in, comes_in, payload_of, pushed, IsOpenEntry, IsCurrentEntry, HasAdded, AreLeft};
+ghost use Rattle.giop_stream.specs.Checkpoint.{counts_of, fixed_of, Allows, IsRefused, OrNoMemory, Spells};
+ghost use Rattle.giop_stream.specs.Reloading.{stop_in, header_in, come_in, comes_in, payload_of, pushed, IsOpenEntry, IsCurrentEntry, HasAdded, HasAddedFirst, AreLeft};
 
 use crate::framing::Framing;
 use crate::header::size_of;
 use crate::kinds::is_fragment;
 use crate::saving::counts_of;
-use crate::slots::{MOST_OPEN, Payload, Slot, Slots};
+use crate::slots::{Payload, Slot, Slots};
 use crate::status::Totals;
 use arrayvec::ArrayVec;
 use giop_checkpoint::{
@@ -31,42 +30,57 @@ use giop_checkpoint::{
 };
 use giop_message::Message;
 use giop_sig::{Catalogue, Requests};
+use std::alloc::Global;
 
 /// What is remembered of a stream, by its checkpoint.
-pub fn read(catalogue: &Catalogue, requests: &Requests, octets: &[u8]) -> Result<Framing, LoadFault>
+pub fn read(
+    alloc: Global,
+    catalogue: &Catalogue,
+    requests: &Requests,
+    octets: &[u8],
+) -> Result<Framing, LoadFault>
     ensures ready { IfOk result (λ f. AreReady catalogue.now (f.totals.octets + 1) f.slots) }
     ensures refused { IfErr result (λ why.
         IsRefused (counts_of catalogue.now requests.now) octets.now why) }
-    ensures most { IfOk result (λ f. f.slots.most ≡ most_open) }
+    ensures most { IfOk result (λ f.
+        Allows (counts_of catalogue.now requests.now) octets.now f.slots.slots.most) }
     ensures ours { IfOk result (λ f. IsOurs (counts_of catalogue.now requests.now) octets.now) }
-    ensures again { (p : List ℕ) → Spells octets.now catalogue.now requests.now most_open p →
-        IsOkAnd result (λ f. Shows catalogue.now requests.now (shown f)
-        (state_of (rules catalogue.now requests.now most_open) p)) }
+    ensures again { (n : ℕ) (p : List ℕ) →
+        Spells octets.now catalogue.now requests.now n p →
+        OrNoMemory result (λ f. (f.slots.slots.most ≡ n)
+        × Shows catalogue.now requests.now (shown f)
+        (state_of (rules catalogue.now requests.now n) p)) }
 {
     let (fixed, records) = match fixed_part(octets, counts_of(catalogue, requests)) {
         Ok(parts) => parts,
         Err(why) => return Err(why),
     };
-    match framing_of(catalogue, fixed, records) {
+    let Ok(slots) = Slots::new(alloc, fixed.most_open as usize) else {
+        return Err(LoadFault::OutOfMemory);
+    };
+    match framing_of(catalogue, fixed, records, slots) {
         Some(framing) => Ok(framing),
         None => Err(LoadFault::State),
     }
 }
 
 /// What these fields and records say, where it may be remembered of a stream.
-fn framing_of(catalogue: &Catalogue, fixed: Fixed, records: &[u8]) -> Option<Framing>
-    requires range { HasRange fixed }
+fn framing_of(catalogue: &Catalogue, fixed: Fixed, records: &[u8], slots: Slots) -> Option<Framing>
+    requires octets { fixed.octets ≤ 2 ^ 48 + 1 }
+    requires open { (1 ≤ fixed.most_open) × (fixed.most_open ≤ most_open) }
+    requires bare { IsBare slots }
+    requires most { slots.slots.most ≡ fixed.most_open }
     requires lengths { AreRecords fixed.records records.now }
     ensures ready { IfSome result (λ f. AreReady catalogue.now (f.totals.octets + 1) f.slots) }
-    ensures most { IfSome result (λ f. f.slots.most ≡ most_open) }
-    ensures again { (l : Listed) (octets p : List ℕ)
-        (s : Spells octets catalogue.now l most_open p) →
+    ensures most { IfSome result (λ f. f.slots.slots.most ≡ fixed.most_open) }
+    ensures again { (l : Listed) (n : ℕ) (octets p : List ℕ)
+        (s : Spells octets catalogue.now l n p) →
         fixed ≡ fixed_of catalogue.now l s.memory →
         records.now ≡ flat_map entry_octets s.entries →
         IsSomeAnd result (λ f. Shows catalogue.now l (shown f)
-        (state_of (rules catalogue.now l most_open) p)) }
+        (state_of (rules catalogue.now l n) p)) }
 {
-    let mut slots = Slots::new(MOST_OPEN);
+    let mut slots = slots;
     if !add_all(&mut slots, catalogue, fixed.octets, fixed.records, records) {
         return None;
     }
@@ -146,7 +160,7 @@ fn held_of(octets: &[u8]) -> ArrayVec<u8, 12>
 /// Whose the octets of the payload are.
 fn payload_of(fixed: &Fixed, slots: &Slots) -> Payload
     ensures { result ≡ payload_of fixed.now.owner (comes_in fixed.now.place)
-        (length slots.now.slots.items) }
+        (length slots.now.slots.entries) }
 {
     match fixed.owner {
         Some(record) if (record as usize) < slots.slots.len() => Payload::Open(record as usize),
@@ -183,21 +197,48 @@ fn add_all(
     ensures none { count ≡ 0 → (result ≡ true) × (slots.new ≡ slots.old) }
     ensures again { (l : Listed) (held : List Held) (own : Option Own) →
         AreLeft catalogue.now l (octets + 1) count records.now held own →
-        length slots.old.slots.items + length held ≤ most_open → slots.old.own ≡ None →
+        length slots.old.slots.entries + length held ≤ slots.old.slots.most → slots.old.own ≡ None →
         (result ≡ true) × HasAdded catalogue.now l slots.old slots.new held
         × IsOwn catalogue.now l slots.new.own own }
-    ensures most { slots.new.most ≡ slots.old.most }
+    ensures most { slots.new.slots.most ≡ slots.old.slots.most }
 {
     if count == 0 {
         return true;
     }
-    let Some(first) = first_record(records) else {
+    let Some(rest) = add_first(slots, catalogue, octets, records) else {
         return false;
     };
+    add_all(slots, catalogue, octets, count - 1, rest)
+}
+
+/// Adds the message of the first of these records, and answers the records behind it, where it is in its range. It stands
+/// apart, so that no frame of the recursion has room for a record.
+#[inline(never)]
+fn add_first<'a>(
+    slots: &mut Slots,
+    catalogue: &Catalogue,
+    octets: u64,
+    records: &'a [u8],
+) -> Option<&'a [u8]>
+    requires range { octets ≤ 2 ^ 48 + 1 }
+    requires whole { used records.now ≤ length records.now }
+    requires ready { AreReady catalogue.now (octets + 1) slots.old }
+    ensures ready { IfSome result (λ rest. AreReady catalogue.now (octets + 1) slots.new) }
+    ensures rest { IfSome result (λ rest. rest.now ≡ drop (used records.now) records.now) }
+    ensures again { (l : Listed) (count : ℕ) (held : List Held) (own : Option Own) →
+        (count ≡ 0 → ⊥) → AreLeft catalogue.now l (octets + 1) count records.now held own →
+        length slots.old.slots.entries + length held ≤ slots.old.slots.most →
+        IsSomeAnd result (λ rest. HasAddedFirst catalogue.now l (octets + 1) count
+        slots.old slots.new rest.now held own) }
+    ensures most { slots.new.slots.most ≡ slots.old.slots.most }
+{
+    let Some(first) = first_record(records) else {
+        return None;
+    };
     if !add(slots, catalogue, octets, &first) {
-        return false;
+        return None;
     }
-    add_all(slots, catalogue, octets, count - 1, first.rest)
+    Some(first.rest)
 }
 
 /// Adds the message of a record; says whether it is in its range.
@@ -207,14 +248,14 @@ fn add(slots: &mut Slots, catalogue: &Catalogue, octets: u64, first: &FirstRecor
     ensures ready { result ≡ true → AreReady catalogue.now (octets + 1) slots.new }
     ensures one_open { (l : Listed) (held : Held) →
         IsOpenEntry catalogue.now l (octets + 1) first.now held →
-        length slots.old.slots.items < most_open →
+        length slots.old.slots.entries < slots.old.slots.most →
         (result ≡ true) × HasAdded catalogue.now l slots.old slots.new (held ∷ [])
         × (slots.new.own ≡ slots.old.own) }
     ensures one_current { (l : Listed) (own : Own) →
         IsCurrentEntry catalogue.now l (octets + 1) first.now own →
         (result ≡ true) × (slots.new.slots ≡ slots.old.slots)
         × IsOwn catalogue.now l slots.new.own (Some own) }
-    ensures most { slots.new.most ≡ slots.old.most }
+    ensures most { slots.new.slots.most ≡ slots.old.slots.most }
 {
     match first.record.standing {
         Standing::Current => add_current(slots, catalogue, octets, first),
@@ -237,7 +278,7 @@ fn add_current(
     ensures again { (l : Listed) (own : Own) →
         IsCurrentEntry catalogue.now l (octets + 1) first.now own →
         (result ≡ true) × IsOwn catalogue.now l slots.new.own (Some own) }
-    ensures most { slots.new.most ≡ slots.old.most }
+    ensures most { slots.new.slots.most ≡ slots.old.slots.most }
 {
     slots.own = message_of(catalogue, octets, first);
     slots.own.is_some()
@@ -257,9 +298,10 @@ fn add_open(
     ensures own { slots.new.own ≡ slots.old.own }
     ensures again { (l : Listed) (held : Held) →
         IsOpenEntry catalogue.now l (octets + 1) first.now held →
-        first.now.record.standing ≡ standings.Open id → length slots.old.slots.items < most_open →
+        first.now.record.standing ≡ standings.Open id →
+        length slots.old.slots.entries < slots.old.slots.most →
         (result ≡ true) × HasAdded catalogue.now l slots.old slots.new (held ∷ []) }
-    ensures most { slots.new.most ≡ slots.old.most }
+    ensures most { slots.new.slots.most ≡ slots.old.slots.most }
 {
     let message = message_of(catalogue, octets, first);
     message.is_some() && push(slots, first, id, message)
@@ -271,9 +313,10 @@ fn add_over(slots: &mut Slots, first: &FirstRecord<'_>, id: u32) -> bool
     ensures own { slots.new.own ≡ slots.old.own }
     ensures again { (C : Table) (l : Listed) (n : ℕ) (held : Held) →
         IsOpenEntry C l n first.now held →
-        first.now.record.standing ≡ standings.Over id → length slots.old.slots.items < most_open →
+        first.now.record.standing ≡ standings.Over id →
+        length slots.old.slots.entries < slots.old.slots.most →
         (result ≡ true) × HasAdded C l slots.old slots.new (held ∷ []) }
-    ensures most { slots.new.most ≡ slots.old.most }
+    ensures most { slots.new.slots.most ≡ slots.old.slots.most }
 {
     is_zero(first) && push(slots, first, id, None)
 }
@@ -283,19 +326,19 @@ fn push(slots: &mut Slots, first: &FirstRecord<'_>, id: u32, message: Option<Mes
     ensures ready { (C : Table) (n : ℕ) → AreReady C n slots.old → IsReady C n message →
         AreReady C n slots.new }
     ensures own { slots.new.own ≡ slots.old.own }
-    ensures added { length slots.old.slots.items < most_open → (result ≡ true)
-        × (slots.new.slots.items ≡ slots.old.slots.items ++ pushed first.now id message ∷ []) }
-    ensures most { slots.new.most ≡ slots.old.most }
+    ensures added { length slots.old.slots.entries < slots.old.slots.most → (result ≡ true)
+        × (slots.new.slots.entries ≡ slots.old.slots.entries ++ pushed first.now id message ∷ []) }
+    ensures most { slots.new.slots.most ≡ slots.old.slots.most }
 {
     if slots.slots.is_full() {
         return false;
     }
-    slots.slots.push(Slot {
+    let slot = Slot {
         number: first.record.number,
         header: first.record.header,
-        id,
         message,
-    });
+    };
+    slots.slots.add(id, slot);
     true
 }
 

@@ -53,13 +53,14 @@ impl Framing {
         requires some { 0 < length octets.now }
         requires of { AreOf catalogue.now requests.now }
         requires ready { AreReady catalogue.now (self.old.totals.octets + 1) self.old.slots }
-        ensures does { (s : State) → IsReached catalogue.now requests.now self.old.slots.most s →
+        ensures does { (s : State) →
+            IsReached catalogue.now requests.now self.old.slots.slots.most s →
             Shows catalogue.now requests.now (shown self.old) s →
             Does catalogue.now requests.now result (O.log out.old) (O.log out.new) (shown self.new)
-            (one.runs (rules catalogue.now requests.now self.old.slots.most) s octets.now) }
+            (one.runs (rules catalogue.now requests.now self.old.slots.slots.most) s octets.now) }
         ensures ready { OnOk result
             (AreReady catalogue.now (self.new.totals.octets + 1) self.new.slots) }
-        ensures most { self.new.slots.most ≡ self.old.slots.most }
+        ensures most { self.new.slots.slots.most ≡ self.old.slots.slots.most }
     {
         let before = self.totals.octets;
         self.totals.octets += octets.len() as u64;
@@ -80,13 +81,14 @@ impl Framing {
     ) -> Result<(), OutFault>
         requires of { AreOf catalogue.now requests.now }
         requires ready { AreReady catalogue.now (self.old.totals.octets + 1) self.old.slots }
-        ensures does { (s : State) → IsReached catalogue.now requests.now self.old.slots.most s →
+        ensures does { (s : State) →
+            IsReached catalogue.now requests.now self.old.slots.slots.most s →
             Shows catalogue.now requests.now (shown self.old) s →
             Does catalogue.now requests.now result (O.log out.old) (O.log out.new) (shown self.new)
-            (one.runs (rules catalogue.now requests.now self.old.slots.most) s piece.now) }
+            (one.runs (rules catalogue.now requests.now self.old.slots.slots.most) s piece.now) }
         ensures ready { OnOk result
             (AreReady catalogue.now (self.new.totals.octets + 1) self.new.slots) }
-        ensures most { self.new.slots.most ≡ self.old.slots.most }
+        ensures most { self.new.slots.slots.most ≡ self.old.slots.slots.most }
     {
         let mut rest = piece;
         while let Some(octet) = rest.first() {

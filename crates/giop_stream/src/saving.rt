@@ -1,16 +1,19 @@
 //! The checkpoint of an engine, written: the fixed part, a record of each open message, and one of the current message
 //! (docs/FORMATS.md, Checkpoints).
 
-ghost use Rattle.std.specs.Prelude.{◌≡◌, ℕ, ◌+◌, ◌*◌, ◌<◌, ◌≤◌, [], length};
+ghost use Rattle.std.specs.Prelude.{◌≡◌, ℕ, List, ◌+◌, ◌*◌, ◌^◌, ◌<◌, ◌≤◌, ◌++◌, length, IfOk};
 ghost use Rattle.std.specs.List.{AllByRecursion as Each};
 ghost use Rattle.arrayvec.specs.ArrayVec.{array_vec_len};
+ghost use Rattle.giop_print.specs.Output.{OutLog};
 ghost use Rattle.giop_sig.specs.Table.{Table};
+ghost use Rattle.giop_checkpoint.specs.declared.layout.Layout.TheVariants.{Third};
+ghost use Rattle.giop_checkpoint.specs.Layouts.{OpenHasRange};
 ghost use Rattle.giop_checkpoint.specs.Fixed.{fixed_octets};
 ghost use Rattle.giop_message.specs.Holding.{Fits};
 ghost use Rattle.giop_stream.specs.Rules.{most_open};
 ghost use Rattle.giop_stream.specs.Keeping.{AreReady, IsReady};
 ghost use Rattle.giop_stream.specs.Shown.{shown};
-ghost use Rattle.giop_stream.specs.Checkpoint.{counts_of, place_of, owner_of, count_own, fixed_of, IsOpen, IsKept, IsPutOne, AreOpen, IsPut, IsPutWhole};
+ghost use Rattle.giop_stream.specs.Checkpoint.{counts_of, place_of, owner_of, count_own, fixed_of, IsOpen, IsKept, IsPutOne, AreOpen, IsPut, IsPutWhole, Puts, PutsSuch};
 
 use crate::framing::Framing;
 use crate::header::size_of;
@@ -19,33 +22,52 @@ use arrayvec::ArrayVec;
 use giop_checkpoint::{Counts, FRAME_SIZE, Fixed, MESSAGE_SIZE, Place, Record, Standing};
 use giop_message::Message;
 use giop_octets::{put_octets, put_zeros};
+use giop_print::{Out, OutFault, put_all};
 use giop_sig::{Catalogue, Requests};
 
-/// Writes the checkpoint of a stream's reading by this catalogue and this list.
-pub fn write(
+/// Writes the checkpoint of a stream's reading by this catalogue and this list, and says how many octets it has.
+pub fn write<O: Out>(
     framing: &Framing,
     catalogue: &Catalogue,
     requests: &Requests,
-    out: &mut ArrayVec<u8, 14_240>,
-)
+    out: &mut O,
+) -> Result<u64, OutFault>
     requires ready { AreReady catalogue.now (framing.now.totals.octets + 1) framing.now.slots }
-    requires empty { out.old.items ≡ [] }
-    ensures whole { IsPutWhole catalogue.now requests.now (shown framing.now) out.new.items }
+    ensures whole { PutsSuch result (O.log out.old) (O.log out.new)
+        (IsPutWhole Third catalogue.now requests.now (shown framing.now)) }
     ensures long { let f = fixed_of catalogue.now requests.now (shown framing.now) in
-        length (fixed_octets f) ≡ 96 }
-    ensures few { length framing.now.slots.slots.items ≤ most_open }
+        length (fixed_octets Third f) ≡ 96 }
+    ensures allows { OpenHasRange Third framing.now.slots.slots.most }
 {
-    fixed_part(framing, catalogue, requests).write(out);
-    write_open(framing.slots.slots.as_slice(), out);
-    if let Some(message) = &framing.slots.own {
-        write_message(
-            Standing::Current,
-            message.number(),
-            message.header(),
-            message,
-            out,
-        );
-    }
+    let mut fixed: ArrayVec<u8, 96> = ArrayVec::new();
+    fixed_part(framing, catalogue, requests).write(&mut fixed);
+    let begun = put_next(Ok(0), fixed.as_slice(), out);
+    let written = write_open(&framing.slots, begun, out);
+    let Some(message) = &framing.slots.own else {
+        return written;
+    };
+    let (number, header) = (message.number(), message.header());
+    let mut record: ArrayVec<u8, 832> = ArrayVec::new();
+    write_message(Standing::Current, number, header, message, &mut record);
+    put_next(written, record.as_slice(), out)
+}
+
+/// Puts octets behind those that were written, unless a put failed, and says how many there are then.
+fn put_next<O: Out>(
+    written: Result<u64, OutFault>,
+    octets: &[u8],
+    out: &mut O,
+) -> Result<u64, OutFault>
+    requires room { IfOk written (λ n. n + length octets.now < 2 ^ 64) }
+    ensures put { (before : OutLog) (front : List ℕ) →
+        Puts written before (O.log out.old) front →
+        Puts result before (O.log out.new) (front ++ octets.now) }
+    ensures size { (m : ℕ) → IfOk written (λ n. n ≤ m) →
+        IfOk result (λ n. n ≤ m + length octets.now) }
+{
+    let count = written?;
+    put_all(out, octets)?;
+    Ok(count + octets.len() as u64)
 }
 
 /// The fixed part.
@@ -55,6 +77,7 @@ fn fixed_part(framing: &Framing, catalogue: &Catalogue, requests: &Requests) -> 
 {
     Fixed {
         counts: counts_of(catalogue, requests),
+        most_open: framing.slots.slots.most() as u32,
         records: records_of(&framing.slots),
         octets: framing.totals.octets,
         messages: framing.totals.messages,
@@ -80,7 +103,8 @@ pub fn counts_of(catalogue: &Catalogue, requests: &Requests) -> Counts
 
 /// How many records there are.
 fn records_of(slots: &Slots) -> u32
-    ensures { result ≡ length slots.now.slots.items + count_own slots.now.own }
+    requires { slots.now.slots.most ≤ most_open }
+    ensures { result ≡ length slots.now.slots.entries + count_own slots.now.own }
 {
     slots.slots.len() as u32 + u32::from(slots.own.is_some())
 }
@@ -116,46 +140,58 @@ fn held(octets: &[u8]) -> ArrayVec<u8, 11>
 }
 
 /// The record of the message that the payload belongs to.
-fn owner_of(slots: &Slots) -> Option<u8>
-    ensures { result ≡ owner_of slots.now.payload (length slots.now.slots.items) slots.now.own }
+fn owner_of(slots: &Slots) -> Option<u32>
+    requires { slots.now.slots.most ≤ most_open }
+    ensures { result ≡ owner_of slots.now.payload (length slots.now.slots.entries) slots.now.own }
 {
     match slots.payload {
-        Payload::Own if slots.own.is_some() => Some(slots.slots.len() as u8),
+        Payload::Own if slots.own.is_some() => Some(slots.slots.len() as u32),
         Payload::Own => None,
-        Payload::Open(place) if place < slots.slots.len() => Some(place as u8),
+        Payload::Open(place) if place < slots.slots.len() => Some(place as u32),
         Payload::Open(_) => None,
         Payload::Nobody => None,
     }
 }
 
-/// Writes the records of the open messages.
-fn write_open(slots: &[Slot], out: &mut ArrayVec<u8, 14_240>)
-    requires room { array_vec_len out.old + 832 * length slots.now ≤ 14240 }
-    ensures put { (C : Table) (at : ℕ) → Each (λ slot. IsReady C at slot.message) slots.now →
-        IsPut out.old.items out.new.items (AreOpen slots.now) }
-    ensures len { array_vec_len out.new ≤ array_vec_len out.old + 832 * length slots.now }
+/// Writes the records of the open messages behind what was written. Each is composed by itself, also behind a failed put.
+fn write_open<O: Out>(
+    slots: &Slots,
+    begun: Result<u64, OutFault>,
+    out: &mut O,
+) -> Result<u64, OutFault>
+    requires few { slots.now.slots.most ≤ most_open }
+    requires room { IfOk begun (λ n. n ≤ 96) }
+    ensures put { (C : Table) (at : ℕ) (before : OutLog) (front : List ℕ) →
+        Each (λ slot. IsReady C at slot.value.message) slots.now.slots.entries →
+        Puts begun before (O.log out.old) front → PutsSuch result before (O.log out.new)
+        (λ octets. IsPut front octets (AreOpen slots.now.slots.entries)) }
+    ensures size { IfOk result (λ n. n ≤ 96 + 832 * slots.now.slots.most) }
 {
-    for slot in slots {
-        write_slot(slot, out);
+    let mut written = begun;
+    for k in 0..slots.slots.len() {
+        let mut record: ArrayVec<u8, 832> = ArrayVec::new();
+        write_slot(slots.id(k), slots.at(k), &mut record);
+        written = put_next(written, record.as_slice(), out);
     }
+    written
 }
 
 /// Writes the record of an open message.
-fn write_slot(slot: &Slot, out: &mut ArrayVec<u8, 14_240>)
-    requires room { array_vec_len out.old + 832 ≤ 14240 }
+fn write_slot(id: u32, slot: &Slot, out: &mut ArrayVec<u8, 832>)
+    requires room { array_vec_len out.old + 832 ≤ 832 }
     ensures put { (C : Table) (at : ℕ) → IsReady C at slot.now.message →
-        IsPutOne out.old.items out.new.items (IsOpen slot.now) }
+        IsPutOne out.old.items out.new.items (IsOpen (record { key = id; value = slot.now })) }
     ensures len { array_vec_len out.new ≤ array_vec_len out.old + 832 }
 {
     match &slot.message {
         Some(message) => {
-            let open = Standing::Open(slot.id);
+            let open = Standing::Open(id);
             write_message(open, slot.number, slot.header, message, out);
         }
         None => {
             let record = Record {
                 frames: 0,
-                standing: Standing::Over(slot.id),
+                standing: Standing::Over(id),
                 number: slot.number,
                 header: slot.header,
             };
@@ -171,9 +207,9 @@ fn write_message(
     number: u64,
     header: [u8; 12],
     message: &Message,
-    out: &mut ArrayVec<u8, 14_240>,
+    out: &mut ArrayVec<u8, 832>,
 )
-    requires room { array_vec_len out.old + 832 ≤ 14240 }
+    requires room { array_vec_len out.old + 832 ≤ 832 }
     ensures put { (C : Table) → Fits C message.now →
         IsPutOne out.old.items out.new.items (IsKept standing number header message.now) }
     ensures len { array_vec_len out.new ≤ array_vec_len out.old + 832 }

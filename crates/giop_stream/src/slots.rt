@@ -11,20 +11,20 @@ ghost use Rattle.giop_stream.specs.Effects.{Tracked, IsNotOpen};
 
 use crate::fault::ImposedFault;
 use crate::kept::{give, impose, shut};
-use arrayvec::ArrayVec;
 use giop_message::Message;
 use giop_print::{Out, OutFault, cancelled_line, unfinished_line};
+use giop_roster::Roster;
 use giop_sig::{Catalogue, Requests};
+use std::alloc::{AllocError, Global};
 
-/// How many messages may be open at once where nothing else is chosen, and at most.
-pub const MOST_OPEN: usize = 16;
+/// How many messages may be open at once, at most.
+pub const MOST_OPEN: u32 = 4_096;
 
-/// An open message.
-#[derive(Default, Drop)]
+/// An open message, kept under its request id.
+#[derive(Drop)]
 pub struct Slot {
     pub number: u64,
     pub header: [u8; 12],
-    pub id: u32,
     /// What is kept of it, unless it is over.
     pub message: Option<Message>,
 }
@@ -43,15 +43,13 @@ pub enum Payload {
 /// The open messages, and the message whose payload comes where it isn't one of them.
 #[derive(Drop)]
 pub struct Slots {
-    pub slots: ArrayVec<Slot, MOST_OPEN>,
-    /// How many messages may be open at once.
-    pub most: usize,
+    pub slots: Roster<Slot>,
     pub own: Option<Message>,
     pub payload: Payload,
 }
 
 impl Slots {
-    ghost use Rattle.std.specs.Prelude.{◌<◌, ◌==◌, List, IfSome, flat_map, nat_le, slice_get};
+    ghost use Rattle.std.specs.Prelude.{◌<◌, ◌==◌, List, IfSome, flat_map, nat_le, option_map, slice_get};
     ghost use Rattle.std.specs.List.{AllByRecursion as Each, position_from};
     ghost use Rattle.giop_print.specs.Lines.{unfinished_line};
     ghost use Rattle.giop_stream.specs.declared.slots.Payload.TheVariants as Payload;
@@ -65,27 +63,62 @@ impl Slots {
     ghost use Rattle.giop_stream.specs.Runs.{run_effect};
 
     /// No message, where so many may be open.
-    pub fn new(most: usize) -> Slots
-        ensures most { result.most ≡ most }
-        ensures bare { IsBare result }
-        ensures ready { (C : Table) (n : ℕ) → AreReady C n result }
+    pub fn new(alloc: Global, most: usize) -> Result<Slots, AllocError>
+        requires { most ≤ most_open }
+        ensures most { IfOk result (λ slots. slots.slots.most ≡ most) }
+        ensures bare { IfOk result (λ slots. IsBare slots) }
+        ensures ready { IfOk result (λ slots. (C : Table) (n : ℕ) → AreReady C n slots) }
     {
-        Slots {
-            slots: ArrayVec::new(),
-            most,
+        Ok(Slots {
+            slots: Roster::new(alloc, most)?,
             own: None,
             payload: Payload::Nobody,
+        })
+    }
+
+    /// Lets go of all messages.
+    pub fn clear(&mut self)
+        ensures most { self.new.slots.most ≡ self.old.slots.most }
+        ensures bare { IsBare self.new }
+        ensures ready { (C : Table) (n : ℕ) → AreReady C n self.new }
+    {
+        self.slots.clear();
+        self.own = None;
+        self.payload = Payload::Nobody;
+    }
+
+    /// The open message at this place.
+    pub fn at(&self, k: usize) -> &Slot
+        requires { k < length self.now.slots.entries }
+        ensures { option_map (λ e. e.value) (slice_get self.now.slots.entries k)
+            ≡ Some result.now }
+    {
+        match self.slots.get(k) {
+            Some(slot) => slot,
+            None => unreachable!(),
+        }
+    }
+
+    /// Its request id.
+    pub fn id(&self, k: usize) -> u32
+        requires { k < length self.now.slots.entries }
+        ensures { option_map (λ e. e.key) (slice_get self.now.slots.entries k) ≡ Some result }
+    {
+        match self.slots.key(k) {
+            Some(id) => id,
+            None => unreachable!(),
         }
     }
 
     /// The open messages that have neither ended nor been faulted, by number.
     pub fn unfinished<O: Out>(&self, out: &mut O) -> Result<(), OutFault>
         ensures { (C : Table) (l : Listed) (slots : List Held) →
-            AreSlots C l self.now.slots.items slots →
+            AreSlots C l self.now.slots.entries slots →
             Writes result (O.log out.old) (O.log out.new)
             (flat_map unfinished_line (flat_map left_open slots)) }
     {
-        for slot in self.slots.as_slice() {
+        for k in 0..self.slots.len() {
+            let slot = self.at(k);
             if slot.message.is_some() {
                 unfinished_line(out, slot.number)?;
             }
@@ -112,7 +145,7 @@ impl Slots {
             self.new (run_effect catalogue.now requests.now before c whose octets.now) whose }
         ensures ready { OnOk result
             (AreReady catalogue.now (before + length octets.now + 1) self.new) }
-        ensures most { self.new.most ≡ self.old.most }
+        ensures most { self.new.slots.most ≡ self.old.slots.most }
     {
         match self.payload {
             Payload::Own => give(&mut self.own, catalogue, requests, octets, before, out),
@@ -137,7 +170,7 @@ impl Slots {
             TakesEffect C l one_if result (O.log out.old) (O.log out.new) self.new
             (effect_to C l place c (Some w) (Imposed fault)) (Some w) }
         ensures ready { (C : Table) (n : ℕ) → AreReady C n self.old → AreReady C n self.new }
-        ensures most { self.new.most ≡ self.old.most }
+        ensures most { self.new.slots.most ≡ self.old.slots.most }
     {
         match self.payload {
             Payload::Own => impose(&mut self.own, number, fault, place, out),
@@ -162,14 +195,14 @@ impl Slots {
             TakesEffect catalogue.now l one_if result (O.log out.old) (O.log out.new) self.new
             (effect_to catalogue.now l place c whose Closes) None }
         ensures ready { AreReady catalogue.now (place + 1) self.new }
-        ensures most { self.new.most ≡ self.old.most }
+        ensures most { self.new.slots.most ≡ self.old.slots.most }
     {
         let payload = self.payload;
         self.payload = Payload::Nobody;
         match payload {
             Payload::Own => shut(self.own.take(), catalogue, place, out),
-            Payload::Open(k) => match self.slots.pop_at(k) {
-                Some(slot) => shut(slot.message, catalogue, place, out),
+            Payload::Open(k) => match self.slots.take(k) {
+                Some(entry) => shut(entry.value.message, catalogue, place, out),
                 None => Ok(false),
             },
             Payload::Nobody => Ok(false),
@@ -178,30 +211,29 @@ impl Slots {
 
     /// Whether as many messages are open as may be.
     pub fn is_full(&self) -> bool
-        ensures { result ≡ nat_le self.now.most (length self.now.slots.items) }
+        ensures { result ≡ nat_le self.now.slots.most (length self.now.slots.entries) }
     {
-        self.most <= self.slots.len()
+        self.slots.is_full()
     }
 
     /// Makes the message whose payload comes an open one.
     pub fn open(&mut self, number: u64, header: [u8; 12], id: u32)
-        requires full { length self.old.slots.items < self.old.most }
-        requires room { self.old.most ≤ most_open }
+        requires { length self.old.slots.entries < self.old.slots.most }
         ensures kept { (C : Table) (l : Listed) (c : Tracked) (w : Title) (place : ℕ) →
             Keeps C l self.old c (Some w) → self.old.payload ≡ Payload.Own →
             w.number ≡ number → w.header ≡ header →
             Keeps C l self.new (effect_to C l place c (Some w) (Opens id)).tracked (Some w) }
         ensures ready { (C : Table) (n : ℕ) → AreReady C n self.old → AreReady C n self.new }
-        ensures most { self.new.most ≡ self.old.most }
+        ensures most { self.new.slots.most ≡ self.old.slots.most }
     {
         let message = self.own.take();
         self.payload = Payload::Open(self.slots.len());
-        self.slots.push(Slot {
+        let slot = Slot {
             number,
             header,
-            id,
             message,
-        });
+        };
+        self.slots.add(id, slot);
     }
 
     /// The payload is of the open message at this place, from now on.
@@ -210,7 +242,7 @@ impl Slots {
             Keeps C l self.old c whose → slice_get c.live k ≡ Some o →
             Keeps C l self.new c (Some o.opener) }
         ensures ready { (C : Table) (n : ℕ) → AreReady C n self.old → AreReady C n self.new }
-        ensures most { self.new.most ≡ self.old.most }
+        ensures most { self.new.slots.most ≡ self.old.slots.most }
     {
         self.own = None;
         self.payload = Payload::Open(k);
@@ -221,7 +253,7 @@ impl Slots {
         ensures kept { (C : Table) (l : Listed) (c : Tracked) (whose : Option Title) →
             Keeps C l self.old c whose → Keeps C l self.new c None }
         ensures ready { (C : Table) (n : ℕ) → AreReady C n self.old → AreReady C n self.new }
-        ensures most { self.new.most ≡ self.old.most }
+        ensures most { self.new.slots.most ≡ self.old.slots.most }
     {
         self.own = None;
         self.payload = Payload::Nobody;
@@ -235,7 +267,7 @@ impl Slots {
             Keeps catalogue.now l self.new c (Some w) }
         ensures ready { (n : ℕ) → AreReady catalogue.now n self.old → 12 < n →
             AreReady catalogue.now n self.new }
-        ensures most { self.new.most ≡ self.old.most }
+        ensures most { self.new.slots.most ≡ self.old.slots.most }
     {
         self.own = Some(Message::start(catalogue, number, header));
         self.payload = Payload::Own;
@@ -255,10 +287,10 @@ impl Slots {
 
     /// Where the open message with this request id is.
     pub fn find(&self, id: u32) -> Option<usize>
-        ensures value { result ≡ position_from (λ slot. slot.id == id) 0 self.now.slots.items }
-        ensures within { IfSome result (λ k. k < length self.now.slots.items) }
+        ensures value { result ≡ position_from (λ slot. slot.key == id) 0 self.now.slots.entries }
+        ensures within { IfSome result (λ k. k < length self.now.slots.entries) }
     {
-        self.slots.as_slice().iter().position(|slot| slot.id == id)
+        self.slots.find(id)
     }
 
     /// Closes the open message at this place, which the message of this number cancels.
@@ -275,14 +307,14 @@ impl Slots {
             TakesEffect C l never result (O.log out.old) (O.log out.new) self.new
             (effect_to C l place c (Some o.opener) (Cancelled by)) (Some w) }
         ensures ready { (C : Table) (n : ℕ) → AreReady C n self.old → AreReady C n self.new }
-        ensures most { self.new.most ≡ self.old.most }
+        ensures most { self.new.slots.most ≡ self.old.slots.most }
     {
-        match self.slots.pop_at(k) {
-            Some(slot) => {
-                if slot.message.is_none() {
+        match self.slots.take(k) {
+            Some(entry) => {
+                if entry.value.message.is_none() {
                     return Ok(());
                 }
-                cancelled_line(out, slot.number, by)
+                cancelled_line(out, entry.value.number, by)
             }
             None => Ok(()),
         }

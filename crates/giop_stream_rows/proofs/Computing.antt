@@ -20,7 +20,6 @@ use Rattle.giop_message.specs.Signatures.{said_by}
 use Rattle.giop_message.specs.Messages as one
 use Rattle.giop_message.specs.Messages.{tell, is_shown, call_of, calls, with_front, passes, rest_in, rest, typed, option_typed, members_of, after_exception, body, type_if, request_body, result_body, reply_body, is_request, body_of, has_body, padded, after_header, of_header, message, may_lack, close, told_of, stage_of}
 use Rattle.giop_message.specs.MessageReading.{saying_of, text_of, reading_by}
-use Rattle.giop_stream.specs.Rules.{most_open}
 use Rattle.giop_stream.specs.Headers.{fronts, wrong, first_wrong, offence}
 use Rattle.giop_stream.specs.Framing.{with_first, cut_from, limit, limited, cut, messages, read_of}
 use Rattle.giop_stream.specs.Kinds.{may_be_cancelled, refused}
@@ -29,6 +28,7 @@ use Rattle.giop_stream.specs.Lines.{classes, line, tells, told, by_class, in_ord
 use Rattle.giop_stream.specs.Text.{start_line, lines_text}
 use Rattle.giop_stream.specs.Stream.{text, start_count, fault_count, tally, is_inside, is_truncated, is_over, heads, unfinished, final, closing}
 use Rattle.giop_checkpoint.specs.declared.fault.StreamFault.TheVariants.{Magic}
+use Rattle.giop_checkpoint.specs.declared.layout.Layout.TheVariants.{Second, Third}
 use Rattle.giop_stream.specs.declared.slots.Slots.{Slots}
 use Rattle.giop_stream.specs.declared.slots.Payload.{Payload}
 use Rattle.giop_stream.specs.declared.slots.Payload.TheVariants as payload
@@ -39,7 +39,7 @@ use Rattle.giop_stream.specs.Showing.{come_in, comes_itself}
 use Rattle.giop_stream.specs.Checkpoint.{counts_of, fixed_of, checkpoint_octets}
 use Rattle.giop_stream_rows.specs.Worked.{digit, octets, stream, written, read_by, called, table_of, builtin, puts, bigs, late, asks, kept}
 use Rattle.giop_stream_rows.specs.Streams.{CloseConnection, LittleRequest, Interleaved, OpenTwice, OneOpen, Cancelled, Replied, Raised}
-use Rattle.giop_stream_rows.specs.Checkpoints.{five_octets, one_in_payload, bad_magic, InAHeader, InAPayload, BehindAFault}
+use Rattle.giop_stream_rows.specs.Checkpoints.{five_octets, one_in_payload, bad_magic, InAHeader, InAnOldHeader, InAPayload, BehindAFault}
 
 -- what one message is read with
 unfoldable pub one_message : ℕ
@@ -102,11 +102,10 @@ are_octets (x ∷ xs) h zero d below = ltb-true x 256 (and_parts (nat_lt x 256) 
 are_octets (x ∷ xs) h (suc k) d below =
     are_octets xs (and_parts (nat_lt x 256) (list_all (λ y. nat_lt y 256) xs) h).1 k d (omega (arith, below))
 
--- no message is kept
-no_messages : Payload → Slots
-no_messages payload = record {
-  slots = record { items = [] };
-  most = most_open;
+-- no message is kept, where so many may be open
+no_messages : ℕ → Payload → Slots
+no_messages most payload = record {
+  slots = record { most = most; entries = [] };
   own = None;
   payload = payload;
 }
@@ -118,7 +117,7 @@ in_header = record {
   stopped = None;
   header = 71 ∷ 73 ∷ 79 ∷ 80 ∷ 1 ∷ [];
   come = 0;
-  slots = no_messages payload.Nobody;
+  slots = no_messages 16 payload.Nobody;
 }
 
 in_payload : Memory
@@ -127,7 +126,7 @@ in_payload = record {
   stopped = None;
   header = 71 ∷ 73 ∷ 79 ∷ 80 ∷ 1 ∷ 0 ∷ 0 ∷ 7 ∷ 0 ∷ 0 ∷ 0 ∷ 4 ∷ [];
   come = 1;
-  slots = no_messages payload.Own;
+  slots = no_messages 1 payload.Own;
 }
 
 behind_fault : Memory
@@ -136,15 +135,42 @@ behind_fault = record {
   stopped = Some Magic;
   header = [];
   come = 0;
-  slots = no_messages payload.Nobody;
+  slots = no_messages 4096 payload.Nobody;
 }
 
 pub in_a_header : InAHeader
 unfolding one_message a_stream told_with a_checkpoint no_messages in_header
 in_a_header = record {
+  layout = Third;
   memory = in_header;
   entries = [];
   octets_are = refl;
+  allows = (omega arith, omega arith);
+  limit = refl;
+  entries_are = tt;
+  stream = are_octets five_octets refl;
+  shows = record {
+    totals = refl;
+    stopped = refl;
+    header = refl;
+    come = refl;
+    slots = tt;
+    own = tt;
+    owner = refl;
+    turn = λ _. refl;
+  };
+  ready = record { own_ready = tt; each_ready = tt };
+}
+
+pub in_an_old_header : InAnOldHeader
+unfolding one_message a_stream told_with a_checkpoint no_messages in_header
+in_an_old_header = record {
+  layout = Second;
+  memory = in_header;
+  entries = [];
+  octets_are = refl;
+  allows = refl;
+  limit = refl;
   entries_are = tt;
   stream = are_octets five_octets refl;
   shows = record {
@@ -163,9 +189,12 @@ in_a_header = record {
 pub in_a_payload : InAPayload
 unfolding one_message a_stream told_with a_checkpoint no_messages in_payload
 in_a_payload = record {
+  layout = Third;
   memory = in_payload;
   entries = [];
   octets_are = refl;
+  allows = (omega arith, omega arith);
+  limit = refl;
   entries_are = tt;
   stream = are_octets one_in_payload refl;
   shows = record {
@@ -184,9 +213,12 @@ in_a_payload = record {
 pub behind_a_fault : BehindAFault
 unfolding one_message a_stream told_with a_checkpoint no_messages behind_fault
 behind_a_fault = record {
+  layout = Third;
   memory = behind_fault;
   entries = [];
   octets_are = refl;
+  allows = (omega arith, omega arith);
+  limit = refl;
   entries_are = tt;
   stream = are_octets bad_magic refl;
   shows = record {

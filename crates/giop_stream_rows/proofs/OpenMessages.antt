@@ -33,7 +33,7 @@ use Rattle.giop_message.specs.Stored.{Stored}
 use Rattle.giop_checkpoint.specs.Records as records
 use Rattle.giop_checkpoint.specs.Records.{Entry, EntryHasRange}
 use Rattle.giop_checkpoint.specs.declared.record.Standing.TheVariants as standings
-use Rattle.giop_stream.specs.Rules.{most_open}
+use Rattle.giop_checkpoint.specs.declared.layout.Layout.TheVariants.{Third}
 use Rattle.giop_stream.specs.declared.slots.Payload.TheVariants as payload
 use Rattle.giop_stream.specs.Remembering.{Memory}
 use Rattle.giop_stream.specs.Checkpoint.{IsHeld}
@@ -125,10 +125,10 @@ between = record {
   come = 0;
   slots = record {
     slots = record {
-      items = record { number = 1; header = header 40; id = 5; message = Some first }
-          ∷ record { number = 2; header = header 36; id = 6; message = Some second } ∷ [];
+      most = 16;
+      entries = record { key = 5; value = record { number = 1; header = header 40; message = Some first } }
+          ∷ record { key = 6; value = record { number = 2; header = header 36; message = Some second } } ∷ [];
     };
-    most = most_open;
     own = None;
     payload = payload.Nobody;
   };
@@ -357,9 +357,12 @@ its_parts = 0
 pub two_open : BetweenMessages
 unfolding one_message a_stream told_with a_checkpoint kept_messages its_parts
 two_open = record {
+  layout = Third;
   memory = between;
   entries = first_entry ∷ second_entry ∷ [];
   octets_are = refl;
+  allows = (omega arith, omega arith);
+  limit = refl;
   entries_are = (
     record {
       range = first_range;

@@ -1,7 +1,6 @@
--- Checkpoints of worked streams, octet for octet (meaning). In the first three no message is kept:
+-- Checkpoints of worked streams, octet for octet (meaning). In the first four no message is kept:
 -- there is no record.
 use Rattle.std.specs.Prelude.{ℕ, List, [], ◌∷◌, ◌++◌, replicate, codes}
-use Rattle.giop_stream.specs.Rules.{most_open}
 use Rattle.giop_stream.specs.Checkpoint.{Spells}
 use Rattle.giop_stream_rows.specs.Worked.{stream, builtin, bigs}
 
@@ -9,9 +8,22 @@ use Rattle.giop_stream_rows.specs.Worked.{stream, builtin, bigs}
 unfoldable pub five_octets : List ℕ
 five_octets = stream (codes "47494f50 01" ∷ [])
 
--- in a header
+-- in a header, where 16 messages may be open
 abbrev pub InAHeader : Type 0
 InAHeader = Spells
+    (stream (codes "47494f5044554d50 00000003 00000000 00000000 00000000 00000000 00000000"
+    ∷ codes "0000000000000005 0000000000000000 0000000000000000"
+    ∷ codes "00 00 05 00 47494f50 01 00000000000000 0000000000000000"
+    ∷ codes "00000010 ffffffff 0000000000000000"
+    ∷ []))
+    builtin
+    []
+    16
+    five_octets
+
+-- and by layout 2, which has no such number: it is 16
+abbrev pub InAnOldHeader : Type 0
+InAnOldHeader = Spells
     (stream (codes "47494f5044554d50 00000002 00000000 00000000 00000000 00000000 00000000"
     ∷ codes "0000000000000005 0000000000000000 0000000000000000"
     ∷ codes "00 00 05 ff 47494f50 01 00000000000000 0000000000000000"
@@ -19,41 +31,41 @@ InAHeader = Spells
     ∷ []))
     builtin
     []
-    most_open
+    16
     five_octets
 
 -- a Fragment of 1.0, which is faulted at its header, and the first octet of its payload
 unfoldable pub one_in_payload : List ℕ
 one_in_payload = stream (codes "47494f50 0100 00 07 00000004 01" ∷ [])
 
--- in a payload
+-- in a payload, where one message may be open
 abbrev pub InAPayload : Type 0
 InAPayload = Spells
-    (stream (codes "47494f5044554d50 00000002 00000000 00000000 00000000 00000000 00000000"
+    (stream (codes "47494f5044554d50 00000003 00000000 00000000 00000000 00000000 00000000"
     ∷ codes "000000000000000d 0000000000000001 0000000000000001"
-    ∷ codes "01 00 00 ff 47494f50 0100 00 07 00000004 0000000000000003"
-    ∷ codes "0000000000000000 0000000000000000"
+    ∷ codes "01 00 00 00 47494f50 0100 00 07 00000004 0000000000000003"
+    ∷ codes "00000001 ffffffff 0000000000000000"
     ∷ []))
     builtin
     []
-    most_open
+    1
     one_in_payload
 
 -- a CloseConnection, and a magic that is wrong in its third octet
 unfoldable pub bad_magic : List ℕ
 bad_magic = stream (codes "47494f50 0100 00 05 00000000 474958" ∷ [])
 
--- behind a stream fault
+-- behind a stream fault, where 4,096 may be
 abbrev pub BehindAFault : Type 0
 BehindAFault = Spells
-    (stream (codes "47494f5044554d50 00000002 00000000 00000000 00000000 00000000 00000000"
+    (stream (codes "47494f5044554d50 00000003 00000000 00000000 00000000 00000000 00000000"
     ∷ codes "000000000000000f 0000000000000001 0000000000000001"
-    ∷ codes "02 01 00 ff 00000000 00000000 00000000 0000000000000000"
-    ∷ codes "0000000000000000 0000000000000000"
+    ∷ codes "02 01 00 00 00000000 00000000 00000000 0000000000000000"
+    ∷ codes "00001000 ffffffff 0000000000000000"
     ∷ []))
     builtin
     []
-    most_open
+    4096
     bad_magic
 
 -- ---- Two open messages.
@@ -72,11 +84,11 @@ two_requests = stream (codes "47494f50 0102 02 00 00000028"
 -- two operations, and two records; nobody's octets come next
 unfoldable pub between_messages : List ℕ
 between_messages =
-    stream (codes "47494f5044554d50 00000002 00000000 00000002 00000000 00000000 00000002"
+    stream (codes "47494f5044554d50 00000003 00000000 00000002 00000000 00000000 00000002"
     ∷ codes "0000000000000064 0000000000000002 0000000000000000"
-    ∷ codes "00 00 00 ff 00000000 00000000 00000000 0000000000000000"
+    ∷ codes "00 00 00 00 00000000 00000000 00000000 0000000000000000"
+    ∷ codes "00000010 ffffffff 0000000000000000"
     ∷ [])
-    ++ replicate 16 0
 
 -- The first is open by its id 5 and stands in its body, in front of octet 52. Of a number of type 8
 -- four octets are held; it is the one part of the struct that is the first type declared.
@@ -100,7 +112,7 @@ behind_a_body =
     ∷ [])
     ++ replicate 208 0
 
--- with two messages open, one of them within a number
+-- with two messages open, one of them within a number, where 16 may be
 abbrev pub BetweenMessages : Type 0
 BetweenMessages = Spells (between_messages ++ in_a_number ++ behind_a_body)
-    bigs [] most_open two_requests
+    bigs [] 16 two_requests

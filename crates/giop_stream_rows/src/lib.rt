@@ -3,7 +3,7 @@
 
 ghost use Rattle.giop_stream_rows.specs.Worked.{AreOfTheirList};
 ghost use Rattle.giop_stream_rows.specs.Streams.{CloseConnection, LittleRequest, Interleaved, OpenTwice, OneOpen, Cancelled, Replied, Raised};
-ghost use Rattle.giop_stream_rows.specs.Checkpoints.{InAHeader, InAPayload, BehindAFault, BetweenMessages};
+ghost use Rattle.giop_stream_rows.specs.Checkpoints.{InAHeader, InAnOldHeader, InAPayload, BehindAFault, BetweenMessages};
 
 /// The text and the closing of these streams, by the declarations and the requests of each. It has no body, and is called
 /// for its contract.
@@ -29,8 +29,9 @@ pub fn worked_streams()
 
 /// The checkpoints of worked streams, octet for octet. It has no body, and is called for its contract.
 pub fn worked_checkpoints()
-    // In a header, in the payload of a faulted message, and behind a stream fault.
+    // In a header, by either layout, in the payload of a faulted message, and behind a stream fault.
     ensures in_a_header { InAHeader }
+    ensures in_an_old_header { InAnOldHeader }
     ensures in_a_payload { InAPayload }
     ensures behind_a_fault { BehindAFault }
     // With two messages open, of which one stands within a number.

@@ -6,6 +6,8 @@ mod kept;
 #[cfg(test)]
 mod known;
 #[cfg(test)]
+mod limits;
+#[cfg(test)]
 mod loaded;
 #[cfg(test)]
 mod own_out;

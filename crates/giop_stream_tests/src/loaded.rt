@@ -7,6 +7,7 @@ use giop_print::Sheet;
 use giop_sig::{Catalogue, Requests};
 use giop_stream::{Engine, LoadFault, Status, StreamFault};
 use hex::FromHex;
+use std::alloc::Global;
 use std::test::Fail;
 
 /// The operations of the stream, and those of another.
@@ -62,12 +63,12 @@ total messages 5 faults 0 octets 152\n";
 
 /// A checkpoint without records, by the built-in types: 2^48 octets were read. And one of two octets more, which are too many.
 const FULL: &str =
-    "47494f5044554d5000000002000000000000000000000000000000000000000000010000000000000000000000000000\
-0000000000000000000000ff000000000000000000000000000000000000000000000000000000000000000000000000";
+    "47494f5044554d5000000003000000000000000000000000000000000000000000010000000000000000000000000000\
+000000000000000000000000000000000000000000000000000000000000000000000010ffffffff0000000000000000";
 
 const TOO_FULL: &str =
-    "47494f5044554d5000000002000000000000000000000000000000000000000000010000000000020000000000000000\
-0000000000000000000000ff000000000000000000000000000000000000000000000000000000000000000000000000";
+    "47494f5044554d5000000003000000000000000000000000000000000000000000010000000000020000000000000000\
+000000000000000000000000000000000000000000000000000000000000000000000010ffffffff0000000000000000";
 
 /// What is written behind the first.
 const LIMIT_TEXT: &[u8] = b"stream fault stream-limit at 281474976710657\n\
@@ -75,49 +76,60 @@ total messages 0 faults 1 octets 281474976710657\n";
 
 /// A checkpoint of the front of a stream, and how long it is; its lines go to the sheet.
 fn saved(
+    alloc: Global,
     known: &(Catalogue, Requests),
     front: &[u8],
     sheet: &mut Sheet<'_>,
     octets: &mut [u8; 14_240],
-) -> Option<usize>
+) -> Result<usize, Fail>
     requires { AreOf known.now.0 known.now.1 }
 {
-    let mut engine = Engine::new(&known.0, &known.1);
+    let mut engine = Engine::new(alloc, &known.0, &known.1, 16)?;
     if engine.feed(front, sheet).is_err() {
-        return None;
+        return Err(Fail::from("the lines"));
     }
-    engine.save(octets).ok()
+    let mut out = Sheet::new(octets);
+    if engine.save(&mut out).is_err() {
+        return Err(Fail::from("the save"));
+    }
+    Ok(out.held().len())
 }
 
 /// What is wrong with the text of a stream that was read by two engines, one behind the other.
-fn differs(known: &(Catalogue, Requests), stream: &[u8], at: usize, text: &[u8]) -> &'static str
+fn differs(
+    alloc: Global,
+    known: &(Catalogue, Requests),
+    stream: &[u8],
+    at: usize,
+    text: &[u8],
+) -> Result<&'static str, Fail>
     requires { AreOf known.now.0 known.now.1 }
 {
     let (front, behind) = stream.split_at(stream.len().min(at));
     let mut room = [0; 4096];
     let mut sheet = Sheet::new(&mut room);
     let mut octets = [0; 14_240];
-    let Some(length) = saved(known, front, &mut sheet, &mut octets) else {
-        return "the save";
-    };
+    let length = saved(alloc, known, front, &mut sheet, &mut octets)?;
     if length > 1200 {
-        return "the length";
+        return Ok("the length");
     }
     let (checkpoint, _) = octets.split_at(length.min(1200));
-    let Ok(mut engine) = Engine::load(&known.0, &known.1, checkpoint) else {
-        return "the load";
-    };
+    let mut engine = Engine::load(alloc, &known.0, &known.1, checkpoint)?;
     if engine.feed(behind, &mut sheet).is_err() || engine.finish(&mut sheet).is_err() {
-        return "the lines";
+        return Ok("the lines");
     }
-    if sheet.held() == text { "" } else { "the text" }
+    if sheet.held() == text {
+        Ok("")
+    } else {
+        Ok("the text")
+    }
 }
 
 /// Why these octets are refused.
-fn refusal(known: &(Catalogue, Requests), octets: &[u8]) -> Option<LoadFault>
+fn refusal(alloc: Global, known: &(Catalogue, Requests), octets: &[u8]) -> Option<LoadFault>
     requires { AreOf known.now.0 known.now.1 }
 {
-    Engine::load(&known.0, &known.1, octets).err()
+    Engine::load(alloc, &known.0, &known.1, octets).err()
 }
 
 #[test]
@@ -125,7 +137,7 @@ fn a_loaded_engine_goes_on_behind_each_octet(rt: HostRuntime) -> Result<(), Fail
     let known = declared(rt.alloc(), DECLARED)?;
     let stream = <[u8; 152] as FromHex>::from_hex(STREAM).map_err(|_| Fail::from("the stream"))?;
     for at in 0..153 {
-        let differs = differs(&known, &stream, at, TEXT);
+        let differs = differs(rt.alloc(), &known, &stream, at, TEXT)?;
         assert!(rt; differs.is_empty(), "behind {at} octets: {differs}");
     }
     Ok(())
@@ -139,15 +151,15 @@ fn the_first_check_that_fails_is_told(rt: HostRuntime) -> Result<(), Fail> {
     let mut room = [0; 4096];
     let mut sheet = Sheet::new(&mut room);
     let mut octets = [0; 14_240];
-    let length = saved(&known, &stream, &mut sheet, &mut octets);
-    assert!(rt; length == Some(96));
+    let length = saved(rt.alloc(), &known, &stream, &mut sheet, &mut octets)?;
+    assert_eq!(rt; length, 96);
     let (whole, _) = octets.split_at(96);
-    assert!(rt; refusal(&known, whole).is_none());
-    assert!(rt; refusal(&other, whole) == Some(LoadFault::Catalogue));
+    assert!(rt; refusal(rt.alloc(), &known, whole).is_none());
+    assert!(rt; refusal(rt.alloc(), &other, whole) == Some(LoadFault::Catalogue));
     let (short, _) = octets.split_at(95);
-    assert!(rt; refusal(&known, short) == Some(LoadFault::Length));
+    assert!(rt; refusal(rt.alloc(), &known, short) == Some(LoadFault::Length));
     let (long, _) = octets.split_at(97);
-    assert!(rt; refusal(&known, long) == Some(LoadFault::Length));
+    assert!(rt; refusal(rt.alloc(), &known, long) == Some(LoadFault::Length));
     for (at, octet, want) in [
         (0, 0xb8, LoadFault::Magic),
         (11, 1, LoadFault::Version),
@@ -157,7 +169,10 @@ fn the_first_check_that_fails_is_told(rt: HostRuntime) -> Result<(), Fail> {
         let mut changed = octets;
         changed[at] = octet;
         let (changed, _) = changed.split_at(96);
-        assert!(rt; refusal(&known, changed) == Some(want), "octet {at}");
+        assert!(rt;
+            refusal(rt.alloc(), &known, changed) == Some(want),
+            "octet {at}"
+        );
     }
     Ok(())
 }
@@ -169,14 +184,13 @@ fn a_stream_is_full_at_its_limit(rt: HostRuntime) -> Result<(), Fail> {
     let full = <[u8; 96] as FromHex>::from_hex(FULL).map_err(|_| Fail::from("the octets"))?;
     let mut room = [0; 200];
     let mut sheet = Sheet::new(&mut room);
-    let Ok(mut engine) = Engine::load(&catalogue, &requests, &full) else {
-        return Err(Fail::from("the load"));
-    };
+    let mut engine = Engine::load(rt.alloc(), &catalogue, &requests, &full)?;
     let fed = engine.feed(b"G", &mut sheet);
     assert!(rt; fed == Ok(Status::Stopped(StreamFault::StreamLimit)));
     assert!(rt; engine.finish(&mut sheet).is_ok());
     assert!(rt; sheet.held() == LIMIT_TEXT);
     let over = <[u8; 96] as FromHex>::from_hex(TOO_FULL).map_err(|_| Fail::from("the octets"))?;
-    assert!(rt; Engine::load(&catalogue, &requests, &over).err() == Some(LoadFault::State));
+    let refused = Engine::load(rt.alloc(), &catalogue, &requests, &over).err();
+    assert!(rt; refused == Some(LoadFault::State));
     Ok(())
 }

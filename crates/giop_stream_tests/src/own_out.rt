@@ -34,12 +34,10 @@ fn line_feeds(octets: &[u8]) -> u64 {
     octets.iter().filter(|octet| **octet == b'\n').count() as u64
 }
 
-/// How many lines a stream has, read in pieces of a kibibyte.
-fn lines_of(catalogue: &Catalogue, requests: &Requests, stream: &[u8]) -> Result<u64, Stop>
-    requires { AreOf catalogue.now requests.now }
-{
+/// How many lines a stream has behind what an engine has read, in pieces of a kibibyte.
+fn lines_of(engine: Engine<'_>, stream: &[u8]) -> Result<u64, Stop> {
     let mut out = LineCount { lines: 0, puts: 0 };
-    let mut engine = Engine::new(catalogue, requests);
+    let mut engine = engine;
     for piece in stream.chunks(1024) {
         engine.feed(piece, &mut out)?;
     }
@@ -62,7 +60,8 @@ const CLOSED: &[u8] = b"GIOP\x01\x00\x00\x05\x00\x00\x00\x00GIOP";
 #[test]
 fn lines_are_counted(rt: HostRuntime) -> Result<(), Fail> {
     let known = built_in(rt.alloc())?;
-    let lines = lines_of(&known.0, &known.1, CLOSED);
+    let engine = Engine::new(rt.alloc(), &known.0, &known.1, 16)?;
+    let lines = lines_of(engine, CLOSED);
     assert!(rt; lines == Ok(4));
     Ok(())
 }

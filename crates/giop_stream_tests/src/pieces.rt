@@ -5,8 +5,9 @@ ghost use Rattle.giop_stream.specs.Holding.{AreOf};
 use super::known::declared;
 use giop_print::Sheet;
 use giop_sig::{Catalogue, Requests};
-use giop_stream::{Engine, Stop};
+use giop_stream::Engine;
 use hex::FromHex;
+use std::alloc::Global;
 use std::test::Fail;
 
 /// The operation of the stream.
@@ -41,15 +42,16 @@ const CUTS: &[&[usize]] = &[&[], &[53], &[83], &[84], &[85], &[53, 83, 84, 85]];
 
 /// Feeds octets up to each of these places, and then the others.
 fn dump(
+    alloc: Global,
     catalogue: &Catalogue,
     requests: &Requests,
     stream: &[u8],
     cuts: &[usize],
     sheet: &mut Sheet<'_>,
-) -> Result<(), Stop>
+) -> Result<(), Fail>
     requires { AreOf catalogue.now requests.now }
 {
-    let mut engine = Engine::new(catalogue, requests);
+    let mut engine = Engine::new(alloc, catalogue, requests, 16)?;
     let mut left = stream;
     let mut fed = 0usize;
     for cut in cuts {
@@ -71,8 +73,7 @@ fn a_stream_is_dumped_alike_however_its_pieces_are_cut(rt: HostRuntime) -> Resul
     for cuts in CUTS {
         let mut room = [0; 2048];
         let mut sheet = Sheet::new(&mut room);
-        let dumped = dump(&known.0, &known.1, &stream, cuts, &mut sheet);
-        assert!(rt; dumped.is_ok(), "cut behind {cuts:?}");
+        dump(rt.alloc(), &known.0, &known.1, &stream, cuts, &mut sheet)?;
         assert_eq!(rt; sheet.held(), LINES, "cut behind {cuts:?}");
     }
     Ok(())

@@ -7,6 +7,8 @@ use giop_print::Sheet;
 use giop_sig::{Catalogue, Requests};
 use giop_stream::{Engine, Stop};
 use hex::FromHex;
+use std::alloc::Global;
+use std::process::Abort;
 use std::test::Fail;
 
 /// The operations of the stream.
@@ -20,65 +22,68 @@ const STREAM: &str =
 47494f5001020200000000240000000603000000000000000000000141000000000000046e6f70000000000000000000";
 
 /// A row: how many octets of the stream are fed, how many octets the checkpoint has, and its fixed part.
-type Row = (usize, usize, &'static str);
+type Row = (usize, u64, &'static str);
 
 /// In front of a header, in one, in front of a payload, in the second message, and behind both.
 const ROWS: &[Row] = &[
     (
         0,
         96,
-        "47494f5044554d5000000002000000000000000200000000000000000000000000000000000000000000000000000000\
-0000000000000000000000ff000000000000000000000000000000000000000000000000000000000000000000000000",
+        "47494f5044554d5000000003000000000000000200000000000000000000000000000000000000000000000000000000\
+000000000000000000000000000000000000000000000000000000000000000000000010ffffffff0000000000000000",
     ),
     (
         5,
         96,
-        "47494f5044554d5000000002000000000000000200000000000000000000000000000000000000050000000000000000\
-0000000000000000000005ff47494f500100000000000000000000000000000000000000000000000000000000000000",
+        "47494f5044554d5000000003000000000000000200000000000000000000000000000000000000050000000000000000\
+00000000000000000000050047494f500100000000000000000000000000000000000010ffffffff0000000000000000",
     ),
     (
         12,
         400,
-        "47494f5044554d50000000020000000000000002000000000000000000000001000000000000000c0000000000000001\
-00000000000000000100000047494f500102020000000028000000000000002800000000000000000000000000000000",
+        "47494f5044554d50000000030000000000000002000000000000000000000001000000000000000c0000000000000001\
+00000000000000000100000047494f500102020000000028000000000000002800000010000000000000000000000000",
     ),
     (
         90,
         704,
-        "47494f5044554d50000000020000000000000002000000000000000000000002000000000000005a0000000000000002\
-00000000000000000100000147494f500102020000000024000000000000000a00000000000000000000000000000000",
+        "47494f5044554d50000000030000000000000002000000000000000000000002000000000000005a0000000000000002\
+00000000000000000100000047494f500102020000000024000000000000000a00000010000000010000000000000000",
     ),
     (
         100,
         656,
-        "47494f5044554d5000000002000000000000000200000000000000000000000200000000000000640000000000000002\
-0000000000000000000000ff000000000000000000000000000000000000000000000000000000000000000000000000",
+        "47494f5044554d5000000003000000000000000200000000000000000000000200000000000000640000000000000002\
+000000000000000000000000000000000000000000000000000000000000000000000010ffffffff0000000000000000",
     ),
 ];
 
 /// What differs of the checkpoint behind these octets.
 fn differs(
+    alloc: Global,
     catalogue: &Catalogue,
     requests: &Requests,
     stream: &[u8],
-    length: usize,
+    length: u64,
     fixed: &[u8],
-) -> &'static str
+) -> Result<&'static str, Fail>
     requires { AreOf catalogue.now requests.now }
 {
     let mut room = [0; 2048];
     let mut sheet = Sheet::new(&mut room);
-    let mut engine = Engine::new(catalogue, requests);
+    let mut engine = Engine::new(alloc, catalogue, requests, 16)?;
     if engine.feed(stream, &mut sheet).is_err() {
-        return "the lines";
+        return Ok("the lines");
     }
-    let mut octets = [0; 14_240];
-    match engine.save(&mut octets) {
-        Ok(saved) if saved != length => "the length",
-        Ok(_) if !octets.starts_with(fixed) => "the fixed part",
+    let mut octets = [0; 2048];
+    let mut out = Sheet::new(&mut octets);
+    let differs = match engine.save(&mut out) {
+        Ok(saved) if saved != length || saved != out.held().len() as u64 => "the length",
+        Ok(_) if !out.held().starts_with(fixed) => "the fixed part",
         Ok(_) => "",
         Err(_) => "the answer",
-    }
+    };
+    Ok(differs)
 }
 
 #[test]
@@ -88,7 +93,7 @@ fn a_checkpoint_has_its_length_and_fixed_part(rt: HostRuntime) -> Result<(), Fai
     for (fed, length, text) in ROWS {
         let fixed = <[u8; 96] as FromHex>::from_hex(text).map_err(|_| Fail::from("the row"))?;
         let (front, _) = stream.split_at(stream.len().min(*fed));
-        let differs = differs(&known.0, &known.1, front, *length, &fixed);
+        let differs = differs(rt.alloc(), &known.0, &known.1, front, *length, &fixed)?;
         assert!(rt; differs.is_empty(), "behind {fed} octets: {differs}");
     }
     Ok(())
@@ -99,11 +104,52 @@ fn a_failed_engine_saves_nothing(rt: HostRuntime) -> Result<(), Fail> {
     let known = declared(rt.alloc(), DECLARED)?;
     let mut room = [0; 20];
     let mut sheet = Sheet::new(&mut room);
-    let mut engine = Engine::new(&known.0, &known.1);
+    let mut engine = Engine::new(rt.alloc(), &known.0, &known.1, 16)?;
     let fed = engine.feed(b"GIOP\x01\x00\x00\x05\x00\x00\x00\x00", &mut sheet);
     assert!(rt; fed.is_err(), "a line of more than 20 octets");
-    let mut octets = [7; 14_240];
-    assert!(rt; engine.save(&mut octets) == Err(Stop::Failed));
-    assert!(rt; octets.first() == Some(&7));
+    let mut octets = [0; 96];
+    let mut out = Sheet::new(&mut octets);
+    assert!(rt; engine.save(&mut out) == Err(Stop::Failed) && out.held().is_empty());
+    Ok(())
+}
+
+/// What differs in a save over an out with so little room, and in one behind it.
+fn stopped_differs(engine: &Engine, whole: &[u8], room: usize) -> &'static str {
+    let mut octets = [0; 2048];
+    let mut out = Sheet::new(&mut octets[..room.min(2048)]);
+    if !matches!(engine.save(&mut out), Err(Stop::Out(_))) {
+        return "the answer";
+    }
+    if out.held().len() != room || !whole.starts_with(out.held()) {
+        return "the octets";
+    }
+    let mut again = [0; 2048];
+    let mut out = Sheet::new(&mut again);
+    if engine.is_failed() || engine.save(&mut out).is_err() || out.held() != whole {
+        return "the engine";
+    }
+    ""
+}
+
+/// Saves a stream over each out that has less room than its checkpoint.
+fn stops(rt: &impl Abort, engine: &Engine) {
+    let mut octets = [0; 2048];
+    let mut out = Sheet::new(&mut octets);
+    assert!(rt; engine.save(&mut out) == Ok(656));
+    for room in 0..656 {
+        let differs = stopped_differs(engine, out.held(), room);
+        assert!(rt; differs.is_empty(), "room {room}: {differs}");
+    }
+}
+
+#[test]
+fn a_put_that_fails_leaves_the_engine_and_a_front(rt: HostRuntime) -> Result<(), Fail> {
+    let known = declared(rt.alloc(), DECLARED)?;
+    let stream = <[u8; 100] as FromHex>::from_hex(STREAM).map_err(|_| Fail::from("the stream"))?;
+    let mut room = [0; 2048];
+    let mut sheet = Sheet::new(&mut room);
+    let mut engine = Engine::new(rt.alloc(), &known.0, &known.1, 16)?;
+    assert!(rt; engine.feed(&stream, &mut sheet).is_ok());
+    stops(&rt, &engine);
     Ok(())
 }

@@ -29,7 +29,7 @@ use Rattle.giop_stream.proofs.Keep.Parts.{effects_live}
 
 -- what is ready for an octet is ready for a later one
 pub ready_later : (C : Table) (n n' : ℕ) (s : Slots) → n ≤ n' → AreReady C n s → AreReady C n' s
-ready_later C n n' s less h = record { own_ready = later_ready C n n' s.own less h.own_ready; each_ready = all_later C n n' s.slots.items less h.each_ready }
+ready_later C n n' s less h = record { own_ready = later_ready C n n' s.own less h.own_ready; each_ready = all_later C n n' s.slots.entries less h.each_ready }
 
 pub starts_faults : (m : Message) (ls : List Line) → fault_count (starts m ∷ ls) ≡ fault_count ls
 unfolding fault_count
@@ -90,14 +90,14 @@ module _ (C : Table) (l : Listed) (s : Slots) (c : Tracked) (who : Option Title)
       go None e = record { more = _; is = ap (λ (p : Effect). p.lines) (begins e) }
       go (Some fault) e = record { more = _; is = ap (λ (p : Effect). p.lines) (refuses fault e) }
 
-  pub begun_at : (s' : Slots) → Keeps C l s' (begun (rules C l s.most) c m).tracked (Some (title m))
-      → IsAt C l s' (begun (rules C l s.most) c m).tracked m now
+  pub begun_at : (s' : Slots) → Keeps C l s' (begun (rules C l s.slots.most) c m).tracked (Some (title m))
+      → IsAt C l s' (begun (rules C l s.slots.most) c m).tracked m now
   begun_at s' k =
-      let live = begun_live (rules C l s.most) c m in
+      let live = begun_live (rules C l s.slots.most) c m in
       let none = none_come in
       let few : length m.payload < 4 = omega (arith, none) in
       record {
-        keeps = rw (whose_early (begun (rules C l s.most) c m).tracked.live m few) k;
+        keeps = rw (whose_early (begun (rules C l s.slots.most) c m).tracked.live m few) k;
         rising = rw live h.rising;
         current = h.current;
       }

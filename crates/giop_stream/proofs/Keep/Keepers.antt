@@ -1,12 +1,13 @@
 -- What the code keeps of the messages, event by event.
 use Rattle.std.proofs.Common.{◌≡◌, ℕ, ◌<◌, true, false, not, List, [], ◌∷◌, ◌++◌, length, refl, sym, ap, subst, ◌∙◌, Option, Some, None, Result, Ok, append-nil}
-use Rattle.std.specs.Prelude.{◌==◌, slice_get, slice_set}
+use Rattle.std.specs.Prelude.{◌==◌, slice_get, slice_set, option_map}
 use Rattle.std.specs.List.{filter, remove, AllByRecursion as Each}
 use Rattle.std.proofs.lemmas.Bool.{ne_eqb}
-use Rattle.arrayvec.specs.ArrayVec.{ArrayVec}
+use Rattle.giop_roster.specs.Roster.{Roll, with_value}
+use Rattle.giop_stream.specs.declared.slots.Slot.{Slot as Contents}
 use Rattle.giop_stream.specs.declared.fault.ImposedFault.{ImposedFault}
 use Rattle.giop_message.specs.declared.message.Message.{Message}
-use Rattle.giop_stream.specs.declared.slots.Slot.{Slot as Kept_slot}
+use Rattle.giop_stream.specs.Keeping.{Kept_slot, kept_as, with_message}
 use Rattle.giop_stream.specs.declared.slots.Slots.{Slots}
 use Rattle.giop_stream.specs.declared.slots.Payload.TheVariants as payload
 use Rattle.giop_sig.specs.Table.{Table}
@@ -23,7 +24,7 @@ use Rattle.giop_stream.specs.Performs.{TakesEffect, PartTakesEffect, Says, one_i
 use Rattle.giop_stream.proofs.Lists.{each_weaker, each_filter, filter_keeps}
 use Rattle.giop_stream.proofs.Keep.Performing.{performs_on, does_nothing}
 use Rattle.giop_stream.proofs.Keep.InPlace.{at_index, own_then, others_then, slot_at, no_slot, slot_gone, slot_comes}
-use Rattle.giop_stream.proofs.Keep.SlotLists.{slots_get, get_last, slots_many, slot_of, set_slot, no_more_slots, are_as_many, push_slot, remove_slot}
+use Rattle.giop_stream.proofs.Keep.SlotLists.{slots_get, get_last, slots_many, slot_of, entry_there, revalued_set, set_slot, no_more_slots, are_as_many, push_slot, remove_slot}
 
 -- ---- An event that opens and closes nothing.
 
@@ -88,8 +89,8 @@ module _ (C : Table) (l : Listed) where
   own_parts s c w e k = rw e at k.payload
 
   own_now : (s : Slots) (own' : Option Message) (c : Tracked) (w : Title) (effect : Effect) (part : Part) → Alters c w effect part
-      → AreSlots C l s.slots.items (slots_of c.known c.live) → IsNotOpen w.number c.live
-      → IsKept C l own' w part.octets → Keeps C l (record { slots = s.slots; most = s.most; own = own'; payload = payload.Own }) effect.tracked (Some w)
+      → AreSlots C l s.slots.entries (slots_of c.known c.live) → IsNotOpen w.number c.live
+      → IsKept C l own' w part.octets → Keeps C l (record { slots = s.slots; own = own'; payload = payload.Own }) effect.tracked (Some w)
   own_now s own' c w effect part alters slots apart kept = record {
     slots = rw (alters.live, no_slot effect.tracked.known c.known c.live w.number apart alters.others) slots;
     payload = (rw alters.live apart, rw alters.own kept);
@@ -102,20 +103,19 @@ module _ (C : Table) (l : Listed) where
       parts = rw e at h.payload
 
   slot_here : (s : Slots) (c : Tracked) (w : Title) (k : ℕ) (x : Kept_slot) → Keeps C l s c (Some w) → (p : Place s c w k)
-      → slice_get s.slots.items k ≡ Some x → IsSlot C l x (record { open_as = p.slot; octets = c.known w.number })
+      → slice_get s.slots.entries k ≡ Some x → IsSlot C l x (record { open_as = p.slot; octets = c.known w.number })
   slot_here s c w k x h p e =
       let number : p.slot.opener.number ≡ w.number = ap (λ (t : Title). t.number) p.is in
       let one =
-      slot_of C l s.slots.items (slots_of c.known c.live) k x
+      slot_of C l s.slots.entries (slots_of c.known c.live) k x
       (record { open_as = p.slot; octets = c.known p.slot.opener.number }) h.slots e (slots_get c k p.slot p.here) in
       subst (λ (n : ℕ). IsSlot C l x (record { open_as = p.slot; octets = c.known n })) number one
 
   slot_now : (s : Slots) (x : Kept_slot) (message : Option Message) (c : Tracked) (w : Title) (effect : Effect) (part : Part)
       (k : ℕ) → Alters c w effect part → Rising c.live → Keeps C l s c (Some w)
-      → s.payload ≡ payload.Open k → slice_get s.slots.items k ≡ Some x → IsKept C l message w part.octets
+      → s.payload ≡ payload.Open k → slice_get s.slots.entries k ≡ Some x → IsKept C l message w part.octets
       → Keeps C l (record {
-        slots = record { items = slice_set s.slots.items k (record x { message = message }) };
-        most = s.most;
+        slots = record { most = s.slots.most; entries = slice_set s.slots.entries k (with_message x message) };
         own = s.own;
         payload = payload.Open k;
       }) effect.tracked (Some w)
@@ -124,11 +124,11 @@ module _ (C : Table) (l : Listed) where
       let number : p.slot.opener.number ≡ w.number = ap (λ (t : Title). t.number) p.is in
       let was = slot_here s c w k x h p get in
       let slot : Slot = record { open_as = p.slot; octets = part.octets } in
-      let new : IsSlot C l (record x { message = message }) slot = record { number = was.number; header = was.header; id = was.id; message = rw p.is kept } in
+      let new : IsSlot C l (with_message x message) slot = record { number = was.number; header = was.header; id = was.id; message = rw p.is kept } in
       let slots' = slot_at effect.tracked.known c.known c.live k p.slot rising p.here (λ i other. alters.others i (λ same. other (same ∙ sym number))) in
       let later : effect.tracked.known p.slot.opener.number ≡ part.octets = ap effect.tracked.known number ∙ alters.own in
       record {
-        slots = rw (alters.live, slots', later) (set_slot C l s.slots.items (slots_of c.known c.live) k (record x { message = message }) slot h.slots new);
+        slots = rw (alters.live, slots', later) (set_slot C l s.slots.entries (slots_of c.known c.live) k (with_message x message) slot h.slots new);
         payload = (p.own, (p.slot, rw alters.live p.here, p.is));
       }
 
@@ -152,8 +152,8 @@ module _ (C : Table) (l : Listed) where
 
   -- what is kept in the slot of an open message
   in_slot : (s : Slots) (x : Kept_slot) (c : Tracked) (w : Title) (k : ℕ) → s.payload ≡ payload.Open k
-      → slice_get s.slots.items k ≡ Some x → Keeps C l s c (Some w)
-      → (w.number ≡ x.number) × IsKept C l x.message w (c.known w.number)
+      → slice_get s.slots.entries k ≡ Some x → Keeps C l s c (Some w)
+      → (w.number ≡ x.value.number) × IsKept C l x.value.message w (c.known w.number)
   in_slot s x c w k e get h =
       let p = place_of s c w k e h in
       let was = slot_here s c w k x h p get in
@@ -164,39 +164,43 @@ module _ (C : Table) (l : Listed) where
     pub own_effects : (s : Slots) (own' : Option Message) (c : Tracked) (w : Title) (effect : Effect) (part : Part)
         → s.payload ≡ payload.Own → Keeps C l s c (Some w) → Alters c w effect part
         → (IsKept C l s.own w (c.known w.number) → PartTakesEffect C l n r a b own' w part)
-        → TakesEffect C l n r a b (record { slots = s.slots; most = s.most; own = own'; payload = s.payload }) effect (Some w)
+        → TakesEffect C l n r a b (record { slots = s.slots; own = own'; payload = s.payload }) effect (Some w)
     own_effects s own' c w effect part e h alters f =
         let now = own_parts s c w e h in
         performs_on r a b alters.lines (λ k. rw e (own_now s own' c w effect part alters h.slots now.0 k)) (f now.1)
 
     -- of an open message
-    pub slot_effects : (s : Slots) (x : Kept_slot) (message : Option Message) (c : Tracked) (w : Title) (effect : Effect)
-        (part : Part) (k : ℕ) → s.payload ≡ payload.Open k → slice_get s.slots.items k ≡ Some x → Rising c.live
-        → Keeps C l s c (Some w) → Alters c w effect part
-        → (w.number ≡ x.number → IsKept C l x.message w (c.known w.number) → PartTakesEffect C l n r a b message w part)
+    pub slot_effects : (s : Slots) (v : Contents) (message : Option Message) (c : Tracked) (w : Title) (effect : Effect)
+        (part : Part) (k : ℕ) → s.payload ≡ payload.Open k → option_map (λ e. e.value) (slice_get s.slots.entries k) ≡ Some v
+        → Rising c.live → Keeps C l s c (Some w) → Alters c w effect part
+        → (w.number ≡ v.number → IsKept C l v.message w (c.known w.number) → PartTakesEffect C l n r a b message w part)
         → TakesEffect C l n r a b (record {
-          slots = record { items = slice_set s.slots.items k (record x { message = message }) };
-          most = s.most;
+          slots = with_value s.slots k (record v { message = message });
           own = s.own;
           payload = s.payload;
         }) effect (Some w)
-    slot_effects s x message c w effect part k e get rising h alters f =
-        let was = in_slot s x c w k e get h in
-        performs_on r a b alters.lines (λ kept. rw e (slot_now s x message c w effect part k alters rising h e get kept)) (f was.0 was.1)
+    slot_effects s v message c w effect part k e get rising h alters f =
+        let there = entry_there s.slots.entries k v get in
+        let x = there.0 in
+        let was = in_slot s x c w k e there.1 h in
+        performs_on r a b alters.lines
+        (λ kept. rw (e, ← there.2, revalued_set s.slots.entries k x message there.1)
+        (slot_now s x message c w effect part k alters rising h e there.1 kept))
+        (f (rw there.2 at was.0) (rw there.2 at was.1))
 
   -- there is a slot where an open message is
   pub no_slot_says : {A : Type 0} (s : Slots) (c : Tracked) (whose : Option Title) (k : ℕ) → s.payload ≡ payload.Open k
-      → (k < length s.slots.items → ⊥) → Keeps C l s c whose → A
+      → (k < length s.slots.entries → ⊥) → Keeps C l s c whose → A
   no_slot_says s c None k e n h = absurd (rw e at h.payload)
   no_slot_says s c (Some w) k e n h =
       let p = place_of s c w k e h in
-      absurd (n (no_more_slots C l s.slots.items (slots_of c.known c.live) k
+      absurd (n (no_more_slots C l s.slots.entries (slots_of c.known c.live) k
       (record { open_as = p.slot; octets = c.known p.slot.opener.number }) h.slots (slots_get c k p.slot p.here)))
 
   pub begin_keeps : (s : Slots) (m : Message) (c : Tracked) (whose : Option Title) (w : Title) (number : ℕ) (header : List ℕ)
       → Keeps C l s c whose → Follows C l number header m [] → w.number ≡ number → w.header ≡ header
       → c.known w.number ≡ Some [] → Each (λ o. o.opener.number ≡ w.number → ⊥) c.live
-      → Keeps C l (record { slots = s.slots; most = s.most; own = Some m; payload = payload.Own }) c (Some w)
+      → Keeps C l (record { slots = s.slots; own = Some m; payload = payload.Own }) c (Some w)
   begin_keeps s m c whose w number header h e n f known apart = record { slots = h.slots; payload = (apart, rw known kept) }
     where
       kept : IsKept C l (Some m) w (Some [])
@@ -217,16 +221,11 @@ module _ (C : Table) (l : Listed) where
       → Keeps C l s c (Some w) → w.number ≡ number → w.header ≡ header
       → Keeps C l (record {
         slots = record {
-          items = s.slots.items ++ record {
-            number = number;
-            header = header;
-            id = i;
-            message = s.own;
-          } ∷ [];
+          most = s.slots.most;
+          entries = s.slots.entries ++ kept_as i number header s.own ∷ [];
         };
-        most = s.most;
         own = None;
-        payload = payload.Open (length s.slots.items);
+        payload = payload.Open (length s.slots.entries);
       })
       (tracked_at (message_reading C l) c (event at w (Opens i))) (Some w)
   open_keeps s c w at number header i e h n f =
@@ -239,11 +238,11 @@ module _ (C : Table) (l : Listed) where
       each_weaker (λ a. a.opener.number ≡ w.number → ⊥)
       (λ a. (tracked_at (message_reading C l) c ev).known a.opener.number ≡ c.known a.opener.number)
       (λ a j. others_then (message_reading C l) c ev a.opener.number j) c.live own.0 in
-      let many : length s.slots.items ≡ length c.live = are_as_many C l s.slots.items (slots_of c.known c.live) h.slots ∙ slots_many c.known c.live in
+      let many : length s.slots.entries ≡ length c.live = are_as_many C l s.slots.entries (slots_of c.known c.live) h.slots ∙ slots_many c.known c.live in
       record {
         slots = rw (opened_live at c w i, slot_comes (tracked_at (message_reading C l) c ev).known c.known c.live o same, known)
-            (push_slot C l s.slots.items (slots_of c.known c.live)
-            (record { number = number; header = header; id = i; message = s.own })
+            (push_slot C l s.slots.entries (slots_of c.known c.live)
+            (kept_as i number header s.own)
             (record { open_as = o; octets = c.known w.number }) h.slots
             (record { number = sym n; header = sym f; id = refl; message = own.1 }));
         payload = (refl, (o, rw (opened_live at c w i, many) (get_last c.live o), refl));
@@ -286,65 +285,65 @@ module _ (C : Table) (l : Listed) where
   module _ {A E : Type 0} {n : A → ℕ} (r : Result A E) (a b : OutLog) (at : ℕ) where
     pub own_closes : (s : Slots) (own' : Option Message) (c : Tracked) (whose : Option Title) → s.payload ≡ payload.Own → own' ≡ None → Keeps C l s c whose
         → ((w : Title) → IsKept C l s.own w (c.known w.number) → Says n r a b (lines_of (message_reading C l) (event at w Closes) (c.known w.number)))
-        → TakesEffect C l n r a b (record { slots = s.slots; most = s.most; own = own'; payload = payload.Nobody }) (effect_to C l at c whose Closes) None
+        → TakesEffect C l n r a b (record { slots = s.slots; own = own'; payload = payload.Nobody }) (effect_to C l at c whose Closes) None
     own_closes s own' c None e none h f = absurd (rw e at h.payload)
     own_closes s own' c (Some w) e none h f =
         let now = own_parts s c w e h in
-        performs_on r a b refl (λ k. record { slots = own_gone c w at Closes s.slots.items gone_closes now.0 h.slots; payload = none }) (f w now.1)
+        performs_on r a b refl (λ k. record { slots = own_gone c w at Closes s.slots.entries gone_closes now.0 h.slots; payload = none }) (f w now.1)
 
-    pub slot_closes : (s : Slots) (x : Kept_slot) (slots' : ArrayVec Kept_slot) (c : Tracked) (whose : Option Title) (k : ℕ)
-        → s.payload ≡ payload.Open k → slice_get s.slots.items k ≡ Some x → slots'.items ≡ remove s.slots.items k
+    pub slot_closes : (s : Slots) (x : Kept_slot) (slots' : Roll Contents) (c : Tracked) (whose : Option Title) (k : ℕ)
+        → s.payload ≡ payload.Open k → slice_get s.slots.entries k ≡ Some x → slots'.entries ≡ remove s.slots.entries k
         → Rising c.live → Keeps C l s c whose
-        → ((w : Title) → IsKept C l x.message w (c.known w.number) → Says n r a b (lines_of (message_reading C l) (event at w Closes) (c.known w.number)))
-        → TakesEffect C l n r a b (record { slots = slots'; most = s.most; own = s.own; payload = payload.Nobody }) (effect_to C l at c whose Closes) None
+        → ((w : Title) → IsKept C l x.value.message w (c.known w.number) → Says n r a b (lines_of (message_reading C l) (event at w Closes) (c.known w.number)))
+        → TakesEffect C l n r a b (record { slots = slots'; own = s.own; payload = payload.Nobody }) (effect_to C l at c whose Closes) None
     slot_closes s x slots' c None k e get items rising h f = absurd (rw e at h.payload)
     slot_closes s x slots' c (Some w) k e get items rising h f =
         let p = place_of s c w k e h in
         performs_on r a b refl (λ j. record {
           slots = rw (items, ← p.is)
-              (slot_goes c k p.slot at Closes s.slots.items gone_closes rising p.here h.slots);
+              (slot_goes c k p.slot at Closes s.slots.entries gone_closes rising p.here h.slots);
           payload = p.own;
         })
         (f w (in_slot s x c w k e get h).1)
 
   pub nobody_closes : {E : Type 0} (log : OutLog) (at : ℕ) (s : Slots) (c : Tracked) (whose : Option Title) → s.payload ≡ payload.Nobody → Keeps C l s c whose
-      → TakesEffect {E = E} C l one_if (Ok false) log log (record { slots = s.slots; most = s.most; own = s.own; payload = payload.Nobody }) (effect_to C l at c whose Closes) None
+      → TakesEffect {E = E} C l one_if (Ok false) log log (record { slots = s.slots; own = s.own; payload = payload.Nobody }) (effect_to C l at c whose Closes) None
   nobody_closes log at s c None e h = does_nothing false log refl (record { slots = h.slots; payload = rw e at h.payload })
   nobody_closes log at s c (Some w) e h = absurd (rw e at h.payload)
 
   -- as the code does it
-  pub open_with : (s : Slots) (slots' : ArrayVec Kept_slot) (c : Tracked) (w : Title) (at number : ℕ) (header : List ℕ)
+  pub open_with : (s : Slots) (slots' : Roll Contents) (c : Tracked) (w : Title) (at number : ℕ) (header : List ℕ)
       (i : ℕ) (message own' : Option Message) (k : ℕ)
-      → slots'.items ≡ s.slots.items ++ record { number = number; header = header; id = i; message = message } ∷ []
-      → message ≡ s.own → own' ≡ None → k ≡ length s.slots.items
+      → slots'.entries ≡ s.slots.entries ++ kept_as i number header message ∷ []
+      → message ≡ s.own → own' ≡ None → k ≡ length s.slots.entries
       → s.payload ≡ payload.Own → Keeps C l s c (Some w) → w.number ≡ number → w.header ≡ header
-      → Keeps C l (record { slots = slots'; most = s.most; own = own'; payload = payload.Open k }) (tracked_at (message_reading C l) c (event at w (Opens i))) (Some w)
+      → Keeps C l (record { slots = slots'; own = own'; payload = payload.Open k }) (tracked_at (message_reading C l) c (event at w (Opens i))) (Some w)
   open_with s slots' c w at number header i message own' k items m o l e h n f =
       let all = open_keeps s c w at number header i e h n f in
       record { slots = rw (items, m) all.slots; payload = rw (o, l) all.payload }
 
   pub open_slot : (s : Slots) (x : Kept_slot) (c : Tracked) (whose : Option Title) (k : ℕ) (o : Open) → Keeps C l s c whose
-      → slice_get c.live k ≡ Some o → slice_get s.slots.items k ≡ Some x
+      → slice_get c.live k ≡ Some o → slice_get s.slots.entries k ≡ Some x
       → IsSlot C l x (record { open_as = o; octets = c.known o.opener.number })
   open_slot s x c whose k o h here e =
-      slot_of C l s.slots.items (slots_of c.known c.live) k x (record { open_as = o; octets = c.known o.opener.number }) h.slots e (slots_get c k o here)
+      slot_of C l s.slots.entries (slots_of c.known c.live) k x (record { open_as = o; octets = c.known o.opener.number }) h.slots e (slots_get c k o here)
 
   pub open_there : {A : Type 0} (s : Slots) (c : Tracked) (whose : Option Title) (k : ℕ) (o : Open)
-      → (k < length s.slots.items → ⊥) → Keeps C l s c whose → slice_get c.live k ≡ Some o → A
+      → (k < length s.slots.entries → ⊥) → Keeps C l s c whose → slice_get c.live k ≡ Some o → A
   open_there s c whose k o n h here =
-      absurd (n (no_more_slots C l s.slots.items (slots_of c.known c.live) k
+      absurd (n (no_more_slots C l s.slots.entries (slots_of c.known c.live) k
       (record { open_as = o; octets = c.known o.opener.number }) h.slots (slots_get c k o here)))
 
-  pub cancel_keeps : (s : Slots) (slots' : ArrayVec Kept_slot) (c : Tracked) (w : Title) (k : ℕ) (o : Open) (at j : ℕ)
+  pub cancel_keeps : (s : Slots) (slots' : Roll Contents) (c : Tracked) (w : Title) (k : ℕ) (o : Open) (at j : ℕ)
       → Keeps C l s c (Some w) → s.payload ≡ payload.Own → slice_get c.live k ≡ Some o → Rising c.live
-      → slots'.items ≡ remove s.slots.items k
-      → Keeps C l (record { slots = slots'; most = s.most; own = s.own; payload = s.payload }) (tracked_at (message_reading C l) c (event at o.opener (Cancelled j))) (Some w)
+      → slots'.entries ≡ remove s.slots.entries k
+      → Keeps C l (record { slots = slots'; own = s.own; payload = s.payload }) (tracked_at (message_reading C l) c (event at o.opener (Cancelled j))) (Some w)
   cancel_keeps s slots' c w k o at j h e here rising items =
       let p = own_parts s c w e h in
       let ev = event at o.opener (Cancelled j) in
       let apart : o.opener.number ≡ w.number → ⊥ = at_index (λ a. a.opener.number ≡ w.number → ⊥) c.live k o here p.0 in
       rw e (record {
-        slots = rw items (slot_goes c k o at (Cancelled j) s.slots.items (gone_cancelled j) rising here h.slots);
+        slots = rw items (slot_goes c k o at (Cancelled j) s.slots.entries (gone_cancelled j) rising here h.slots);
         payload = (
           rw (gone_live at c o.opener (Cancelled j) (gone_cancelled j))
               (each_filter (λ a. a.opener.number ≡ w.number → ⊥) (λ a. not (a.opener.number == o.opener.number)) c.live p.0),

@@ -1,6 +1,6 @@
 -- What the code does at a request id, by the slots that it finds.
-use Rattle.std.proofs.Common.{◌≡◌, ℕ, zero, suc, ◌<◌, ◌≤◌, Bool, true, false, List, [], ◌∷◌, length, refl, sym, ap, ◌∙◌, Option, Some, None, arith}
-use Rattle.std.specs.Prelude.{◌==◌, ◌||◌, slice_get, slice_index_or, is_some}
+use Rattle.std.proofs.Common.{◌≡◌, ℕ, ◌<◌, ◌≤◌, Bool, true, false, List, [], ◌∷◌, length, refl, sym, ap, ◌∙◌, Option, Some, None, arith}
+use Rattle.std.specs.Prelude.{◌==◌, ◌||◌, slice_get, option_map, is_some}
 use Rattle.std.specs.List.{find, position_from}
 use Rattle.giop_sig.specs.Table.{Table}
 use Rattle.giop_message.specs.Signatures.{Listed}
@@ -19,13 +19,13 @@ use Rattle.giop_stream.specs.Text.{line_text}
 use Rattle.giop_stream.specs.Stream.{fault_count}
 use Rattle.giop_cdr.specs.declared.order.Order.{Order}
 use Rattle.giop_stream.specs.Kinds.{may_be_cancelled}
-use Rattle.giop_stream.specs.declared.slots.Slot.{Slot as Kept_slot}
+use Rattle.giop_stream.specs.declared.slots.Slot.{Slot as Contents}
 use Rattle.giop_print.specs.Lines.{continues_line}
-use Rattle.giop_stream.specs.Keeping.{IsSlot, event}
+use Rattle.giop_stream.specs.Keeping.{event}
 use Rattle.giop_stream.specs.Whose.{IsNamed, opener_title, whose_named}
 use Rattle.giop_stream.proofs.Keep.Performing.{BeginsSo}
 use Rattle.giop_stream.proofs.Keep.Keepers.{open_slot}
-use Rattle.giop_stream.proofs.Keep.SlotLists.{are_as_many, slots_many}
+use Rattle.giop_stream.proofs.Keep.SlotLists.{are_as_many, entry_there, slots_many}
 use Rattle.giop_stream.proofs.Keep.Naming.{none_open, one_open}
 use Rattle.giop_stream.proofs.Keep.Cases.{opener_twice, opener_no_room, opener_opens, fragment_unknown, fragment_in_order, fragment_out_of_order, cancel_misses, cancel_spares, cancel_closes, other_id}
 
@@ -34,15 +34,6 @@ pub record IsFound (c : Tracked) (m : Message) (k : ℕ) : Type 0 where
   pub o : Open
   pub here : slice_get c.live k ≡ Some o
   pub is : opener_of c.live m ≡ Some o
-
--- what indexing reads, with this default
-pub read_slot : (items xs : List Kept_slot) (k : ℕ) (d : Kept_slot) → xs ≡ items → k < length items → slice_get items k ≡ Some (slice_index_or xs k d)
-read_slot items xs k d e less = rw e (go items k less)
-  where
-    go : (ys : List Kept_slot) (k : ℕ) → k < length ys → slice_get ys k ≡ Some (slice_index_or ys k d)
-    go [] k less = absurd (omega arith)
-    go (y ∷ ys) zero less = refl
-    go (y ∷ ys) (suc k) less = go ys k (omega arith)
 
 -- ---- What a header says by its kind.
 
@@ -96,63 +87,63 @@ module _ (C : Table) (l : Listed) (s : Slots) (c : Tracked) (m : Message) (now :
   unfolding opener_of
   opener_is name = ap (λ (n : ℕ). find (λ (o : Open). o.id == n) c.live) (h.id_is name)
 
-  pub misses : has_name m.header ≡ true → (r : Option ℕ) → r ≡ position_from (λ slot. slot.id == i) 0 s.slots.items
+  pub misses : has_name m.header ≡ true → (r : Option ℕ) → r ≡ position_from (λ slot. slot.key == i) 0 s.slots.entries
       → is_some r ≡ false → opener_of c.live m ≡ None
-  misses name None e n = opener_is name ∙ none_open C l s.slots.items c i h.keeps.slots (sym e)
+  misses name None e n = opener_is name ∙ none_open C l s.slots.entries c i h.keeps.slots (sym e)
   misses name (Some k) e n = absurd cc
 
-  pub finds : has_name m.header ≡ true → (k : ℕ) → Some k ≡ position_from (λ slot. slot.id == i) 0 s.slots.items → IsFound c m k
+  pub finds : has_name m.header ≡ true → (k : ℕ) → Some k ≡ position_from (λ slot. slot.key == i) 0 s.slots.entries → IsFound c m k
   finds name k e =
-      let f = one_open C l s.slots.items c i k h.keeps.slots (sym e) in
+      let f = one_open C l s.slots.entries c i k h.keeps.slots (sym e) in
       record { o = f.o; here = f.here; is = opener_is name ∙ f.is }
 
-  pub hits : has_name m.header ≡ true → (r : Option ℕ) → r ≡ position_from (λ slot. slot.id == i) 0 s.slots.items
+  pub hits : has_name m.header ≡ true → (r : Option ℕ) → r ≡ position_from (λ slot. slot.key == i) 0 s.slots.entries
       → is_some r ≡ true → (o : Open) × (opener_of c.live m ≡ Some o)
   hits name None e n = absurd cc
   hits name (Some k) e n = let f = finds name k e in (f.o, f.is)
 
-  pub as_many : length s.slots.items ≡ length c.live
-  as_many = are_as_many C l s.slots.items (slots_of c.known c.live) h.keeps.slots ∙ slots_many c.known c.live
+  pub as_many : length s.slots.entries ≡ length c.live
+  as_many = are_as_many C l s.slots.entries (slots_of c.known c.live) h.keeps.slots ∙ slots_many c.known c.live
 
   -- ---- A message that opens.
 
-  pub twice : (r : Option ℕ) → r ≡ position_from (λ slot. slot.id == i) 0 s.slots.items → is_some r ≡ true
+  pub twice : (r : Option ℕ) → r ≡ position_from (λ slot. slot.key == i) 0 s.slots.entries → is_some r ≡ true
       → is_fragment m.header ≡ false → is_opener m.header ≡ true
-      → effects (message_reading C l) c (at_id s.most c.live m) ≡ one_effect (message_reading C l) c now.place (title m) (Imposed IdOpen)
-  twice r e n f g = let o = hits (opener_named m.header g) r e n in opener_twice (rules C l s.most) c c.live m o.0 f g o.1 ∙ rw h.current.place refl
+      → effects (message_reading C l) c (at_id s.slots.most c.live m) ≡ one_effect (message_reading C l) c now.place (title m) (Imposed IdOpen)
+  twice r e n f g = let o = hits (opener_named m.header g) r e n in opener_twice (rules C l s.slots.most) c c.live m o.0 f g o.1 ∙ rw h.current.place refl
 
-  pub no_room : (r : Option ℕ) → r ≡ position_from (λ slot. slot.id == i) 0 s.slots.items → is_some r ≡ false
-      → s.most ≤ length s.slots.items → is_fragment m.header ≡ false → is_opener m.header ≡ true
-      → effects (message_reading C l) c (at_id s.most c.live m) ≡ one_effect (message_reading C l) c now.place (title m) (Imposed TooManyOpen)
+  pub no_room : (r : Option ℕ) → r ≡ position_from (λ slot. slot.key == i) 0 s.slots.entries → is_some r ≡ false
+      → s.slots.most ≤ length s.slots.entries → is_fragment m.header ≡ false → is_opener m.header ≡ true
+      → effects (message_reading C l) c (at_id s.slots.most c.live m) ≡ one_effect (message_reading C l) c now.place (title m) (Imposed TooManyOpen)
   no_room r e n full f g =
       let many = as_many in
-      let room : s.most ≤ length c.live = omega (arith, many, full) in
-      opener_no_room (rules C l s.most) c c.live m f g (misses (opener_named m.header g) r e n) room ∙ rw h.current.place refl
+      let room : s.slots.most ≤ length c.live = omega (arith, many, full) in
+      opener_no_room (rules C l s.slots.most) c c.live m f g (misses (opener_named m.header g) r e n) room ∙ rw h.current.place refl
 
-  pub opens_one : (r : Option ℕ) → r ≡ position_from (λ slot. slot.id == i) 0 s.slots.items → is_some r ≡ false
-      → length s.slots.items < s.most → is_fragment m.header ≡ false → is_opener m.header ≡ true
-      → effects (message_reading C l) c (at_id s.most c.live m) ≡ one_effect (message_reading C l) c now.place (title m) (Opens i)
+  pub opens_one : (r : Option ℕ) → r ≡ position_from (λ slot. slot.key == i) 0 s.slots.entries → is_some r ≡ false
+      → length s.slots.entries < s.slots.most → is_fragment m.header ≡ false → is_opener m.header ≡ true
+      → effects (message_reading C l) c (at_id s.slots.most c.live m) ≡ one_effect (message_reading C l) c now.place (title m) (Opens i)
   opens_one r e n few f g =
       let many = as_many in
-      let room : length c.live < s.most = omega (arith, many, few) in
-      opener_opens (rules C l s.most) c c.live m f g (misses (opener_named m.header g) r e n) room
+      let room : length c.live < s.slots.most = omega (arith, many, few) in
+      opener_opens (rules C l s.slots.most) c c.live m f g (misses (opener_named m.header g) r e n) room
       ∙ rw (h.current.place, h.id_is (opener_named m.header g)) refl
 
   -- ---- A Fragment.
 
   pub unknown : is_fragment m.header ≡ true → opener_of c.live m ≡ None
-      → effects (message_reading C l) c (at_id s.most c.live m) ≡ one_effect (message_reading C l) c now.place (title m) (Imposed NoOpen)
-  unknown f e = fragment_unknown (rules C l s.most) c c.live m f e ∙ rw h.current.place refl
+      → effects (message_reading C l) c (at_id s.slots.most c.live m) ≡ one_effect (message_reading C l) c now.place (title m) (Imposed NoOpen)
+  unknown f e = fragment_unknown (rules C l s.slots.most) c c.live m f e ∙ rw h.current.place refl
 
   pub in_order : (o : Open) → is_fragment m.header ≡ true → opener_of c.live m ≡ Some o → same_order (order m.header) (order o.opener.header) ≡ true
-      → effects (message_reading C l) c (at_id s.most c.live m) ≡ line_effect (goes_on m o) (no_effect c)
-  in_order o f e same = let xs = h.alive (fragment_named m.header f) in fragment_in_order (rules C l s.most) c c.live m o xs.0 f e xs.1 same
+      → effects (message_reading C l) c (at_id s.slots.most c.live m) ≡ line_effect (goes_on m o) (no_effect c)
+  in_order o f e same = let xs = h.alive (fragment_named m.header f) in fragment_in_order (rules C l s.slots.most) c c.live m o xs.0 f e xs.1 same
 
   pub out_of_order : (o : Open) → is_fragment m.header ≡ true → opener_of c.live m ≡ Some o → same_order (order m.header) (order o.opener.header) ≡ false
-      → effects (message_reading C l) c (at_id s.most c.live m) ≡ line_effect (goes_on m o) (one_effect (message_reading C l) c now.place o.opener (Imposed FragmentOrder))
+      → effects (message_reading C l) c (at_id s.slots.most c.live m) ≡ line_effect (goes_on m o) (one_effect (message_reading C l) c now.place o.opener (Imposed FragmentOrder))
   out_of_order o f e other =
       let xs = h.alive (fragment_named m.header f) in
-      fragment_out_of_order (rules C l s.most) c c.live m o xs.0 f e xs.1 other ∙ rw h.current.place refl
+      fragment_out_of_order (rules C l s.slots.most) c c.live m o xs.0 f e xs.1 other ∙ rw h.current.place refl
 
   -- the line of a Fragment, as the code writes it
   pub goes_text : (o : Open) (number : ℕ) → o.opener.number ≡ number → line_text (goes_on m o) ≡ continues_line now.number number
@@ -160,17 +151,21 @@ module _ (C : Table) (l : Listed) (s : Slots) (c : Tracked) (m : Message) (now :
 
   -- which begins all that is written
   pub goes_first : (o : Open) → is_fragment m.header ≡ true → opener_of c.live m ≡ Some o
-      → BeginsSo (goes_on m o) (effects (message_reading C l) c (at_id s.most c.live m)).lines
+      → BeginsSo (goes_on m o) (effects (message_reading C l) c (at_id s.slots.most c.live m)).lines
   goes_first o f e = go (same_order (order m.header) (order o.opener.header)) refl
     where
-      go : (b : Bool) → same_order (order m.header) (order o.opener.header) ≡ b → BeginsSo (goes_on m o) (effects (message_reading C l) c (at_id s.most c.live m)).lines
+      go : (b : Bool) → same_order (order m.header) (order o.opener.header) ≡ b → BeginsSo (goes_on m o) (effects (message_reading C l) c (at_id s.slots.most c.live m)).lines
       go true same = record { more = _; is = ap (λ (p : Effect). p.lines) (in_order o f e same) }
       go false other = record { more = _; is = ap (λ (p : Effect). p.lines) (out_of_order o f e other) }
 
   -- the slot of its opener
-  pub opener_slot : (k : ℕ) (o : Open) (x : Kept_slot) → slice_get c.live k ≡ Some o → slice_get s.slots.items k ≡ Some x
-      → IsSlot C l x (record { open_as = o; octets = c.known o.opener.number })
-  opener_slot k o x here e = open_slot C l s x c (Some (title m)) k o h.keeps here e
+  pub opener_slot : (k : ℕ) (o : Open) (v : Contents) → slice_get c.live k ≡ Some o
+      → option_map (λ e. e.value) (slice_get s.slots.entries k) ≡ Some v
+      → (v.number ≡ o.opener.number) × (v.header ≡ o.opener.header)
+  opener_slot k o v here e =
+      let there = entry_there s.slots.entries k v e in
+      let is = open_slot C l s there.0 c (Some (title m)) k o h.keeps here there.1 in
+      (rw there.2 at is.number, rw there.2 at is.header)
 
   pub orders : (o : Open) (a b : Order) (header : List ℕ) (r : Bool) → a ≡ order now.header → b ≡ order header
       → header ≡ o.opener.header → same_order a b ≡ r → same_order (order m.header) (order o.opener.header) ≡ r
@@ -178,25 +173,26 @@ module _ (C : Table) (l : Listed) (s : Slots) (c : Tracked) (m : Message) (now :
 
   -- ---- A CancelRequest.
 
-  pub misses_all : (r : Option ℕ) → r ≡ position_from (λ slot. slot.id == i) 0 s.slots.items → is_some r ≡ false
+  pub misses_all : (r : Option ℕ) → r ≡ position_from (λ slot. slot.key == i) 0 s.slots.entries → is_some r ≡ false
       → is_fragment m.header ≡ false → is_opener m.header ≡ false → is_cancel m.header ≡ true
-      → effects (message_reading C l) c (at_id s.most c.live m) ≡ no_effect c
-  misses_all r e n f g b = cancel_misses (rules C l s.most) c c.live m f g b (misses (cancel_named m.header b) r e n)
+      → effects (message_reading C l) c (at_id s.slots.most c.live m) ≡ no_effect c
+  misses_all r e n f g b = cancel_misses (rules C l s.slots.most) c c.live m f g b (misses (cancel_named m.header b) r e n)
 
   -- the header of the open message that is found
-  pub header_may : (o : Open) (x : Kept_slot) (k : ℕ) (r : Bool) → slice_get c.live k ≡ Some o
-      → slice_get s.slots.items k ≡ Some x → may_be_cancelled x.header ≡ r → may_be_cancelled o.opener.header ≡ r
-  header_may o x k r here e may = let slot = opener_slot k o x here e in rw (← slot.header) may
+  pub header_may : (o : Open) (v : Contents) (k : ℕ) (r : Bool) → slice_get c.live k ≡ Some o
+      → option_map (λ e. e.value) (slice_get s.slots.entries k) ≡ Some v → may_be_cancelled v.header ≡ r
+      → may_be_cancelled o.opener.header ≡ r
+  header_may o v k r here e may = let kept = opener_slot k o v here e in rw (← kept.1) may
 
   pub spares : (o : Open) → is_fragment m.header ≡ false → is_opener m.header ≡ false → is_cancel m.header ≡ true
       → opener_of c.live m ≡ Some o → may_be_cancelled o.opener.header ≡ false
-      → effects (message_reading C l) c (at_id s.most c.live m) ≡ no_effect c
-  spares o f g b e j = cancel_spares (rules C l s.most) c c.live m o f g b e j
+      → effects (message_reading C l) c (at_id s.slots.most c.live m) ≡ no_effect c
+  spares o f g b e j = cancel_spares (rules C l s.slots.most) c c.live m o f g b e j
 
   pub cancels_one : (o : Open) → is_fragment m.header ≡ false → is_opener m.header ≡ false → is_cancel m.header ≡ true
       → opener_of c.live m ≡ Some o → may_be_cancelled o.opener.header ≡ true
-      → effects (message_reading C l) c (at_id s.most c.live m) ≡ one_effect (message_reading C l) c now.place o.opener (Cancelled now.number)
-  cancels_one o f g b e j = cancel_closes (rules C l s.most) c c.live m o f g b e j ∙ rw (h.current.place, h.current.number) refl
+      → effects (message_reading C l) c (at_id s.slots.most c.live m) ≡ one_effect (message_reading C l) c now.place o.opener (Cancelled now.number)
+  cancels_one o f g b e j = cancel_closes (rules C l s.slots.most) c c.live m o f g b e j ∙ rw (h.current.place, h.current.number) refl
 
   -- ---- Any message.
 
@@ -204,5 +200,5 @@ module _ (C : Table) (l : Listed) (s : Slots) (c : Tracked) (m : Message) (now :
   header_is says r e = ap says h.current.header ∙ e
 
   pub no_name : is_fragment now.header ≡ false → is_opener now.header ≡ false → is_cancel now.header ≡ false
-      → effects (message_reading C l) c (at_id s.most c.live m) ≡ no_effect c
-  no_name f g b = other_id (rules C l s.most) c c.live m (header_is is_fragment false f) (header_is is_opener false g) (header_is is_cancel false b)
+      → effects (message_reading C l) c (at_id s.slots.most c.live m) ≡ no_effect c
+  no_name f g b = other_id (rules C l s.slots.most) c c.live m (header_is is_fragment false f) (header_is is_opener false g) (header_is is_cancel false b)

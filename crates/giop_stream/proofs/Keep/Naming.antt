@@ -2,7 +2,7 @@
 use Rattle.std.proofs.Common.{◌≡◌, ℕ, suc, ◌+◌, Bool, true, false, cond, List, [], ◌∷◌, refl, sym, ap, subst, ◌∙◌, Option, Some, None, arith}
 use Rattle.std.specs.Prelude.{◌==◌, slice_get}
 use Rattle.std.specs.List.{find, position_from}
-use Rattle.giop_stream.specs.declared.slots.Slot.{Slot as Kept_slot}
+use Rattle.giop_stream.specs.Keeping.{Kept_slot}
 use Rattle.giop_stream.specs.Events.{Open}
 use Rattle.giop_stream.specs.State.{Kept, slots_of}
 use Rattle.giop_stream.specs.Effects.{Tracked}
@@ -41,7 +41,7 @@ pub record OpenAt (c : Tracked) (i k : ℕ) : Type 0 where
 
 module _ (C : Table) (l : Listed) where
   ids_found : (ks : List Kept_slot) (K : Kept) (live : List Open) (i n : ℕ) → AreSlots C l ks (slots_of K live)
-      → position_from (λ slot. slot.id == i) n ks ≡ position_from (λ o. o.id == i) n live
+      → position_from (λ slot. slot.key == i) n ks ≡ position_from (λ o. o.id == i) n live
   unfolding slots_of
   ids_found [] K [] i n h = refl
   ids_found [] K (o ∷ live) i n h = absurd h
@@ -49,12 +49,12 @@ module _ (C : Table) (l : Listed) where
   ids_found (k ∷ ks) K (o ∷ live) i n h = let same = h.0.id in rw same (ap (λ (r : Option ℕ). cond (o.id == i) (Some n) r) (ids_found ks K live i (n + 1) h.1))
 
   pub none_open : (ks : List Kept_slot) (c : Tracked) (i : ℕ) → AreSlots C l ks (slots_of c.known c.live)
-      → position_from (λ slot. slot.id == i) 0 ks ≡ None → find (λ o. o.id == i) c.live ≡ None
+      → position_from (λ slot. slot.key == i) 0 ks ≡ None → find (λ o. o.id == i) c.live ≡ None
   unfolding Found
   none_open ks c i h e = subst (Found c.live i 0) (sym (ids_found ks c.known c.live i 0 h) ∙ e) (found c.live i 0)
 
   pub one_open : (ks : List Kept_slot) (c : Tracked) (i k : ℕ) → AreSlots C l ks (slots_of c.known c.live)
-      → position_from (λ slot. slot.id == i) 0 ks ≡ Some k → OpenAt c i k
+      → position_from (λ slot. slot.key == i) 0 ks ≡ Some k → OpenAt c i k
   unfolding Found
   one_open ks c i k h e =
       let f = subst (Found c.live i 0) (sym (ids_found ks c.known c.live i 0 h) ∙ e) (found c.live i 0) in

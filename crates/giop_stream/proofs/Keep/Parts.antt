@@ -168,21 +168,21 @@ module _ (C : Table) (l : Listed) (s : Slots) (c : Tracked) (m : Message) (now :
   unfolding place
   some_place = omega (arith, h.current.place)
 
-  takes_at : first (rules C l s.most) c (with_octet m x) ≡ effect_to C l now.place c (whose c.live m) (Takes x)
+  takes_at : first (rules C l s.slots.most) c (with_octet m x) ≡ effect_to C l now.place c (whose c.live m) (Takes x)
   takes_at = rw (← whose_next c.live m x) (octet_does C l c (with_octet m x) x now.place last_is h.current.place)
 
   -- which is a run of one octet
-  pub takes_effect : first (rules C l s.most) c (with_octet m x) ≡ run_effect C l (now.place - 1) c (whose c.live m) (x ∷ [])
+  pub takes_effect : first (rules C l s.slots.most) c (with_octet m x) ≡ run_effect C l (now.place - 1) c (whose c.live m) (x ∷ [])
   unfolding run_effect
   takes_effect =
       let effect = effect_to C l now.place c (whose c.live m) (Takes x) in
       takes_at ∙ rw some_place (λ j. record { tracked = effect.tracked; lines = sym (append-nil effect.lines) j })
 
   known_is : length m.payload < 4 → has_name m.header ≡ true
-      → (first (rules C l s.most) c (with_octet m x)).tracked.known m.number ≡ Some (m.payload ++ x ∷ [])
+      → (first (rules C l s.slots.most) c (with_octet m x)).tracked.known m.number ≡ Some (m.payload ++ x ∷ [])
   known_is few name =
       let w : whose_octet c.live (with_octet m x) ≡ Some (title m) = whose_own c.live (with_octet m x) (omega (arith, length_push m.payload x)) in
-      let tracked : (first (rules C l s.most) c (with_octet m x)).tracked ≡ tracked_at (message_reading C l) c (event now.place (title m) (Takes x)) =
+      let tracked : (first (rules C l s.slots.most) c (with_octet m x)).tracked ≡ tracked_at (message_reading C l) c (event now.place (title m) (Takes x)) =
       ap (λ (p : Effect). p.tracked) (octet_does C l c (with_octet m x) x now.place last_is h.current.place)
       ∙ ap (λ (v : Option Title). (effect_to C l now.place c v (Takes x)).tracked) w in
       ap (λ (d : Tracked). d.known m.number) tracked
@@ -190,9 +190,9 @@ module _ (C : Table) (l : Listed) (s : Slots) (c : Tracked) (m : Message) (now :
       ∙ rw (h.alive name few) (named_then (message_reading C l) (in_turn C l) now.place (title m) m.payload x name few))
 
   pub taken_here : (s' : Slots) → Keeps C l s' (run_effect C l (now.place - 1) c (whose c.live m) (x ∷ [])).tracked
-      (whose c.live m) → IsTaken C l s' (first (rules C l s.most) c (with_octet m x)).tracked (with_octet m x) now
+      (whose c.live m) → IsTaken C l s' (first (rules C l s.slots.most) c (with_octet m x)).tracked (with_octet m x) now
   taken_here s' k =
-      let R = rules C l s.most in
+      let R = rules C l s.slots.most in
       let m' = with_octet m x in
       let live : (first R c m').tracked.live ≡ c.live = first_live R c m' in
       let w : whose_octet (first R c m').tracked.live m' ≡ whose c.live m = ap (λ (open' : List Open). whose_octet open' m') live ∙ whose_next c.live m x in
@@ -209,11 +209,11 @@ module _ (C : Table) (l : Listed) (s : Slots) (c : Tracked) (m : Message) (now :
   pub come_is : length (m.payload ++ x ∷ []) ≡ now.come
   come_is = omega (arith, length_push m.payload x, h.come)
 
-  pub named_at : (s' : Slots) → Keeps C l s' (second (rules C l s.most) c (with_octet m x)).tracked
-      (whose (first (rules C l s.most) c (with_octet m x)).tracked.live (with_octet m x))
-      → IsAt C l s' (second (rules C l s.most) c (with_octet m x)).tracked (with_octet m x) now
+  pub named_at : (s' : Slots) → Keeps C l s' (second (rules C l s.slots.most) c (with_octet m x)).tracked
+      (whose (first (rules C l s.slots.most) c (with_octet m x)).tracked.live (with_octet m x))
+      → IsAt C l s' (second (rules C l s.slots.most) c (with_octet m x)).tracked (with_octet m x) now
   named_at s' k =
-      let R = rules C l s.most in
+      let R = rules C l s.slots.most in
       let m' = with_octet m x in
       record {
         keeps = rw (← second_whose R c m') k;

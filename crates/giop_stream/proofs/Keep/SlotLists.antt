@@ -1,15 +1,16 @@
 -- The slots of the code beside those that are known, one by one; and what of them can take an octet.
-use Rattle.std.proofs.Common.{◌≡◌, ℕ, zero, suc, ◌<◌, ◌≤◌, List, [], ◌∷◌, ◌++◌, length, refl, sym, ap, Option, Some, None, arith}
-use Rattle.std.specs.Prelude.{slice_get, slice_set, slice_index_or}
+use Rattle.std.proofs.Common.{◌≡◌, ℕ, zero, suc, ◌<◌, ◌≤◌, List, [], ◌∷◌, ◌++◌, length, get_or, refl, sym, ap, Option, Some, None, arith}
+use Rattle.std.specs.Prelude.{slice_get, slice_set, slice_index_or, option_map}
 use Rattle.std.specs.List.{remove, AllByRecursion as Each}
 use Rattle.giop_message.specs.declared.message.Message.{Message}
-use Rattle.giop_stream.specs.declared.slots.Slot.{Slot as Kept_slot}
+use Rattle.giop_roster.specs.Roster.{revalued}
+use Rattle.giop_stream.specs.declared.slots.Slot.{Slot as Contents}
 use Rattle.giop_sig.specs.Table.{Table}
 use Rattle.giop_message.specs.Signatures.{Listed}
 use Rattle.giop_stream.specs.Events.{Open}
 use Rattle.giop_stream.specs.State.{Slot, Kept, slots_of}
 use Rattle.giop_stream.specs.Effects.{Tracked}
-use Rattle.giop_stream.specs.Keeping.{IsReady, IsSlot, AreSlots}
+use Rattle.giop_stream.specs.Keeping.{Kept_slot, with_message, IsReady, IsSlot, AreSlots}
 
 pub get_some : {A : Type 0} (xs : List A) (k : ℕ) (x : A) → k < length xs → x ≡ slice_index_or xs k x → slice_get xs k ≡ Some x
 get_some [] k x h e = absurd (omega arith)
@@ -35,6 +36,44 @@ pub slots_many : (K : Kept) (live : List Open) → length (slots_of K live) ≡ 
 unfolding slots_of
 slots_many K [] = refl
 slots_many K (o ∷ live) = ap suc (slots_many K live)
+
+-- ---- A value among the entries of a roster.
+
+-- the entry that it stands in
+pub entry_there : (ks : List Kept_slot) (k : ℕ) (v : Contents) → option_map (λ e. e.value) (slice_get ks k) ≡ Some v
+    → (x : Kept_slot) × (slice_get ks k ≡ Some x) × (x.value ≡ v)
+entry_there [] k v e = absurd cc
+entry_there (y ∷ ks) zero v e = (y, refl, (let same : y.value ≡ v = cc in same))
+entry_there (y ∷ ks) (suc k) v e = entry_there ks k v e
+
+-- the entry with this id and this value
+pub entry_is : (ks : List Kept_slot) (k : ℕ) (x : Kept_slot) → option_map (λ e. e.key) (slice_get ks k) ≡ Some x.key
+    → option_map (λ e. e.value) (slice_get ks k) ≡ Some x.value → x ≡ get_or ks k x
+entry_is [] k x i v = absurd cc
+entry_is (y ∷ ks) zero x i v =
+    let id : y.key ≡ x.key = cc in
+    let value : y.value ≡ x.value = cc in
+    let same : record { key = x.key; value = x.value } ≡ record { key = y.key; value = y.value } = rw (id, value) refl in
+    same
+entry_is (y ∷ ks) (suc k) x i v = entry_is ks k x i v
+
+pub value_at : (ks : List Kept_slot) (k : ℕ) (v : Contents) (d : Kept_slot) → option_map (λ e. e.value) (slice_get ks k) ≡ Some v
+    → (get_or ks k d).value ≡ v
+value_at [] k v d e = absurd cc
+value_at (y ∷ ks) zero v d e = let same : y.value ≡ v = cc in same
+value_at (y ∷ ks) (suc k) v d e = value_at ks k v d e
+
+pub none_behind : (ks : List Kept_slot) (k : ℕ) → None ≡ option_map (λ e. e.value) (slice_get ks k) → k < length ks → ⊥
+none_behind [] k e l = omega (arith, l)
+none_behind (y ∷ ks) zero e l = let no : None ≡ Some y.value = e in cc
+none_behind (y ∷ ks) (suc k) e l = none_behind ks k e (omega (arith, l))
+
+-- with another message kept of it
+pub revalued_set : (ks : List Kept_slot) (k : ℕ) (x : Kept_slot) (message : Option Message) → slice_get ks k ≡ Some x
+    → revalued ks k (with_message x message).value ≡ slice_set ks k (with_message x message)
+revalued_set [] k x message e = refl
+revalued_set (y ∷ ks) zero x message e = let same : y ≡ x = cc in rw same refl
+revalued_set (y ∷ ks) (suc k) x message e = ap (λ (more : List Kept_slot). y ∷ more) (revalued_set ks k x message e)
 
 module _ (C : Table) (l : Listed) where
   pub slot_of : (ks : List Kept_slot) (ss : List Slot) (k : ℕ) (x : Kept_slot) (s : Slot) → AreSlots C l ks ss
@@ -86,17 +125,23 @@ pub later_ready : (C : Table) (n n' : ℕ) (message : Option Message) → n ≤ 
 later_ready C n n' None less h = tt
 later_ready C n n' (Some m) less h = (h.0, omega (arith, h.1))
 
-pub all_later : (C : Table) (n n' : ℕ) (ks : List Kept_slot) → n ≤ n' → Each (λ slot. IsReady C n slot.message) ks → Each (λ slot. IsReady C n' slot.message) ks
+pub all_later : (C : Table) (n n' : ℕ) (ks : List Kept_slot) → n ≤ n' → Each (λ slot. IsReady C n slot.value.message) ks → Each (λ slot. IsReady C n' slot.value.message) ks
 all_later C n n' [] less h = tt
-all_later C n n' (k ∷ ks) less h = (later_ready C n n' k.message less h.0, all_later C n n' ks less h.1)
+all_later C n n' (k ∷ ks) less h = (later_ready C n n' k.value.message less h.0, all_later C n n' ks less h.1)
 
-pub set_ready : (C : Table) (n : ℕ) (ks : List Kept_slot) (k : ℕ) (x : Kept_slot) → IsReady C n x.message
-    → Each (λ slot. IsReady C n slot.message) ks → Each (λ slot. IsReady C n slot.message) (slice_set ks k x)
+pub set_ready : (C : Table) (n : ℕ) (ks : List Kept_slot) (k : ℕ) (x : Kept_slot) → IsReady C n x.value.message
+    → Each (λ slot. IsReady C n slot.value.message) ks → Each (λ slot. IsReady C n slot.value.message) (slice_set ks k x)
 set_ready C n [] k x h hs = tt
 set_ready C n (y ∷ ks) zero x h hs = (h, hs.1)
 set_ready C n (y ∷ ks) (suc k) x h hs = (hs.0, set_ready C n ks k x h hs.1)
 
-pub push_ready : (C : Table) (n : ℕ) (ks : List Kept_slot) (x : Kept_slot) → IsReady C n x.message
-    → Each (λ slot. IsReady C n slot.message) ks → Each (λ slot. IsReady C n slot.message) (ks ++ x ∷ [])
+pub value_ready : (C : Table) (n : ℕ) (ks : List Kept_slot) (k : ℕ) (v : Contents) → IsReady C n v.message
+    → Each (λ slot. IsReady C n slot.value.message) ks → Each (λ slot. IsReady C n slot.value.message) (revalued ks k v)
+value_ready C n [] k v h hs = tt
+value_ready C n (y ∷ ks) zero v h hs = (h, hs.1)
+value_ready C n (y ∷ ks) (suc k) v h hs = (hs.0, value_ready C n ks k v h hs.1)
+
+pub push_ready : (C : Table) (n : ℕ) (ks : List Kept_slot) (x : Kept_slot) → IsReady C n x.value.message
+    → Each (λ slot. IsReady C n slot.value.message) ks → Each (λ slot. IsReady C n slot.value.message) (ks ++ x ∷ [])
 push_ready C n [] x h hs = (h, tt)
 push_ready C n (y ∷ ks) x h hs = (hs.0, push_ready C n ks x h hs.1)

@@ -75,11 +75,11 @@ module _ (C : Table) (l : Listed) (s : Slots) (c : Tracked) (m : Message) (now :
   four_is : (now.come == 4) ≡ true → length m.payload ≡ 4
   four_is e = h.come ∙ eqb-true now.come 4 e
 
-  pub id_here : (now.come == 4) ≡ true → id_events s.most c.live m ≡ at_id s.most c.live m
+  pub id_here : (now.come == 4) ≡ true → id_events s.slots.most c.live m ≡ at_id s.slots.most c.live m
   unfolding id_events
   id_here e = rw (eq-eqb (length m.payload) 4 (four_is e)) refl
 
-  pub no_id : (now.come == 4) ≡ false → effects (message_reading C l) c (id_events s.most c.live m) ≡ no_effect c
+  pub no_id : (now.come == 4) ≡ false → effects (message_reading C l) c (id_events s.slots.most c.live m) ≡ no_effect c
   unfolding id_events
   no_id e = rw (h.come, e) (effects_none (message_reading C l) c)
 

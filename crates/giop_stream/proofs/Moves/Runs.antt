@@ -1,6 +1,6 @@
 -- What octets of a message's contents make of it, taken in one go.
 use Rattle.std.proofs.Common.{◌≡◌, ℕ, suc, ◌+◌, Bool, true, false, List, [], ◌∷◌, ◌++◌, take, drop, refl, sym, ap, subst, ◌∙◌, append_assoc, append-nil, add-one, Option, Some, None, Result, Ok, arith}
-use Rattle.std.specs.Prelude.{◌||◌, if◌then◌else◌, is_some, slice_get, slice_set}
+use Rattle.std.specs.Prelude.{◌||◌, if◌then◌else◌, is_some, slice_get, option_map}
 use Rattle.std.specs.List.{list_any}
 use Rattle.std.proofs.lemmas.List.{take-append-drop}
 use Rattle.giop_print.specs.Output.{OutLog, Wrote}
@@ -11,7 +11,8 @@ use Rattle.giop_message.specs.Messages.{message, told_of, stage_of}
 use Rattle.giop_message.specs.MessageReading.{message_reading, is_over, is_wrong}
 use Rattle.giop_message.specs.Holding.{due, due_text, Follows, TookAll, FaultedAt}
 use Rattle.giop_message.proofs.MessageLaws.{octet_over, text_both, text_none, text_over, over_where_faulted, told_more, follows_goes}
-use Rattle.giop_stream.specs.declared.slots.Slot.{Slot as Kept_slot}
+use Rattle.giop_roster.specs.Roster.{with_value}
+use Rattle.giop_stream.specs.declared.slots.Slot.{Slot as Contents}
 use Rattle.giop_stream.specs.declared.slots.Slots.{Slots}
 use Rattle.giop_stream.specs.declared.slots.Payload.TheVariants as payload
 use Rattle.giop_stream.specs.Events.{Title, Takes, Rising}
@@ -215,33 +216,28 @@ module _ (C : Table) (l : Listed) where
     Makes message w = PartTakesEffect C l one_if r a b message w (run_part C l before w (c.known w.number) xs)
 
     pub own_runs : (own' : Option Message) → s.payload ≡ payload.Own → ((w : Title) → IsKept C l s.own w (c.known w.number) → Makes own' w)
-        → TakesEffect C l one_if r a b (record { slots = s.slots; most = s.most; own = own'; payload = s.payload }) (run_effect C l before c whose xs) whose
+        → TakesEffect C l one_if r a b (record { slots = s.slots; own = own'; payload = s.payload }) (run_effect C l before c whose xs) whose
     own_runs own' e f =
-        own_has C l (λ whose. TakesEffect C l one_if r a b (record { slots = s.slots; most = s.most; own = own'; payload = s.payload })
+        own_has C l (λ whose. TakesEffect C l one_if r a b (record { slots = s.slots; own = own'; payload = s.payload })
         (run_effect C l before c whose xs) whose) s c whose e h
         (λ w k. own_effects C l r a b s own' c w _ _ e k (run_alters w xs before c) (f w))
 
-    pub slot_runs : (x : Kept_slot) (message : Option Message) (k : ℕ) → s.payload ≡ payload.Open k
-        → slice_get s.slots.items k ≡ Some x → Rising c.live
-        → ((w : Title) → IsKept C l x.message w (c.known w.number) → Makes message w)
+    pub slot_runs : (v : Contents) (message : Option Message) (k : ℕ) → s.payload ≡ payload.Open k
+        → option_map (λ e. e.value) (slice_get s.slots.entries k) ≡ Some v → Rising c.live
+        → ((w : Title) → IsKept C l v.message w (c.known w.number) → Makes message w)
         → TakesEffect C l one_if r a b (record {
-          slots = record {
-            items = slice_set s.slots.items k
-                (record x { message = message });
-          };
-          most = s.most;
+          slots = with_value s.slots k (record v { message = message });
           own = s.own;
           payload = s.payload;
         }) (run_effect C l before c whose xs) whose
-    slot_runs x message k e get rising f =
+    slot_runs v message k e get rising f =
         slot_has C l (λ whose. TakesEffect C l one_if r a b
         (record {
-          slots = record { items = slice_set s.slots.items k (record x { message = message }) };
-          most = s.most;
+          slots = with_value s.slots k (record v { message = message });
           own = s.own;
           payload = s.payload;
         }) (run_effect C l before c whose xs) whose) s c whose k e h
-        (λ w kept. slot_effects C l r a b s x message c w _ _ k e get rising kept (run_alters w xs before c) (λ n. f w))
+        (λ w kept. slot_effects C l r a b s v message c w _ _ k e get rising kept (run_alters w xs before c) (λ n. f w))
 
   pub nobody_runs : {E : Type 0} (log : OutLog) (s : Slots) (c : Tracked) (whose : Option Title) (before : ℕ) (xs : List ℕ)
       → s.payload ≡ payload.Nobody → Keeps C l s c whose

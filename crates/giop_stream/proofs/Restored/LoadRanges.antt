@@ -11,11 +11,12 @@ use Rattle.giop_message.specs.Signatures.{Listed, said_by}
 use Rattle.giop_message.proofs.MessageLaws.{is_causal}
 use Rattle.giop_checkpoint.specs.declared.fault.StreamFault.{StreamFault}
 use Rattle.giop_checkpoint.specs.declared.fixed.Place.TheVariants.{Header, Payload}
-use Rattle.giop_checkpoint.specs.Fixed.{PlaceHasRange, IsAmong, HasRange}
+use Rattle.giop_checkpoint.specs.Layouts.{IsAmong}
+use Rattle.giop_checkpoint.specs.Fixed.{PlaceHasRange, HasRange}
 use Rattle.giop_stream.specs.declared.slots.Payload.{Payload as Whose}
 use Rattle.giop_stream.specs.declared.slots.Payload.TheVariants as payload
 use Rattle.giop_stream.specs.Headers.{offence}
-use Rattle.giop_stream.specs.Rules.{Rules, rules, most_open}
+use Rattle.giop_stream.specs.Rules.{Rules, rules}
 use Rattle.giop_stream.specs.Framing.{Message, Cut, cut, limit, read_of, fault_of}
 use Rattle.giop_stream.specs.Events.{place, open_after}
 use Rattle.giop_stream.specs.State.{slots_of, octets_of}
@@ -159,11 +160,11 @@ module _ (octets p : List ℕ) (C : Table) (l : Listed) (most : ℕ) (s : Spells
   unfolding state_of
   free none = free_stop (cut p).stop (sym s.shows.stopped ∙ none)
 
-  pub few_slots : length s.memory.slots.slots.items ≤ most
+  pub few_slots : length s.memory.slots.slots.entries ≤ most
   unfolding state_of
   few_slots =
       let K = octets_of R p in
-      let many = are_as_many C l s.memory.slots.slots.items (slots_of K (open_after most p)) s.shows.slots in
+      let many = are_as_many C l s.memory.slots.slots.entries (slots_of K (open_after most p)) s.shows.slots in
       omega (arith, many, slots_many K (open_after most p), few_open most p)
 
   header_is : IsWithin s.memory.totals.octets s.memory.header
@@ -178,17 +179,18 @@ module _ (octets p : List ℕ) (C : Table) (l : Listed) (most : ℕ) (s : Spells
     held = header_is.1;
   }
 
-  pub fixed_range : most ≤ most_open → HasRange (fixed_of C l s.memory)
+  pub fixed_range : HasRange s.layout (fixed_of C l s.memory)
   unfolding fixed_of IsWithin limit
-  fixed_range room =
+  fixed_range =
       let few = octets_few R p in
       let twelfth = messages_few R causal laws p in
       let m = s.memory in
       record {
-        records = omega (arith, few_slots, room, one_own m.slots.own);
+        most_open = rw s.limit s.allows;
+        records = omega (arith, few_slots, s.limit, one_own m.slots.own);
         octets = rw totals_are (omega (arith, few));
         messages = rw totals_are (omega (arith, few, twelfth));
         faults = rw totals_are (omega (arith, few, twelfth, tally_faults R causal laws p, one_stop (cut p).stop));
         place = place_range m.stopped m.header m.come header_is.0;
-        owner = owner_among m.slots.payload (length m.slots.slots.items) m.slots.own;
+        owner = owner_among m.slots.payload (length m.slots.slots.entries) m.slots.own;
       }

@@ -12,16 +12,15 @@ use Rattle.giop_checkpoint.specs.declared.record.Record.{Record}
 use Rattle.giop_checkpoint.specs.declared.record.FirstRecord.{FirstRecord}
 use Rattle.giop_checkpoint.specs.declared.record.Standing.TheVariants as standings
 use Rattle.giop_checkpoint.specs.Records.{Entry, EntryHasRange, entry_octets}
-use Rattle.giop_stream.specs.declared.slots.Slot.{Slot}
+use Rattle.giop_stream.specs.Keeping.{Kept_slot}
 use Rattle.giop_stream.specs.declared.slots.Slots.{Slots}
-use Rattle.giop_stream.specs.Rules.{most_open}
 use Rattle.giop_stream.specs.Events.{Title}
 use Rattle.giop_stream.specs.State.{Slot as Held}
 use Rattle.giop_stream.specs.Engine.{Own}
 use Rattle.giop_stream.specs.Keeping.{IsReady, IsKept, IsSlot, AreSlots}
 use Rattle.giop_stream.specs.Showing.{IsOwn}
 use Rattle.giop_stream.specs.Checkpoint.{IsStored, IsHeld, AreEntries, standing_of}
-use Rattle.giop_stream.specs.Reloading.{IsEntry, pushed, IsOpenEntry, IsCurrentEntry, AreLeft, HasAdded}
+use Rattle.giop_stream.specs.Reloading.{IsEntry, pushed, IsOpenEntry, IsCurrentEntry, AreLeft, HasAdded, HasAddedFirst}
 use Rattle.giop_stream.proofs.Keep.SlotLists.{are_as_many}
 use Rattle.giop_stream.proofs.Restored.SavedSizes.{entries_range}
 
@@ -128,7 +127,7 @@ module _ (C : Table) (l : Listed) (octets : ℕ) (first : FirstRecord) where
 
 module _ (C : Table) (l : Listed) (at : ℕ) (first : FirstRecord) (held : Held) where
   of_slot : (is : IsOpenEntry C l at first held) →
-      IsOf C l first is.entry held.open_as.opener is.kept.message held.octets is.kept.id
+      IsOf C l first is.entry held.open_as.opener is.kept.value.message held.octets is.kept.key
   of_slot is = record {
     entry = is.read;
     standing = standing_in first is.entry is.read ∙ is.entry_is.standing;
@@ -139,7 +138,7 @@ module _ (C : Table) (l : Listed) (at : ℕ) (first : FirstRecord) (held : Held)
   }
 
   -- the slot of a record, where its message is right
-  slot_again : (id : ℕ) (found : Option Message) (is : IsOpenEntry C l at first held) → is.kept.id ≡ id →
+  slot_again : (id : ℕ) (found : Option Message) (is : IsOpenEntry C l at first held) → is.kept.key ≡ id →
       IsKept C l found held.open_as.opener held.octets → IsSlot C l (pushed first id found) held
   slot_again id found is same kept = record {
     number = number_in first is.entry is.read ∙ is.entry_is.number ∙ is.slot_is.number;
@@ -151,20 +150,20 @@ module _ (C : Table) (l : Listed) (at : ℕ) (first : FirstRecord) (held : Held)
   pub over_again : (id : ℕ) → IsOpenEntry C l at first held → first.«record».standing ≡ standings.Over id →
       (first.frames.now ≡ []) × (first.message ≡ replicate 224 0) × IsSlot C l (pushed first id None) held
   over_again id is over =
-      let made = over_by C l first is.entry held.open_as.opener is.kept.message held.octets is.kept.id id (of_slot is) over in
+      let made = over_by C l first is.entry held.open_as.opener is.kept.value.message held.octets is.kept.key id (of_slot is) over in
       (made.1.0, made.1.1, slot_again id None is made.0 made.1.2)
 
   -- ---- which of them a record is of
 
   pub open_not_current : IsOpenEntry C l at first held → first.«record».standing ≡ standings.Current → ⊥
   open_not_current is e =
-      current_none is.kept.message is.kept.id (sym is.entry_is.standing ∙ sym (standing_in first is.entry is.read) ∙ e)
+      current_none is.kept.value.message is.kept.key (sym is.entry_is.standing ∙ sym (standing_in first is.entry is.read) ∙ e)
 
 pub open_again : (C : Table) (l : Listed) (octets : ℕ) (first : FirstRecord) (held : Held) (id : ℕ) (found : Option Message) →
     IsOpenEntry C l (octets + 1) first held → first.«record».standing ≡ standings.Open id →
     Restores C octets first found → (is_some found ≡ true) × IsSlot C l (pushed first id found) held
 open_again C l octets first held id found is opened again =
-    let made = open_by C l octets first is.entry held.open_as.opener found is.kept.message held.octets is.kept.id id
+    let made = open_by C l octets first is.entry held.open_as.opener found is.kept.value.message held.octets is.kept.key id
     (of_slot C l (octets + 1) first held is) opened is.ready again in
     (made.1.0, slot_again C l (octets + 1) first held id found is made.0 made.1.1)
 
@@ -181,15 +180,15 @@ module _ (C : Table) (l : Listed) (at : ℕ) (first : FirstRecord) (o : Own) (id
 -- ---- the open messages that were added
 
 module _ (C : Table) (l : Listed) where
-  pub added_one : (before after : Slots) (kept : Slot) (held : Held) →
-      after.slots.items ≡ before.slots.items ++ kept ∷ [] → IsSlot C l kept held →
+  pub added_one : (before after : Slots) (kept : Kept_slot) (held : Held) →
+      after.slots.entries ≡ before.slots.entries ++ kept ∷ [] → IsSlot C l kept held →
       HasAdded C l before after (held ∷ [])
   added_one before after kept held put is = record { kept = kept ∷ []; are = (is, tt); put = put }
 
-  added_none : (before after : Slots) → after.slots.items ≡ before.slots.items → HasAdded C l before after []
-  added_none before after same = record { kept = []; are = tt; put = same ∙ sym (append-nil before.slots.items) }
+  added_none : (before after : Slots) → after.slots.entries ≡ before.slots.entries → HasAdded C l before after []
+  added_none before after same = record { kept = []; are = tt; put = same ∙ sym (append-nil before.slots.entries) }
 
-  slots_join : (ks more : List Slot) (hs others : List Held) → AreSlots C l ks hs → AreSlots C l more others →
+  slots_join : (ks more : List Kept_slot) (hs others : List Held) → AreSlots C l ks hs → AreSlots C l more others →
       AreSlots C l (ks ++ more) (hs ++ others)
   slots_join [] more [] others are also = also
   slots_join [] more (h ∷ hs) others are also = absurd are
@@ -202,17 +201,17 @@ module _ (C : Table) (l : Listed) where
     kept = one.kept ++ more.kept;
     are = slots_join one.kept more.kept (h ∷ []) hs one.are more.are;
     put = more.put
-        ∙ ap (λ (xs : List Slot). xs ++ more.kept) one.put
-        ∙ append_assoc before.slots.items one.kept more.kept;
+        ∙ ap (λ (xs : List Kept_slot). xs ++ more.kept) one.put
+        ∙ append_assoc before.slots.entries one.kept more.kept;
   }
 
   added_long : (before mid : Slots) (h : Held) → HasAdded C l before mid (h ∷ []) →
-      length mid.slots.items ≡ length before.slots.items + 1
+      length mid.slots.entries ≡ length before.slots.entries + 1
   added_long before mid h one =
       omega (
         arith,
         ap length one.put,
-        length-append before.slots.items one.kept,
+        length-append before.slots.entries one.kept,
         are_as_many C l one.kept (h ∷ []) one.are,
       )
 
@@ -242,14 +241,14 @@ pub record FrontOwn (C : Table) (l : Listed) (at count : ℕ) (first : FirstReco
   pub last : count - 1 ≡ 0
 
 -- what is left, by its parts
-record Parts (C : Table) (l : Listed) (at count : ℕ) (octets : List ℕ) (kept : List Slot) (held : List Held)
+record Parts (C : Table) (l : Listed) (at count : ℕ) (octets : List ℕ) (kept : List Kept_slot) (held : List Held)
     (current : Option Message) (own : Option Own) (entries : List Entry) : Type 0 where
   entries_are : AreEntries kept current entries
   count_is : count ≡ length entries
   octets_are : octets ≡ flat_map entry_octets entries
   slots_are : AreSlots C l kept held
   own_is : IsOwn C l current own
-  each_ready : Each (λ slot. IsReady C at slot.message) kept
+  each_ready : Each (λ slot. IsReady C at slot.value.message) kept
   own_ready : IsReady C at current
 
 module _ (C : Table) (l : Listed) (at count : ℕ) (octets : List ℕ) where
@@ -274,7 +273,7 @@ module _ (C : Table) (l : Listed) (at count : ℕ) (octets : List ℕ) where
       go [] many spelled range = some many
       go (e ∷ es) many spelled range = read e (flat_map entry_octets es) range.0 spelled
 
-  none_by : (slots : Slots) → slots.own ≡ None → count ≡ 0 → (kept : List Slot) (held : List Held)
+  none_by : (slots : Slots) → slots.own ≡ None → count ≡ 0 → (kept : List Kept_slot) (held : List Held)
       (current : Option Message) (own : Option Own) (entries : List Entry) →
       Parts C l at count octets kept held current own entries →
       HasAdded C l slots slots held × IsOwn C l slots.own own
@@ -319,7 +318,7 @@ module _ (C : Table) (l : Listed) (at count : ℕ) (octets : List ℕ) where
           last = omega (arith, is.count_is, none);
         }
 
-    front_open : (k : Slot) (ks : List Slot) (h : Held) (hs : List Held) (current : Option Message) (own : Option Own)
+    front_open : (k : Kept_slot) (ks : List Kept_slot) (h : Held) (hs : List Held) (current : Option Message) (own : Option Own)
         (e : Entry) (es : List Entry) → Parts C l at count octets (k ∷ ks) (h ∷ hs) current own (e ∷ es) →
         FrontOpen C l at count first (h ∷ hs) own
     front_open k ks h hs current own e es is = record {
@@ -348,7 +347,7 @@ module _ (C : Table) (l : Listed) (at count : ℕ) (octets : List ℕ) where
       };
     }
 
-    front_by : (kept : List Slot) (held : List Held) (current : Option Message) (own : Option Own) (entries : List Entry) →
+    front_by : (kept : List Kept_slot) (held : List Held) (current : Option Message) (own : Option Own) (entries : List Entry) →
         Parts C l at count octets kept held current own entries →
         FrontOpen C l at count first held own ⊎ FrontOwn C l at count first held own
     front_by [] [] None own [] is = absurd (some is.count_is)
@@ -371,43 +370,65 @@ module _ (C : Table) (l : Listed) (at count : ℕ) (octets : List ℕ) where
 abbrev pub IsAll : Table → Listed → Bool → Slots → Slots → List Held → Option Own → Type 0
 IsAll C l result before after held own = (result ≡ true) × HasAdded C l before after held × IsOwn C l after.own own
 
-room_here : (n : ℕ) (held : List Held) (h : Held) (hs : List Held) → n + length held ≤ most_open → held ≡ h ∷ hs →
-    n + suc (length hs) ≤ most_open
-room_here n held h hs room e = omega (arith, room, ap length e)
+room_here : (n most : ℕ) (held : List Held) (h : Held) (hs : List Held) → n + length held ≤ most → held ≡ h ∷ hs →
+    n + suc (length hs) ≤ most
+room_here n most held h hs room e = omega (arith, room, ap length e)
 
 module _ (C : Table) (l : Listed) (at count : ℕ) (first : FirstRecord) (before mid : Slots) (added : Bool)
-    (slot : (held : Held) → IsOpenEntry C l at first held → length before.slots.items < most_open →
+    (slot : (held : Held) → IsOpenEntry C l at first held → length before.slots.entries < before.slots.most →
     (added ≡ true) × HasAdded C l before mid (held ∷ []) × (mid.own ≡ before.own))
     (current : (own : Own) → IsCurrentEntry C l at first own →
     (added ≡ true) × (mid.slots ≡ before.slots) × IsOwn C l mid.own (Some own)) where
-  pub front_added : (held : List Held) (own : Option Own) →
+  pub first_added : (held : List Held) (own : Option Own) →
       FrontOpen C l at count first held own ⊎ FrontOwn C l at count first held own →
-      length before.slots.items + length held ≤ most_open → added ≡ true
-  front_added held own (inl f) room =
-      (slot f.here f.is (omega (arith, room_here (length before.slots.items) held f.here f.others room f.held_are))).0
-  front_added held own (inr f) room = (current f.here f.is).0
+      length before.slots.entries + length held ≤ before.slots.most →
+      (added ≡ true) × HasAddedFirst C l at count before mid first.rest.now held own
+  first_added held own (inl f) room =
+      let few = room_here (length before.slots.entries) before.slots.most held f.here f.others room f.held_are in
+      let one = slot f.here f.is (omega (arith, few)) in (
+        one.0,
+        inl (record {
+          here = f.here;
+          others = f.others;
+          held_are = f.held_are;
+          added = one.1;
+          same_own = one.2;
+          left = f.left;
+        }),
+      )
+  first_added held own (inr f) room =
+      let one = current f.here f.is in (
+        one.0,
+        inr (record {
+          here = f.here;
+          no_held = f.no_held;
+          own_here = f.own_here;
+          same = one.1;
+          is = one.2;
+          last = f.last;
+        }),
+      )
 
-  module _ (after : Slots) (result : Bool)
-      (none : count - 1 ≡ 0 → (result ≡ true) × (after ≡ mid))
-      (again : (hs : List Held) (o : Option Own) → AreLeft C l at (count - 1) first.rest.now hs o →
-      length mid.slots.items + length hs ≤ most_open → mid.own ≡ None → IsAll C l result mid after hs o) where
-    pub all_again : (held : List Held) (own : Option Own) →
-        FrontOpen C l at count first held own ⊎ FrontOwn C l at count first held own →
-        length before.slots.items + length held ≤ most_open → before.own ≡ None → IsAll C l result before after held own
-    all_again held own (inl f) room bare =
-        let few = room_here (length before.slots.items) held f.here f.others room f.held_are in
-        let one = slot f.here f.is (omega (arith, few)) in
-        let space : length mid.slots.items + length f.others ≤ most_open = omega (arith, few, added_long C l before mid f.here one.1) in
-        let more = again f.others own f.left space (one.2 ∙ bare) in
-        let all = added_more C l before mid after f.here f.others one.1 more.1 in
-        (more.0, subst (λ (hs : List Held). HasAdded C l before after hs) (sym f.held_are) all, more.2)
-    all_again held own (inr f) room bare =
-        let one = current f.here f.is in
-        let done = none f.last in
-        let same : after.slots ≡ before.slots = ap (λ (s : Slots). s.slots) done.1 ∙ one.1 in
-        let empty = added_none C l before after (ap (λ s. s.items) same) in (
-          done.0,
-          subst (λ (hs : List Held). HasAdded C l before after hs) (sym f.no_held) empty,
-          subst (λ (o : Option Own). IsOwn C l after.own o) (sym f.own_here)
-              (subst (λ (s : Slots). IsOwn C l s.own (Some f.here)) (sym done.1) one.2),
-        )
+module _ (C : Table) (l : Listed) (at count : ℕ) (before mid after : Slots) (rest : List ℕ) (result : Bool)
+    (same_most : mid.slots.most ≡ before.slots.most)
+    (none : count - 1 ≡ 0 → (result ≡ true) × (after ≡ mid))
+    (again : (hs : List Held) (o : Option Own) → AreLeft C l at (count - 1) rest hs o →
+    length mid.slots.entries + length hs ≤ mid.slots.most → mid.own ≡ None → IsAll C l result mid after hs o) where
+  pub all_again : (held : List Held) (own : Option Own) → HasAddedFirst C l at count before mid rest held own →
+      length before.slots.entries + length held ≤ before.slots.most → before.own ≡ None → IsAll C l result before after held own
+  all_again held own (inl f) room bare =
+      let few = room_here (length before.slots.entries) before.slots.most held f.here f.others room f.held_are in
+      let space : length mid.slots.entries + length f.others ≤ mid.slots.most =
+      omega (arith, few, same_most, added_long C l before mid f.here f.added) in
+      let more = again f.others own f.left space (f.same_own ∙ bare) in
+      let all = added_more C l before mid after f.here f.others f.added more.1 in
+      (more.0, subst (λ (hs : List Held). HasAdded C l before after hs) (sym f.held_are) all, more.2)
+  all_again held own (inr f) room bare =
+      let done = none f.last in
+      let same : after.slots ≡ before.slots = ap (λ (s : Slots). s.slots) done.1 ∙ f.same in
+      let empty = added_none C l before after (ap (λ s. s.entries) same) in (
+        done.0,
+        subst (λ (hs : List Held). HasAdded C l before after hs) (sym f.no_held) empty,
+        subst (λ (o : Option Own). IsOwn C l after.own o) (sym f.own_here)
+            (subst (λ (s : Slots). IsOwn C l s.own (Some f.here)) (sym done.1) f.is),
+      )

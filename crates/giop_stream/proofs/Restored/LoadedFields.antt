@@ -12,7 +12,7 @@ use Rattle.giop_checkpoint.specs.declared.fixed.Fixed.{Fixed}
 use Rattle.giop_checkpoint.specs.declared.fixed.Place.{Place}
 use Rattle.giop_checkpoint.specs.declared.fixed.Place.TheVariants.{Header, Payload}
 use Rattle.giop_checkpoint.specs.Records.{entry_octets}
-use Rattle.giop_stream.specs.declared.slots.Slot.{Slot}
+use Rattle.giop_stream.specs.Keeping.{Kept_slot}
 use Rattle.giop_stream.specs.declared.slots.Slots.{Slots}
 use Rattle.giop_stream.specs.declared.slots.Payload.{Payload as Whose}
 use Rattle.giop_stream.specs.declared.slots.Payload.TheVariants as payload
@@ -41,11 +41,11 @@ pub spells_left : (octets p : List ℕ) (C : Table) (l : Listed) (most : ℕ) (s
 unfolding fixed_of
 spells_left octets p C l most s fixed records is are =
     subst P (sym is) (record {
-      kept = s.memory.slots.slots.items;
+      kept = s.memory.slots.slots.entries;
       current = s.memory.slots.own;
       entries = s.entries;
       entries_are = s.entries_are;
-      count_is = sym (entries_count s.memory.slots.slots.items s.memory.slots.own s.entries s.entries_are);
+      count_is = sym (entries_count s.memory.slots.slots.entries s.memory.slots.own s.entries s.entries_are);
       octets_are = are;
       slots_are = s.shows.slots;
       own_is = s.shows.own;
@@ -58,10 +58,16 @@ spells_left octets p C l most s fixed records is are =
         AreLeft C l (f.octets + 1) f.records records (state_of (rules C l most) p).slots
         (state_of (rules C l most) p).own
 
-pub room_for : (R : Rules) (p : List ℕ) (bare : Slots) → bare.slots.items ≡ [] →
-    length bare.slots.items + length (state_of R p).slots ≤ R.most
+pub room_for : (R : Rules) (p : List ℕ) (bare : Slots) → bare.slots.entries ≡ [] →
+    length bare.slots.entries + length (state_of R p).slots ≤ R.most
 unfolding state_of
 room_for R p bare none = omega (arith, ap length none, slots_many (octets_of R p) (open_after R.most p), few_open R.most p)
+
+-- it allows as many open messages as its stream is read with
+pub limit_is : (octets p : List ℕ) (C : Table) (l : Listed) (most : ℕ) (s : Spells octets C l most p) (fixed : Fixed) →
+    fixed ≡ fixed_of C l s.memory → fixed.most_open ≡ most
+unfolding fixed_of
+limit_is octets p C l most s fixed is = ap (λ (f : Fixed). f.most_open) is ∙ s.limit
 
 -- ---- the place
 
@@ -178,7 +184,7 @@ pub record IsReadAs (m : Memory) (fixed : Fixed) (made : Slots) : Type 0 where
   pub stopped : m.stopped ≡ fields.stop_in fixed.place
   pub header : m.header ≡ fields.header_in fixed.place
   pub come : m.come ≡ fields.come_in fixed.place
-  pub payload : m.slots.payload ≡ fields.payload_of fixed.owner (fields.comes_in fixed.place) (length made.slots.items)
+  pub payload : m.slots.payload ≡ fields.payload_of fixed.owner (fields.comes_in fixed.place) (length made.slots.entries)
   pub slots : m.slots.slots ≡ made.slots
   pub own : m.slots.own ≡ made.own
 
@@ -189,11 +195,11 @@ pub record MayBe (fixed : Fixed) (stop : Option StreamFault) (long : ℕ) : Type
   pub faults : fixed.faults ≤ 3 * fixed.octets
   pub held : long ≤ fixed.octets
 
-added_all : (C : Table) (l : Listed) (bare slots : Slots) (held : List Held) → bare.slots.items ≡ [] →
-    HasAdded C l bare slots held → AreSlots C l slots.slots.items held
+added_all : (C : Table) (l : Listed) (bare slots : Slots) (held : List Held) → bare.slots.entries ≡ [] →
+    HasAdded C l bare slots held → AreSlots C l slots.slots.entries held
 added_all C l bare slots held none added =
-    let kept : slots.slots.items ≡ added.kept = added.put ∙ ap (λ (xs : List Slot). xs ++ added.kept) none in
-    subst (λ (xs : List Slot). AreSlots C l xs held) (sym kept) added.are
+    let kept : slots.slots.entries ≡ added.kept = added.put ∙ ap (λ (xs : List Kept_slot). xs ++ added.kept) none in
+    subst (λ (xs : List Kept_slot). AreSlots C l xs held) (sym kept) added.are
 
 module _ (octets p : List ℕ) (C : Table) (l : Listed) (most : ℕ) (s : Spells octets C l most p) where
   state : State
@@ -224,23 +230,23 @@ module _ (octets p : List ℕ) (C : Table) (l : Listed) (most : ℕ) (s : Spells
   }
 
   payload_is : (many : ℕ) → many ≡ length state.slots → IsPayload (fields.payload_of
-      (owner_of s.memory.slots.payload (length s.memory.slots.slots.items) s.memory.slots.own)
+      (owner_of s.memory.slots.payload (length s.memory.slots.slots.entries) s.memory.slots.own)
       (itself_now s.memory.stopped) many) state
   unfolding state
   payload_is many long =
-      let kept = are_as_many C l s.memory.slots.slots.items (state_of (rules C l most) p).slots s.shows.slots in
-      let same : many ≡ length s.memory.slots.slots.items = long ∙ sym kept in
-      rw same (payload_again C l s.memory.slots.payload s.memory.slots.own (length s.memory.slots.slots.items) state
+      let kept = are_as_many C l s.memory.slots.slots.entries (state_of (rules C l most) p).slots s.shows.slots in
+      let same : many ≡ length s.memory.slots.slots.entries = long ∙ sym kept in
+      rw same (payload_again C l s.memory.slots.payload s.memory.slots.own (length s.memory.slots.slots.entries) state
       (itself_now s.memory.stopped) kept s.shows.own (s.shows.owner, s.shows.turn) itself_is)
 
-  module _ (m : Memory) (bare slots : Slots) (none : bare.slots.items ≡ []) where
+  module _ (m : Memory) (bare slots : Slots) (none : bare.slots.entries ≡ []) where
     shows_fixed : IsReadAs m (fixed_of C l s.memory) slots → HasAdded C l bare slots state.slots →
         IsOwn C l slots.own state.own → Shows C l m state
     unfolding state fixed_of itself_now
     shows_fixed is added own =
         let all = added_all C l bare slots state.slots none added in
         let whose : IsPayload m.slots.payload state = subst (λ (w : Whose). IsPayload w state) (sym is.payload)
-        (payload_is (length slots.slots.items) (are_as_many C l slots.slots.items state.slots all)) in
+        (payload_is (length slots.slots.entries) (are_as_many C l slots.slots.entries state.slots all)) in
         record {
           totals = is.totals ∙ s.shows.totals;
           stopped = is.stopped ∙ stop_again s.memory.stopped s.memory.header s.memory.come ∙ s.shows.stopped;
@@ -248,7 +254,7 @@ module _ (octets p : List ℕ) (C : Table) (l : Listed) (most : ℕ) (s : Spells
           come = is.come
               ∙ come_again s.memory.stopped s.memory.header state.left s.memory.come behind come_is
               ∙ s.shows.come;
-          slots = subst (λ (xs : List Slot). AreSlots C l xs state.slots) (sym (ap (λ s. s.items) is.slots)) all;
+          slots = subst (λ (xs : List Kept_slot). AreSlots C l xs state.slots) (sym (ap (λ s. s.entries) is.slots)) all;
           own = subst (λ (o : Option Message). IsOwn C l o state.own) (sym is.own) own;
           owner = whose.0;
           turn = whose.1;

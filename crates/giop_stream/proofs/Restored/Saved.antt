@@ -1,5 +1,5 @@
 -- What is written of the messages is their entries.
-use Rattle.std.proofs.Common.{◌≡◌, ℕ, zero, suc, ◌+◌, ◌<◌, ◌≤◌, get_or, List, [], ◌∷◌, ◌++◌, length, take, flat_map, replicate, Option, Some, None, refl, sym, ap, subst, ◌∙◌, append_assoc, append-nil, arith}
+use Rattle.std.proofs.Common.{◌≡◌, ℕ, zero, suc, ◌+◌, ◌<◌, ◌≤◌, get_or, List, [], ◌∷◌, ◌++◌, length, take, flat_map, replicate, Option, Some, None, Result, Ok, Err, IsErr, refl, sym, ap, subst, ◌∙◌, append_assoc, append-nil, arith}
 use Rattle.std.specs.List.{AllByRecursion as Each}
 use Rattle.std.proofs.lemmas.List.{take_all}
 use Rattle.std.proofs.lemmas.Grind.{take_at_read}
@@ -10,14 +10,22 @@ use Rattle.giop_checkpoint.proofs.Puts.{then}
 use Rattle.giop_sig.specs.Table.{Table}
 use Rattle.giop_message.specs.Holding.{Fits}
 use Rattle.giop_message.specs.Signatures.{Listed}
+use Rattle.giop_checkpoint.specs.declared.layout.Layout.TheVariants.{Third}
 use Rattle.giop_checkpoint.specs.Fixed.{fixed_octets}
-use Rattle.giop_stream.specs.declared.slots.Slot.{Slot}
+use Rattle.giop_stream.specs.Keeping.{Kept_slot}
 use Rattle.giop_stream.specs.Keeping.{IsReady}
-use Rattle.giop_stream.specs.Holding.{Holds}
+use Rattle.std.specs.Result.{IfOk}
+use Rattle.std.proofs.lemmas.Bool.{false≢true}
+use Rattle.giop_print.specs.declared.sink.OutFault.{OutFault}
+use Rattle.giop_print.specs.Output.{OutLog, WroteFront}
+use Rattle.giop_print.proofs.Writing.{wrote-nil, wrote-front, front-append}
+use Rattle.giop_stream.specs.declared.fault.Stop.{Stop}
+use Rattle.giop_stream.specs.Holding.{Holds, StopWrites}
 use Rattle.giop_stream.specs.Remembering.{Memory, EngineMemory}
 use Rattle.giop_checkpoint.specs.declared.record.Standing.TheVariants as standings
+use Rattle.giop_stream.proofs.Restored.LoadRanges.{few_slots}
 use Rattle.giop_stream.proofs.Restored.SavedSizes.{HasRoom, whole_long, whole_within}
-use Rattle.giop_stream.specs.Checkpoint.{standing_of, IsHeld, IsStored, IsOpen, IsKept, IsCurrent, IsPutOne, IsPut, AreOpen, AreEntries, fixed_of, checkpoint_octets, IsPutWhole, Saves}
+use Rattle.giop_stream.specs.Checkpoint.{standing_of, IsHeld, IsStored, IsOpen, IsKept, IsCurrent, IsPutOne, IsPut, AreOpen, AreEntries, fixed_of, checkpoint_octets, IsPutWhole, Puts, PutsSuch, Spells, Saves}
 
 pub flat_append : (xs ys : List Entry) → flat_map entry_octets (xs ++ ys) ≡ flat_map entry_octets xs ++ flat_map entry_octets ys
 flat_append [] ys = refl
@@ -28,7 +36,7 @@ pub flat_one : (e : Entry) → flat_map entry_octets (e ∷ []) ≡ entry_octets
 flat_one e = append-nil (entry_octets e)
 
 -- an open message more
-pub entries_push : (slots : List Slot) (slot : Slot) (es : List Entry) (e : Entry) → AreOpen slots es → IsOpen slot e
+pub entries_push : (slots : List Kept_slot) (slot : Kept_slot) (es : List Entry) (e : Entry) → AreOpen slots es → IsOpen slot e
     → AreOpen (slots ++ slot ∷ []) (es ++ e ∷ [])
 entries_push [] slot [] e are is = (is, tt)
 entries_push [] slot (f ∷ es) e are is = absurd are
@@ -36,7 +44,7 @@ entries_push (s ∷ slots) slot [] e are is = absurd are
 entries_push (s ∷ slots) slot (f ∷ es) e are is = (are.0, entries_push slots slot es e are.1 is)
 
 -- and then the current one
-pub entries_own : (slots : List Slot) (m : Message) (es : List Entry) (e : Entry) → AreOpen slots es → IsCurrent m e → AreEntries slots (Some m) (es ++ e ∷ [])
+pub entries_own : (slots : List Kept_slot) (m : Message) (es : List Entry) (e : Entry) → AreOpen slots es → IsCurrent m e → AreEntries slots (Some m) (es ++ e ∷ [])
 entries_own [] m [] e are is = (is, refl)
 entries_own [] m (f ∷ es) e are is = absurd are
 entries_own (s ∷ slots) m [] e are is = absurd are
@@ -45,7 +53,7 @@ entries_own (s ∷ slots) m (f ∷ es) e are is = (are.0, entries_own slots m es
 pub put_none : (before : List ℕ) → IsPut before before (AreOpen [])
 put_none before = record { entries = []; are = tt; put = sym (append-nil before) }
 
-pub put_more : (slots : List Slot) (slot : Slot) (before between after : List ℕ) → IsPut before between (AreOpen slots) → IsPutOne between after (IsOpen slot)
+pub put_more : (slots : List Kept_slot) (slot : Kept_slot) (before between after : List ℕ) → IsPut before between (AreOpen slots) → IsPutOne between after (IsOpen slot)
     → IsPut before after (AreOpen (slots ++ slot ∷ []))
 put_more slots slot before between after some one = record {
   entries = some.entries ++ one.entry ∷ [];
@@ -57,17 +65,17 @@ put_more slots slot before between after some one = record {
 }
 
 -- over is written as zeros, behind its own octets
-pub over_is : (slot : Slot) (r : Record) (before between after : List ℕ) → slot.message ≡ None → RecordHasRange r
-    → r.frames ≡ 0 → r.standing ≡ standings.Over slot.id → r.number ≡ slot.number → r.header ≡ slot.header
+pub over_is : (slot : Kept_slot) (r : Record) (before between after : List ℕ) → slot.value.message ≡ None → RecordHasRange r
+    → r.frames ≡ 0 → r.standing ≡ standings.Over slot.key → r.number ≡ slot.value.number → r.header ≡ slot.value.header
     → between ≡ before ++ own_octets r → after ≡ between ++ replicate 224 0 → IsPutOne before after (IsOpen slot)
 over_is slot r before between after none range few standing number header put zeros = record {
   entry = record { record_is = r; message = replicate 224 0; frames = [] };
   is = record {
     range = record { own = range; message = refl; frames = omega (arith, few) };
-    standing = standing ∙ ap (λ (m : Option Message). standing_of m slot.id) (sym none);
+    standing = standing ∙ ap (λ (m : Option Message). standing_of m slot.key) (sym none);
     number = number;
     header = header;
-    message = stored_over slot.message none;
+    message = stored_over slot.value.message none;
   };
   put = then before between after (own_octets r) (replicate 224 0) put zeros
       ∙ ap (λ (xs : List ℕ). before ++ xs) (sym (append-nil (own_octets r ++ replicate 224 0)));
@@ -78,17 +86,17 @@ over_is slot r before between after none range few standing number header put ze
     stored_over (Some m) e = absurd (let no : Some m ≡ None = e in cc)
 
 -- one that is kept
-pub open_is : (slot : Slot) (m : Message) (before after : List ℕ) → slot.message ≡ Some m
-    → IsPutOne before after (IsKept (standings.Open slot.id) slot.number slot.header m)
+pub open_is : (slot : Kept_slot) (m : Message) (before after : List ℕ) → slot.value.message ≡ Some m
+    → IsPutOne before after (IsKept (standings.Open slot.key) slot.value.number slot.value.header m)
     → IsPutOne before after (IsOpen slot)
 open_is slot m before after some put = record {
   entry = put.entry;
   is = record {
     range = put.is.range;
-    standing = put.is.standing_is ∙ ap (λ (n : Option Message). standing_of n slot.id) (sym some);
+    standing = put.is.standing_is ∙ ap (λ (n : Option Message). standing_of n slot.key) (sym some);
     number = put.is.number_is;
     header = put.is.header_is;
-    message = stored_kept slot.message some;
+    message = stored_kept slot.value.message some;
   };
   put = put.put;
 }
@@ -115,8 +123,8 @@ ready_fits C at (Some n) m e ready = let P : Message → Type 0 = λ x. Fits C x
 
 -- ---- the whole
 
-pub whole_is : (C : Table) (l : Listed) (m : Memory) (fixed after : List ℕ) → m.slots.own ≡ None → fixed ≡ fixed_octets (fixed_of C l m)
-    → IsPut fixed after (AreOpen m.slots.slots.items) → IsPutWhole C l m after
+pub whole_is : (C : Table) (l : Listed) (m : Memory) (fixed after : List ℕ) → m.slots.own ≡ None → fixed ≡ fixed_octets Third (fixed_of C l m)
+    → IsPut fixed after (AreOpen m.slots.slots.entries) → IsPutWhole Third C l m after
 unfolding checkpoint_octets
 whole_is C l m fixed after none e p = record {
   entries = p.entries;
@@ -124,21 +132,21 @@ whole_is C l m fixed after none e p = record {
   put = p.put ∙ ap (λ (xs : List ℕ). xs ++ flat_map entry_octets p.entries) e;
 }
   where
-    own_none : (o : Option Message) → o ≡ None → AreEntries m.slots.slots.items o p.entries
+    own_none : (o : Option Message) → o ≡ None → AreEntries m.slots.slots.entries o p.entries
     own_none None e = p.are
     own_none (Some x) e = absurd (let no : Some x ≡ None = e in cc)
 
 pub whole_own : (C : Table) (l : Listed) (m : Memory) (x : Message) (fixed between after : List ℕ) → m.slots.own ≡ Some x
-    → fixed ≡ fixed_octets (fixed_of C l m)
-    → IsPut fixed between (AreOpen m.slots.slots.items) → IsPutOne between after (IsCurrent x) → IsPutWhole C l m after
+    → fixed ≡ fixed_octets Third (fixed_of C l m)
+    → IsPut fixed between (AreOpen m.slots.slots.entries) → IsPutOne between after (IsCurrent x) → IsPutWhole Third C l m after
 unfolding checkpoint_octets
 whole_own C l m x fixed between after some e p one = record {
   entries = p.entries ++ one.entry ∷ [];
   are = own_some m.slots.own some;
   put = one.put
       ∙ ap (λ (xs : List ℕ). xs ++ entry_octets one.entry) (p.put ∙ ap (λ (xs : List ℕ). xs ++ flat_map entry_octets p.entries) e)
-      ∙ append_assoc (fixed_octets (fixed_of C l m)) (flat_map entry_octets p.entries) (entry_octets one.entry)
-      ∙ ap (λ (xs : List ℕ). fixed_octets (fixed_of C l m) ++ xs)
+      ∙ append_assoc (fixed_octets Third (fixed_of C l m)) (flat_map entry_octets p.entries) (entry_octets one.entry)
+      ∙ ap (λ (xs : List ℕ). fixed_octets Third (fixed_of C l m) ++ xs)
       (sym (flat_append p.entries (one.entry ∷ [])
       ∙ ap (λ (xs : List ℕ). flat_map entry_octets p.entries ++ xs) (flat_one one.entry)));
 }
@@ -146,41 +154,29 @@ whole_own C l m x fixed between after some e p one = record {
     same : (y : Message) → Some y ≡ Some x → y ≡ x
     same y e = cc
 
-    own_some : (o : Option Message) → o ≡ Some x → AreEntries m.slots.slots.items o (p.entries ++ one.entry ∷ [])
+    own_some : (o : Option Message) → o ≡ Some x → AreEntries m.slots.slots.entries o (p.entries ++ one.entry ∷ [])
     own_some None e = absurd (let no : None ≡ Some x = e in cc)
     own_some (Some y) e =
-        let P : Message → Type 0 = λ z. AreEntries m.slots.slots.items (Some z) (p.entries ++ one.entry ∷ []) in
-        subst P (sym (same y e)) (entries_own m.slots.slots.items x p.entries one.entry p.are one.is)
+        let P : Message → Type 0 = λ z. AreEntries m.slots.slots.entries (Some z) (p.entries ++ one.entry ∷ []) in
+        subst P (sym (same y e)) (entries_own m.slots.slots.entries x p.entries one.entry p.are one.is)
 
 -- ---- the loop over the open messages
 
-pub put_read : (slots : List Slot) (i : ℕ) (slot : Slot) (before between after : List ℕ) → i < length slots
+pub put_read : (slots : List Kept_slot) (i : ℕ) (slot : Kept_slot) (before between after : List ℕ) → i < length slots
     → slot ≡ get_or slots i slot → IsPut before between (AreOpen (take i slots)) → IsPutOne between after (IsOpen slot)
     → IsPut before after (AreOpen (take (i + 1) slots))
 put_read slots i slot before between after low is some one =
-    let P : List Slot → Type 0 = λ xs. IsPut before after (AreOpen xs) in
-    subst P (ap (λ (x : Slot). take i slots ++ x ∷ []) is ∙ sym (take_at_read slots i slot low).1) (put_more (take i slots) slot before between after some one)
+    let P : List Kept_slot → Type 0 = λ xs. IsPut before after (AreOpen xs) in
+    subst P (ap (λ (x : Kept_slot). take i slots ++ x ∷ []) is ∙ sym (take_at_read slots i slot low).1) (put_more (take i slots) slot before between after some one)
 
-pub put_all : (slots : List Slot) (i : ℕ) (before after : List ℕ) → length slots ≤ i
-    → IsPut before after (AreOpen (take i slots)) → IsPut before after (AreOpen slots)
-put_all slots i before after high some = let P : List Slot → Type 0 = λ xs. IsPut before after (AreOpen xs) in subst P (take_all i slots high) some
-
-pub ready_at : (C : Table) (at : ℕ) (slots : List Slot) (i : ℕ) (slot : Slot) → i < length slots
-    → slot ≡ get_or slots i slot → Each (λ s. IsReady C at s.message) slots → IsReady C at slot.message
-ready_at C at slots i slot low is ready = let P : Slot → Type 0 = λ s. IsReady C at s.message in subst P (sym is) (read slots i low ready)
+pub ready_at : (C : Table) (at : ℕ) (slots : List Kept_slot) (i : ℕ) (slot : Kept_slot) → i < length slots
+    → slot ≡ get_or slots i slot → Each (λ s. IsReady C at s.value.message) slots → IsReady C at slot.value.message
+ready_at C at slots i slot low is ready = let P : Kept_slot → Type 0 = λ s. IsReady C at s.value.message in subst P (sym is) (read slots i low ready)
   where
-    read : (xs : List Slot) (j : ℕ) → j < length xs → Each (λ s. IsReady C at s.message) xs → IsReady C at (get_or xs j slot).message
+    read : (xs : List Kept_slot) (j : ℕ) → j < length xs → Each (λ s. IsReady C at s.value.message) xs → IsReady C at (get_or xs j slot).value.message
     read [] j low ready = absurd (omega (arith, low))
     read (x ∷ xs) zero low ready = ready.0
     read (x ∷ xs) (suc j) low ready = read xs j (omega (arith, low)) ready.1
-
-pub put_same : (C : Table) (at : ℕ) (slots same : List Slot) (before after : List ℕ) → slots ≡ same
-    → ((C : Table) (at : ℕ) → Each (λ s. IsReady C at s.message) slots → IsPut before after (AreOpen slots))
-    → Each (λ s. IsReady C at s.message) same → IsPut before after (AreOpen same)
-put_same C at slots same before after e put ready =
-    let P : List Slot → Type 0 = λ xs. Each (λ s. IsReady C at s.message) xs in
-    let Q : List Slot → Type 0 = λ xs. IsPut before after (AreOpen xs) in
-    subst Q e (put C at (subst P (sym e) ready))
 
 pub current_is : (m : Message) (number : ℕ) (header before after : List ℕ) → number ≡ m.number → header ≡ m.header
     → IsPutOne before after (IsKept standings.Current number header m) → IsPutOne before after (IsCurrent m)
@@ -197,25 +193,84 @@ current_is m number header before after n h put = record {
   put = put.put;
 }
 
+-- ---- what is put
+
+pub put_none_yet : (a : OutLog) → Puts (Ok 0) a a []
+put_none_yet a = record { written = wrote-nil a; count = refl }
+
+-- a record that was composed by itself, behind others
+pub put_behind : (none front octets items : List ℕ) (Is : Entry → Type 0) → none ≡ [] → octets ≡ items → IsPutOne none items Is
+    → IsPutOne front (front ++ octets) Is
+put_behind none front octets items Is e value one = record {
+  entry = one.entry;
+  is = one.is;
+  put = ap (λ (xs : List ℕ). front ++ xs) (value ∙ one.put ∙ ap (λ (xs : List ℕ). xs ++ entry_octets one.entry) e);
+}
+
+-- the records of all the open messages
+pub puts_all : (slots : List Kept_slot) (i : ℕ) (result : Result ℕ OutFault) (before after : OutLog) (front : List ℕ) → length slots ≤ i
+    → PutsSuch result before after (λ octets. IsPut front octets (AreOpen (take i slots)))
+    → PutsSuch result before after (λ octets. IsPut front octets (AreOpen slots))
+puts_all slots i result before after front high some =
+    let P : List Kept_slot → Type 0 = λ xs. PutsSuch result before after (λ octets. IsPut front octets (AreOpen xs)) in subst P (take_all i slots high) some
+
+pub puts_same : (C : Table) (at : ℕ) (slots same : List Kept_slot) (result : Result ℕ OutFault) (before after : OutLog) (front : List ℕ) → slots ≡ same
+    → (Each (λ s. IsReady C at s.value.message) slots → PutsSuch result before after (λ octets. IsPut front octets (AreOpen slots)))
+    → Each (λ s. IsReady C at s.value.message) same → PutsSuch result before after (λ octets. IsPut front octets (AreOpen same))
+puts_same C at slots same result before after front e put ready =
+    let P : List Kept_slot → Type 0 = λ xs. Each (λ s. IsReady C at s.value.message) xs in
+    let Q : List Kept_slot → Type 0 = λ xs. PutsSuch result before after (λ octets. IsPut front octets (AreOpen xs)) in
+    subst Q e (put (subst P (sym e) ready))
+
+pub ok_within : (r : Result ℕ OutFault) (a b : ℕ) → a ≤ b → IfOk r (λ n. n ≤ a) → IfOk r (λ n. n ≤ b)
+ok_within (Ok n) a b h c = omega (arith, h, c)
+ok_within (Err f) a b h c = tt
+
+-- a put had failed before the call
+pub puts_failed : (w r : Result ℕ OutFault) (before after : OutLog) (front octets : List ℕ) (f : OutFault) → w ≡ Err f
+    → IsErr r → Puts w before after front → Puts r before after (front ++ octets)
+puts_failed (Ok n) r before after front octets f e is puts = absurd (let no : Ok n ≡ Err f = e in cc)
+puts_failed (Err h) (Ok n) before after front octets f e is puts = absurd (false≢true is)
+puts_failed (Err h) (Err i) before after front octets f e is puts = record { written = front-append before after front octets puts.written; count = tt }
+
+-- and one fails in it
+pub puts_stopped : (w r : Result ℕ OutFault) (before between after : OutLog) (front octets : List ℕ) (n : ℕ) → w ≡ Ok n
+    → IsErr r → Puts w before between front → WroteFront between after octets → Puts r before after (front ++ octets)
+puts_stopped (Err h) r before between after front octets n e is puts front_is = absurd (let no : Err h ≡ Ok n = e in cc)
+puts_stopped (Ok m) (Ok k) before between after front octets n e is puts front_is = absurd (false≢true is)
+puts_stopped (Ok m) (Err i) before between after front octets n e is puts front_is =
+    record { written = wrote-front before between after front octets puts.written front_is; count = tt }
+
 -- ---- an engine's checkpoint
 
-pub saved_is : (e v : EngineMemory) (n : ℕ) (octets written p : List ℕ) → e ≡ v → Holds e p →
-    IsPutWhole v.table v.listed v.stream written → HasRoom v.table v.listed v.stream →
-    n ≡ length written → take n octets ≡ written → Saves n octets e.table e.listed e.most p
-saved_is e v n octets written p same holds put room long front =
-    let whole = subst (λ x. IsPutWhole x.table x.listed x.stream written) (sym same) put in
-    let here = subst (λ x. HasRoom x.table x.listed x.stream) (sym same) room in
-    let size = long ∙ whole_long e.table e.listed e.stream written whole here in
+pub saved_is : (e v : EngineMemory) (p octets : List ℕ) (result : Result ℕ Stop) (before after : OutLog) → e ≡ v
+    → v.stream.slots.slots.most ≡ v.most → Holds e p → IsPutWhole Third v.table v.listed v.stream octets
+    → HasRoom Third v.table v.listed v.stream → StopWrites result before after octets
+    → IfOk result (λ n. n ≡ length octets) → Saves result before after e.table e.listed e.most p
+saved_is e v p octets result before after same limit holds put room written count =
+    let whole = subst (λ x. IsPutWhole Third x.table x.listed x.stream octets) (sym same) put in
+    let here = subst (λ x. HasRoom Third x.table x.listed x.stream) (sym same) room in
+    let limit_here = subst (λ (x : EngineMemory). x.stream.slots.slots.most ≡ x.most) (sym same) limit in
+    let size = whole_long Third e.table e.listed e.stream octets whole here in
+    let spells : Spells octets e.table e.listed e.most p = record {
+      layout = Third;
+      memory = e.stream;
+      entries = whole.entries;
+      octets_are = whole.put;
+      allows = rw (sym limit_here) here.allows;
+      limit = limit_here;
+      entries_are = whole.are;
+      stream = holds.octets;
+      shows = holds.shows;
+      ready = here.ready;
+    } in
+    let few = few_slots octets p e.table e.listed e.most spells in
     record {
-      spells = record {
-        memory = e.stream;
-        entries = whole.entries;
-        octets_are = front ∙ whole.put;
-        entries_are = whole.are;
-        stream = holds.octets;
-        shows = holds.shows;
-        ready = here.ready;
-      };
+      octets = octets;
+      spells = spells;
+      third = refl;
+      written = written;
+      count = count;
       size = size;
-      within = omega (arith, size, whole_within e.table e.listed e.stream written whole here);
+      within = omega (arith, size, whole_within Third e.table e.listed e.stream e.most octets whole here few);
     }

@@ -8,11 +8,12 @@ use Rattle.giop_sig.specs.Trees.{depth_of}
 use Rattle.giop_message.specs.declared.message.Message.{Message}
 use Rattle.giop_message.specs.Signatures.{Listed}
 use Rattle.giop_checkpoint.specs.declared.sizes.TheConstants.{FRAME_SIZE}
+use Rattle.giop_checkpoint.specs.declared.layout.Layout.{Layout}
+use Rattle.giop_checkpoint.specs.Layouts.{OpenHasRange}
 use Rattle.giop_checkpoint.specs.Fixed.{fixed_octets}
 use Rattle.giop_checkpoint.specs.Records.{Entry, EntryHasRange, own_octets, entry_octets}
 use Rattle.giop_checkpoint.proofs.RecordFields.{own_long}
-use Rattle.giop_stream.specs.Rules.{most_open}
-use Rattle.giop_stream.specs.declared.slots.Slot.{Slot}
+use Rattle.giop_stream.specs.Keeping.{Kept_slot}
 use Rattle.giop_stream.specs.Keeping.{IsReady, AreReady}
 use Rattle.giop_stream.specs.Remembering.{Memory}
 use Rattle.giop_stream.specs.Checkpoint.{IsStored, AreEntries, fixed_of, count_own, entries_size, checkpoint_octets, IsPutWhole, checkpoint_limit}
@@ -47,7 +48,7 @@ entries_within d (e ∷ es) h =
 
 -- ---- those of the messages
 
-pub entries_count : (slots : List Slot) (own : Option Message) (es : List Entry) → AreEntries slots own es → length es ≡ length slots + count_own own
+pub entries_count : (slots : List Kept_slot) (own : Option Message) (es : List Entry) → AreEntries slots own es → length es ≡ length slots + count_own own
 entries_count [] None [] are = refl
 entries_count [] None (e ∷ es) are = absurd are
 entries_count [] (Some m) [] are = absurd are
@@ -55,7 +56,7 @@ entries_count [] (Some m) (e ∷ es) are = ap (λ (xs : List Entry). suc (length
 entries_count (slot ∷ slots) own [] are = absurd are
 entries_count (slot ∷ slots) own (e ∷ es) are = omega (arith, entries_count slots own es are.1)
 
-pub entries_range : (slots : List Slot) (own : Option Message) (es : List Entry) → AreEntries slots own es → Each EntryHasRange es
+pub entries_range : (slots : List Kept_slot) (own : Option Message) (es : List Entry) → AreEntries slots own es → Each EntryHasRange es
 entries_range [] None [] are = tt
 entries_range [] None (e ∷ es) are = absurd are
 entries_range [] (Some m) [] are = absurd are
@@ -69,8 +70,8 @@ stored_shallow : (C : Table) (at : ℕ) (m : Option Message) (e : Entry) → Ent
 stored_shallow C at None e range ready is = let none : length e.frames ≡ 0 = ap length is.1 in omega (arith, none, range.frames)
 stored_shallow C at (Some m) e range ready is = is.shallow C ready.0
 
-entries_shallow : (C : Table) (at : ℕ) (slots : List Slot) (own : Option Message) (es : List Entry) → AreEntries slots own es →
-    Each (λ s. IsReady C at s.message) slots → IsReady C at own → Each (λ e. e.record_is.frames ≤ depth_of C.types) es
+entries_shallow : (C : Table) (at : ℕ) (slots : List Kept_slot) (own : Option Message) (es : List Entry) → AreEntries slots own es →
+    Each (λ s. IsReady C at s.value.message) slots → IsReady C at own → Each (λ e. e.record_is.frames ≤ depth_of C.types) es
 entries_shallow C at [] None [] are each ready = tt
 entries_shallow C at [] None (e ∷ es) are each ready = absurd are
 entries_shallow C at [] (Some m) [] are each ready = absurd are
@@ -79,7 +80,7 @@ entries_shallow C at [] (Some m) (e ∷ f ∷ es) are each ready =
     absurd (let none : suc (length es) ≡ 0 = ap length are.1 in omega (arith, none))
 entries_shallow C at (slot ∷ slots) own [] are each ready = absurd are
 entries_shallow C at (slot ∷ slots) own (e ∷ es) are each ready =
-    (stored_shallow C at slot.message e are.0.range each.0 are.0.message, entries_shallow C at slots own es are.1 each.1 ready)
+    (stored_shallow C at slot.value.message e are.0.range each.0 are.0.message, entries_shallow C at slots own es are.1 each.1 ready)
 
 one_own : (own : Option Message) → count_own own ≤ 1
 one_own None = omega arith
@@ -87,36 +88,36 @@ one_own (Some m) = omega arith
 
 -- ---- a checkpoint
 
--- what the code has of its fields: so long a fixed part, at most 16 open messages, and messages that fit the table
-pub record HasRoom (C : Table) (l : Listed) (m : Memory) : Type 0 where
-  pub fixed : length (fixed_octets (fixed_of C l m)) ≡ 96
-  pub few : length m.slots.slots.items ≤ most_open
+-- what the code has of its fields: so long a fixed part, a limit that the layout can say, and messages that fit the table
+pub record HasRoom (layout : Layout) (C : Table) (l : Listed) (m : Memory) : Type 0 where
+  pub fixed : length (fixed_octets layout (fixed_of C l m)) ≡ 96
+  pub allows : OpenHasRange layout m.slots.slots.most
   pub ready : AreReady C (m.totals.octets + 1) m.slots
 
-pub whole_long : (C : Table) (l : Listed) (m : Memory) (written : List ℕ) (whole : IsPutWhole C l m written) → HasRoom C l m →
-    length written ≡ 96 + entries_size whole.entries
+pub whole_long : (layout : Layout) (C : Table) (l : Listed) (m : Memory) (written : List ℕ) (whole : IsPutWhole layout C l m written) →
+    HasRoom layout C l m → length written ≡ 96 + entries_size whole.entries
 unfolding checkpoint_octets
-whole_long C l m written whole room =
+whole_long layout C l m written whole room =
     ap length whole.put
     ∙ omega (
       arith,
-      length-append (fixed_octets (fixed_of C l m)) (flat_map entry_octets whole.entries),
+      length-append (fixed_octets layout (fixed_of C l m)) (flat_map entry_octets whole.entries),
       room.fixed,
-      entries_long whole.entries (entries_range m.slots.slots.items m.slots.own whole.entries whole.are),
+      entries_long whole.entries (entries_range m.slots.slots.entries m.slots.own whole.entries whole.are),
     )
 
-many_within : (n w sum : ℕ) → n ≤ 17 → sum ≤ n * w → sum ≤ 17 * w
-many_within n w sum few most = omega (arith, most, mul-le-mul_right w few)
+many_within : (n most w sum : ℕ) → n ≤ most + 1 → sum ≤ n * w → sum ≤ (most + 1) * w
+many_within n most w sum few within = omega (arith, within, mul-le-mul_right w few)
 
-pub whole_within : (C : Table) (l : Listed) (m : Memory) (written : List ℕ) (whole : IsPutWhole C l m written) → HasRoom C l m →
-    96 + entries_size whole.entries ≤ checkpoint_limit (depth_of C.types)
+pub whole_within : (layout : Layout) (C : Table) (l : Listed) (m : Memory) (most : ℕ) (written : List ℕ) (whole : IsPutWhole layout C l m written) →
+    HasRoom layout C l m → length m.slots.slots.entries ≤ most → 96 + entries_size whole.entries ≤ checkpoint_limit most (depth_of C.types)
 unfolding checkpoint_limit
-whole_within C l m written whole room =
-    let many = entries_count m.slots.slots.items m.slots.own whole.entries whole.are in
-    let shallow = entries_shallow C (m.totals.octets + 1) m.slots.slots.items m.slots.own whole.entries whole.are
+whole_within layout C l m most written whole room few =
+    let many = entries_count m.slots.slots.entries m.slots.own whole.entries whole.are in
+    let shallow = entries_shallow C (m.totals.octets + 1) m.slots.slots.entries m.slots.own whole.entries whole.are
     room.ready.each_ready room.ready.own_ready in
     omega (
       arith,
-      many_within (length whole.entries) (256 + FRAME_SIZE * depth_of C.types) (entries_size whole.entries)
-          (omega (arith, many, room.few, one_own m.slots.own)) (entries_within (depth_of C.types) whole.entries shallow),
+      many_within (length whole.entries) most (256 + FRAME_SIZE * depth_of C.types) (entries_size whole.entries)
+          (omega (arith, many, few, one_own m.slots.own)) (entries_within (depth_of C.types) whole.entries shallow),
     )

@@ -8,13 +8,16 @@ use Rattle.giop_checkpoint.specs.declared.fault.LoadFault.{LoadFault}
 use Rattle.giop_checkpoint.specs.declared.fault.LoadFault.TheVariants as refusals
 use Rattle.giop_checkpoint.specs.declared.fixed.Counts.{Counts}
 use Rattle.giop_checkpoint.specs.declared.fixed.Fixed.{Fixed}
+use Rattle.giop_checkpoint.specs.declared.layout.Layout.{Layout}
+use Rattle.giop_checkpoint.specs.declared.layout.Layout.TheVariants.{Second, Third}
+use Rattle.giop_checkpoint.specs.Layouts.{OpenHasRange}
 use Rattle.giop_checkpoint.specs.declared.sizes.TheConstants.{FRAME_SIZE}
 use Rattle.giop_checkpoint.specs.Fixed.{HasRange, fixed_octets}
 use Rattle.giop_checkpoint.specs.Records.{Entry, EntryHasRange, AreRecords, used, kind_octets, own_octets, entry_octets}
 use Rattle.giop_checkpoint.specs.Refusals.{Refused, Passes}
 use Rattle.giop_stream.specs.Rules.{most_open}
 use Rattle.giop_stream.specs.Remembering.{Memory}
-use Rattle.giop_stream.specs.Checkpoint.{counts_of, fixed_of, checkpoint_octets, Spells, IsRefused}
+use Rattle.giop_stream.specs.Checkpoint.{counts_of, fixed_of, checkpoint_octets, Spells, Allows, IsRefused}
 use Rattle.giop_stream.proofs.Restored.LoadRanges.{fixed_range}
 use Rattle.giop_stream.proofs.Restored.SavedSizes.{entry_long, entries_count, entries_range}
 
@@ -46,24 +49,24 @@ module _ (octets p : List ℕ) (C : Table) (l : Listed) (most : ℕ) (s : Spells
   fixed_records : AreRecords (fixed_of C l s.memory).records (flat_map entry_octets s.entries)
   unfolding fixed_of
   fixed_records =
-      let slots = s.memory.slots.slots.items in
+      let slots = s.memory.slots.slots.entries in
       let own = s.memory.slots.own in
       let P : ℕ → Type 0 = λ n. AreRecords n (flat_map entry_octets s.entries) in
       subst P (entries_count slots own s.entries s.entries_are)
       (records_are s.entries (entries_range slots own s.entries s.entries_are))
 
-  fixed_front : octets ≡ fixed_octets (fixed_of C l s.memory) ++ flat_map entry_octets s.entries
+  fixed_front : octets ≡ fixed_octets s.layout (fixed_of C l s.memory) ++ flat_map entry_octets s.entries
   unfolding checkpoint_octets
   fixed_front = s.octets_are
 
   -- what is said of any fixed part and records that were written is so of these
-  pub parts_read : most ≤ most_open → (P : Fixed → List ℕ → Type 0) (counts : Counts) → counts ≡ counts_of C l →
-      ((f : Fixed) (records : List ℕ) → f.counts ≡ counts → HasRange f → AreRecords f.records records →
-      octets ≡ fixed_octets f ++ records → P f records) →
+  pub parts_read : (P : Fixed → List ℕ → Type 0) (counts : Counts) → counts ≡ counts_of C l →
+      ((layout : Layout) (f : Fixed) (records : List ℕ) → f.counts ≡ counts → HasRange layout f → AreRecords f.records records →
+      octets ≡ fixed_octets layout f ++ records → P f records) →
       P (fixed_of C l s.memory) (flat_map entry_octets s.entries)
-  parts_read room P counts same again =
-      again (fixed_of C l s.memory) (flat_map entry_octets s.entries) (fixed_counts C l s.memory ∙ sym same)
-      (fixed_range octets p C l most s room) fixed_records fixed_front
+  parts_read P counts same again =
+      again s.layout (fixed_of C l s.memory) (flat_map entry_octets s.entries) (fixed_counts C l s.memory ∙ sym same)
+      (fixed_range octets p C l most s) fixed_records fixed_front
 
 -- ---- what is no checkpoint
 
@@ -75,6 +78,8 @@ refused_is c s refusals.Version (inr never) = absurd never.1
 refused_is c s refusals.Catalogue (inl never) = never
 refused_is c s refusals.Catalogue (inr never) = absurd never.1
 refused_is c s refusals.Length never = never
+refused_is c s refusals.OutOfMemory (inl never) = absurd never
+refused_is c s refusals.OutOfMemory (inr never) = absurd never.1
 refused_is c s refusals.State (inl never) = absurd never
 refused_is c s refusals.State (inr never) = (never.0, inl never.1)
 
@@ -83,3 +88,23 @@ pub refused_state : (c now : Counts) (s : List ℕ) (f : Fixed) (records : List 
 refused_state c now s f records same passes =
     let whole = subst (λ xs. AreRecords f.records xs) passes.rest passes.lengths in
     subst (λ x. IsRefused x s refusals.State) same (passes.ours, inr (f, passes.state, whole))
+
+pub refused_memory : (c now : Counts) (s : List ℕ) (f : Fixed) (records : List ℕ) → c ≡ now → Passes c s f records →
+    IsRefused now s refusals.OutOfMemory
+refused_memory c now s f records same passes =
+    let whole = subst (λ xs. AreRecords f.records xs) passes.rest passes.lengths in
+    subst (λ x. IsRefused x s refusals.OutOfMemory) same (passes.ours, (f, passes.state, whole))
+
+-- ---- how many messages may be open
+
+open_by : (layout : Layout) (n : ℕ) → OpenHasRange layout n → (1 ≤ n) × (n ≤ most_open)
+open_by Second n h = (omega (arith, h), omega (arith, h))
+open_by Third n h = h
+
+pub passed_open : (c : Counts) (s : List ℕ) (f : Fixed) (records : List ℕ) → Passes c s f records →
+    (1 ≤ f.most_open) × (f.most_open ≤ most_open)
+passed_open c s f records passes = open_by passes.state.layout f.most_open passes.state.range.most_open
+
+pub allowed_is : (c now : Counts) (s : List ℕ) (f : Fixed) (records : List ℕ) (n : ℕ) → c ≡ now → Passes c s f records → n ≡ f.most_open →
+    Allows now s n
+allowed_is c now s f records n same passes is = subst (λ x. Allows x s n) same (f, passes.state, sym is)

@@ -1,6 +1,6 @@
 -- The finish, by the fields that show a state.
 use Rattle.std.proofs.Common.{◌≡◌, ℕ, ◌+◌, true, false, List, [], ◌∷◌, ◌++◌, get_or, flat_map, refl, sym, ap, ◌∙◌, Option, Some, None, arith, append-nil}
-use Rattle.std.specs.Prelude.{is_some, if◌then◌else◌}
+use Rattle.std.specs.Prelude.{is_some, option_map, slice_get, if◌then◌else◌}
 use Rattle.std.proofs.lemmas.List.Concat.{flat_map-append}
 use Rattle.giop_print.specs.Lines.{unfinished_line, total_line}
 use Rattle.giop_sig.specs.Table.{Table}
@@ -8,7 +8,9 @@ use Rattle.giop_message.specs.Signatures.{Listed}
 use Rattle.giop_message.specs.declared.message.Message.{Message as Kept_message}
 use Rattle.giop_message.specs.Headers.{is_fragment}
 use Rattle.giop_stream.specs.declared.status.Totals.{Totals}
-use Rattle.giop_stream.specs.declared.slots.Slot.{Slot as Kept_slot}
+use Rattle.giop_stream.specs.Keeping.{Kept_slot}
+use Rattle.giop_stream.specs.declared.slots.Slot.{Slot as Contents}
+use Rattle.giop_stream.proofs.Keep.SlotLists.{value_at}
 use Rattle.giop_stream.specs.Events.{Title}
 use Rattle.giop_stream.specs.Text.{truncated_line}
 use Rattle.giop_stream.specs.Stream.{with_truncated}
@@ -24,16 +26,17 @@ use Rattle.giop_stream.specs.Showing.{IsOwn, Shows}
 
 -- the line of a slot at the finish
 unfoldable pub slot_text : Kept_slot → List ℕ
-slot_text slot = if is_some slot.message then unfinished_line slot.number else []
+slot_text slot = if is_some slot.value.message then unfinished_line slot.value.number else []
 
-pub slot_says : (ks : List Kept_slot) (i : ℕ) (slot : Kept_slot) → slot ≡ get_or ks i slot → is_some slot.message ≡ true
-    → slot_text (get_or ks i slot) ≡ unfinished_line slot.number
+pub slot_says : (ks : List Kept_slot) (i : ℕ) (v : Contents) (d : Kept_slot) → option_map (λ e. e.value) (slice_get ks i) ≡ Some v
+    → is_some v.message ≡ true → slot_text (get_or ks i d) ≡ unfinished_line v.number
 unfolding slot_text
-slot_says ks i slot is e = rw (← is, e) refl
+slot_says ks i v d is e = rw (value_at ks i v d is, e) refl
 
-pub slot_silent : (ks : List Kept_slot) (i : ℕ) (slot : Kept_slot) → slot ≡ get_or ks i slot → is_some slot.message ≡ false → slot_text (get_or ks i slot) ≡ []
+pub slot_silent : (ks : List Kept_slot) (i : ℕ) (v : Contents) (d : Kept_slot) → option_map (λ e. e.value) (slice_get ks i) ≡ Some v
+    → is_some v.message ≡ false → slot_text (get_or ks i d) ≡ []
 unfolding slot_text
-slot_silent ks i slot is e = rw (← is, e) refl
+slot_silent ks i v d is e = rw (value_at ks i v d is, e) refl
 
 module _ (C : Table) (l : Listed) where
   line_kept : (n : ℕ) (own : Option Kept_message) (w : Title) (o : Option (List ℕ)) → n ≡ w.number → IsKept C l own w o
@@ -45,7 +48,7 @@ module _ (C : Table) (l : Listed) where
 
   slot_left : (kept : Kept_slot) (slot : Slot) → IsSlot C l kept slot → flat_map unfinished_line (left_open slot) ≡ slot_text kept
   unfolding left_open slot_text
-  slot_left kept slot is = line_kept kept.number kept.message slot.open_as.opener slot.octets is.number is.message
+  slot_left kept slot is = line_kept kept.value.number kept.value.message slot.open_as.opener slot.octets is.number is.message
 
   -- the lines of the slots
   pub slots_left : (ks : List Kept_slot) (ss : List Slot) → AreSlots C l ks ss → flat_map unfinished_line (flat_map left_open ss) ≡ flat_map slot_text ks

@@ -4,10 +4,11 @@ use Rattle.giop_sig.specs.Table.{Table}
 use Rattle.giop_sig.specs.Trees.{depth_of}
 use Rattle.giop_message.specs.Reading.{IsCausal, IsInTurn}
 use Rattle.giop_message.specs.Signatures.{Listed}
+use Rattle.giop_checkpoint.specs.declared.layout.Layout.{Layout}
 use Rattle.giop_checkpoint.specs.declared.fixed.Fixed.{Fixed}
 use Rattle.giop_checkpoint.specs.Fixed.{HasRange, fixed_octets}
 use Rattle.giop_checkpoint.proofs.Fronts.{front_of}
-use Rattle.giop_stream.specs.Rules.{Rules, most_open}
+use Rattle.giop_stream.specs.Rules.{Rules}
 use Rattle.giop_stream.specs.Stream.{text, closing}
 use Rattle.giop_stream.specs.Holding.{added}
 use Rattle.giop_stream.specs.Pieces.{whole_text, remaining}
@@ -23,18 +24,19 @@ remains R causal laws p q =
     sym (append_assoc (text R p) (added R p q) (closing R (p ++ q)))
     ∙ ap (λ (xs : List ℕ). xs ++ closing R (p ++ q)) (sym (text_adds R causal laws p q))
 
-fixed_long : (f : Fixed) → HasRange f → length (fixed_octets f) ≡ 96
-fixed_long f range =
-    let front = front_of f.counts f (fixed_octets f) [] refl range (sym (append-nil (fixed_octets f))) in
-    omega (arith, front.ours.0, ap length front.rest, length-drop 96 (fixed_octets f))
+fixed_long : (layout : Layout) (f : Fixed) → HasRange layout f → length (fixed_octets layout f) ≡ 96
+fixed_long layout f range =
+    let front = front_of layout f.counts f (fixed_octets layout f) [] refl range (sym (append-nil (fixed_octets layout f))) in
+    omega (arith, front.ours.0, ap length front.rest, length-drop 96 (fixed_octets layout f))
 
 pub spells_within : (octets p : List ℕ) (C : Table) (l : Listed) (most : ℕ) → Spells octets C l most p →
-    most ≤ most_open → length octets ≤ checkpoint_limit (depth_of C.types)
-spells_within octets p C l most s few =
-    let whole : IsPutWhole C l s.memory octets = record { entries = s.entries; are = s.entries_are; put = s.octets_are } in
-    let room : HasRoom C l s.memory = record {
-      fixed = fixed_long _ (fixed_range octets p C l most s few);
-      few = omega (arith, few_slots octets p C l most s, few);
+    length octets ≤ checkpoint_limit most (depth_of C.types)
+spells_within octets p C l most s =
+    let whole : IsPutWhole s.layout C l s.memory octets = record { entries = s.entries; are = s.entries_are; put = s.octets_are } in
+    let room : HasRoom s.layout C l s.memory = record {
+      fixed = fixed_long s.layout _ (fixed_range octets p C l most s);
+      allows = rw s.limit s.allows;
       ready = s.ready;
     } in
-    omega (arith, whole_long C l s.memory octets whole room, whole_within C l s.memory octets whole room)
+    let few = few_slots octets p C l most s in
+    omega (arith, whole_long s.layout C l s.memory octets whole room, whole_within s.layout C l s.memory most octets whole room few)

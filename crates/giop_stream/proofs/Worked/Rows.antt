@@ -9,7 +9,7 @@ use Rattle.giop_print.specs.Text.{hex}
 use Rattle.giop_print.specs.Text as print_text
 use Rattle.giop_print.specs.Lines.{type_word, continues_line, cancelled_line, fault_line, stream_fault_line, unfinished_line, total_line}
 use Rattle.giop_print.specs.Lines as print
-use Rattle.giop_stream.specs.Rules.{Rules, most_open}
+use Rattle.giop_stream.specs.Rules.{Rules}
 use Rattle.giop_stream.specs.Headers.{fronts, wrong, first_wrong, offence}
 use Rattle.giop_message.specs.Headers.{minor, kind, order, has_more, size, may_be_fragmented, is_opener, is_fragment, is_cancel, has_name}
 use Rattle.giop_stream.specs.Framing.{with_first, cut_from, limit, limited, cut, messages, read_of}
@@ -45,7 +45,7 @@ small_reading least = record { reads = named_reads; closes = named_closes least 
 
 -- where as many messages may be open as in an engine that is made
 unfoldable pub small : ℕ → Rules
-small least = record { reading = small_reading least; most = most_open }
+small least = record { reading = small_reading least; most = 16 }
 
 unfoldable pub digit : ℕ → ℕ
 digit c = if nat_lt c 58 then c - 48 else c - 87

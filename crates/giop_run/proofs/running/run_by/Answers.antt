@@ -24,7 +24,6 @@ loop-turn-init g c =
       going = λ p h. ([], going_start _ p _ _ _ _ (rw c.if-not-branch.false at (c.in_ok-feed.ensures.fed p h)));
       sound = c.in_ok-feed.ensures.leaves;
       same = c.in_ok-feed.ensures.same;
-      kept = refl;
       reads = omega arith;
     }
 
@@ -53,7 +52,7 @@ returns-then-not-branch-2-clause-ran g c =
     let u = rw c.if-not-branch-2.true at t.1 in
     let same = c.in_ok-turn.ensures.same in
     let kept = c.loop-turn.invariant.same in
-    (s.0 ++ t.0, ran_over _ (adds_up c.args.engine) c.close-then-not-branch-2.result p s.0 t.0 _ _ c.loop-turn._turn _ _ _ _ _ _ _ f u (omega (arith, c.loop-turn-test.true)) (same.0 ∙ kept.0, same.1 ∙ kept.1, same.2 ∙ kept.2) (rw c.loop-turn.invariant.kept at (c.close-then-not-branch-2.ensures.closed ((p ++ s.0) ++ t.0) u.3.holds)))
+    (s.0 ++ t.0, ran_over _ (adds_up c.args.engine) c.close-then-not-branch-2.result p s.0 t.0 _ _ c.loop-turn._turn _ _ _ _ _ _ _ f u (omega (arith, c.loop-turn-test.true)) (same.0 ∙ kept.0, same.1 ∙ kept.1, same.2 ∙ kept.2) (c.close-then-not-branch-2.ensures.closed ((p ++ s.0) ++ t.0) u.3.holds))
 
 pub returns-in_err-turn-clause-reads : goal.returns-in_err-turn-clause-reads
 returns-in_err-turn-clause-reads g c =
@@ -76,7 +75,6 @@ loop-turn-preserved g c =
           let same = c.in_ok-turn.ensures.same in
           let kept = c.loop-turn.invariant.same in
           (same.0 ∙ kept.0, same.1 ∙ kept.1, same.2 ∙ kept.2);
-      kept = c.loop-turn.invariant.kept;
       reads = one_more_read _ _ _ _ (c.loop-turn._turn + 1) c.loop-turn.invariant.reads c.in_ok-turn.ensures.reads (omega arith);
     }
 

@@ -12,6 +12,5 @@ invariant-loop-turn g l =
       sound : l.engine.failed ≡ false;
       same : (l.engine.table ≡ l.fn.engine.table) × (l.engine.listed ≡ l.fn.engine.listed)
           × (l.engine.most ≡ l.fn.engine.most);
-      kept : l.into ≡ l.fn.into;
       reads : (g.S.Source.log l.source).reads ≤ (g.S.Source.log l.fn.source).reads + l._turn;
     }

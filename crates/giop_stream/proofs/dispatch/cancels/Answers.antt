@@ -1,6 +1,6 @@
 use Rattle.std.proofs.Common.{None, refl, sym, ◌∙◌}
 use Rattle.giop_stream.proofs.Keep.Performing.{does_nothing}
-use Rattle.giop_stream.proofs.Keep.Named.{misses_all, spares, cancels_one, finds, header_may, cancel_named, read_slot}
+use Rattle.giop_stream.proofs.Keep.Named.{misses_all, spares, cancels_one, finds, header_may, cancel_named}
 use Rattle.giop_stream.proofs.dispatch.cancels.Goals as goal
 
 pub returns-in_default-clause-does : goal.returns-in_default-clause-does
@@ -14,8 +14,7 @@ returns-then-may_be_cancelled-clause-does g c =
     λ C l c' m h f o b.
     let found = finds C l c.args.slots.now c' m c.args.now c.args.id h (cancel_named m.header b) c.in-Some.k (sym c.in-Some.is ∙ c.find.ensures.value) in
     let may =
-    header_may C l c.args.slots.now c' m c.args.now c.args.id h found.o _ c.in-Some.k _ found.here
-    (read_slot _ _ c.in-Some.k c.index-deref-k.result c.deref.ensures.0 c.in-Some.ensures.within)
+    header_may C l c.args.slots.now c' m c.args.now c.args.id h found.o _ c.in-Some.k _ found.here c.at.ensures
     (sym c.if-may_be_cancelled.ensures) in
     rw (cancels_one C l c.args.slots.now c' m c.args.now c.args.id h found.o f o b found.is may)
     (c.cancel.ensures.does C l c' _ found.o h.keeps (h.own_comes (cancel_named m.header b)) found.here h.rising)
@@ -25,7 +24,6 @@ returns-clause-does g c =
     λ C l c' m h f o b.
     let found = finds C l c.args.slots.now c' m c.args.now c.args.id h (cancel_named m.header b) c.in-Some.k (sym c.in-Some.is ∙ c.find.ensures.value) in
     let may =
-    header_may C l c.args.slots.now c' m c.args.now c.args.id h found.o _ c.in-Some.k _ found.here
-    (read_slot _ _ c.in-Some.k c.index-deref-k.result c.deref.ensures.0 c.in-Some.ensures.within)
+    header_may C l c.args.slots.now c' m c.args.now c.args.id h found.o _ c.in-Some.k _ found.here c.at.ensures
     (sym c.if-may_be_cancelled.ensures) in
     rw (spares C l c.args.slots.now c' m c.args.now c.args.id h found.o f o b found.is may) (does_nothing _ _ refl h.keeps)

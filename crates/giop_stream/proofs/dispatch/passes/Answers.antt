@@ -1,14 +1,13 @@
 use Rattle.std.proofs.Common.{[], sym, ◌∙◌}
 use Rattle.giop_stream.proofs.Keep.Performing.{no_faults, wrote_line, line_then, line_failed}
-use Rattle.giop_stream.proofs.Keep.Named.{in_order, out_of_order, goes_text, goes_faults, goes_first, opener_slot, orders, read_slot}
+use Rattle.giop_stream.proofs.Keep.Named.{in_order, out_of_order, goes_text, goes_faults, goes_first, opener_slot, orders}
 use Rattle.giop_stream.proofs.dispatch.passes.Goals as goal
 
 pub returns-in_err-continues_line-clause-does : goal.returns-in_err-continues_line-clause-does
 returns-in_err-continues_line-clause-does g c =
     λ C l c' m i o h f e here.
     let number =
-    sym (opener_slot C l c.args.slots.now c' m c.args.now i h c.args.k o _ here
-    (read_slot _ _ c.args.k c.index-deref-k.result c.deref.ensures.0 c.requires)).number in
+    sym (opener_slot C l c.args.slots.now c' m c.args.now i h c.args.k o _ here c.at-opener.ensures).0 in
     line_failed c.from_residual.result _ _ _ (goes_first C l c.args.slots.now c' m c.args.now i h o f e)
     (goes_text C l c.args.slots.now c' m c.args.now i h o _ number) c.from_residual.ensures.0 c.in_err-continues_line.ensures
 
@@ -16,11 +15,9 @@ pub returns-then-same_order-clause-does : goal.returns-then-same_order-clause-do
 returns-then-same_order-clause-does g c =
     λ C l c' m i o h f e here.
     let number =
-    sym (opener_slot C l c.args.slots.now c' m c.args.now i h c.args.k o _ here
-    (read_slot _ _ c.args.k c.index-deref-k.result c.deref.ensures.0 c.requires)).number in
+    sym (opener_slot C l c.args.slots.now c' m c.args.now i h c.args.k o _ here c.at-opener.ensures).0 in
     let header =
-    (opener_slot C l c.args.slots.now c' m c.args.now i h c.args.k o _ here
-    (read_slot _ _ c.args.k c.index-deref-k-2.result c.deref-2.ensures.0 c.requires)).header in
+    (opener_slot C l c.args.slots.now c' m c.args.now i h c.args.k o _ here c.at-opener.ensures).1 in
     let order = orders C l c.args.slots.now c' m c.args.now i h o _ _ _ _ c.order_of.ensures c.order_of-order.ensures header (sym c.if-same_order.ensures) in
     rw (in_order C l c.args.slots.now c' m c.args.now i h o f e order)
     (wrote_line _ _ _ _ (goes_text C l c.args.slots.now c' m c.args.now i h o _ number)
@@ -30,11 +27,9 @@ pub returns-clause-does : goal.returns-clause-does
 returns-clause-does g c =
     λ C l c' m i o h f e here.
     let number =
-    sym (opener_slot C l c.args.slots.now c' m c.args.now i h c.args.k o _ here
-    (read_slot _ _ c.args.k c.index-deref-k.result c.deref.ensures.0 c.requires)).number in
+    sym (opener_slot C l c.args.slots.now c' m c.args.now i h c.args.k o _ here c.at-opener.ensures).0 in
     let header =
-    (opener_slot C l c.args.slots.now c' m c.args.now i h c.args.k o _ here
-    (read_slot _ _ c.args.k c.index-deref-k-2.result c.deref-2.ensures.0 c.requires)).header in
+    (opener_slot C l c.args.slots.now c' m c.args.now i h c.args.k o _ here c.at-opener.ensures).1 in
     let order = orders C l c.args.slots.now c' m c.args.now i h o _ _ _ _ c.order_of.ensures c.order_of-order.ensures header (sym c.if-same_order.ensures) in
     let passed = c.pass_on.ensures.kept C l c' _ o h.keeps here in
     rw (out_of_order C l c.args.slots.now c' m c.args.now i h o f e order)

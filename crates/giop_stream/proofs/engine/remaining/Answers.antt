@@ -8,5 +8,5 @@ use Rattle.giop_stream.proofs.engine.remaining.Goals as goal
 pub returns : goal.returns
 returns c = record {
   text = λ C l n octets p q s. remains (rules C l n) (is_causal (said_by C l)) (in_turn C l) p q;
-  within = λ C l n octets p s few. spells_within octets p C l n s few;
+  within = λ C l n octets p s. spells_within octets p C l n s;
 }

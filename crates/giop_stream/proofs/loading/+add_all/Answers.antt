@@ -1,5 +1,5 @@
 use Rattle.std.proofs.Common.{◌+◌, refl}
-use Rattle.giop_stream.proofs.Restored.Loaded.{all_none, front_is, front_found, front_added, all_again}
+use Rattle.giop_stream.proofs.Restored.Loaded.{all_none, all_again}
 use Rattle.giop_stream.proofs.loading.+add_all.Goals as goal
 
 pub returns-then-count-eq0-clause-again : goal.returns-then-count-eq0-clause-again
@@ -10,25 +10,11 @@ returns-then-count-eq0-clause-again t c l held own left room bare =
 
 pub returns-in_default-clause-again : goal.returns-in_default-clause-again
 returns-in_default-clause-again t c l held own left room bare =
-    absurd (front_found c.args.catalogue.now l (c.args.octets + 1) c.args.count c.args.records.now held own left
-    c.if-count-eq0.false c.in_default.ensures.again)
-
-pub returns-then-not-add-clause-again : goal.returns-then-not-add-clause-again
-returns-then-not-add-clause-again t c l held own left room bare =
-    let C = c.args.catalogue.now in
-    let at = c.args.octets + 1 in
-    let front = front_is C l at c.args.count c.args.records.now c.in-Some.first c.if-count-eq0.false c.in-Some.ensures.again
-    held own left in
-    let added = front_added C l at c.args.count c.in-Some.first c.args.slots.now c.add.new.slots c.add.result
-    (c.add.ensures.one_open l) (c.add.ensures.one_current l) held own front room in
-    absurd (cc (added, c.if-not-add.true))
+    absurd (c.in_default.ensures.again l c.args.count held own c.if-count-eq0.false left room)
 
 pub returns-clause-again : goal.returns-clause-again
 returns-clause-again t c l held own left room bare =
-    let C = c.args.catalogue.now in
-    let at = c.args.octets + 1 in
-    let front = front_is C l at c.args.count c.args.records.now c.in-Some.first c.if-count-eq0.false c.in-Some.ensures.again
-    held own left in
-    all_again C l at c.args.count c.in-Some.first c.args.slots.now c.add.new.slots c.add.result
-    (c.add.ensures.one_open l) (c.add.ensures.one_current l) c.add_all.new.slots c.add_all.result
-    c.add_all.ensures.none (c.add_all.ensures.again l) held own front room bare
+    let added = c.in-Some.ensures.again l c.args.count held own c.if-count-eq0.false left room in
+    all_again c.args.catalogue.now l (c.args.octets + 1) c.args.count c.args.slots.now c.add_first.new.slots c.add_all.new.slots
+    c.in-Some.rest.now c.add_all.result c.add_first.ensures.most c.add_all.ensures.none (c.add_all.ensures.again l)
+    held own added room bare

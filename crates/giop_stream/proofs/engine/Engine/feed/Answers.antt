@@ -17,7 +17,7 @@ returns-in-Ok-clause-held g c p h =
     let held = rw (← c.self.view_is) at h in
     let C = c.self.inside.catalogue.now in
     let l = c.self.inside.requests.now in
-    let R = rules C l c.self.inside.framing.slots.most in
+    let R = rules C l c.self.inside.framing.slots.slots.most in
     let does = c.in-Ok.ensures.does (state_of R p) (record { stream = p; octets = held.octets; held = refl }) held.shows in
     let now = rw (← run_holds R (is_causal (said_by C l)) (in_turn C l) p c.args.piece.now) at does.shows in
     record {
@@ -31,7 +31,7 @@ returns-in-Ok-clause-status g c p h =
     let held = rw (← c.self.view_is) at h in
     let C = c.self.inside.catalogue.now in
     let l = c.self.inside.requests.now in
-    let R = rules C l c.self.inside.framing.slots.most in
+    let R = rules C l c.self.inside.framing.slots.slots.most in
     let does = c.in-Ok.ensures.does (state_of R p) (record { stream = p; octets = held.octets; held = refl }) held.shows in
     let now = rw (← run_holds R (is_causal (said_by C l)) (in_turn C l) p c.args.piece.now) at does.shows in
     c.status.ensures ∙ ap status_of (now.stopped ∙ stop_is R (p ++ c.args.piece.now))
@@ -41,7 +41,7 @@ returns-in-Ok-clause-text g c p h =
     let held = rw (← c.self.view_is) at h in
     let C = c.self.inside.catalogue.now in
     let l = c.self.inside.requests.now in
-    let R = rules C l c.self.inside.framing.slots.most in
+    let R = rules C l c.self.inside.framing.slots.slots.most in
     let does = c.in-Ok.ensures.does (state_of R p) (record { stream = p; octets = held.octets; held = refl }) held.shows in
     rw (← c.self.view_is, added_text R (is_causal (said_by C l)) (in_turn C l) p c.args.piece.now) does.text
 
@@ -50,6 +50,9 @@ returns-in-Err-clause-text g c p h =
     let held = rw (← c.self.view_is) at h in
     let C = c.self.inside.catalogue.now in
     let l = c.self.inside.requests.now in
-    let R = rules C l c.self.inside.framing.slots.most in
+    let R = rules C l c.self.inside.framing.slots.slots.most in
     let does = c.in-Err.ensures.does (state_of R p) (record { stream = p; octets = held.octets; held = refl }) held.shows in
     rw (← c.self.view_is, added_text R (is_causal (said_by C l)) (in_turn C l) p c.args.piece.now) does.text
+
+pub invariant_of-self-in-Err : goal.invariant_of-self-in-Err
+invariant_of-self-in-Err g c = (c.self.invariant.0, c.fail.ensures.ready c.self.inside.catalogue.now)

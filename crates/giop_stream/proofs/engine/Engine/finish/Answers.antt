@@ -11,18 +11,18 @@ returns-in-Ok-clause-text g c = λ p h.
     let k = rw (← c.self.view_is) at h in
     let C = c.self.inside.catalogue.now in
     let l = c.self.inside.requests.now in
-    rw (← c.self.view_is, finish_is (rules C l c.self.inside.framing.slots.most) (is_causal (said_by C l)) (in_turn C l) (is_ending (said_by C l)) p) (c.in-Ok.ensures _ _ _ k.shows)
+    rw (← c.self.view_is, finish_is (rules C l c.self.inside.framing.slots.slots.most) (is_causal (said_by C l)) (in_turn C l) (is_ending (said_by C l)) p) (c.in-Ok.ensures _ _ _ k.shows)
 
 pub returns-in-Ok-clause-totals : goal.returns-in-Ok-clause-totals
 returns-in-Ok-clause-totals g c = λ p h.
     let k = rw (← c.self.view_is) at h in
     let C = c.self.inside.catalogue.now in
     let l = c.self.inside.requests.now in
-    rw (← c.self.view_is) (c.final_totals.ensures.value _ _ _ k.shows ∙ sym (final_is (rules C l c.self.inside.framing.slots.most) (is_causal (said_by C l)) (in_turn C l) p))
+    rw (← c.self.view_is) (c.final_totals.ensures.value _ _ _ k.shows ∙ sym (final_is (rules C l c.self.inside.framing.slots.slots.most) (is_causal (said_by C l)) (in_turn C l) p))
 
-pub returns-in-Err-clause-text : goal.returns-in-Err-clause-text
-returns-in-Err-clause-text g c = λ p h.
+pub returns-clause-text : goal.returns-clause-text
+returns-clause-text g c = λ p h.
     let k = rw (← c.self.view_is) at h in
     let C = c.self.inside.catalogue.now in
     let l = c.self.inside.requests.now in
-    rw (← c.self.view_is, finish_is (rules C l c.self.inside.framing.slots.most) (is_causal (said_by C l)) (in_turn C l) (is_ending (said_by C l)) p) (c.in-Err.ensures _ _ _ k.shows)
+    rw (← c.self.view_is, finish_is (rules C l c.self.inside.framing.slots.slots.most) (is_causal (said_by C l)) (in_turn C l) (is_ending (said_by C l)) p) (c.in-Err.ensures _ _ _ k.shows)

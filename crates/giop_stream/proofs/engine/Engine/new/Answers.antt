@@ -5,10 +5,10 @@ use Rattle.giop_stream.proofs.Moves.EngineLaws.{start_is}
 use Rattle.giop_stream.proofs.engine.Engine.new.Goals as goal
 
 pub invariant_of-result : goal.invariant_of-result
-invariant_of-result c = (c.requires.of, c.new.ensures.ready c.args.catalogue.now)
+invariant_of-result c = (c.requires.of, c.in-Ok.ensures.ready c.args.catalogue.now)
 
 pub returns-clause-holds : goal.returns-clause-holds
 returns-clause-holds c =
     let C = c.args.catalogue.now in
     let l = c.args.requests.now in
-    record { sound = refl; octets = All-nil (λ x. x < 256); shows = rw (start_is (rules C l c.new.result.slots.most)) (c.new.ensures.shows C l) }
+    record { sound = refl; octets = All-nil (λ x. x < 256); shows = rw (start_is (rules C l c.in-Ok.framing.slots.slots.most)) (c.in-Ok.ensures.shows C l) }

@@ -15,15 +15,15 @@ returns-in_err-faults-clause-does g c s r h =
     let m = shown c.args.self.now in
     let x = c.args.octet in
     let free = c.requires.running in
-    let here = has_current C kept c.args.self.now.slots.most s r m h free c.requires.full in
-    let fits = come_fits C kept c.args.self.now.slots.most s r m h free here.0 here.1 x c.requires.limit in
+    let here = has_current C kept c.args.self.now.slots.slots.most s r m h free c.requires.full in
+    let fits = come_fits C kept c.args.self.now.slots.slots.most s r m h free here.0 here.1 x c.requires.limit in
     let come : c.saturating_add-self.result ≡ c.args.self.now.come + 1 = omega (arith, c.saturating_add-self.ensures, fits) in
     let known = c.current-now.ensures in
-    let next = is_next C kept c.args.self.now.slots.most s r m h free here.0 here.1 x c.requires.limit c.current-now.result known.number known.header known.place (known.come ∙ come) in
+    let next = is_next C kept c.args.self.now.slots.slots.most s r m h free here.0 here.1 x c.requires.limit c.current-now.result known.number known.header known.place (known.come ∙ come) in
     let failed = c.from_residual.ensures.0 in
-    paid_does C kept c.args.self.now.slots.most s r m h free here.0 here.1 x c.requires.limit _ _ _ _
+    paid_does C kept c.args.self.now.slots.slots.most s r m h free here.0 here.1 x c.requires.limit _ _ _ _
     (writes_failed c.from_residual.result (g.O.Out.log c.args.out.now) (g.O.Out.log c.octet.new.out) _ failed
-    (c.in_err-faults.ensures.does (stage (rules C kept c.args.self.now.slots.most) r.stream) here.0 next).text)
+    (c.in_err-faults.ensures.does (stage (rules C kept c.args.self.now.slots.slots.most) r.stream) here.0 next).text)
     (on_err _ c.from_residual.result failed)
 
 pub returns-clause-does : goal.returns-clause-does
@@ -33,15 +33,15 @@ returns-clause-does g c s r h =
     let m = shown c.args.self.now in
     let x = c.args.octet in
     let free = c.requires.running in
-    let here = has_current C kept c.args.self.now.slots.most s r m h free c.requires.full in
-    let fits = come_fits C kept c.args.self.now.slots.most s r m h free here.0 here.1 x c.requires.limit in
+    let here = has_current C kept c.args.self.now.slots.slots.most s r m h free c.requires.full in
+    let fits = come_fits C kept c.args.self.now.slots.slots.most s r m h free here.0 here.1 x c.requires.limit in
     let come : c.saturating_add-self.result ≡ c.args.self.now.come + 1 = omega (arith, c.saturating_add-self.ensures, fits) in
     let known = c.current-now.ensures in
-    let next = is_next C kept c.args.self.now.slots.most s r m h free here.0 here.1 x c.requires.limit c.current-now.result known.number known.header known.place (known.come ∙ come) in
-    let does = c.in_ok-faults.ensures.does (stage (rules C kept c.args.self.now.slots.most) r.stream) here.0 next in
+    let next = is_next C kept c.args.self.now.slots.slots.most s r m h free here.0 here.1 x c.requires.limit c.current-now.result known.number known.header known.place (known.come ∙ come) in
+    let does = c.in_ok-faults.ensures.does (stage (rules C kept c.args.self.now.slots.slots.most) r.stream) here.0 next in
     let faults = ap (λ (n : ℕ). m.totals.faults + n) (c.from.ensures ∙ sym does.faults) in
-    paid_does C kept c.args.self.now.slots.most s r m h free here.0 here.1 x c.requires.limit _ _ _ _ does.text
-    (paid_shows C kept c.args.self.now.slots.most s r m h free here.0 here.1 x c.requires.limit _
+    paid_does C kept c.args.self.now.slots.slots.most s r m h free here.0 here.1 x c.requires.limit _ _ _ _ does.text
+    (paid_shows C kept c.args.self.now.slots.slots.most s r m h free here.0 here.1 x c.requires.limit _
     (shown c.settle.new.self) c.size_of.result c.settle.ensures.state refl faults refl refl refl come
     (c.size_of.ensures ∙ ap size known.header) does.kept)
 

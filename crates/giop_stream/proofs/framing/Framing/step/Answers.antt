@@ -9,7 +9,7 @@ use Rattle.giop_stream.proofs.framing.Framing.step.Goals as goal
 
 pub returns-then-is_some-clause-does : goal.returns-then-is_some-clause-does
 returns-then-is_some-clause-does g c s r h =
-    rw (behind_step c.args.catalogue.now c.args.requests.now c.args.self.now.slots.most (shown c.args.self.now) s h c.args.octet
+    rw (behind_step c.args.catalogue.now c.args.requests.now c.args.self.now.slots.slots.most (shown c.args.self.now) s h c.args.octet
     (sym c.is_some.ensures ∙ c.if-is_some.true)) (record { text = nothing_text _; shows = h })
 
 pub returns-then-self-ge-LIMIT-clause-does : goal.returns-then-self-ge-LIMIT-clause-does
@@ -18,9 +18,9 @@ returns-then-self-ge-LIMIT-clause-does g c s r h =
     let kept = c.args.requests.now in
     let m = shown c.args.self.now in
     let free = none_by c.args.self.now.stopped (sym c.is_some.ensures ∙ c.if-is_some.false) in
-    rw (limit_step C kept c.args.self.now.slots.most m s h c.args.octet free (omega (arith, c.if-self-ge-LIMIT.true))) (record {
-      text = rw (← ended_text C kept c.args.self.now.slots.most m s h StreamLimit) c.stop.ensures.text;
-      shows = on_ok_weaker c.stop.result (λ e. rw e (ended_shows C kept c.args.self.now.slots.most m s h StreamLimit _ refl refl refl)) c.stop.ensures.state;
+    rw (limit_step C kept c.args.self.now.slots.slots.most m s h c.args.octet free (omega (arith, c.if-self-ge-LIMIT.true))) (record {
+      text = rw (← ended_text C kept c.args.self.now.slots.slots.most m s h StreamLimit) c.stop.ensures.text;
+      shows = on_ok_weaker c.stop.result (λ e. rw e (ended_shows C kept c.args.self.now.slots.slots.most m s h StreamLimit _ refl refl refl)) c.stop.ensures.state;
     })
 
 pub returns-then-self-ge-LIMIT-clause-ready : goal.returns-then-self-ge-LIMIT-clause-ready

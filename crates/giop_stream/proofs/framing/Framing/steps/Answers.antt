@@ -28,7 +28,7 @@ pub returns-in_err-step-clause-does : goal.returns-in_err-step-clause-does
 returns-in_err-step-clause-does g c s r h =
     let C = c.args.catalogue.now in
     let kept = c.args.requests.now in
-    let R = rules C kept c.args.self.now.slots.most in
+    let R = rules C kept c.args.self.now.slots.slots.most in
     let so_far = c.loop-octet.invariant in
     let octet = c.in-Some.octet.now in
     let rest = c.loop-octet.rest.now in
@@ -37,7 +37,7 @@ returns-in_err-step-clause-does g c s r h =
     (All-from_get_or (λ x. x < 256) c.args.piece.now 0 (λ i below. omega (arith, c.type_inv.piece i))) in
     let does =
     rw (← one_run R (run_state R s so_far.come) octet) at (rw so_far.most at (c.in_err-step.ensures.does (run_state R s so_far.come)
-    (reached_at C kept _ _ _ (sym so_far.most) (reached_on C kept c.args.self.now.slots.most s so_far.come octets r)) (so_far.shows s r h))) in
+    (reached_at C kept _ _ _ (sym so_far.most) (reached_on C kept c.args.self.now.slots.slots.most s so_far.come octets r)) (so_far.shows s r h))) in
     let split =
     run_within R s so_far.come (octet ∷ []) (drop 1 rest) c.args.piece.now
     (further so_far.come rest (octet ∷ []) _ c.args.piece.now so_far.split (first_of rest octet c.in-Some.ensures.value)) in
@@ -51,7 +51,7 @@ pub loop-octet-preserved-then-quiet-eq0 : goal.loop-octet-preserved-then-quiet-e
 loop-octet-preserved-then-quiet-eq0 g c =
     let C = c.args.catalogue.now in
     let kept = c.args.requests.now in
-    let R = rules C kept c.args.self.now.slots.most in
+    let R = rules C kept c.args.self.now.slots.slots.most in
     let so_far = c.loop-octet.invariant in
     let octet = c.in-Some.octet.now in
     let rest = c.loop-octet.rest.now in
@@ -61,9 +61,9 @@ loop-octet-preserved-then-quiet-eq0 g c =
     let left : drop 1 rest ≡ take (length rest - 1) (drop 1 rest) = sym (take_all (length rest - 1) (drop 1 rest) (omega (arith, length-drop 1 rest))) in
     let parts : rest ≡ octet ∷ take (length rest - 1) (drop 1 rest) = first_of rest octet c.in-Some.ensures.value ∙ ap (λ (z : List ℕ). octet ∷ z) left in
     let next =
-    λ (s : State) (r : IsReached C kept c.args.self.now.slots.most s) (h : Shows C kept (shown c.args.self.now) s). rw
+    λ (s : State) (r : IsReached C kept c.args.self.now.slots.slots.most s) (h : Shows C kept (shown c.args.self.now) s). rw
     (← one_run R (run_state R s so_far.come) octet) at (rw so_far.most at (c.in_ok-step.ensures.does (run_state R s so_far.come)
-    (reached_at C kept _ _ _ (sym so_far.most) (reached_on C kept c.args.self.now.slots.most s so_far.come octets r)) (so_far.shows s r h))) in
+    (reached_at C kept _ _ _ (sym so_far.most) (reached_on C kept c.args.self.now.slots.slots.most s so_far.come octets r)) (so_far.shows s r h))) in
     record {
       come = so_far.come ++ octet ∷ [];
       most = c.in_ok-step.ensures.most ∙ so_far.most;
@@ -77,14 +77,14 @@ pub returns-in_err-run-clause-does : goal.returns-in_err-run-clause-does
 returns-in_err-run-clause-does g c s r h =
     let C = c.args.catalogue.now in
     let kept = c.args.requests.now in
-    let R = rules C kept c.args.self.now.slots.most in
+    let R = rules C kept c.args.self.now.slots.slots.most in
     let so_far = c.loop-octet.invariant in
     let n = c.quiet-quiet.result in
     let rest = c.loop-octet.rest.now in
     let octets =
     octets_come so_far.come rest c.args.piece.now so_far.split
     (All-from_get_or (λ x. x < 256) c.args.piece.now 0 (λ i below. omega (arith, c.type_inv.piece i))) in
-    let does = rw so_far.most at (c.in_err-run.ensures.does (run_state R s so_far.come) (reached_at C kept _ _ _ (sym so_far.most) (reached_on C kept c.args.self.now.slots.most s so_far.come octets r)) (so_far.shows s r h)) in
+    let does = rw so_far.most at (c.in_err-run.ensures.does (run_state R s so_far.come) (reached_at C kept _ _ _ (sym so_far.most) (reached_on C kept c.args.self.now.slots.slots.most s so_far.come octets r)) (so_far.shows s r h)) in
     let split =
     run_within R s so_far.come (take n rest) (drop n rest) c.args.piece.now
     (further so_far.come rest (take n rest) (drop n rest) c.args.piece.now so_far.split (sym (take-append-drop n rest))) in
@@ -98,7 +98,7 @@ pub loop-octet-preserved : goal.loop-octet-preserved
 loop-octet-preserved g c =
     let C = c.args.catalogue.now in
     let kept = c.args.requests.now in
-    let R = rules C kept c.args.self.now.slots.most in
+    let R = rules C kept c.args.self.now.slots.slots.most in
     let so_far = c.loop-octet.invariant in
     let n = c.quiet-quiet.result in
     let rest = c.loop-octet.rest.now in
@@ -107,8 +107,8 @@ loop-octet-preserved g c =
     (All-from_get_or (λ x. x < 256) c.args.piece.now 0 (λ i below. omega (arith, c.type_inv.piece i))) in
     let left : drop n rest ≡ take (length rest - n) (drop n rest) = sym (take_all (length rest - n) (drop n rest) (omega (arith, length-drop n rest))) in
     let next =
-    λ (s : State) (r : IsReached C kept c.args.self.now.slots.most s) (h : Shows C kept (shown c.args.self.now) s). rw so_far.most at (c.in_ok-run.ensures.does
-    (run_state R s so_far.come) (reached_at C kept _ _ _ (sym so_far.most) (reached_on C kept c.args.self.now.slots.most s so_far.come octets r)) (so_far.shows s r h)) in
+    λ (s : State) (r : IsReached C kept c.args.self.now.slots.slots.most s) (h : Shows C kept (shown c.args.self.now) s). rw so_far.most at (c.in_ok-run.ensures.does
+    (run_state R s so_far.come) (reached_at C kept _ _ _ (sym so_far.most) (reached_on C kept c.args.self.now.slots.slots.most s so_far.come octets r)) (so_far.shows s r h)) in
     record {
       come = so_far.come ++ take n rest;
       most = c.in_ok-run.ensures.most ∙ so_far.most;

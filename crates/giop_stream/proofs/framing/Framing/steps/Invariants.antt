@@ -14,12 +14,12 @@ abbrev pub invariant-loop-octet : goal.invariant-loop-octet
 invariant-loop-octet g l =
     record {
       come : List ℕ;
-      most : l.self.slots.most ≡ l.initial.self.slots.most;
+      most : l.self.slots.slots.most ≡ l.initial.self.slots.slots.most;
       split : l.piece ≡ come ++ l.rest;
-      shows : (s : State) → IsReached l.catalogue l.requests l.initial.self.slots.most s → Shows l.catalogue l.requests (shown l.initial.self) s
-          → Shows l.catalogue l.requests (shown l.self) (run_state (rules l.catalogue l.requests l.initial.self.slots.most) s come);
-      text : (s : State) → IsReached l.catalogue l.requests l.initial.self.slots.most s → Shows l.catalogue l.requests (shown l.initial.self) s →
-          Wrote (g.O.Out.log l.initial.out) (g.O.Out.log l.out) (lines_text (run (rules l.catalogue l.requests l.initial.self.slots.most) s come));
+      shows : (s : State) → IsReached l.catalogue l.requests l.initial.self.slots.slots.most s → Shows l.catalogue l.requests (shown l.initial.self) s
+          → Shows l.catalogue l.requests (shown l.self) (run_state (rules l.catalogue l.requests l.initial.self.slots.slots.most) s come);
+      text : (s : State) → IsReached l.catalogue l.requests l.initial.self.slots.slots.most s → Shows l.catalogue l.requests (shown l.initial.self) s →
+          Wrote (g.O.Out.log l.initial.out) (g.O.Out.log l.out) (lines_text (run (rules l.catalogue l.requests l.initial.self.slots.slots.most) s come));
       ready : AreReady l.catalogue (l.self.totals.octets + 1) l.self.slots;
     }
 

@@ -12,8 +12,8 @@ returns-in-Own-clause-does g c =
 pub returns-in-Some-clause-does : goal.returns-in-Some-clause-does
 returns-in-Some-clause-does g c =
     λ l c' whose h rising.
-    slot_closes c.args.catalogue.now l c.shut-in-Some.result _ _ c.args.place c.args.self.now c.in-Some.slot c.pop_at.new.self c' whose c.in-Open.k c.in-Open.is
-    (sym c.in-Some.ensures.value) c.in-Some.ensures.items rising h
+    slot_closes c.args.catalogue.now l c.shut-in-Some.result _ _ c.args.place c.args.self.now c.in-Some.entry c.take-in-Open.new.self c' whose c.in-Open.k c.in-Open.is
+    (sym c.in-Some.ensures.value) c.in-Some.ensures.entries rising h
     (λ w k. c.shut-in-Some.ensures l w (c'.known w.number) k)
 
 pub returns-in-None-clause-does : goal.returns-in-None-clause-does

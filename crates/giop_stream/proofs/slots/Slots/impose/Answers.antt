@@ -1,7 +1,6 @@
-use Rattle.std.proofs.Common.{Some, refl}
-use Rattle.std.proofs.lemmas.Bool.{false≢true}
+use Rattle.std.proofs.Common.{Some, sym}
 use Rattle.giop_stream.proofs.Keep.Keepers.{still_imposed, still_alters, own_effects, slot_effects, no_slot_says}
-use Rattle.giop_stream.proofs.Keep.SlotLists.{get_some, set_ready}
+use Rattle.giop_stream.proofs.Keep.SlotLists.{none_behind, value_ready}
 use Rattle.giop_stream.proofs.slots.Slots.impose.Goals as goal
 
 pub returns-in-Own-clause-does : goal.returns-in-Own-clause-does
@@ -14,13 +13,13 @@ returns-in-Own-clause-does g c =
 pub returns-in-Some-clause-does : goal.returns-in-Some-clause-does
 returns-in-Some-clause-does g c =
     λ C l c' w h n rising.
-    let here = get_some _ _ _ (c.in-Some.ensures.variant.0 refl) c.in-Some.ensures.value in
+    let here = sym c.in-Some.ensures.value in
     slot_effects C l c.impose-in-Some.result _ _ c.args.self.now c.in-Some.slot.now c.impose-in-Some.new.message c' w _ _ c.in-Open.k c.in-Open.is here rising h
     (still_alters C l c.args.place c' w _ (still_imposed c.args.fault)) (λ m k. c.impose-in-Some.ensures.does C l w (c'.known w.number) k m)
 
 pub returns-in-None-clause-does : goal.returns-in-None-clause-does
 returns-in-None-clause-does g c =
-    λ C l c' w h n rising. no_slot_says C l c.args.self.now c' (Some w) c.in-Open.k c.in-Open.is (λ l. false≢true (c.in-None.ensures.variant.1 l)) h
+    λ C l c' w h n rising. no_slot_says C l c.args.self.now c' (Some w) c.in-Open.k c.in-Open.is (none_behind _ _ c.in-None.ensures.value) h
 
 pub returns-in-Own-clause-ready : goal.returns-in-Own-clause-ready
 returns-in-Own-clause-ready g c =
@@ -30,6 +29,6 @@ pub returns-in-Some-clause-ready : goal.returns-in-Some-clause-ready
 returns-in-Some-clause-ready g c =
     λ C n h. record {
       own_ready = h.own_ready;
-      each_ready = set_ready C n c.args.self.now.slots.items c.in-Open.k _
+      each_ready = value_ready C n c.args.self.now.slots.entries c.in-Open.k _
           (c.impose-in-Some.ensures.ready C n) h.each_ready;
     }

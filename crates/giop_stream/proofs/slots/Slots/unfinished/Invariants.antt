@@ -3,5 +3,5 @@ use Rattle.giop_print.specs.Output.{Wrote}
 use Rattle.giop_stream.proofs.Told.Closing.{slot_text}
 use Rattle.giop_stream.proofs.slots.Slots.unfinished.Given as goal
 
-abbrev pub invariant-loop-slot : goal.invariant-loop-slot
-invariant-loop-slot g l = Wrote (g.O.Out.log l.initial.out) (g.O.Out.log l.out) (flat_map slot_text (take l.slot-index l.self.slots.items))
+abbrev pub invariant-loop-k : goal.invariant-loop-k
+invariant-loop-k g l = Wrote (g.O.Out.log l.initial.out) (g.O.Out.log l.out) (flat_map slot_text (take l.k l.self.slots.entries))

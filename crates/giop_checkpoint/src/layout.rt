@@ -1,0 +1,93 @@
+//! The layouts of a checkpoint, and what they have in different places.
+
+ghost use Rattle.std.specs.Prelude.{◌≡◌, ◌↔◌, ◌+◌, ◌≤◌, ◌++◌, Option, Some, IsTrue};
+ghost use Rattle.arrayvec.specs.ArrayVec.{array_vec_len};
+ghost use Rattle.giop_octets.specs.Fields.{four};
+ghost use Rattle.giop_checkpoint.specs.Layouts.{OpenHasRange, OwnerFits, version_of, owner_octet, limit_octets};
+ghost use Rattle.giop_checkpoint.specs.declared.layout.Layout.{Layout as LayoutOf};
+
+use crate::sizes::{MOST_OPEN, SECOND_OPEN};
+use crate::state::same;
+use arrayvec::ArrayVec;
+use giop_octets::{put_four, put_zeros};
+
+/// How the octets of a checkpoint are arranged. Both are read; only the third is written.
+#[derive(Clone, Copy, Debug, PartialEq, Eq)]
+pub enum Layout {
+    /// It doesn't say how many messages may be open at once: 16 may.
+    Second = 2,
+    /// It says how many messages may be open at once.
+    Third = 3,
+}
+
+impl Layout {
+    /// The octets of its version.
+    #[tactic(auto, unfolding(giop_octets::specs::Fields::four))]
+    pub fn version(self) -> [u8; 4]
+        ensures { result ≡ four (version_of self) }
+    {
+        match self {
+            Layout::Second => [0, 0, 0, 2],
+            Layout::Third => [0, 0, 0, 3],
+        }
+    }
+
+    /// The layout of the version with these octets.
+    pub fn of(octets: &[u8]) -> Option<Layout>
+        ensures { (layout : LayoutOf) →
+            (result ≡ Some layout) ↔ (octets.now ≡ four (version_of layout)) }
+    {
+        if same(octets, &Layout::Second.version()) {
+            return Some(Layout::Second);
+        }
+        if same(octets, &Layout::Third.version()) {
+            return Some(Layout::Third);
+        }
+        None
+    }
+
+    /// Whether by it so many messages may be open at once.
+    pub(crate) fn allows(self, most_open: u32) -> bool
+        ensures { IsTrue result ↔ OpenHasRange self most_open }
+    {
+        match self {
+            Layout::Second => most_open == SECOND_OPEN,
+            Layout::Third => 1 <= most_open && most_open <= MOST_OPEN,
+        }
+    }
+
+    /// The octet of the place that names the payload's record, zero where other octets name it.
+    pub(crate) fn owner_octet(self, owner: Option<u32>) -> u8
+        requires { OwnerFits self owner }
+        ensures { result ≡ owner_octet self owner }
+    {
+        match self {
+            Layout::Second => match owner {
+                Some(record) => record as u8,
+                None => 255,
+            },
+            Layout::Third => 0,
+        }
+    }
+
+    /// Writes what stands behind the place.
+    pub(crate) fn write_limits<const N: usize>(
+        self,
+        most_open: u32,
+        owner: Option<u32>,
+        out: &mut ArrayVec<u8, N>,
+    )
+        requires room { array_vec_len out.old + 16 ≤ N }
+        ensures put { out.new.items ≡ out.old.items ++ limit_octets self most_open owner }
+        ensures len { array_vec_len out.new ≡ array_vec_len out.old + 16 }
+    {
+        match self {
+            Layout::Second => put_zeros(out, 16),
+            Layout::Third => {
+                put_four(out, most_open);
+                put_four(out, owner.unwrap_or(4_294_967_295));
+                put_zeros(out, 8);
+            }
+        }
+    }
+}

@@ -1,0 +1,3 @@
+pub mod Roster
+pub mod Holding
+pub mod Lends

@@ -1,0 +1,51 @@
+//! Where an id stands among many.
+
+ghost use Rattle.std.specs.Prelude.{◌≡◌, ◌<◌, ◌≤◌, ◌==◌, drop, length, IfSome};
+ghost use Rattle.std.specs.List.{list_any, position_from};
+
+/// How many ids are looked at between two tests of whether the id is found.
+const BLOCK: usize = 64;
+
+/// Whether an id stands among these. It looks at each, and so at several at once.
+fn is_among(keys: &[u32], key: u32) -> bool
+    ensures { result ≡ list_any (λ k. k == key) keys.now }
+{
+    let mut found = false;
+    for k in keys {
+        found |= *k == key;
+    }
+    found
+}
+
+/// How many ids stand in front of the first block that has the id, or of those that fill no block.
+fn passed_over(keys: &[u32], key: u32) -> usize
+    ensures within { result ≤ length keys.now }
+    ensures value { position_from (λ k. k == key) 0 keys.now
+        ≡ position_from (λ k. k == key) result (drop result keys.now) }
+{
+    let mut at = 0;
+    while BLOCK <= keys.len() - at && !is_among(&keys[at..at + BLOCK], key) {
+        at += BLOCK;
+    }
+    at
+}
+
+/// The first place at which an id stands, by a look at one after another.
+fn first_of(keys: &[u32], key: u32) -> Option<usize>
+    ensures value { result ≡ position_from (λ k. k == key) 0 keys.now }
+    ensures within { IfSome result (λ k. k < length keys.now) }
+{
+    keys.iter().position(|k| *k == key)
+}
+
+/// The first place at which an id stands.
+pub(crate) fn place_of(keys: &[u32], key: u32) -> Option<usize>
+    ensures value { result ≡ position_from (λ k. k == key) 0 keys.now }
+    ensures within { IfSome result (λ k. k < length keys.now) }
+{
+    let at = passed_over(keys, key);
+    match first_of(&keys[at..], key) {
+        Some(rest) => Some(at + rest),
+        None => None,
+    }
+}

@@ -1,0 +1,26 @@
+//! The engine of a row.
+
+ghost use Rattle.std.specs.Prelude.{IfOk, ◌≡◌, false};
+ghost use Rattle.giop_stream.specs.Holding.{AreOf};
+
+use super::row::Row;
+use giop_sig::{Catalogue, Requests};
+use giop_stream::{Engine, MOST_OPEN};
+use std::alloc::Global;
+use std::io;
+
+/// A new engine, of as many open messages as a row says.
+pub fn engine_for<'a>(
+    alloc: Global,
+    catalogue: &'a Catalogue,
+    requests: &'a Requests,
+    row: &Row,
+) -> io::Result<Engine<'a>>
+    requires of { AreOf catalogue.now requests.now }
+{
+    let most = row.most.max(1).min(MOST_OPEN);
+    match Engine::new(alloc, catalogue, requests, most) {
+        Ok(engine) => Ok(engine),
+        Err(_) => Err(io::Error::from(io::ErrorKind::OutOfMemory)),
+    }
+}
