@@ -73,9 +73,12 @@ def damaged(checkpoint: bytes) -> Iterator[Tuple[str, bytes, Tuple[str, ...]]]:
         word = ("magic",) if at < 8 else ("version",) if at < 12 else ("catalogue",) if at < 28 else ("state", "length", "")
         yield f"octet {at}", wrong, word
         yield f"the first {at} octets", checkpoint[:at], ("length",) if at < 96 else ("length", "state")
-    yield "layout 1", checkpoint[:11] + b"\1" + checkpoint[12:], ("version",)
+    for layout, word in ((1, "version"), (2, "state"), (4, "version")):
+        yield f"layout {layout}", checkpoint[:11] + bytes([layout]) + checkpoint[12:], (word,)
+    for most in (0, 4097):
+        yield f"room for {most}", checkpoint[:80] + most.to_bytes(4, "big") + checkpoint[84:], ("state",)
     yield "an octet more", checkpoint + b"\0", ("length",)
-    yield "a longer file than any", checkpoint + bytes(20_000), ("length",)
+    yield "a longer file than any", checkpoint + bytes(3_410_000), ("length",)
 
 
 def is_safe(stream: Stream, at: int, checkpoint: bytes, words: Tuple[str, ...]) -> bool:

@@ -24,6 +24,8 @@ TYPES = [
     ("--signatures", str(EXAMPLES / "naming.sig"), "--requests", str(EXAMPLES / "naming.req")),
     ("--signatures", str(TOUR / "data/tour.sig"), "--requests", str(TOUR / "data/tour.requests")),
     ("--signatures", str(EXAMPLES / "features.sig")),
+    ("--signatures", str(TOUR / "data/tour.sig"), "--open", "1"),
+    ("--signatures", str(EXAMPLES / "naming.sig"), "--open", "4096"),
 ]
 Requests = Dict[Tuple[str, ...], int]
 CLOSING = (b"stream fault truncated ", b"total ")

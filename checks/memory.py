@@ -28,7 +28,7 @@ def row(name: str) -> Tuple[str, str, bytes]:
             if other.startswith(f"{name}\n"):
                 signatures, requests = files.split("requests\n") if "requests\n" in files else (files[:-8], "")
                 lines = other.partition("\nlines\n")[0].splitlines()[2:]
-                digits = "".join(line for line in lines if not line.startswith(("early ", "checkpoints ")))
+                digits = "".join(line for line in lines if not line.startswith(("open ", "early ", "checkpoints ")))
                 return signatures, requests, bytes.fromhex(digits)
     raise LookupError(name)
 
@@ -36,6 +36,11 @@ def row(name: str) -> Tuple[str, str, bytes]:
 def worked(folder: Path) -> List[Case]:
     """The rows, whole and in two parts, with their files in this folder."""
     made = []
+    many = ("--open", "4096")
+    front, rest = (row(ROWS[-1])[2][at:end] for at, end in ((0, 30), (30, None)))
+    made.append(Case("room for 4,096 open messages", many, front + rest))
+    made.append(Case("their front", (*many, "--save", CHECKPOINT), front))
+    made.append(Case("their rest", ("--resume", CHECKPOINT), rest, 0, checkpoint_of(many, front)))
     for number, name in enumerate(ROWS):
         signatures, requests, octets = row(name)
         files = (folder / f"{number}.sig", folder / f"{number}.req")

@@ -74,25 +74,24 @@ const TOO_FULL: &str =
 const LIMIT_TEXT: &[u8] = b"stream fault stream-limit at 281474976710657\n\
 total messages 0 faults 1 octets 281474976710657\n";
 
-/// A checkpoint of the front of a stream, and how long it is; its lines go to the sheet.
+/// Puts a checkpoint of the front of a stream to an out; its lines go to the sheet.
 fn saved(
     alloc: Global,
     known: &(Catalogue, Requests),
     front: &[u8],
     sheet: &mut Sheet<'_>,
-    octets: &mut [u8; 14_240],
-) -> Result<usize, Fail>
+    out: &mut Sheet<'_>,
+) -> Result<(), Fail>
     requires { AreOf known.now.0 known.now.1 }
 {
     let mut engine = Engine::new(alloc, &known.0, &known.1, 16)?;
     if engine.feed(front, sheet).is_err() {
         return Err(Fail::from("the lines"));
     }
-    let mut out = Sheet::new(octets);
-    if engine.save(&mut out).is_err() {
+    if engine.save(out).is_err() {
         return Err(Fail::from("the save"));
     }
-    Ok(out.held().len())
+    Ok(())
 }
 
 /// What is wrong with the text of a stream that was read by two engines, one behind the other.
@@ -108,13 +107,10 @@ fn differs(
     let (front, behind) = stream.split_at(stream.len().min(at));
     let mut room = [0; 4096];
     let mut sheet = Sheet::new(&mut room);
-    let mut octets = [0; 14_240];
-    let length = saved(alloc, known, front, &mut sheet, &mut octets)?;
-    if length > 1200 {
-        return Ok("the length");
-    }
-    let (checkpoint, _) = octets.split_at(length.min(1200));
-    let mut engine = Engine::load(alloc, &known.0, &known.1, checkpoint)?;
+    let mut octets = [0; 1200];
+    let mut out = Sheet::new(&mut octets);
+    saved(alloc, known, front, &mut sheet, &mut out)?;
+    let mut engine = Engine::load(alloc, &known.0, &known.1, out.held())?;
     if engine.feed(behind, &mut sheet).is_err() || engine.finish(&mut sheet).is_err() {
         return Ok("the lines");
     }
@@ -150,23 +146,26 @@ fn the_first_check_that_fails_is_told(rt: HostRuntime) -> Result<(), Fail> {
     let stream = <[u8; 152] as FromHex>::from_hex(STREAM).map_err(|_| Fail::from("the stream"))?;
     let mut room = [0; 4096];
     let mut sheet = Sheet::new(&mut room);
-    let mut octets = [0; 14_240];
-    let length = saved(rt.alloc(), &known, &stream, &mut sheet, &mut octets)?;
-    assert_eq!(rt; length, 96);
-    let (whole, _) = octets.split_at(96);
-    assert!(rt; refusal(rt.alloc(), &known, whole).is_none());
-    assert!(rt; refusal(rt.alloc(), &other, whole) == Some(LoadFault::Catalogue));
-    let (short, _) = octets.split_at(95);
+    let mut octets = [0; 1200];
+    let mut out = Sheet::new(&mut octets);
+    saved(rt.alloc(), &known, &stream, &mut sheet, &mut out)?;
+    let mut whole = [0; 97];
+    for (to, octet) in whole.iter_mut().zip(out.held()) {
+        *to = *octet;
+    }
+    assert_eq!(rt; out.held().len(), 96);
+    assert!(rt; refusal(rt.alloc(), &known, out.held()).is_none());
+    assert!(rt; refusal(rt.alloc(), &other, out.held()) == Some(LoadFault::Catalogue));
+    let (short, _) = whole.split_at(95);
     assert!(rt; refusal(rt.alloc(), &known, short) == Some(LoadFault::Length));
-    let (long, _) = octets.split_at(97);
-    assert!(rt; refusal(rt.alloc(), &known, long) == Some(LoadFault::Length));
+    assert!(rt; refusal(rt.alloc(), &known, &whole) == Some(LoadFault::Length));
     for (at, octet, want) in [
         (0, 0xb8, LoadFault::Magic),
         (11, 1, LoadFault::Version),
         (11, 9, LoadFault::Version),
         (31, 18, LoadFault::State),
     ] {
-        let mut changed = octets;
+        let mut changed = whole;
         changed[at] = octet;
         let (changed, _) = changed.split_at(96);
         assert!(rt;
