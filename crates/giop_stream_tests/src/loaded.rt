@@ -149,13 +149,14 @@ fn the_first_check_that_fails_is_told(rt: HostRuntime) -> Result<(), Fail> {
     let mut octets = [0; 1200];
     let mut out = Sheet::new(&mut octets);
     saved(rt.alloc(), &known, &stream, &mut sheet, &mut out)?;
-    let mut whole = [0; 97];
-    for (to, octet) in whole.iter_mut().zip(out.held()) {
-        *to = *octet;
+    let checkpoint = out.held();
+    if checkpoint.len() != 96 {
+        return Err(Fail::from("the length"));
     }
-    assert_eq!(rt; out.held().len(), 96);
-    assert!(rt; refusal(rt.alloc(), &known, out.held()).is_none());
-    assert!(rt; refusal(rt.alloc(), &other, out.held()) == Some(LoadFault::Catalogue));
+    let mut whole = [0; 97];
+    whole[..96].copy_from_slice(checkpoint);
+    assert!(rt; refusal(rt.alloc(), &known, checkpoint).is_none());
+    assert!(rt; refusal(rt.alloc(), &other, checkpoint) == Some(LoadFault::Catalogue));
     let (short, _) = whole.split_at(95);
     assert!(rt; refusal(rt.alloc(), &known, short) == Some(LoadFault::Length));
     assert!(rt; refusal(rt.alloc(), &known, &whole) == Some(LoadFault::Length));
