@@ -6,7 +6,7 @@ ghost use Rattle.giop_cdr.specs.Primitives.{size_of};
 ghost use Rattle.giop_cdr.specs.declared.prim.Primitive.TheVariants as prims;
 
 use crate::fault::CdrFault;
-use crate::number::{Number, interpreted, spelled};
+use crate::number::{Number, number_of};
 use crate::order::Order;
 use crate::prim::{Prim, size};
 use arrayvec::ArrayVec;
@@ -95,6 +95,6 @@ impl Carry {
         ensures err { IsErr result ↔ ((prim ≡ prims.Boolean) × (1 < num order self.now)) }
         ensures octets { AreOctets self.now }
     {
-        interpreted(prim, spelled(order, &self.octets))
+        number_of(order, prim, &self.octets)
     }
 }

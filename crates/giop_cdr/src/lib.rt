@@ -13,6 +13,6 @@ mod tests;
 pub use alignment::pad;
 pub use carry::Carry;
 pub use fault::CdrFault;
-pub use number::Number;
+pub use number::{Number, number_of};
 pub use order::Order;
 pub use prim::{Prim, Primitive, size};

@@ -2,7 +2,7 @@
 
 ghost use Rattle.std.specs.Prelude.{◌≡◌, ◌^◌, ◌<◌, ◌≤◌, ◌↔◌, length, IfOk, IsErr, Some};
 ghost use Rattle.giop_cdr.specs.declared.order.Order.TheVariants as orders;
-ghost use Rattle.giop_cdr.specs.Numbers.{num, taken_as};
+ghost use Rattle.giop_cdr.specs.Numbers.{AreOctets, num, number_of, taken_as};
 ghost use Rattle.giop_cdr.specs.Primitives.{size_of};
 ghost use Rattle.giop_cdr.specs.declared.prim.Primitive.TheVariants as prims;
 
@@ -25,8 +25,21 @@ pub enum Number {
     Char(u8),
 }
 
+/// The number that the octets of a primitive spell, as that primitive.
+#[inline]
+pub fn number_of(order: Order, prim: Prim, octets: &[u8]) -> Result<Number, CdrFault>
+    requires { length octets.now ≡ size_of prim }
+    ensures ok { IfOk result (λ number. number_of prim order octets.now ≡ Some number) }
+    // The only refusal is a boolean above 1.
+    ensures err { IsErr result ↔ ((prim ≡ prims.Boolean) × (1 < num order octets.now)) }
+    ensures octets { AreOctets octets.now }
+{
+    interpreted(prim, spelled(order, octets))
+}
+
 /// The number that octets spell.
-pub fn spelled(order: Order, octets: &[u8]) -> u64
+#[inline]
+fn spelled(order: Order, octets: &[u8]) -> u64
     requires { length octets.now ≤ 8 }
     ensures value { result ≡ num order octets.now }
     ensures bound { result < 256 ^ length octets.now }
@@ -38,8 +51,9 @@ pub fn spelled(order: Order, octets: &[u8]) -> u64
 }
 
 /// What a number of a primitive's size is as that primitive.
+#[inline]
 #[tactic(auto, unfolding(crate::specs::Numbers::twos_complement))]
-pub fn interpreted(prim: Prim, n: u64) -> Result<Number, CdrFault>
+fn interpreted(prim: Prim, n: u64) -> Result<Number, CdrFault>
     requires { n < 256 ^ size_of prim }
     ensures ok { IfOk result (λ number. taken_as prim n ≡ Some number) }
     ensures err { IsErr result ↔ ((prim ≡ prims.Boolean) × (1 < n)) }
@@ -60,6 +74,7 @@ pub fn interpreted(prim: Prim, n: u64) -> Result<Number, CdrFault>
 }
 
 /// The number that octets spell, the first heaviest.
+#[inline]
 #[tactic(auto, using(crate::proofs::Spelling::spelling_steps))]
 fn heaviest_first(octets: &[u8]) -> u64
     requires { length octets.now ≤ 8 }
@@ -74,6 +89,7 @@ fn heaviest_first(octets: &[u8]) -> u64
 }
 
 /// The number that octets spell, the first lightest.
+#[inline]
 #[tactic(auto, using(crate::proofs::Spelling::spelling_steps))]
 fn lightest_first(octets: &[u8]) -> u64
     requires { length octets.now ≤ 8 }

@@ -1,6 +1,6 @@
 //! The public calls on values worked by hand from the rules of CDR.
 
-use crate::{Carry, CdrFault, Number, Order, Prim, pad, size};
+use crate::{Carry, CdrFault, Number, Order, Prim, number_of, pad, size};
 use std::process::Abort;
 use std::test::Fail;
 
@@ -122,7 +122,7 @@ static ENDS: [(Prim, &str, &str, Number); 29] = [
     ),
 ];
 
-/// What the octets of a hexadecimal text are as a primitive, which takes as many.
+/// What the octets of a hexadecimal text are as a primitive, which takes as many, from a slice and from a carry.
 fn read(
     rt: &impl Abort,
     order: Order,
@@ -132,7 +132,9 @@ fn read(
     let carry = carried(rt, text)?;
     assert_eq!(rt; carry.len(), usize::from(size(prim)), "{prim:?} at {text}");
     assert!(rt; carry.is_full_for(prim), "{prim:?} at {text}");
-    Ok(carry.value(order, prim))
+    let number = number_of(order, prim, carry.as_slice());
+    assert!(rt; carry.value(order, prim) == number, "{prim:?} at {text}");
+    Ok(number)
 }
 
 #[test]

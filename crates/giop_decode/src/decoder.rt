@@ -14,7 +14,7 @@ ghost use Rattle.giop_decode.specs.Turns.{places, AreKnown, Link, TurnsIn, CanSp
 ghost use Rattle.giop_decode.specs.Heard.{Heard, heard, heard_of, hushed, in_string, is_header_root};
 ghost use Rattle.giop_decode.specs.Recalling.{hushes, turn_in_string};
 ghost use Rattle.giop_decode.specs.Holding.{Fits, IsDone, IsHere, Reads, Recalls, Takes, Minds, GoesOn, standing, due};
-ghost use Rattle.giop_decode.specs.Moves.{settled, stepped, told, Comes, IsAround, IsNext, IsProgress, IsGoing, IsMoved};
+ghost use Rattle.giop_decode.specs.Moves.{settled, stepped, told, Comes, IsAround, IsNext, IsMoved};
 ghost use Rattle.giop_sig.specs.Types.{Ty};
 ghost use Rattle.giop_sig.specs.Fits.{IsFit, IsEmptyStruct};
 ghost use Rattle.giop_sig.specs.Trees.{tree};
@@ -24,7 +24,7 @@ use crate::frame::{Frame, begin, coding, go_on, has_ended, is_empty, is_inside, 
 use crate::leaf::{Leaf, Step, Turn, hold, take_octet};
 use crate::line::say;
 use crate::memory::Memory;
-use crate::progress::{Kind, Progress};
+use crate::progress::{Progress, progress_of};
 use arrayvec::ArrayVec;
 use giop_cdr::{Carry, Order};
 use giop_print::{Out, OutFault, Root};
@@ -146,6 +146,7 @@ impl Decoder {
     }
 
     /// Goes on from what the innermost part, of this type, has come to.
+    #[inline(always)]
     fn settle(&mut self, catalogue: &Catalogue, of: TypeId, turn: Turn)
         requires known { of.0 < length catalogue.now.types }
         requires known_outer { AreKnown catalogue.now self.old.outer.items }
@@ -380,36 +381,5 @@ impl Decoder {
         self.settle(catalogue, of, step.turn);
         let ended = has_ended(self.inside, self.outer.as_slice());
         Ok(progress_of(named, ended, step.turn, self.leaf))
-    }
-}
-
-/// What an octet has come to, once the parts around the innermost one have gone on, and an encapsulation has or hasn't
-/// ended.
-fn progress_of(named: bool, ended: bool, turn: Turn, leaf: Option<Leaf>) -> Progress
-    ensures { IsProgress named ended turn leaf result }
-{
-    match turn {
-        Turn::Refused(kind) => Progress::Fault(kind),
-        Turn::More(_) => unended(named, ended, leaf),
-        Turn::Ended => unended(named, ended, leaf),
-        Turn::Opened(_) => unended(named, ended, leaf),
-        Turn::Selected(_) => unended(named, ended, leaf),
-        Turn::Entered(_, _) => unended(named, ended, leaf),
-    }
-}
-
-/// Whether more is to come.
-fn unended(named: bool, ended: bool, leaf: Option<Leaf>) -> Progress
-    ensures { IsGoing named ended leaf result }
-{
-    match leaf {
-        Some(_) => if ended {
-            Progress::Fault(Kind::EncapShort)
-        } else if named {
-            Progress::Named
-        } else {
-            Progress::More
-        },
-        None => Progress::Done,
     }
 }

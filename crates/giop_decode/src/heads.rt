@@ -1,15 +1,14 @@
 //! The number that begins an innermost part, and what follows it.
 
-ghost use Rattle.std.specs.Prelude.{◌≡◌, ℕ, ◌+◌, ◌-◌, ◌%◌, ◌<◌, ◌≤◌, List, [], ◌++◌, length, take, IsTrue, IfSome, Some, false};
+ghost use Rattle.std.specs.Prelude.{◌≡◌, ℕ, ◌+◌, ◌-◌, ◌%◌, ◌<◌, ◌≤◌, List, [], ◌++◌, length, take, IsTrue, false};
 ghost use Rattle.giop_cdr.specs.Alignment.{IsAlignment, padding};
-ghost use Rattle.giop_cdr.specs.Numbers.{AreOctets, num, number_of};
-ghost use Rattle.giop_cdr.specs.Primitives.{size_of};
+ghost use Rattle.giop_cdr.specs.Numbers.{num};
 ghost use Rattle.giop_decode.specs.Spine.{Coding, Seg};
 ghost use Rattle.giop_decode.specs.Pieces.{over};
 ghost use Rattle.giop_decode.specs.Recalling.{Voices};
 ghost use Rattle.giop_decode.specs.Steps.{after, head_width, number_step, AreHeld};
 ghost use Rattle.giop_decode.specs.Fits.{HasHead};
-ghost use Rattle.giop_decode.specs.Turns.{Turns, TurnsIn, CanSpeak, IsNumberOf, StandsWhole, over_by, grab_of};
+ghost use Rattle.giop_decode.specs.Turns.{Turns, TurnsIn, CanSpeak, IsNumberOf, over_by, grab_of};
 ghost use Rattle.giop_sig.specs.Types.{Ty, Text, Octets, Sequence, switch_of, shape_in, IsUnion};
 ghost use Rattle.giop_sig.specs.Fits.{IsFit};
 ghost use Rattle.giop_sig.specs.Trees.{tree};
@@ -54,7 +53,7 @@ fn switch_width(catalogue: &Catalogue, t: TypeId) -> u8
 /// How many octets of padding stand in front of a number of this width. Each width has an arm of its own, so that none waits
 /// for a division.
 #[inline(always)]
-fn padding_at(at: u8, width: u8) -> u8
+pub(crate) fn padding_at(at: u8, width: u8) -> u8
     requires { IsAlignment width }
     ensures { result ≡ padding at width }
 {
@@ -105,70 +104,6 @@ pub(crate) fn gather_number(carry: &mut Carry, at: u8, width: u8, octets: &[u8])
     }
     let padding = usize::from(padding_at(at, width)).min(octets.len());
     padding + hold_some(carry, width, &octets[padding..])
-}
-
-/// The number of a type, where that is a primitive and stands whole at the head of these octets, the first of which is at this
-/// offset modulo 8, and how many octets it takes with its padding.
-#[inline(always)]
-pub(crate) fn whole_number(
-    catalogue: &Catalogue,
-    order: Order,
-    at: u8,
-    of: TypeId,
-    octets: &[u8],
-) -> Option<(usize, Number)>
-    requires known { of.0 < length catalogue.now.types }
-    requires small { at < 8 }
-    ensures { IfSome result (λ whole.
-        StandsWhole (tree catalogue.now of.0) order at octets.now whole.0 whole.1) }
-{
-    match catalogue.shape(of) {
-        Shape::Prim(prim) => {
-            let width = size(prim);
-            let padding = usize::from(padding_at(at, width));
-            let count = padding + usize::from(width);
-            if octets.len() < count {
-                return None;
-            }
-            match number_of(order, prim, &octets[padding..count]) {
-                Some(number) => Some((count, number)),
-                None => None,
-            }
-        }
-        _ => None,
-    }
-}
-
-/// The number that a primitive's octets spell. Each width has an arm of its own, in which their number is a constant.
-#[inline(always)]
-fn number_of(order: Order, prim: Prim, octets: &[u8]) -> Option<Number>
-    requires { length octets.now ≡ size_of prim }
-    ensures value { IfSome result (λ number. number_of prim order octets.now ≡ Some number) }
-    ensures octets { AreOctets octets.now }
-{
-    match size(prim) {
-        1 => spelled(order, prim, &octets[..1]),
-        2 => spelled(order, prim, &octets[..2]),
-        4 => spelled(order, prim, &octets[..4]),
-        _ => spelled(order, prim, &octets[..8]),
-    }
-}
-
-/// The number that a primitive's octets spell.
-#[inline(always)]
-fn spelled(order: Order, prim: Prim, octets: &[u8]) -> Option<Number>
-    requires { length octets.now ≡ size_of prim }
-    ensures value { IfSome result (λ number. number_of prim order octets.now ≡ Some number) }
-    ensures octets { AreOctets octets.now }
-{
-    let mut carry = Carry::new();
-    for octet in octets {
-        carry.push(*octet);
-    }
-    match carry.value(order, prim) {
-        Ok(number) => Some(number),
-        Err(_) => None,
-    }
 }
 
 /// Holds octets that leave the number incomplete, all that stand there together, and answers how many there were.

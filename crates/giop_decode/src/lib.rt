@@ -1,6 +1,7 @@
 //! The resumable decoder of typed values: recursive reading of a whole list of octets, an octet at a time.
 #![tactic(auto)]
 
+mod ahead;
 mod chain;
 mod contents;
 mod decoder;

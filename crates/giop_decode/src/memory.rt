@@ -162,6 +162,7 @@ impl Memory {
 
     /// Hears what an octet gives to say of an innermost part of this type, and answers whether that ends the operation of
     /// a Request's header. In a body nothing is heard, since nothing of it is asked for.
+    #[inline(always)]
     pub(crate) fn hear(
         &mut self,
         catalogue: &Catalogue,

@@ -7,9 +7,10 @@ ghost use Rattle.giop_decode.specs.Runs.{TakesRun, WritesRun, AllGathered, Comes
 ghost use Rattle.giop_print.specs.declared.path.Root.{Root as PathRoot};
 ghost use Rattle.giop_sig.specs.Types.{Ty};
 
+use crate::ahead::whole_number;
 use crate::contents::gather_content;
 use crate::decoder::Decoder;
-use crate::heads::{gather_number, whole_number, width};
+use crate::heads::{gather_number, width};
 use crate::leaf::{Leaf, Spoken, Step, Turn};
 use crate::progress::Progress;
 use giop_cdr::Number;

@@ -9,6 +9,9 @@ use giop_print::{Out, OutFault};
 use std::alloc::{AllocError, Global};
 use std::io::{BufWriter, Write};
 
+// How many octets of lines a buffer holds.
+const ROOM: usize = 65_536;
+
 /// Lines on their way to a writer, which a buffer keeps back until they are flushed. It fails where its writer does, and
 /// where that takes nothing of some octets.
 #[derive(Drop)]
@@ -27,7 +30,7 @@ impl<W: Write + Drop> Lines<W> {
             ≡ record { written = W.contents writer; puts = 0; failures = 0 }) }
         ensures empty { IfOk result (λ lines. lines_kept lines ≡ []) }
     {
-        let Ok(buffer) = BufWriter::new(alloc, writer) else {
+        let Ok(buffer) = BufWriter::with_capacity(alloc, ROOM, writer) else {
             return Err(AllocError);
         };
         Ok(Lines {

@@ -20,21 +20,8 @@ use Rattle.giop_sig.specs.ItemReading.{declared_at, members_at, filled_at, Decla
 use Rattle.giop_sig.proofs.PlaceLaws.{size, within_same, within_on, Grown, node_more, struct_more}
 use Rattle.giop_sig.proofs.ReadingLaws.{Out, good, broken, out_bind, if_apart, Took}
 use Rattle.giop_sig.proofs.TypeLaws.{added_bind}
-use Rattle.giop_sig.proofs.ItemLaws.{declared_reads, members_reads, type_apart, some_none, no_none}
+use Rattle.giop_sig.proofs.ItemLaws.{declared_reads, members_reads, some_keeps, type_apart, some_none, no_none}
 use Rattle.giop_sig.proofs.ItemTaken.{DeclaredTaken, declared_takes, filled_takes, members_takes, TakenMembers, RepositoryTaken, new_repository_takes}
-
--- ---- a list that isn't empty
-
-pub some_keeps : {X : Type 0} (x : X) (xs : List X) (k : Kind) → OfSome k (x ∷ xs)
-some_keeps x xs kinds.Token = tt
-some_keeps x xs kinds.Syntax = tt
-some_keeps x xs kinds.UnknownType = tt
-some_keeps x xs kinds.Duplicate = tt
-some_keeps x xs kinds.Limit = tt
-some_keeps x xs kinds.Depth = tt
-some_keeps x xs kinds.Label = tt
-some_keeps x xs kinds.Empty = tt
-some_keeps x xs kinds.OutOfMemory = tt
 
 -- of a text that begins with members
 filled_reads : (types : List Node) (is : List Item) (text : List ℕ) (more : List Token)

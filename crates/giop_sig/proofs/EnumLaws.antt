@@ -1,6 +1,5 @@
 -- Reading enums against their spelling.
-use Rattle.std.proofs.Common.{◌≡◌, inl, ℕ, zero, suc, ◌+◌, ◌<◌, ◌≤◌, Bool, true, false, cond, ◌||◌, ltb, leb, List, [], ◌∷◌, ◌++◌, map, length, Option, Some, None, Result, Ok, Err, append_assoc, ltb-true, ltb-false, leb-true, leb-false, refl, sym, ap, subst, ◌∙◌, arith}
-use Rattle.std.specs.List.{list_any}
+use Rattle.std.proofs.Common.{◌≡◌, inl, ℕ, zero, suc, ◌+◌, ◌<◌, ◌≤◌, Bool, true, false, cond, ltb, leb, List, [], ◌∷◌, ◌++◌, length, Option, Some, None, Result, Ok, Err, append_assoc, ltb-true, ltb-false, leb-true, leb-false, refl, sym, ap, subst, ◌∙◌, arith}
 use Rattle.std.proofs.lemmas.Bool.{false≢true}
 use Rattle.std.specs.List.{All}
 use Rattle.std.proofs.lemmas.List.{length-append}
@@ -27,12 +26,7 @@ use Rattle.giop_sig.proofs.PlaceLaws.{Within, within_same, node_more}
 use Rattle.giop_sig.proofs.ReadingLaws.{lift, Out, good, broken, out_bind, if_apart, Took}
 use Rattle.giop_sig.proofs.TypeLaws.{added_bind}
 use Rattle.giop_sig.proofs.ItemTaken.{declared_takes}
-use Rattle.giop_sig.proofs.ItemLaws.{declared_reads}
-
-pub any_of : {X Y : Type 0} (p : Y → Bool) (f : X → Y) (xs : List X)
-    → list_any p (map f xs) ≡ list_any (λ x. p (f x)) xs
-any_of p f [] = refl
-any_of p f (x ∷ xs) = ap (λ b. p (f x) || b) (any_of p f xs)
+use Rattle.giop_sig.proofs.ItemLaws.{declared_reads, name_keeps, some_keeps}
 
 -- what is read, told otherwise
 pub out_as : {X : Type 0} {made made2 : List ℕ → X} {rule rule2 : Kind → Type 0}
@@ -47,31 +41,6 @@ out_as {rule = rule} {rule2 = rule2} {types = types} {types2 = types2} (Err e) o
     record { out = lift e.kind rule rule2 types types2 up le o.out }
 
 -- ---- a text that is spelled so
-
--- what is asked of a name that is new
-pub new_name : (k : Kind) (most : ℕ) (seen : List (List ℕ)) (w : List ℕ) → IsFree w → length w ≤ 64
-    → length seen < most → is_among seen w ≡ false → OfNewName k most seen w
-new_name kinds.Token most seen w free short few new = tt
-new_name kinds.Syntax most seen w free short few new = free
-new_name kinds.UnknownType most seen w free short few new = tt
-new_name kinds.Duplicate most seen w free short few new = new
-new_name kinds.Limit most seen w free short few new = (short, few)
-new_name kinds.Depth most seen w free short few new = tt
-new_name kinds.Label most seen w free short few new = tt
-new_name kinds.Empty most seen w free short few new = tt
-new_name kinds.OutOfMemory most seen w free short few new = tt
-
--- of a list that isn't empty nothing is asked
-pub some_cons : {X : Type 0} (k : Kind) (x : X) (xs : List X) → OfSome k (x ∷ xs)
-some_cons kinds.Token x xs = tt
-some_cons kinds.Syntax x xs = tt
-some_cons kinds.UnknownType x xs = tt
-some_cons kinds.Duplicate x xs = tt
-some_cons kinds.Limit x xs = tt
-some_cons kinds.Depth x xs = tt
-some_cons kinds.Label x xs = tt
-some_cons kinds.Empty x xs = tt
-some_cons kinds.OutOfMemory x xs = tt
 
 enumerator_by : (seen : List (List ℕ)) (w text : List ℕ) (types : List Node) (ts : List Token)
     (free : IsFree w) (h : AreTokens text (word w ∷ ts)) (a b c : Bool) → ltb 64 (length w) ≡ a
@@ -90,7 +59,7 @@ enumerator_by seen w text types ts free h false false true p q r =
 enumerator_by seen w text types ts free h false false false p q r =
     let short = ltb-false 64 (length w) p in
     let few : length seen < 1024 = let m = leb-false 1024 (length seen) r in omega arith in
-    rw (identifier_again text w ts h free short, q, r) (good h.0 h.2 (λ k. new_name k 1024 seen w free short few q))
+    rw (identifier_again text w ts h free short, q, r) (good h.0 h.2 (name_keeps 1024 seen w free short few q))
 
 pub enumerator_reads : (seen : List (List ℕ)) (w text : List ℕ) (types : List Node)
     (ts : List Token) → IsFree w → AreTokens text (word w ∷ ts)
@@ -153,7 +122,7 @@ all_names_reads [] text types more free h = rw (mark_if_again marks.CloseBrace t
 all_names_reads (n ∷ names) text types more free h =
     rw (if_apart marks.CloseBrace text (word n ∷ spell_more_names names more) refl h)
     (out_as (in_steps names_step too_many_names 1025 ([], text)) (names_reads 1025 names [] n text types more refl free h) (λ rest. refl)
-    (λ k keeps. (some_cons k n names, keeps)) (λ k whole. whole.1) within_same)
+    (λ k keeps. (some_keeps n names k, keeps)) (λ k whole. whole.1) within_same)
 
 -- what reading gives of a text that begins with an enum, behind its word
 pub enumeration_reads : (n : List ℕ) (names : List (List ℕ)) (s : Scope) (text : List ℕ)

@@ -17,7 +17,7 @@ use Rattle.giop_sig.specs.Table.{Node, Part}
 use Rattle.giop_sig.specs.Table as nodes
 use Rattle.giop_sig.specs.Grammar.{TypeExpr, Base, Text, Reference, Named, SequenceOf, EncapsulationOf, Item, spell_length, spell_type, spell_item, spell_items}
 use Rattle.giop_sig.specs.Scopes.{Names, Scope, part, item_part, place, place_length, place_item, place_items}
-use Rattle.giop_sig.specs.Validity.{Kind, IsFree, is_among, OfNewName, OfItem, OfItems, OfDeclared}
+use Rattle.giop_sig.specs.Validity.{Kind, IsFree, is_among, OfNewName, OfSome, OfItem, OfItems, OfDeclared}
 use Rattle.giop_sig.specs.Outcomes.{refused}
 use Rattle.giop_sig.specs.TypeReading.{enclosed_at, type_at}
 use Rattle.giop_sig.specs.ItemReading.{new_name_at, declared_at, array_type, ItemRead, item_at, Members, member_at, member_step, MembersRead, members_run}
@@ -26,9 +26,23 @@ use Rattle.giop_sig.proofs.ReadingLaws.{Out, good, broken, out_bind, out_more, A
 use Rattle.giop_sig.proofs.SizeReads.{enclosed_reads}
 use Rattle.giop_sig.proofs.TypeLaws.{added_bind, type_reads}
 
+-- ---- a list that isn't empty
+
+pub some_keeps : {X : Type 0} (x : X) (xs : List X) (k : Kind) → OfSome k (x ∷ xs)
+some_keeps x xs kinds.Token = tt
+some_keeps x xs kinds.Syntax = tt
+some_keeps x xs kinds.UnknownType = tt
+some_keeps x xs kinds.Duplicate = tt
+some_keeps x xs kinds.Limit = tt
+some_keeps x xs kinds.Depth = tt
+some_keeps x xs kinds.Label = tt
+some_keeps x xs kinds.Empty = tt
+some_keeps x xs kinds.OutOfMemory = tt
+
 -- ---- names
 
-name_keeps : (most : ℕ) (seen : List (List ℕ)) (w : List ℕ) → IsFree w → length w ≤ 64
+-- what is asked of a name that is new
+pub name_keeps : (most : ℕ) (seen : List (List ℕ)) (w : List ℕ) → IsFree w → length w ≤ 64
     → length seen < most → is_among seen w ≡ false → (k : Kind) → OfNewName k most seen w
 name_keeps most seen w free short few new kinds.Token = tt
 name_keeps most seen w free short few new kinds.Syntax = free

@@ -23,8 +23,8 @@ use Rattle.giop_sig.specs.UnionReading.{Cases, chosen, CasesRead, cases_at, can_
 use Rattle.giop_sig.proofs.PlaceLaws.{size, within_same, within_on, Grown, node_more, place_more, place_names}
 use Rattle.giop_sig.proofs.ReadingLaws.{Out, good, broken, out_bind, out_more, Apart}
 use Rattle.giop_sig.proofs.TypeLaws.{added_bind, placed, type_reads}
-use Rattle.giop_sig.proofs.ItemLaws.{declared_reads}
-use Rattle.giop_sig.proofs.EnumLaws.{out_as, some_cons}
+use Rattle.giop_sig.proofs.ItemLaws.{declared_reads, some_keeps}
+use Rattle.giop_sig.proofs.EnumLaws.{out_as}
 use Rattle.giop_sig.proofs.UnionLaws.{made_cases, made_more, labels_apart, cases_run}
 
 -- ---- what the cases make
@@ -107,7 +107,7 @@ cases_reads at switch node known s (c ∷ cs) text more names some below same fr
     rw (filled_on text (labels_apart c.label c.others text (spell_item c.item (mark marks.Semicolon ∷ spell_cases cs more)) h))
     (out_more (cases_run (c ∷ cs) 257 at switch node known s [] [] [] selecteds.Nothing text more names some below same tt (omega arith)
     refl (omega arith) free h)
-    (λ k w. (some_cons k c cs, w)) (λ k w. w.1))
+    (λ k w. (some_keeps c cs k, w)) (λ k w. w.1))
 
 -- ---- the discriminator
 
