@@ -1,5 +1,5 @@
 -- A run of octets, taken in parts.
-use Rattle.std.proofs.Common.{◌≡◌, Result, Ok, Err, IsErr, ℕ, ◌+◌, ◌<◌, List, [], ◌∷◌, ◌++◌, length, take, drop, get_or, refl, sym, ◌∙◌, ap, subst, append-nil, append_assoc, add-one}
+use Rattle.std.proofs.Common.{◌≡◌, Result, Ok, Err, IsErr, ℕ, zero, suc, ◌+◌, ◌<◌, List, [], ◌∷◌, ◌++◌, length, take, drop, get_or, refl, sym, ◌∙◌, ap, subst, append-nil, append_assoc, add-one, length-append, arith}
 use Rattle.std.proofs.Math.Seq.{drop-append_seam, take-suc}
 use Rattle.std.proofs.lemmas.List.{take-append-drop}
 use Rattle.std.proofs.lemmas.Bool.{false≢true}
@@ -165,3 +165,38 @@ breaks_both T order at message root s xs ys a b c h v w =
       wrote = rw (append_assoc xs w.front (w.octet ∷ []), text_both message root order T at s xs (w.front ++ w.octet ∷ []))
           (wrote-front a b c _ _ v w.wrote);
     }
+
+-- ---- a run of one octet
+
+one_taken : (n octet : ℕ) → 0 < n → take n (octet ∷ []) ≡ octet ∷ []
+one_taken zero octet h = absurd (omega (arith, h))
+one_taken (suc zero) octet h = refl
+one_taken (suc (suc n)) octet h = refl
+
+pub text_one : (message : ℕ) (root : Root) (order : Order) (T : Ty) (at : ℕ) (s : List ℕ)
+    (n octet : ℕ) → 0 < n → lines_text message root (dues order T at s (take n (octet ∷ [])))
+    ≡ lines_text message root (due order T at s octet)
+text_one message root order T at s n octet some =
+    ap (λ xs. lines_text message root (dues order T at s xs)) (one_taken n octet some)
+
+pub taken_one : (C : Table) (T : Ty) (order : Order) (at message : ℕ) (root : Root) (d : Decoder)
+    (s : List ℕ) (n octet : ℕ) (p : Progress) → 0 < n →
+    TakesRun C T order at message root d s (take n (octet ∷ [])) p →
+    Takes C T order at message root d s octet p
+taken_one C T order at message root d s n octet p some t =
+    let run = subst (λ xs. TakesRun C T order at message root d s xs p) (one_taken n octet some) t in
+    record { answer = run.answers; reads = run.reads; minds = run.minds }
+
+-- the front of one octet up to an octet of it is that octet
+lone_front : (front : List ℕ) (octet last : ℕ) (rest : List ℕ) →
+    octet ∷ [] ≡ front ++ last ∷ rest → front ++ last ∷ [] ≡ octet ∷ []
+lone_front [] octet last rest e = ap (λ xs. get_or xs 0 0 ∷ []) (sym e)
+lone_front (x ∷ xs) octet last rest e =
+    absurd (omega (arith, ap length e, length-append xs (last ∷ rest)))
+
+pub one_broken : (T : Ty) (order : Order) (at message : ℕ) (root : Root) (s : List ℕ) (octet : ℕ)
+    (a b : OutLog) → BreaksOff T order at message root s (octet ∷ []) a b →
+    WroteFront a b (lines_text message root (due order T at s octet))
+one_broken T order at message root s octet a b h =
+    subst (λ xs. WroteFront a b (lines_text message root (dues order T at s xs)))
+    (lone_front h.front octet h.octet h.rest h.all) h.wrote

@@ -1,7 +1,7 @@
 //! The content of a string or of an octet sequence, or the rest of an encapsulation, in pieces of 32 octets
 //! (docs/FORMATS.md).
 
-ghost use Rattle.std.specs.Prelude.{◌≡◌, ℕ, ◌+◌, ◌-◌, ◌<◌, ◌≤◌, List, [], ◌∷◌, ◌++◌, length, take, IsTrue, false};
+ghost use Rattle.std.specs.Prelude.{◌≡◌, ℕ, ◌+◌, ◌-◌, ◌<◌, ◌≤◌, List, [], ◌++◌, length, take, false};
 ghost use Rattle.arrayvec.specs.ArrayVec.{array_vec_len};
 ghost use Rattle.giop_decode.specs.Spine.{Seg};
 ghost use Rattle.giop_decode.specs.Heard.{is_text};
@@ -17,21 +17,6 @@ use crate::leaf::{Leaf, Spoken, Step, Turn, refused};
 use crate::progress::Kind;
 use arrayvec::ArrayVec;
 use giop_sig::{Catalogue, Shape, TypeId};
-
-/// Takes an octet that leaves the piece incomplete, where so much of a content is left from the piece's start, and
-/// answers whether it was one.
-pub(crate) fn hold_content(left: u32, octet: u8, piece: &mut ArrayVec<u8, 32>) -> bool
-    ensures left { result ≡ false → piece.new ≡ piece.old }
-    ensures holds { IsTrue result → (piece.new.items ≡ piece.old.items ++ octet ∷ [])
-        × (length piece.old.items + 1 < 32) × (length piece.old.items + 1 < left) }
-{
-    let held = piece.len() + 1;
-    if held < 32 && held < left as usize {
-        piece.push(octet);
-        return true;
-    }
-    false
-}
 
 /// Takes octets that leave the piece incomplete, where so much of a content is left from the piece's start, all that
 /// stand there together, and answers how many there were.

@@ -21,7 +21,7 @@ ghost use Rattle.giop_sig.specs.Trees.{tree};
 
 use crate::contents::let_go;
 use crate::frame::{Frame, begin, coding, go_on, has_ended, is_empty, is_inside, tick};
-use crate::leaf::{Leaf, Step, Turn, hold, take_octet};
+use crate::leaf::{Leaf, Step, Turn, take_octet};
 use crate::line::say;
 use crate::memory::Memory;
 use crate::progress::{Progress, progress_of};
@@ -84,8 +84,8 @@ impl Decoder {
         decoder
     }
 
-    /// Takes an octet of the value, and writes what it gives to say. A decoder that is done or faulted takes no more.
-    #[inline(always)]
+    /// Takes an octet of the value, and writes what it gives to say: a run of one. A decoder that is done or faulted takes no
+    /// more.
     pub fn take<O: Out>(
         &mut self,
         catalogue: &Catalogue,
@@ -105,10 +105,7 @@ impl Decoder {
         ensures fits { IfOk result (λ p. GoesOn p → Fits catalogue.now self.new) }
         ensures done { IfOk result (λ p. p ≡ Progress.Done → IsDone self.new) }
     {
-        if self.hold(catalogue, octet) {
-            return Ok(Progress::More);
-        }
-        let progress = self.advance(catalogue, octet, out)?;
+        let (_, progress) = self.take_run(catalogue, &[octet], out)?;
         Ok(progress)
     }
 
@@ -229,49 +226,8 @@ impl Decoder {
         }
     }
 
-    /// Takes an octet that only adds to what is held, as most do, and answers whether it was one.
-    #[inline(always)]
-    fn hold(&mut self, catalogue: &Catalogue, octet: u8) -> bool
-        requires fits { Fits catalogue.now self.old }
-        ensures fits { Fits catalogue.now self.new }
-        ensures left { result ≡ false → self.new ≡ self.old }
-        ensures order { self.new.order ≡ self.old.order }
-        ensures root { self.new.root ≡ self.old.root }
-        ensures message { self.new.message ≡ self.old.message }
-        ensures here { IsTrue result → (here : ℕ) → IsHere self.old here →
-            IsHere self.new (here + 1) }
-        ensures quiet { IsTrue result → (here : ℕ) → IsHere self.old here →
-            lines_of (stepped catalogue.now self.old here octet) ≡ [] }
-        ensures steps { IsTrue result → (here : ℕ) → IsHere self.old here →
-            Comes catalogue.now self.new Progress.More (here + 1)
-            (stepped catalogue.now self.old here octet) }
-        ensures minds { IsTrue result → (here : ℕ) (front : List Line) → IsHere self.old here →
-            Minds self.old.root self.old (standing catalogue.now self.old front here) →
-            Minds self.old.root self.new
-            (with_front front (stepped catalogue.now self.old here octet)) }
-    {
-        let Some(leaf) = self.leaf else {
-            unreachable!();
-        };
-        if self.inside {
-            return false;
-        }
-        if hold(
-            catalogue,
-            self.at,
-            leaf,
-            octet,
-            &mut self.carry,
-            &mut self.piece,
-        ) {
-            self.at = (self.at + 1) % 8;
-            return true;
-        }
-        false
-    }
-
     /// Does one step: what the innermost part gives to say is said and heard, and then the parts around it go on. It is
-    /// kept out of line, so that the few instructions of `hold` stand in the loops over octets.
+    /// kept out of line, so that few instructions stand in the loops over octets.
     #[inline(never)]
     pub(crate) fn advance<O: Out>(
         &mut self,

@@ -70,7 +70,7 @@ pub(crate) fn padding_at(at: u8, width: u8) -> u8
 /// Takes an octet of the padding before a number, or one that leaves the number incomplete, and answers whether it was one.
 #[inline(always)]
 #[tactic(auto, using(crate::proofs::Padding::number_laws))]
-pub(crate) fn hold_number(carry: &mut Carry, at: u8, width: u8, octet: u8) -> bool
+fn hold_number(carry: &mut Carry, at: u8, width: u8, octet: u8) -> bool
     requires width { IsAlignment width }
     requires room { length carry.old < width }
     ensures left { result ≡ false → carry.new ≡ carry.old }

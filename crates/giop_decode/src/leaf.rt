@@ -1,7 +1,7 @@
 //! The innermost part that is begun and not ended, and what an octet turns it into.
 
-ghost use Rattle.std.specs.Prelude.{◌≡◌, ℕ, ◌+◌, ◌-◌, ◌%◌, ◌<◌, List, [], length, IsTrue, false};
-ghost use Rattle.giop_decode.specs.Spine.{Coding, Seg, Short};
+ghost use Rattle.std.specs.Prelude.{◌≡◌, ℕ, ◌+◌, ◌-◌, ◌%◌, ◌<◌, List, [], length};
+ghost use Rattle.giop_decode.specs.Spine.{Coding, Seg};
 ghost use Rattle.giop_decode.specs.Recalling.{Voices, leaf_in_string};
 ghost use Rattle.giop_decode.specs.Steps.{leaf_step};
 ghost use Rattle.giop_decode.specs.Fits.{FitsIn};
@@ -9,9 +9,9 @@ ghost use Rattle.giop_decode.specs.Turns.{leaf_of, leaf_type, Turns, TurnsIn, Ca
 ghost use Rattle.giop_sig.specs.Fits.{IsFit};
 ghost use Rattle.giop_sig.specs.Trees.{tree};
 
-use crate::contents::{hold_content, take_content};
+use crate::contents::take_content;
 use crate::encapsulation::take_order;
-use crate::heads::{hold_number, take_number, take_value, width};
+use crate::heads::{take_number, take_value, width};
 use crate::progress::Kind;
 use arrayvec::ArrayVec;
 use giop_cdr::{Carry, Number, Order};
@@ -112,35 +112,6 @@ pub(crate) fn refused(kind: Kind) -> Step
     Step {
         turn: Turn::Refused(kind),
         spoken: Spoken::Nothing,
-    }
-}
-
-/// Takes an octet that only adds to what is held, as most do, and answers whether it was one: padding, an octet that
-/// leaves a number incomplete, or one that leaves a piece so. Any other is left to `take_octet`.
-#[inline(always)]
-pub(crate) fn hold(
-    catalogue: &Catalogue,
-    at: u8,
-    leaf: Leaf,
-    octet: u8,
-    carry: &mut Carry,
-    piece: &mut ArrayVec<u8, 32>,
-) -> bool
-    requires known { leaf_type leaf < length catalogue.now.types }
-    requires fits { FitsIn (tree catalogue.now (leaf_type leaf)) []
-        (leaf_of catalogue.now leaf carry.old piece.old.items) }
-    requires clean { IsClean leaf carry.old piece.old.items }
-    ensures clean { IsClean leaf carry.new piece.new.items }
-    ensures left { result ≡ false → (carry.new ≡ carry.old) × (piece.new ≡ piece.old) }
-    ensures holds { IsTrue result → (coding : Coding) (path : List Seg) (here : ℕ) →
-        (here - coding.origin) % 8 ≡ at →
-        leaf_step coding path (leaf_of catalogue.now leaf carry.old piece.old.items) here octet
-        ≡ Short [] (here + 1) [] (leaf_of catalogue.now leaf carry.new piece.new.items) }
-{
-    match leaf {
-        Leaf::Number(of) => hold_number(carry, at, width(catalogue, of), octet),
-        Leaf::Opening { .. } => false,
-        Leaf::Content { total, offset, .. } => hold_content(total - offset, octet, piece),
     }
 }
 
