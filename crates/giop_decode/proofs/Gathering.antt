@@ -1,5 +1,6 @@
 -- Octets that only add to what is held, taken together.
-use Rattle.std.proofs.Common.{◌≡◌, ℕ, suc, ◌+◌, ◌-◌, ◌%◌, ◌<◌, false, List, [], ◌∷◌, ◌++◌, length, Some, refl, sym, ◌∙◌, ap, subst, append-nil, append_assoc, arith, length-append}
+use Rattle.std.proofs.lemmas.Bool.{cases_lt}
+use Rattle.std.proofs.Common.{◌≡◌, ℕ, suc, ◌+◌, ◌-◌, ◌%◌, ◌<◌, ◌≤◌, ◌⊎◌, inl, inr, false, List, [], ◌∷◌, ◌++◌, length, Some, refl, sym, ◌∙◌, ap, subst, append-nil, append_assoc, arith, length-append}
 use Rattle.giop_cdr.specs.Numbers.{num}
 use Rattle.giop_sig.specs.declared.types.TypeId.{TypeId}
 use Rattle.giop_decode.specs.declared.decoder.Decoder.{Decoder}
@@ -9,12 +10,13 @@ use Rattle.giop_decode.specs.declared.progress.Progress.TheVariants as progress
 use Rattle.giop_decode.specs.Holding.{Fits, IsHere, Minds, standing_in}
 use Rattle.giop_decode.specs.Reading.{headed, read}
 use Rattle.giop_decode.specs.Runs.{dues, AllGathered}
-use Rattle.giop_decode.specs.Spine.{plain, lines_of}
-use Rattle.giop_decode.specs.Steps.{after, head_width, AreHeld}
+use Rattle.giop_decode.specs.Pieces.{tail}
+use Rattle.giop_decode.specs.Spine.{plain, Content, Seg, Short, lines_of}
+use Rattle.giop_decode.specs.Steps.{after, content_step, head_width, AreHeld}
 use Rattle.giop_decode.specs.Turns.{IsClean, is_inside}
 use Rattle.giop_decode.proofs.Advancing.{same_some}
 use Rattle.giop_decode.proofs.Hearing.{minds_by, recalls_by}
-use Rattle.giop_decode.proofs.PieceLaws.{content_held}
+use Rattle.giop_decode.proofs.PieceLaws.{content_held, full_more, last_more}
 use Rattle.giop_decode.proofs.Runs.{dues_both, dues_none, takes_one, takes_both}
 use Rattle.giop_decode.proofs.Taking.{takes_to, due_is}
 use Rattle.giop_decode.proofs.Waiting.{held_in, Holds, step_held, held_comes, held_here, held_fits, held_minds}
@@ -166,6 +168,40 @@ module _ (C : Table) (of : TypeId) (total offset : ℕ) where
       let others = content_gathered (next_in d d.carry held) new bs free (others_on d new d.carry held (length bs) on) carry
       (piece ∙ sym (append_assoc d.piece.items (b ∷ []) bs)) one.0 e (λ more. omega (arith, l, room')) (λ more. omega (arith, l, some')) in
       (others.0, then_gathered C d new (innermost.Content of total offset) b (next_in d d.carry held) bs one.1 others.1)
+
+-- The same of a piece of which so many octets may be held, where it waits for one more: a full one, or a last one with what
+-- ends it.
+module _ (C : Table) (of : TypeId) (total offset most : ℕ) (full : 32 < total - offset → most < 32)
+    (last : total - offset ≤ 32 → most < total - offset + tail (tree C of.0)) where
+  waits : (path : List Seg) (at : ℕ) (piece : List ℕ) (b : ℕ) → length piece < most →
+      content_step (tree C of.0) path total offset at piece b
+      ≡ Short [] (at + 1) [] (Content (tree C of.0) total offset (piece ++ b ∷ []))
+  waits path at piece b room = go (cases_lt 32 (total - offset))
+    where
+      go : (32 < total - offset) ⊎ (total - offset ≤ 32) →
+          content_step (tree C of.0) path total offset at piece b
+          ≡ Short [] (at + 1) [] (Content (tree C of.0) total offset (piece ++ b ∷ []))
+      go (inl large) = full_more (tree C of.0) path total offset at piece b large (omega (arith, full large, room))
+      go (inr small) = last_more (tree C of.0) path total offset at piece b small (omega (arith, last small, room))
+
+  pub waits_gathered : (d new : Decoder) (octets : List ℕ) → is_inside d.outer.items ≡ false →
+      IsFurther d new (length octets) → new.carry ≡ d.carry →
+      new.piece.items ≡ d.piece.items ++ octets → Fits C d →
+      d.leaf ≡ Some (innermost.Content of total offset) → length d.piece.items + length octets ≤ most →
+      Fits C new × AllGathered C d new octets
+  waits_gathered d new [] free on carry piece f e room = none_gathered C d new on carry (piece ∙ append-nil d.piece.items) f
+  waits_gathered d new (b ∷ bs) free on carry piece f e room =
+      let leaf = innermost.Content of total offset in
+      let held = d.piece.items ++ b ∷ [] in
+      let l = length-append d.piece.items (b ∷ []) in
+      let mid = next_in d d.carry held in
+      let it : f.leaf ≡ leaf = same_some f.leaf leaf (sym f.goes_on ∙ e) in
+      let clean : IsClean leaf d.carry d.piece.items = subst (λ x. IsClean x d.carry d.piece.items) it f.clean in
+      let one = one_gathered C d mid leaf b free (next_on d d.carry held) f e clean
+      (λ here h path. waits path here d.piece.items b (omega (arith, room))) in
+      let others = waits_gathered mid new bs free (others_on d new d.carry held (length bs) on) carry
+      (piece ∙ sym (append_assoc d.piece.items (b ∷ []) bs)) one.0 e (omega (arith, l, room)) in
+      (others.0, then_gathered C d new leaf b mid bs one.1 others.1)
 
 -- ---- of a number, or of the padding in front of it
 

@@ -1,7 +1,7 @@
 -- What is heard of an octet, and what is minded of a reading.
 use Rattle.std.specs.Prelude.{slice_index_or, codes}
 use Rattle.std.specs.Str.{bytes_eq}
-use Rattle.std.proofs.Common.{◌≡◌, ◌≢◌, ℕ, ◌&&◌, Bool, true, false, List, [], ◌∷◌, ◌++◌, length, refl, ◌∙◌, arith, Option, Some, None, sym}
+use Rattle.std.proofs.Common.{◌≡◌, ◌≢◌, ℕ, ◌&&◌, Bool, true, false, List, [], ◌∷◌, ◌++◌, length, append_assoc, refl, ◌∙◌, arith, Option, Some, None, sym}
 use Rattle.giop_decode.specs.declared.decoder.Decoder.{Decoder}
 use Rattle.giop_cdr.specs.declared.order.Order.{Order}
 use Rattle.giop_decode.specs.declared.leaf.Leaf.{Leaf as Innermost}
@@ -148,6 +148,14 @@ recalls_by roots.Exception d r asked h = h
 -- a piece that isn't the last, and the last
 pub piece_last : (h : Heard) (octets : List ℕ) (more : Bool) → more ≡ false → ended (with_piece h octets) ≡ heard_piece h octets more
 piece_last h octets more last = rw last refl
+
+-- a piece in two parts is one piece
+pub piece_both : (h : Heard) (held rest : List ℕ) →
+    with_piece (with_piece h held) rest ≡ with_piece h (held ++ rest)
+piece_both h held rest = rw (append_assoc h.so_far held rest) refl
+
+pub piece_more : (h : Heard) (octets : List ℕ) (more : Bool) → more ≡ true → with_piece h octets ≡ heard_piece h octets more
+piece_more h octets more e = rw e refl
 
 -- only a part with one whole around it is a member of the root
 deep : (name : List ℕ) (x y : Seg) (zs : List Seg) (ps : List Place) → false ≡ is_member name (path_in (x ∷ y ∷ zs) ps)

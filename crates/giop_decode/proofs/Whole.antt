@@ -1,5 +1,6 @@
--- A number whose octets come together.
-use Rattle.std.proofs.Common.{◌≡◌, ℕ, ◌+◌, ◌-◌, ◌%◌, ◌^◌, false, ◌<◌, ◌≤◌, List, [], ◌∷◌, ◌++◌, length, take, drop, get_or, Some, refl, sym, ◌∙◌, ap, subst, arith, length-drop, take-add}
+-- Octets that come together: those of a number, or the rest of a piece.
+use Rattle.std.proofs.Common.{◌≡◌, ℕ, ◌+◌, ◌-◌, ◌%◌, ◌^◌, true, false, ◌<◌, ◌≤◌, List, [], ◌∷◌, ◌++◌, length, take, drop, get_or, Some, refl, sym, ◌∙◌, ap, subst, arith, length-append, length-drop, take-add, append-nil, append_assoc}
+use Rattle.std.proofs.Math.Bool.{and-true, and-false}
 use Rattle.std.proofs.lemmas.List.{get_or-drop, length-take-le}
 use Rattle.giop_cdr.proofs.NumberLaws.{num_bound}
 use Rattle.giop_cdr.proofs.PaddingLaws.{by_alignment, padding-aligned}
@@ -10,24 +11,30 @@ use Rattle.giop_cdr.specs.declared.number.Number.{Number as Taken}
 use Rattle.giop_cdr.specs.declared.order.Order.{Order}
 use Rattle.giop_cdr.specs.declared.prim.Primitive.{Primitive}
 use Rattle.giop_decode.specs.declared.decoder.Decoder.{Decoder}
+use Rattle.giop_decode.specs.declared.leaf.Leaf.{Leaf as Innermost}
 use Rattle.giop_decode.specs.declared.leaf.Leaf.TheVariants as innermost
+use Rattle.giop_decode.specs.declared.leaf.Step.{Step}
 use Rattle.giop_decode.specs.declared.leaf.Turn.TheVariants as turns
+use Rattle.giop_decode.specs.declared.leaf.Spoken.{Spoken}
 use Rattle.giop_decode.specs.declared.leaf.Spoken.TheVariants as spokens
-use Rattle.giop_decode.specs.Heard.{Heard, heard, in_string, is_header_root, nothing}
+use Rattle.giop_decode.specs.Fits.{ContentFits, HeadFits, IsBare}
+use Rattle.giop_decode.specs.Heard.{Heard, heard, hushed, in_string, is_header_root, is_text, nothing}
 use Rattle.giop_decode.specs.Holding.{Fits, IsHere, Minds, Recalls, standing}
 use Rattle.giop_decode.specs.Moves.{IsAround, leaf_in, stepped, told}
+use Rattle.giop_decode.specs.Pieces.{tail}
 use Rattle.giop_decode.specs.Reading.{headed}
-use Rattle.giop_decode.specs.Runs.{AllGathered, ComesWhole}
+use Rattle.giop_decode.specs.Recalling.{Voices, hushes, leaf_in_string, turn_in_string}
+use Rattle.giop_decode.specs.Runs.{Adds, AllGathered, ComesWhole}
 use Rattle.giop_decode.specs.Spine
-use Rattle.giop_decode.specs.Spine.{plain, line, Line, Head, Seg, Done, lines_of, with_front}
-use Rattle.giop_decode.specs.Steps.{AreHeld, after, around, leaf_step, path_in, step}
-use Rattle.giop_decode.specs.Turns.{places, is_inside, StandsWhole}
+use Rattle.giop_decode.specs.Spine.{plain, line, Coding, Line, Head, Seg, Done, Piece, lines_of, with_front}
+use Rattle.giop_decode.specs.Steps.{AreHeld, after, around, head_width, leaf_step, path_in, step}
+use Rattle.giop_decode.specs.Turns.{CanSpeak, IsClean, IsNumberOf, IsSpoken, IsWholeNumber, StandsWhole, Turns, TurnsIn, is_inside, leaf_of, leaf_type, places, still_held}
 use Rattle.giop_decode.proofs.Advancing.{lines_turned, same_some, stands_at}
-use Rattle.giop_decode.proofs.Gathering.{number_gathered}
-use Rattle.giop_decode.proofs.Hearing.{heard_on, minds_by, recalls_by}
+use Rattle.giop_decode.proofs.Gathering.{IsFurther, number_gathered, waits_gathered}
+use Rattle.giop_decode.proofs.Hearing.{heard_on, leaf_inside, minds_by, recalls_by}
+use Rattle.giop_decode.proofs.PieceLaws.{full_whole, octets_last, text_last}
 use Rattle.giop_decode.proofs.Surrounding.{free_coded}
 use Rattle.giop_decode.proofs.Waiting.{held_in}
-use Rattle.giop_print.specs.declared.path.Root.TheVariants as roots
 use Rattle.giop_sig.specs.declared.types.TypeId.{TypeId}
 use Rattle.giop_sig.specs.Table.{Table}
 use Rattle.giop_sig.specs.Trees.{tree}
@@ -35,24 +42,25 @@ use Rattle.giop_decode.proofs.Law.{length_one_more}
 use Rattle.giop_decode.proofs.Padding.{padded_held, takes_last}
 use Rattle.giop_decode.proofs.Runs.{take_more}
 use Rattle.giop_decode.proofs.Shapes.{aligned}
-use Rattle.giop_decode.proofs.Turning.{number_prim}
-use Rattle.giop_sig.specs.Types.{Plain, Ty, Single}
+use Rattle.giop_decode.proofs.Turning.{number_prim, turns_number}
+use Rattle.giop_print.specs.declared.path.Root.TheVariants as roots
+use Rattle.giop_sig.specs.Types.{Encapsulation, Octets, Plain, Single, Text, Ty}
+
+-- ---- where they stand
 
 -- padding is smaller than the size
 padding_below : (at size : ℕ) → IsAlignment size → padding at size < size
 unfolding padding
 padding_below at size h = by_alignment (λ n. (n - at % n) % n < n) size h (omega arith) (omega arith) (omega arith) (omega arith)
 
-pub stands_whole : (T : Ty) (p : Primitive) (order : Order) (at pad count : ℕ) (octets : List ℕ) (number : Taken) → T ≡ Single (Plain p) → at < 8 → pad ≡ padding at (size_of p) →
-    count ≡ pad + size_of p → count ≤ length octets → taken_as p (num order (take (count - pad) (drop pad octets))) ≡ Some number → AreOctets (take (count - pad) (drop pad octets)) →
-    StandsWhole T order at octets count number
-stands_whole T p order at pad count octets number is small padded counted within taken are =
-    let w = size_of p in
+pub stands_whole : (w at pad count : ℕ) (octets : List ℕ) → IsAlignment w → at < 8 → pad ≡ padding at w →
+    count ≡ pad + w → count ≤ length octets →
+    StandsWhole w at octets count (take (count - pad) (drop pad octets))
+stands_whole w at pad count octets k small padded counted within =
     let ys = drop pad octets in
     let held = take (w - 1) ys in
     let b = get_or octets (count - 1) 0 in
     let all = held ++ b ∷ [] in
-    let k = aligned p in
     let some : 0 < w = omega (arith, padding_below at w k) in
     let l = length-drop pad octets in
     let size : length held ≡ w - 1 = length-take-le (w - 1) ys (omega (arith, l, within, counted, some)) in
@@ -62,38 +70,241 @@ stands_whole T p order at pad count octets number is small padded counted within
     ap (λ n. take n ys) after
     ∙ (take_more ys (w - 1) (omega (arith, l, within, counted, some))
     ∙ ap (λ x. take (w - 1) ys ++ x ∷ []) (get_or-drop pad octets (w - 1) 0 ∙ ap (λ i. get_or octets i 0) (sym before))) in
-    let whole : length all ≡ w = omega (arith, length_one_more held b, size, some) in
     let front : take (count - 1) octets ≡ take pad octets ++ held = ap (λ n. take n octets) before ∙ take-add pad (w - 1) octets in
-    rw is (record {
+    subst (StandsWhole w at octets count) (sym same) (record {
       some = omega (arith, counted, some);
       within = within;
       held = held;
       are_held = subst (λ xs. AreHeld w at [] xs held) (sym front)
           (padded_held w at pad octets held k small (omega (arith, within, counted)) (omega (arith, padded)) (λ _. padded) (omega (arith, size, some)));
-      all = all;
       last = λ o here e. takes_last w o here ((at + (count - 1)) % 8) b held k e
           (λ none.
           let one : w ≡ 1 = omega (arith, size, ap length none, some) in
           padding-aligned ((at + (count - 1)) % 8) w k (rw one (omega arith)))
           (omega (arith, size, some));
-      is = number_prim (Single (Plain p)) p (num order all) number refl (subst (λ xs. taken_as p (num order xs) ≡ Some number) same taken)
-          (subst (λ n. num order all < 256 ^ n) whole (num_bound order all (subst AreOctets same are)));
-      spelled = refl;
     })
 
--- a decoder before the octets of a number, all of which it takes together
-module _ (C : Table) (d : Decoder) (octets : List ℕ) (of : TypeId) (count : ℕ) (number : Taken) (f : Fits C d) (h : ComesWhole C d octets of count number) where
+pub whole_number : (p : Primitive) (order : Order) (at count : ℕ) (octets all : List ℕ) (number : Taken) →
+    StandsWhole (size_of p) at octets count all → length all ≡ size_of p → AreOctets all →
+    taken_as p (num order all) ≡ Some number →
+    IsWholeNumber (Single (Plain p)) order at octets count number
+whole_number p order at count octets all number stands width are taken = record {
+  all = all;
+  stands = stands;
+  is = number_prim (Single (Plain p)) p (num order all) number refl taken
+      (subst (λ n. num order all < 256 ^ n) width (num_bound order all are));
+  spelled = refl;
+}
+
+-- ---- a number ahead
+
+still_nothing : (spoken : Spoken) → still_held spoken [] ≡ []
+still_nothing spokens.Nothing = refl
+still_nothing spokens.Length = refl
+still_nothing (spokens.Number number) = refl
+still_nothing (spokens.Switch number) = refl
+still_nothing (spokens.Count count) = refl
+still_nothing (spokens.Size size) = refl
+still_nothing (spokens.Ordered order) = refl
+still_nothing (spokens.Piece offset more) = refl
+
+module _ (C : Table) (d : Decoder) (of : TypeId) (octets : List ℕ) (count : ℕ) (f : Fits C d)
+    (e : d.leaf ≡ Some (innermost.Number of)) (outside : d.inside ≡ false) (empty : d.carry ≡ []) where
+  no_piece : d.piece.items ≡ []
+  no_piece =
+      let it : f.leaf ≡ innermost.Number of = same_some f.leaf (innermost.Number of) (sym f.goes_on ∙ e) in
+      subst (λ l. IsClean l d.carry d.piece.items) it f.clean
+
+  pub comes_head : (all : List ℕ) (s : Step) → StandsWhole (head_width (tree C of.0)) d.at octets count all →
+      TurnsIn (tree C of.0) of.0 s.turn [] [] → CanSpeak (tree C of.0) s.spoken →
+      Voices (tree C of.0) false s.turn s.spoken →
+      ((coding : Coding) (path : List Seg) (at : ℕ) → Turns C (tree C of.0) s.turn s.spoken [] [] path at
+      (after coding path (tree C of.0) (num d.order all) at [])) →
+      ComesWhole C d octets of count s []
+  comes_head all s stands turns_in speaks voices turns =
+      let T = tree C of.0 in
+      let nothing_held : still_held s.spoken d.piece.items ≡ [] = ap (still_held s.spoken) no_piece ∙ still_nothing s.spoken in
+      record {
+        leaf = innermost.Number of;
+        goes_on = e;
+        same = refl;
+        outside = outside;
+        some = stands.some;
+        within = stands.within;
+        short = rw no_piece (omega arith);
+        carry = stands.held;
+        piece = d.piece.items;
+        adds = (rw empty stands.are_held, refl);
+        turns_in = rw (empty, nothing_held) turns_in;
+        speaks = speaks;
+        voices = voices;
+        lines = λ path here. (turns (plain d.order) path (here + 1)).lines;
+        comes = λ path here at.
+            let t = turns (plain d.order) path (here + 1) in
+            rw (empty, nothing_held)
+            (ap (headed T (λ xs at rest. after (plain d.order) path T (num d.order xs) at rest)) (stands.last 0 here (omega (arith, at)))
+            ∙ rw (still_nothing s.spoken) at t.comes);
+        says = λ path here. rw no_piece (turns (plain d.order) path (here + 1)).says;
+      }
+
+  pub comes_number : (number : Taken) → IsWholeNumber (tree C of.0) d.order d.at octets count number →
+      ComesWhole C d octets of count (record { turn = turns.Ended; spoken = spokens.Number number }) []
+  comes_number number h =
+      comes_head h.all (record { turn = turns.Ended; spoken = spokens.Number number }) h.stands tt h.is (refl, refl)
+      (λ coding path at. subst (λ n. Turns C (tree C of.0) turns.Ended (spokens.Number number) [] [] path at (after coding path (tree C of.0) n at []))
+      h.spelled (turns_number C coding path (tree C of.0) at number h.is))
+
+-- ---- the rest of a piece ahead
+
+bare_silent : (T : Ty) → IsBare T → is_text T ≡ false
+bare_silent (Octets bound) h = refl
+bare_silent (Encapsulation E) h = refl
+bare_silent T h = absurd h
+
+module _ (C : Table) (d : Decoder) (of : TypeId) (total offset : ℕ) (octets : List ℕ) (count : ℕ) (f : Fits C d)
+    (e : d.leaf ≡ Some (innermost.Content of total offset)) (outside : d.inside ≡ false) where
+  content : ContentFits (tree C of.0) (tree C of.0) total offset d.piece.items
+  content = (stands_at C d f (innermost.Content of total offset) e).fits
+
+  no_carry : d.carry ≡ []
+  no_carry =
+      let leaf = innermost.Content of total offset in
+      let it : f.leaf ≡ leaf = same_some f.leaf leaf (sym f.goes_on ∙ e) in
+      subst (λ l. IsClean l d.carry d.piece.items) it f.clean
+
+  -- what is held and the octets are what is held before the last, and that
+  with_last : 0 < count → count ≤ length octets →
+      (d.piece.items ++ take (count - 1) octets) ++ get_or octets (count - 1) 0 ∷ [] ≡ d.piece.items ++ take count octets
+  with_last some within =
+      let i : count ≡ (count - 1) + 1 = omega (arith, some) in
+      append_assoc d.piece.items (take (count - 1) octets) (get_or octets (count - 1) 0 ∷ [])
+      ∙ ap (λ xs. d.piece.items ++ xs) (sym (ap (λ n. take n octets) i ∙ take_more octets (count - 1) (omega (arith, some, within))))
+
+  held_size : (n : ℕ) → n ≤ length octets → length (d.piece.items ++ take n octets) ≡ length d.piece.items + n
+  held_size n within = length-append d.piece.items (take n octets) ∙ ap (λ k. length d.piece.items + k) (length-take-le n octets within)
+
+  pub comes_full : 32 < total - offset → count ≡ 32 - length d.piece.items → count ≤ length octets →
+      ComesWhole C d octets of count
+      (record { turn = turns.More (innermost.Content of total (offset + 32)); spoken = spokens.Piece offset true })
+      (take count octets)
+  comes_full large counted within =
+      let T = tree C of.0 in
+      let room : length d.piece.items < 32 = content.room_full large in
+      let some : 0 < count = omega (arith, counted, room) in
+      let piece = d.piece.items ++ take (count - 1) octets in
+      let b = get_or octets (count - 1) 0 in
+      let size : length piece ≡ 31 = held_size (count - 1) (omega (arith, within)) ∙ omega (arith, counted, room) in
+      record {
+        leaf = innermost.Content of total offset;
+        goes_on = e;
+        same = refl;
+        outside = outside;
+        some = some;
+        within = within;
+        short = omega (arith, length-take-le count octets within, counted, room);
+        carry = d.carry;
+        piece = piece;
+        adds = (refl, refl, (λ _. omega (arith, size)), (λ small. absurd (omega (arith, large, small))));
+        turns_in = (refl, no_carry);
+        speaks = content.kind;
+        voices = sym (and-true (is_text T));
+        lines = λ path here. line (here + 1) path (Piece T offset (d.piece.items ++ take count octets) true) ∷ [];
+        comes = λ path here at. rw (← with_last some within) (full_whole T path total offset here piece b large (omega (arith, size)));
+        says = λ path here. refl;
+      }
+
+  pub comes_bare : IsBare (tree C of.0) → total - offset ≤ 32 → count ≡ total - offset - length d.piece.items →
+      count ≤ length octets →
+      ComesWhole C d octets of count (record { turn = turns.Ended; spoken = spokens.Piece offset false }) (take count octets)
+  comes_bare bare small counted within =
+      let T = tree C of.0 in
+      let none = bare_tail T bare in
+      let room : length d.piece.items < total - offset + tail T = content.room_last small in
+      let some : 0 < count = omega (arith, counted, room, none) in
+      let piece = d.piece.items ++ take (count - 1) octets in
+      let b = get_or octets (count - 1) 0 in
+      let size : length piece + 1 ≡ total - offset = omega (arith, held_size (count - 1) (omega (arith, within)), counted, some) in
+      record {
+        leaf = innermost.Content of total offset;
+        goes_on = e;
+        same = refl;
+        outside = outside;
+        some = some;
+        within = within;
+        short = omega (arith, length-take-le count octets within, counted, small);
+        carry = d.carry;
+        piece = piece;
+        adds = (refl, refl, (λ large. absurd (omega (arith, large, small))), (λ _. omega (arith, size)));
+        turns_in = tt;
+        speaks = content.kind;
+        voices = sym (and-false (is_text T));
+        lines = λ path here. line (here + 1) path (Piece T offset (d.piece.items ++ take count octets) false) ∷ [];
+        comes = λ path here at. rw (← with_last some within) (octets_last T path total offset here piece b bare small size);
+        says = λ path here. refl;
+      }
+    where
+      bare_tail : (T : Ty) → IsBare T → tail T ≡ 0
+      bare_tail (Octets bound) h = refl
+      bare_tail (Encapsulation E) h = refl
+      bare_tail T h = absurd h
+
+  pub comes_text : (bound : _) (size : ℕ) → tree C of.0 ≡ Text bound → total - offset ≤ 32 →
+      size ≡ total - offset - length d.piece.items → count ≡ size + 1 → count ≤ length octets →
+      get_or octets size 0 ≡ 0 →
+      ComesWhole C d octets of count (record { turn = turns.Ended; spoken = spokens.Piece offset false }) (take size octets)
+  comes_text bound size is small sized counted within zero_end =
+      let T = tree C of.0 in
+      let one : tail T ≡ 1 = ap tail is in
+      let room : length d.piece.items < total - offset + tail T = content.room_last small in
+      let n : count - 1 ≡ size = omega (arith, counted) in
+      let piece = d.piece.items ++ take size octets in
+      let b = get_or octets size 0 in
+      let all : length piece ≡ total - offset = omega (arith, held_size size (omega (arith, within, counted)), sized, room, one) in
+      record {
+        leaf = innermost.Content of total offset;
+        goes_on = e;
+        same = refl;
+        outside = outside;
+        some = omega (arith, counted);
+        within = within;
+        short = omega (arith, length-take-le size octets (omega (arith, within, counted)), sized, small, room, one);
+        carry = d.carry;
+        piece = piece;
+        adds = (refl, rw n refl, (λ large. absurd (omega (arith, large, small))), (λ _. omega (arith, all, one)));
+        turns_in = tt;
+        speaks = content.kind;
+        voices = sym (and-false (is_text T));
+        lines = λ path here. line (here + 1) path (Piece T offset piece false) ∷ [];
+        comes = λ path here at. rw n (text_last T path total offset here piece b bound is small all zero_end);
+        says = λ path here. refl;
+      }
+
+-- ---- what they do to a decoder
+
+-- octets that only add to what is held
+adds_gathered : (C : Table) (d new : Decoder) (leaf : Innermost) (octets : List ℕ) → is_inside d.outer.items ≡ false →
+    IsFurther d new (length octets) → Fits C d → d.leaf ≡ Some leaf →
+    Adds C d leaf octets new.carry new.piece.items → Fits C new × AllGathered C d new octets
+adds_gathered C d new (innermost.Number of) octets free on f e h = number_gathered C of d new octets free on h.1 f e h.0
+adds_gathered C d new (innermost.Opening of count) octets free on f e h = absurd h
+adds_gathered C d new (innermost.Content of total offset) octets free on f e h =
+    waits_gathered C of total offset (length new.piece.items) h.2 h.3 d new octets free on h.0 h.1 f e
+    (omega (arith, ap length h.1, length-append d.piece.items octets))
+
+-- a decoder before octets that it takes together
+module _ (C : Table) (d : Decoder) (octets : List ℕ) (of : TypeId) (count : ℕ) (s : Step) (rest : List ℕ) (f : Fits C d)
+    (h : ComesWhole C d octets of count s rest) where
   free : is_inside d.outer.items ≡ false
   free = sym f.inside ∙ h.outside
 
   -- behind all but the last of them
   abbrev pub before_last : ℕ → Decoder
-  before_last at = held_in d h.stands.held d.piece at
+  before_last at = held_in d h.carry (record { items = h.piece }) at
 
-  pub around_number : (at : ℕ) → at < 8 → IsAround C (held_in d d.carry d.piece at) of.0
-  around_number at small =
-      let s = stands_at C d f (innermost.Number of) h.leaf in
-      let same = same_some f.leaf (innermost.Number of) (sym f.goes_on ∙ h.leaf) in
+  pub around_whole : (at : ℕ) → at < 8 → IsAround C (held_in d d.carry d.piece at) of.0
+  around_whole at small =
+      let s = stands_at C d f h.leaf h.goes_on in
+      let same = ap leaf_type (same_some f.leaf h.leaf (sym f.goes_on ∙ h.goes_on)) ∙ h.same in
       record {
         known = rw same at f.known;
         known_outer = f.known_outer;
@@ -101,53 +312,56 @@ module _ (C : Table) (d : Decoder) (octets : List ℕ) (of : TypeId) (count : �
         ahead = f.ahead;
         are_open = s.are_open;
         room = s.room;
-        fit = s.fit;
+        fit = rw h.same at s.fit;
         at = small;
       }
 
   pub gathered_whole : (at : ℕ) → at ≡ (d.at + (count - 1)) % 8 → Fits C (before_last at) × AllGathered C d (before_last at) (take (count - 1) octets)
   gathered_whole at e =
-      let size = length-take-le (count - 1) octets (omega (arith, h.stands.within)) in
-      number_gathered C of d (before_last at) (take (count - 1) octets) free
+      let size = length-take-le (count - 1) octets (omega (arith, h.within)) in
+      adds_gathered C d (before_last at) h.leaf (take (count - 1) octets) free
       (record { order = refl; root = refl; message = refl; at = rw size e; outer = refl; inside = refl; leaf = refl; memory = refl })
-      refl f h.leaf (rw h.empty h.stands.are_held)
+      f h.goes_on h.adds
 
-  -- the line of the number
+  -- the lines that the last gives
   abbrev pub lines_at : ℕ → List Line
-  lines_at here = line (here + 1) (path_in [] (places C here d.outer.items)) (Spine.Number h.stands.is.scalar h.stands.is.n) ∷ []
+  lines_at here = h.lines (path_in [] (places C here d.outer.items)) here
 
-  last_step : (here : ℕ) (path : List Seg) → here % 8 ≡ (d.at + (count - 1)) % 8 →
-      leaf_step (plain d.order) path (Head (tree C of.0) h.stands.held) here (get_or octets (count - 1) 0) ≡ after (plain d.order) path (tree C of.0) h.stands.is.n (here + 1) []
-  last_step here path e =
-      ap (headed (tree C of.0) (λ xs at rest. after (plain d.order) path (tree C of.0) (num d.order xs) at rest)) (h.stands.last 0 here (omega (arith, e)))
-      ∙ ap (λ n. after (plain d.order) path (tree C of.0) n (here + 1) []) (sym h.stands.spelled)
-
-  number_comes : (path : List Seg) (at : ℕ) → after (plain d.order) path (tree C of.0) h.stands.is.n at [] ≡ Done (line at path (Spine.Number h.stands.is.scalar h.stands.is.n) ∷ []) at []
-  number_comes path at = rw (h.stands.is.is, h.stands.is.right) refl
+  pub says_at : (here : ℕ) → IsSpoken (tree C of.0) (path_in [] (places C here d.outer.items)) (here + 1) s.spoken (d.piece.items ++ rest) (lines_at here)
+  says_at here = h.says (path_in [] (places C here d.outer.items)) here
 
   pub told_whole : (at here : ℕ) → at ≡ (d.at + (count - 1)) % 8 → IsHere (before_last at) here →
-      stepped C (before_last at) here (get_or octets (count - 1) 0) ≡ told C d of.0 turns.Ended (spokens.Number number) (lines_at here) here
+      stepped C (before_last at) here (get_or octets (count - 1) 0) ≡ told C d of.0 s.turn s.spoken (lines_at here) here
   told_whole at here e stands =
       let ps = places C here d.outer.items in
       let b = get_or octets (count - 1) 0 in
       let path = path_in [] ps in
-      ap (λ l. step (plain d.order) [] ps (leaf_in C (before_last at) l) here b) h.leaf
-      ∙ (ap (λ c. around (plain d.order) [] ps (leaf_step c path (Head (tree C of.0) h.stands.held) here b)) (free_coded C here (plain d.order) d.outer.items free)
-      ∙ ap (around (plain d.order) [] ps) (last_step here path (stands.0 ∙ e) ∙ number_comes path (here + 1)))
+      ap (λ l. step (plain d.order) [] ps (leaf_in C (before_last at) l) here b) h.goes_on
+      ∙ (ap (λ c. around (plain d.order) [] ps (leaf_step c path (leaf_of C h.leaf h.carry h.piece) here b)) (free_coded C here (plain d.order) d.outer.items free)
+      ∙ ap (around (plain d.order) [] ps) (h.comes path here (stands.0 ∙ e)))
 
   pub lines_whole : (at here : ℕ) → at ≡ (d.at + (count - 1)) % 8 → IsHere (before_last at) here → lines_of (stepped C (before_last at) here (get_or octets (count - 1) 0)) ≡ lines_at here
   lines_whole at here e stands =
-      ap lines_of (told_whole at here e stands) ∙ lines_turned C here (plain d.order) [] d.outer.items (tree C of.0) turns.Ended d.carry d.piece.items (lines_at here) f.ahead f.known_outer
+      ap lines_of (told_whole at here e stands)
+      ∙ lines_turned C here (plain d.order) [] d.outer.items (tree C of.0) s.turn d.carry (still_held s.spoken d.piece.items) (lines_at here) f.ahead f.known_outer
 
   pub minds_whole : (new : Decoder) (at here : ℕ) (front : List Line) → at ≡ (d.at + (count - 1)) % 8 → IsHere (before_last at) here →
-      in_string (told C d of.0 turns.Ended (spokens.Number number) (lines_at here) here) ≡ false →
-      ((d.root ≡ roots.Body → ⊥) → (o : Heard) → Recalls d.memory o → Recalls new.memory (heard (is_header_root d.root) o (lines_at here))) →
+      in_string (told C d of.0 s.turn s.spoken (lines_at here) here) ≡ turn_in_string (tree C of.0) s.turn →
+      ((d.root ≡ roots.Body → ⊥) → (o : Heard) → Recalls d.memory o → Recalls new.memory (hushed (hushes s.spoken) (heard (is_header_root d.root) o (lines_at here)))) →
       Minds d.root (before_last at) (standing C (before_last at) front here) → Minds d.root new (with_front front (stepped C (before_last at) here (get_or octets (count - 1) 0)))
-  minds_whole new at here front e stands silent hears old =
+  minds_whole new at here front e stands inside hears old =
       let r = stepped C (before_last at) here (get_or octets (count - 1) 0) in
       let header = is_header_root d.root in
+      let path = path_in [] (places C here d.outer.items) in
+      let back = sym h.same in
+      let T = tree C (leaf_type h.leaf) in
       minds_by d.root new (with_front front r) (λ asked.
-      let before : Recalls d.memory (heard header nothing front) = rw h.leaf at (recalls_by d.root (before_last at) (standing C (before_last at) front here) asked old) in
-      let on = heard_on header C (innermost.Number of) turns.Ended (spokens.Number number) (path_in [] (places C here d.outer.items)) (here + 1) d.piece.items front (lines_at here) r
-      (refl, refl) (h.stands.is, refl) (ap in_string (told_whole at here e stands) ∙ silent) (lines_whole at here e stands) in
-      subst (Recalls new.memory) on (hears asked (heard header nothing front) before))
+      let before : Recalls d.memory (hushed (leaf_in_string T h.leaf) (heard header nothing front)) =
+      subst (λ b. Recalls d.memory (hushed b (heard header nothing front))) (leaf_inside C h.leaf h.carry h.piece)
+      (rw h.goes_on at (recalls_by d.root (before_last at) (standing C (before_last at) front here) asked old)) in
+      let on = heard_on header C h.leaf s.turn s.spoken path (here + 1) (d.piece.items ++ rest) front (lines_at here) r
+      (subst (λ t. Voices (tree C t) (leaf_in_string (tree C t) h.leaf) s.turn s.spoken) back h.voices)
+      (subst (λ t. IsSpoken (tree C t) path (here + 1) s.spoken (d.piece.items ++ rest) (lines_at here)) back (says_at here))
+      (subst (λ t. in_string r ≡ turn_in_string (tree C t) s.turn) back (ap in_string (told_whole at here e stands) ∙ inside))
+      (lines_whole at here e stands) in
+      subst (Recalls new.memory) on (hears asked (hushed (leaf_in_string T h.leaf) (heard header nothing front)) before))

@@ -1,10 +1,10 @@
 -- What a decoder that reads a list does with more octets, taken as a run (state).
-use Rattle.std.specs.Prelude.{◌≡◌, ℕ, ◌+◌, false, List, [], ◌∷◌, ◌++◌, length, take, drop, Some, Result, MatchResult}
+use Rattle.std.specs.Prelude.{◌≡◌, ℕ, ◌+◌, ◌-◌, ◌%◌, ◌<◌, ◌≤◌, false, List, [], ◌∷◌, ◌++◌, length, take, drop, get_or, Some, Result, MatchResult}
 use Rattle.giop_cdr.specs.declared.order.Order.{Order}
 use Rattle.giop_decode.specs.declared.decoder.Decoder.{Decoder}
 use Rattle.giop_decode.specs.declared.progress.Progress.{Progress}
 use Rattle.giop_decode.specs.declared.progress.Progress.TheVariants as progress
-use Rattle.giop_decode.specs.Spine.{plain, Line, lines_of}
+use Rattle.giop_decode.specs.Spine.{plain, Line, Seg, lines_of}
 use Rattle.giop_decode.specs.Reading.{read}
 use Rattle.giop_decode.specs.Heard.{is_header_root, names_operation}
 use Rattle.giop_decode.specs.Holding.{Reads, Minds, IsAnswer, IsFault, due}
@@ -15,9 +15,13 @@ use Rattle.giop_sig.specs.Types.{Ty}
 use Rattle.giop_sig.specs.Table.{Table}
 use Rattle.giop_sig.specs.Trees.{tree}
 use Rattle.giop_sig.specs.declared.types.TypeId.{TypeId}
-use Rattle.giop_cdr.specs.declared.number.Number.{Number as Taken}
+use Rattle.giop_decode.specs.declared.leaf.Leaf.{Leaf as Innermost}
 use Rattle.giop_decode.specs.declared.leaf.Leaf.TheVariants as innermost
-use Rattle.giop_decode.specs.Turns.{StandsWhole}
+use Rattle.giop_decode.specs.declared.leaf.Step.{Step}
+use Rattle.giop_decode.specs.Pieces.{tail}
+use Rattle.giop_decode.specs.Recalling.{Voices, leaf_in_string}
+use Rattle.giop_decode.specs.Steps.{AreHeld, head_width, leaf_step}
+use Rattle.giop_decode.specs.Turns.{CanSpeak, IsSpoken, TurnsIn, leaf_of, leaf_type, still_held, turned}
 
 -- the lines that octets more give
 abbrev pub dues : Order → Ty → ℕ → List ℕ → List ℕ → List Line
@@ -81,11 +85,43 @@ abbrev pub AllGathered : Table → Decoder → Decoder → List ℕ → Type 0
 AllGathered C d new octets = (T : Ty) (order : Order) (at message : ℕ) (root : Root) (s : List ℕ) →
     Reads C T order at message root d s → Gathered C T order at message root new s octets
 
--- ---- a number whose octets come together
+-- ---- octets that come together
 
--- a number comes next, whose octets stand whole at the head of these, in no encapsulation
-pub record ComesWhole (C : Table) (d : Decoder) (octets : List ℕ) (of : TypeId) (count : ℕ) (number : Taken) : Type 0 where
-  pub leaf : d.leaf ≡ Some (innermost.Number of)
+-- what is held behind octets that only add to it, in no encapsulation
+abbrev pub Adds : Table → Decoder → Innermost → List ℕ → List ℕ → List ℕ → Type 0
+Adds C d (innermost.Number of) octets carry piece =
+    AreHeld (head_width (tree C of.0)) d.at d.carry octets carry × (piece ≡ d.piece.items)
+Adds C d (innermost.Opening of count) octets carry piece = ⊥
+Adds C d (innermost.Content of total offset) octets carry piece =
+    (carry ≡ d.carry) × (piece ≡ d.piece.items ++ octets)
+    × (32 < total - offset → length piece < 32)
+    × (total - offset ≤ 32 → length piece < total - offset + tail (tree C of.0))
+
+-- So many octets stand at the head of these, in no encapsulation, of which all but the last only add to what is held, and
+-- the last does this step: what it says of a piece are the octets that are held, and the rest.
+pub record ComesWhole (C : Table) (d : Decoder) (octets : List ℕ) (of : TypeId) (count : ℕ)
+    (step : Step) (rest : List ℕ) : Type 0 where
+  pub leaf : Innermost
+  pub goes_on : d.leaf ≡ Some leaf
+  pub same : leaf_type leaf ≡ of.0
   pub outside : d.inside ≡ false
-  pub empty : d.carry ≡ []
-  pub stands : StandsWhole (tree C of.0) d.order d.at octets count number
+  pub some : 0 < count
+  pub within : count ≤ length octets
+  pub short : length d.piece.items + length rest ≤ 32
+  -- what is held before the last of them
+  pub carry : List ℕ
+  pub piece : List ℕ
+  pub adds : Adds C d leaf (take (count - 1) octets) carry piece
+  -- what the last comes to, and says
+  pub turns_in : TurnsIn (tree C of.0) of.0 step.turn d.carry
+      (still_held step.spoken d.piece.items)
+  pub speaks : CanSpeak (tree C of.0) step.spoken
+  pub voices : Voices (tree C of.0) (leaf_in_string (tree C of.0) leaf) step.turn step.spoken
+  pub lines : List Seg → ℕ → List Line
+  pub comes : (path : List Seg) (here : ℕ) → here % 8 ≡ (d.at + (count - 1)) % 8 →
+      leaf_step (plain d.order) path (leaf_of C leaf carry piece) here
+      (get_or octets (count - 1) 0)
+      ≡ turned C (tree C of.0) step.turn d.carry (still_held step.spoken d.piece.items)
+      (lines path here) (here + 1)
+  pub says : (path : List Seg) (here : ℕ) →
+      IsSpoken (tree C of.0) path (here + 1) step.spoken (d.piece.items ++ rest) (lines path here)

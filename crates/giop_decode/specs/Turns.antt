@@ -239,15 +239,19 @@ abbrev pub grab_of : Bool → List ℕ → ℕ → Grab
 grab_of true held at = Got held at []
 grab_of false held at = Waiting held at
 
--- A number of a type stands whole at the head of octets, behind its padding, where the first is at this offset modulo 8: all
--- of these up to its last are held until that comes.
-pub record StandsWhole (T : Ty) (order : Order) (at : ℕ) (octets : List ℕ) (count : ℕ) (number : Taken) : Type 0 where
+-- The octets of a number of this width stand whole at the head of others, behind its padding, where the first is at this
+-- offset modulo 8: all up to the last of them are held until that comes.
+pub record StandsWhole (width at : ℕ) (octets : List ℕ) (count : ℕ) (all : List ℕ) : Type 0 where
   pub some : 0 < count
   pub within : count ≤ length octets
   pub held : List ℕ
-  pub are_held : AreHeld (head_width T) at [] (take (count - 1) octets) held
-  pub all : List ℕ
+  pub are_held : AreHeld width at [] (take (count - 1) octets) held
   pub last : (origin here : ℕ) → (here - origin) % 8 ≡ (at + (count - 1)) % 8 →
-      number_step origin (head_width T) here held (get_or octets (count - 1) 0) ≡ grab_of true all (here + 1)
+      number_step origin width here held (get_or octets (count - 1) 0) ≡ grab_of true all (here + 1)
+
+-- a number of a type, whose octets stand so
+pub record IsWholeNumber (T : Ty) (order : Order) (at : ℕ) (octets : List ℕ) (count : ℕ) (number : Taken) : Type 0 where
+  pub all : List ℕ
+  pub stands : StandsWhole (head_width T) at octets count all
   pub is : IsNumberOf T number
   pub spelled : is.n ≡ num order all

@@ -155,7 +155,7 @@ pub(crate) fn let_go(spoken: Spoken, piece: &mut ArrayVec<u8, 32>)
     ensures { piece.new.items ≡ still_held spoken piece.old.items }
 {
     match spoken {
-        Spoken::Piece { .. } => piece.clear(),
+        Spoken::Piece { .. } => *piece = ArrayVec::new(),
         Spoken::Nothing => {}
         Spoken::Length => {}
         Spoken::Number(_) => {}

@@ -1,6 +1,6 @@
 //! A decoder of one value: the state that reading a list of octets leaves.
 
-ghost use Rattle.std.specs.Prelude.{◌≡◌, ℕ, ◌+◌, ◌-◌, ◌%◌, ◌<◌, List, [], length, ◌↔◌, IsTrue, true, false, IfOk, OnOk, None, Some};
+ghost use Rattle.std.specs.Prelude.{◌≡◌, ℕ, ◌+◌, ◌-◌, ◌%◌, ◌<◌, ◌≤◌, List, [], ◌++◌, length, ◌↔◌, IsTrue, true, false, IfOk, OnOk, None, Some};
 ghost use Rattle.std.specs.Option.{option_map};
 ghost use Rattle.giop_cdr.specs.declared.order.Order.{Order as ByteOrder};
 ghost use Rattle.giop_decode.specs.declared.leaf.Leaf.{Leaf as Innermost};
@@ -266,24 +266,27 @@ impl Decoder {
             &mut self.carry,
             &mut self.piece,
         );
-        let progress = self.tell(catalogue, of, step, out)?;
+        let progress = self.tell(catalogue, of, step, &[], out)?;
         Ok(progress)
     }
 
     /// Says and hears what the innermost part, of this type, gives to say by an octet, and goes on from what it has come
-    /// to.
+    /// to. A piece that is said has the octets that are held, and these.
     #[inline(always)]
     pub(crate) fn tell<O: Out>(
         &mut self,
         catalogue: &Catalogue,
         of: TypeId,
         step: Step,
+        rest: &[u8],
         out: &mut O,
     ) -> Result<Progress, OutFault>
         requires around { IsAround catalogue.now self.old of.0 }
         requires turns_in { TurnsIn (tree catalogue.now of.0) of.0 step.turn
             self.old.carry (still_held step.spoken self.old.piece.items) }
         requires speaks { CanSpeak (tree catalogue.now of.0) step.spoken }
+        requires short { 0 < length rest.now →
+            length self.old.piece.items + length rest.now ≤ 32 }
         ensures order { OnOk result (self.new.order ≡ self.old.order) }
         ensures root { OnOk result (self.new.root ≡ self.old.root) }
         ensures message { OnOk result (self.new.message ≡ self.old.message) }
@@ -293,13 +296,13 @@ impl Decoder {
         ensures writes { (here at : ℕ) (lines : List Line) →
             IsSpoken (tree catalogue.now of.0)
             (path_in [] (places catalogue.now here self.old.outer.items))
-            at step.spoken self.old.piece.items lines →
+            at step.spoken (self.old.piece.items ++ rest.now) lines →
             Writes result (O.log out.old) (O.log out.new)
             (lines_text self.old.message self.old.root lines) }
         ensures steps { IfOk result (λ p. (here : ℕ) (lines : List Line) →
             IsSpoken (tree catalogue.now of.0)
             (path_in [] (places catalogue.now here self.old.outer.items))
-            (here + 1) step.spoken self.old.piece.items lines →
+            (here + 1) step.spoken (self.old.piece.items ++ rest.now) lines →
             Comes catalogue.now self.new p (here + 1)
             (told catalogue.now self.old of.0 step.turn step.spoken lines here)) }
         ensures inside { OnOk result ((here : ℕ) (lines : List Line) →
@@ -309,7 +312,7 @@ impl Decoder {
             (h : Heard) (here at : ℕ) (lines : List Line) → Recalls self.old.memory h →
             IsSpoken (tree catalogue.now of.0)
             (path_in [] (places catalogue.now here self.old.outer.items))
-            at step.spoken self.old.piece.items lines →
+            at step.spoken (self.old.piece.items ++ rest.now) lines →
             Recalls self.new.memory (hushed (hushes step.spoken)
             (heard (is_header_root self.old.root) h lines))) }
     {
@@ -321,6 +324,7 @@ impl Decoder {
             of,
             step.spoken,
             &self.piece,
+            rest,
             out,
         )?;
         let named = self.memory.hear(
@@ -330,6 +334,7 @@ impl Decoder {
             of,
             step.spoken,
             &self.piece,
+            rest,
         );
         let_go(step.spoken, &mut self.piece);
         self.at = (self.at + 1) % 8;

@@ -16,7 +16,7 @@ ghost use Rattle.giop_sig.specs.Trees.{tree};
 use crate::encapsulation;
 use crate::leaf::{Leaf, Spoken, Step, Turn, refused};
 use crate::progress::Kind;
-use giop_cdr::{Carry, Number, Order, Prim, pad, size};
+use giop_cdr::{Carry, Number, Order, Prim, number_of, pad, size};
 use giop_sig::{Catalogue, Selected, Shape, TypeId};
 
 /// The size of the number that begins a type.
@@ -140,22 +140,22 @@ pub(crate) fn take_number(carry: &mut Carry, at: u8, width: u8, octet: u8) -> bo
     true
 }
 
-/// Goes on behind the number that begins a type, whose octets are held.
+/// Goes on behind the number that begins a type, of these octets.
 #[inline(always)]
-pub(crate) fn take_value(catalogue: &Catalogue, order: Order, of: TypeId, carry: &Carry) -> Step
+pub(crate) fn take_value(catalogue: &Catalogue, order: Order, of: TypeId, octets: &[u8]) -> Step
     requires known { of.0 < length catalogue.now.types }
     requires head { HasHead (tree catalogue.now of.0) }
     requires fit { (d : ℕ) × IsFit d (tree catalogue.now of.0) }
-    requires whole { length carry.now ≡ head_width (tree catalogue.now of.0) }
+    requires whole { length octets.now ≡ head_width (tree catalogue.now of.0) }
     ensures turns_in { TurnsIn (tree catalogue.now of.0) of.0 result.turn [] [] }
     ensures speaks { CanSpeak (tree catalogue.now of.0) result.spoken }
     ensures voices { Voices (tree catalogue.now of.0) false result.turn result.spoken }
     ensures turns { (coding : Coding) (path : List Seg) (at : ℕ) →
         Turns catalogue.now (tree catalogue.now of.0) result.turn result.spoken [] [] path at
-        (after coding path (tree catalogue.now of.0) (num order carry.now) at []) }
+        (after coding path (tree catalogue.now of.0) (num order octets.now) at []) }
 {
     match catalogue.shape(of) {
-        Shape::Prim(prim) => match carry.value(order, prim) {
+        Shape::Prim(prim) => match number_of(order, prim, octets) {
             Ok(number) => Step {
                 turn: Turn::Ended,
                 spoken: Spoken::Number(number),
@@ -163,7 +163,7 @@ pub(crate) fn take_value(catalogue: &Catalogue, order: Order, of: TypeId, carry:
             Err(_) => refused(Kind::Boolean),
         },
         Shape::Enumeration(count) => {
-            let n = long_of(order, carry);
+            let n = long_of(order, octets);
             if n >= count {
                 return refused(Kind::Enum);
             }
@@ -172,38 +172,38 @@ pub(crate) fn take_value(catalogue: &Catalogue, order: Order, of: TypeId, carry:
                 spoken: Spoken::Number(Number::Unsigned(u64::from(n))),
             }
         }
-        Shape::Text(bound) => take_length(catalogue, of, bound, long_of(order, carry)),
-        Shape::Octets(bound) => take_size(catalogue, of, bound, long_of(order, carry)),
-        Shape::Sequence(bound) => take_count(catalogue, of, bound, long_of(order, carry)),
-        Shape::Union(_) => take_switch(catalogue, order, of, carry),
-        Shape::Tagged => take_switch(catalogue, order, of, carry),
-        Shape::Encapsulation => encapsulation::take_length(catalogue, of, long_of(order, carry)),
+        Shape::Text(bound) => take_length(catalogue, of, bound, long_of(order, octets)),
+        Shape::Octets(bound) => take_size(catalogue, of, bound, long_of(order, octets)),
+        Shape::Sequence(bound) => take_count(catalogue, of, bound, long_of(order, octets)),
+        Shape::Union(_) => take_switch(catalogue, order, of, octets),
+        Shape::Tagged => take_switch(catalogue, order, of, octets),
+        Shape::Encapsulation => encapsulation::take_length(catalogue, of, long_of(order, octets)),
         Shape::Members(_) => unreachable!(),
         Shape::Array(_) => unreachable!(),
     }
 }
 
-/// Goes on behind the number of a union's discriminator, whose octets are held.
+/// Goes on behind the number of a union's discriminator, of these octets.
 #[inline(always)]
-fn take_switch(catalogue: &Catalogue, order: Order, of: TypeId, carry: &Carry) -> Step
+fn take_switch(catalogue: &Catalogue, order: Order, of: TypeId, octets: &[u8]) -> Step
     requires known { of.0 < length catalogue.now.types }
     requires union { IsUnion (shape_in (tree catalogue.now of.0)) }
     requires fit { (d : ℕ) × IsFit d (tree catalogue.now of.0) }
-    requires whole { length carry.now ≡ head_width (tree catalogue.now of.0) }
+    requires whole { length octets.now ≡ head_width (tree catalogue.now of.0) }
     ensures turns_in { TurnsIn (tree catalogue.now of.0) of.0 result.turn [] [] }
     ensures speaks { CanSpeak (tree catalogue.now of.0) result.spoken }
     ensures voices { Voices (tree catalogue.now of.0) false result.turn result.spoken }
     ensures turns { (coding : Coding) (path : List Seg) (at : ℕ) →
         Turns catalogue.now (tree catalogue.now of.0) result.turn result.spoken [] [] path at
-        (after coding path (tree catalogue.now of.0) (num order carry.now) at []) }
+        (after coding path (tree catalogue.now of.0) (num order octets.now) at []) }
 {
     match catalogue.shape(catalogue.switch_type(of)) {
-        Shape::Prim(prim) => match carry.value(order, prim) {
+        Shape::Prim(prim) => match number_of(order, prim, octets) {
             Ok(number) => take_selected(catalogue, of, number),
             Err(_) => refused(Kind::Boolean),
         },
         Shape::Enumeration(count) => {
-            let label = long_of(order, carry);
+            let label = long_of(order, octets);
             if label >= count {
                 return refused(Kind::Enum);
             }
@@ -346,12 +346,21 @@ fn exceeds(bound: Option<u32>, n: u32) -> bool
     }
 }
 
-/// The number that four octets spell.
-fn long_of(order: Order, carry: &Carry) -> u32
-    requires { length carry.now ≡ 4 }
-    ensures { result ≡ num order carry.now }
+/// Four octets, as a slice whose length is a constant, so that no loop reads them.
+#[inline(always)]
+fn just_four(octets: &[u8]) -> &[u8]
+    requires { length octets.now ≡ 4 }
+    ensures { result.now ≡ octets.now }
 {
-    match carry.value(order, Prim::ULong) {
+    &octets[..4]
+}
+
+/// The number that four octets spell.
+fn long_of(order: Order, octets: &[u8]) -> u32
+    requires { length octets.now ≡ 4 }
+    ensures { result ≡ num order octets.now }
+{
+    match number_of(order, Prim::ULong, just_four(octets)) {
         Ok(Number::Unsigned(n)) => n as u32,
         _ => unreachable!(),
     }

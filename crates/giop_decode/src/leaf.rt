@@ -150,7 +150,7 @@ pub(crate) fn take_octet(
                     spoken: Spoken::Nothing,
                 };
             }
-            let step = take_value(catalogue, order, of, carry);
+            let step = take_value(catalogue, order, of, carry.as_slice());
             *carry = Carry::new();
             step
         }

@@ -1,6 +1,6 @@
 //! The lines of a value: where it stands, and what is said of it.
 
-ghost use Rattle.std.specs.Prelude.{ℕ, ◌<◌, List, [], length};
+ghost use Rattle.std.specs.Prelude.{ℕ, ◌+◌, ◌<◌, ◌≤◌, List, [], ◌++◌, length};
 ghost use Rattle.giop_decode.specs.Spine.{Line};
 ghost use Rattle.giop_decode.specs.Spine as spines;
 ghost use Rattle.giop_decode.specs.Fits.{HasContent};
@@ -16,8 +16,8 @@ use crate::here::Here;
 use crate::leaf::Spoken;
 use giop_cdr::Number;
 use giop_print::{
-    Out, OutFault, Piece, Root, Value, encapsulation_line, inner_rest_line, order_line, piece_line,
-    value_line,
+    Out, OutFault, Piece, Root, Value, encapsulation_line, order_line, split_inner_rest_line,
+    split_piece_line, value_line,
 };
 use giop_sig::{Catalogue, Shape, TypeId};
 
@@ -50,48 +50,59 @@ fn number_line<O: Out>(
     }
 }
 
-/// The line of a piece.
+/// The line of a piece: the octets that were held, and the rest.
 #[tactic(auto, unfolding(giop_print::specs::Lines::content_line))]
 fn octets_line<O: Out>(
     catalogue: &Catalogue,
     message: u64,
     path: &Here<'_>,
     t: TypeId,
-    octets: &[u8],
+    held: &[u8],
+    rest: &[u8],
     offset: u32,
     more: bool,
     out: &mut O,
 ) -> Result<(), OutFault>
     requires known { t.0 < length catalogue.now.types }
     requires content { HasContent (tree catalogue.now t.0) }
-    requires short { length octets.now < 33 }
+    requires short { length held.now + length rest.now ≤ 32 }
     ensures { Writes result (O.log out.old) (O.log out.new)
         (value_text message (here_text path.now)
-        (spines.Piece (tree catalogue.now t.0) offset octets.now more)) }
+        (spines.Piece (tree catalogue.now t.0) offset (held.now ++ rest.now) more)) }
 {
     match catalogue.shape(t) {
-        Shape::Text(_) => piece_line(
+        Shape::Text(_) => split_piece_line(
             out,
             message,
             path,
-            Piece::Text(octets),
+            Piece::Text(held),
+            rest,
             u64::from(offset),
             more,
         ),
-        Shape::Octets(_) => piece_line(
+        Shape::Octets(_) => split_piece_line(
             out,
             message,
             path,
-            Piece::Octets(octets),
+            Piece::Octets(held),
+            rest,
             u64::from(offset),
             more,
         ),
-        Shape::Encapsulation => inner_rest_line(out, message, path, u64::from(offset), octets),
+        Shape::Encapsulation => split_inner_rest_line(
+            out,
+            message,
+            path,
+            u64::from(offset),
+            held,
+            rest,
+        ),
         _ => unreachable!(),
     }
 }
 
-/// Says what an octet of an innermost part of this type gives to say, where these octets of a piece are held.
+/// Says what an octet of an innermost part of this type gives to say, where a piece has the octets that are held
+/// and the rest.
 #[inline(always)]
 pub(crate) fn say<O: Out>(
     catalogue: &Catalogue,
@@ -100,17 +111,18 @@ pub(crate) fn say<O: Out>(
     outer: &[Frame],
     of: TypeId,
     spoken: Spoken,
-    piece: &[u8],
+    held: &[u8],
+    rest: &[u8],
     out: &mut O,
 ) -> Result<(), OutFault>
     requires known { of.0 < length catalogue.now.types }
     requires known_outer { AreKnown catalogue.now outer.now }
     requires room { length outer.now < 24 }
     requires speaks { CanSpeak (tree catalogue.now of.0) spoken }
-    requires short { length piece.now < 33 }
+    requires short { length held.now + length rest.now ≤ 32 }
     ensures { (here at : ℕ) (lines : List Line) →
         IsSpoken (tree catalogue.now of.0) (path_in [] (places catalogue.now here outer.now))
-        at spoken piece.now lines →
+        at spoken (held.now ++ rest.now) lines →
         Writes result (O.log out.old) (O.log out.new) (lines_text message root lines) }
 {
     let here = Here {
@@ -137,7 +149,7 @@ pub(crate) fn say<O: Out>(
         Spoken::Size(size) => encapsulation_line(out, message, &here, size),
         Spoken::Ordered(order) => order_line(out, message, &here, order),
         Spoken::Piece { offset, more } => {
-            octets_line(catalogue, message, &here, of, piece, offset, more, out)
+            octets_line(catalogue, message, &here, of, held, rest, offset, more, out)
         }
     }
 }

@@ -1,6 +1,6 @@
 //! What was last heard of a header or of a repository id: a request id, an enum's number, and the last string as a name.
 
-ghost use Rattle.std.specs.Prelude.{◌≡◌, ℕ, ◌<◌, ◌&&◌, true, List, [], length};
+ghost use Rattle.std.specs.Prelude.{◌≡◌, ℕ, ◌<◌, ◌&&◌, true, List, [], ◌++◌, length};
 ghost use Rattle.std.specs.Option.{option_map};
 ghost use Rattle.giop_decode.specs.Heard.{Heard, nothing, with_piece, ended, heard_piece, is_member, is_header_root, hushed, hear_value, heard, names_operation};
 ghost use Rattle.giop_decode.specs.Holding.{Recalls};
@@ -124,12 +124,13 @@ impl Memory {
         }
     }
 
-    /// Hears a piece of a string, which may be its last.
-    fn hear_piece(&mut self, octets: &[u8], more: bool)
+    /// Hears a piece of a string, which may be its last: the octets that were held, and the rest.
+    fn hear_piece(&mut self, held: &[u8], rest: &[u8], more: bool)
         ensures { (h : Heard) → Recalls self.old h →
-            Recalls self.new (heard_piece h octets.now more) }
+            Recalls self.new (heard_piece h (held.now ++ rest.now) more) }
     {
-        self.extend(octets);
+        self.extend(held);
+        self.extend(rest);
         if !more {
             self.end();
         }
@@ -170,7 +171,8 @@ impl Memory {
         outer: &[Frame],
         of: TypeId,
         spoken: Spoken,
-        piece: &[u8],
+        held: &[u8],
+        rest: &[u8],
     ) -> bool
         requires known { of.0 < length catalogue.now.types }
         requires known_outer { AreKnown catalogue.now outer.now }
@@ -178,11 +180,11 @@ impl Memory {
         ensures hears { (root ≡ Root.Body → ⊥) →
             (h : Heard) (here at : ℕ) (lines : List Line) → Recalls self.old h →
             IsSpoken (tree catalogue.now of.0) (path_in [] (places catalogue.now here outer.now))
-            at spoken piece.now lines →
+            at spoken (held.now ++ rest.now) lines →
             Recalls self.new (hushed (hushes spoken) (heard (is_header_root root) h lines)) }
         ensures named { (here at : ℕ) (lines : List Line) →
             IsSpoken (tree catalogue.now of.0) (path_in [] (places catalogue.now here outer.now))
-            at spoken piece.now lines →
+            at spoken (held.now ++ rest.now) lines →
             result ≡ names_operation (is_header_root root) lines }
     {
         if root == Root::Body {
@@ -208,7 +210,7 @@ impl Memory {
             }
             Spoken::Piece { more, .. } => match catalogue.shape(of) {
                 Shape::Text(_) => {
-                    self.hear_piece(piece, more);
+                    self.hear_piece(held, rest, more);
                     !more && is_header_member(catalogue, root, outer, b"operation")
                 }
                 Shape::Octets(_) => false,

@@ -1,21 +1,20 @@
 //! Octets taken together: a run of them, up to the one behind which its caller has something to do.
 
-ghost use Rattle.std.specs.Prelude.{◌≡◌, ℕ, ◌+◌, ◌%◌, ◌^◌, ◌<◌, ◌≤◌, List, length, take, IfOk, IfSome};
+ghost use Rattle.std.specs.Prelude.{◌≡◌, ℕ, ◌+◌, ◌%◌, ◌^◌, ◌<◌, ◌≤◌, List, length, take, IfOk};
 ghost use Rattle.giop_cdr.specs.declared.order.Order.{Order as ByteOrder};
 ghost use Rattle.giop_decode.specs.Holding.{Fits, GoesOn, IsDone, Reads};
 ghost use Rattle.giop_decode.specs.Runs.{TakesRun, WritesRun, AllGathered, ComesWhole};
 ghost use Rattle.giop_print.specs.declared.path.Root.{Root as PathRoot};
 ghost use Rattle.giop_sig.specs.Types.{Ty};
 
-use crate::ahead::whole_number;
+use crate::ahead::Ahead;
 use crate::contents::gather_content;
 use crate::decoder::Decoder;
 use crate::heads::{gather_number, width};
-use crate::leaf::{Leaf, Spoken, Step, Turn};
+use crate::leaf::Leaf;
 use crate::progress::Progress;
-use giop_cdr::Number;
 use giop_print::{Out, OutFault};
-use giop_sig::{Catalogue, TypeId};
+use giop_sig::Catalogue;
 
 impl Decoder {
     /// Takes octets of the value, and writes what they give to say: all of them, or as many as there are up to one that
@@ -80,14 +79,14 @@ impl Decoder {
         ensures fits { IfOk result (λ taken. GoesOn taken.1 → Fits catalogue.now self.new) }
         ensures done { IfOk result (λ taken. taken.1 ≡ Progress.Done → IsDone self.new) }
     {
-        if let Some((of, count, number)) = self.number_ahead(catalogue, octets) {
-            self.at = further(self.at, count - 1);
-            let step = Step {
-                turn: Turn::Ended,
-                spoken: Spoken::Number(number),
-            };
-            let progress = self.tell(catalogue, of, step, out)?;
-            return Ok((count, progress));
+        if let Some(ahead) = self.number_ahead(catalogue, octets) {
+            return self.take_ahead(catalogue, octets, ahead, out);
+        }
+        if let Some(ahead) = self.piece_ahead(catalogue, octets) {
+            return self.take_ahead(catalogue, octets, ahead, out);
+        }
+        if let Some(ahead) = self.head_ahead(catalogue, octets) {
+            return self.take_ahead(catalogue, octets, ahead, out);
         }
         let gathered = self.gather(catalogue, octets);
         if gathered == octets.len() {
@@ -97,26 +96,36 @@ impl Decoder {
         Ok((gathered + 1, progress))
     }
 
-    /// The number that comes next, its type and how many octets it takes, where it stands whole at the head of these, in no
-    /// encapsulation, and none of it is held.
+    /// Takes octets ahead that belong together, and writes what they give to say.
     #[inline(always)]
-    fn number_ahead(&self, catalogue: &Catalogue, octets: &[u8]) -> Option<(TypeId, usize, Number)>
-        requires { Fits catalogue.now self.now }
-        ensures { IfSome result (λ whole.
-            ComesWhole catalogue.now self.now octets.now whole.0 whole.1 whole.2) }
+    fn take_ahead<O: Out>(
+        &mut self,
+        catalogue: &Catalogue,
+        octets: &[u8],
+        ahead: Ahead<'_>,
+        out: &mut O,
+    ) -> Result<(usize, Progress), OutFault>
+        requires fits { Fits catalogue.now self.old }
+        requires ahead { ComesWhole catalogue.now self.old octets.now ahead.of ahead.count
+            ahead.step ahead.rest.now }
+        ensures writes { (T : Ty) (order : ByteOrder) (at message : ℕ) (root : PathRoot)
+            (s : List ℕ) →
+            Reads catalogue.now T order at message root self.old s →
+            WritesRun result T order at message root s octets.now (O.log out.old) (O.log out.new) }
+        ensures takes { IfOk result (λ taken. (T : Ty) (order : ByteOrder) (at message : ℕ)
+            (root : PathRoot) (s : List ℕ) →
+            Reads catalogue.now T order at message root self.old s →
+            TakesRun catalogue.now T order at message root self.new s
+            (take taken.0 octets.now) taken.1) }
+        ensures within { IfOk result (λ taken. taken.0 ≤ length octets.now) }
+        ensures some { IfOk result (λ taken. 0 < taken.0) }
+        ensures fits { IfOk result (λ taken. GoesOn taken.1 → Fits catalogue.now self.new) }
+        ensures done { IfOk result (λ taken. taken.1 ≡ Progress.Done → IsDone self.new) }
     {
-        if self.inside || !self.carry.is_empty() {
-            return None;
-        }
-        match self.leaf {
-            Some(Leaf::Number(of)) => match whole_number(
-                catalogue, self.order, self.at, of, octets,
-            ) {
-                Some((count, number)) => Some((of, count, number)),
-                None => None,
-            },
-            _ => None,
-        }
+        let _octets = octets;
+        self.at = further(self.at, ahead.count - 1);
+        let progress = self.tell(catalogue, ahead.of, ahead.step, ahead.rest, out)?;
+        Ok((ahead.count, progress))
     }
 
     /// Takes the octets that only add to what is held, all that stand there together, and answers how many there were.

@@ -1,4 +1,4 @@
-use Rattle.std.proofs.Common.{◌+◌, [], ap, subst, sym, ◌∙◌, arith, refl, ◌≡◌}
+use Rattle.std.proofs.Common.{◌+◌, [], ap, append-nil, subst, sym, ◌∙◌, arith, refl, ◌≡◌}
 use Rattle.giop_decode.proofs.Advancing.{stands_at, same_some, goes, step_fits, lines_turned}
 use Rattle.giop_decode.proofs.Surrounding.{IsCoded, coded_in}
 use Rattle.giop_print.proofs.Writing.{writes_failed}
@@ -46,7 +46,7 @@ returns-clause-steps g c here h =
     let k = subst (IsCoded here coding) by (coded_in C here (plain d.order) d.order d.at d.outer.items h.1 (record { order = refl; at = omega (arith, h.0) })) in
     let t = c.take_octet-step.ensures.turns coding (path_in [] ps) here k.order k.at in
     let e = ap (λ l. step (plain d.order) [] ps (leaf_in C d l) here c.args.octet) c.in-Some.is ∙ ap (around (plain d.order) [] ps) t.comes in
-    let s = rw c.of-of.ensures at (c.in_ok-progress.ensures.steps here t.lines) in
+    let s = rw (c.of-of.ensures, append-nil c.take_octet-step.new.piece.items) at (c.in_ok-progress.ensures.steps here t.lines) in
     rw e (s t.says)
 
 pub returns-in_err-progress-clause-writes : goal.returns-in_err-progress-clause-writes
@@ -64,7 +64,7 @@ returns-in_err-progress-clause-writes g c here h =
     let turn = c.take_octet-step.result.turn in
     let held = still_held c.take_octet-step.result.spoken c.take_octet-step.new.piece.items in
     let ls = ap lines_of e ∙ lines_turned C here (plain d.order) [] d.outer.items T turn c.take_octet-step.new.carry held t.lines f.ahead f.known_outer in
-    let w = rw c.of-of.ensures at (c.in_err-progress.ensures.writes here (here + 1) t.lines) in
+    let w = rw (c.of-of.ensures, append-nil c.take_octet-step.new.piece.items) at (c.in_err-progress.ensures.writes here (here + 1) t.lines) in
     rw ls (writes_failed c.from_residual.result _ _ _ c.from_residual.ensures.0 (w t.says))
 
 pub returns-clause-writes : goal.returns-clause-writes
@@ -82,7 +82,7 @@ returns-clause-writes g c here h =
     let turn = c.take_octet-step.result.turn in
     let held = still_held c.take_octet-step.result.spoken c.take_octet-step.new.piece.items in
     let ls = ap lines_of e ∙ lines_turned C here (plain d.order) [] d.outer.items T turn c.take_octet-step.new.carry held t.lines f.ahead f.known_outer in
-    let w = rw c.of-of.ensures at (c.in_ok-progress.ensures.writes here (here + 1) t.lines) in
+    let w = rw (c.of-of.ensures, append-nil c.take_octet-step.new.piece.items) at (c.in_ok-progress.ensures.writes here (here + 1) t.lines) in
     rw ls (w t.says)
 
 pub returns-clause-fits : goal.returns-clause-fits
@@ -121,7 +121,7 @@ returns-clause-minds g c here front h old_minds =
     let before : Recalls d.memory (hushed (leaf_in_string T leaf) (heard header nothing front)) =
     subst (λ b. Recalls d.memory (hushed b (heard header nothing front))) (leaf_inside C leaf d.carry d.piece.items)
     (rw c.in-Some.is at (recalls_by d.root d (standing C d front here) asked old_minds)) in
-    let now = rw c.of-of.ensures at (c.in_ok-progress.ensures.hears asked (hushed (leaf_in_string T leaf) (heard header nothing front)) here (here + 1) t.lines before) in
+    let now = rw (c.of-of.ensures, append-nil piece) at (c.in_ok-progress.ensures.hears asked (hushed (leaf_in_string T leaf) (heard header nothing front)) here (here + 1) t.lines before) in
     let on = heard_on header C leaf turn spoken (path_in [] ps) (here + 1) piece front t.lines (stepped C d here c.args.octet)
     c.take_octet-step.ensures.voices t.says (ap in_string e ∙ i) ls in
     subst (Recalls c.tell.new.self.memory) on (now t.says))

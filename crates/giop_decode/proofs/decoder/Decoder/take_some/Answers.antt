@@ -2,13 +2,8 @@ use Rattle.std.proofs.Common.{◌≡◌, ◌+◌, ◌-◌, ◌<◌, ◌++◌, ta
 use Rattle.giop_decode.proofs.Runs.{text_more, takes_more, breaks_off, writes_broken}
 use Rattle.giop_decode.proofs.Segments.{said_none}
 use Rattle.giop_decode.proofs.Taking.{takes_to, due_is, done}
-use Rattle.giop_decode.proofs.Whole.{around_number, before_last, gathered_whole, lines_at, lines_whole, minds_whole, told_whole}
 use Rattle.giop_decode.proofs.decoder.Decoder.take_some.Goals as goal
 use Rattle.giop_decode.specs.Runs.{dues, TakesRun}
-use Rattle.giop_decode.specs.Moves.{stepped}
-use Rattle.giop_decode.specs.Turns.{Link}
-use Rattle.giop_decode.specs.declared.leaf.Leaf.TheVariants as innermost
-use Rattle.giop_decode.proofs.Advancing.{goes, same_some, step_fits}
 use Rattle.giop_decode.specs.Spelling.{lines_text}
 use Rattle.giop_print.specs.Output.{Wrote}
 use Rattle.giop_print.proofs.Writing.{wrote-append, wrote-nil}
@@ -22,8 +17,8 @@ pub returns-then-gathered-octets-clause-takes : goal.returns-then-gathered-octet
 returns-then-gathered-octets-clause-takes g c T order at message root s r =
     (c.gather-gathered.ensures.gathers T order at message root s r).takes
 
-pub returns-in_err-progress-2-clause-writes : goal.returns-in_err-progress-2-clause-writes
-returns-in_err-progress-2-clause-writes g c T order at message root s r =
+pub returns-in_err-progress-clause-writes : goal.returns-in_err-progress-clause-writes
+returns-in_err-progress-clause-writes g c T order at message root s r =
     let C = c.args.catalogue.now in
     let i = c.gather-gathered.result in
     let octets = c.args.octets.now in
@@ -33,8 +28,8 @@ returns-in_err-progress-2-clause-writes g c T order at message root s r =
     let k = held.takes.reads (λ fault. fault) in
     let below : i < length octets = omega (arith, c.gather-gathered.ensures.within, c.if-gathered-octets.false) in
     let one = rw (k.same_message, k.same_root, ← due_is C T order at message root c.gather-gathered.new.self so_far b c.gather-gathered.ensures.fits k) at
-    (c.in_err-progress-2.ensures.writes (at + length so_far) k.offset) in
-    writes_broken c.from_residual-in_err-progress-2.result T order at message root s octets _ _ c.from_residual-in_err-progress-2.ensures.0
+    (c.in_err-progress.ensures.writes (at + length so_far) k.offset) in
+    writes_broken c.from_residual.result T order at message root s octets _ _ c.from_residual.ensures.0
     (breaks_off T order at message root s octets i _ _ _ below held.takes.answers
     (rw (said_none message root _ held.quiet) (wrote-nil _)) one)
 
@@ -53,134 +48,22 @@ returns-clause-writes g c T order at message root s r =
     rw (text_more message root order T at s octets i below)
     (wrote-append _ _ _ _ _ none
     (rw (due_is C T order at message root c.gather-gathered.new.self so_far b c.gather-gathered.ensures.fits k, ← k.same_message, ← k.same_root)
-    (c.in_ok-progress-2.ensures.writes (at + length so_far) k.offset)))
+    (c.in_ok-progress.ensures.writes (at + length so_far) k.offset)))
 
 pub returns-clause-takes : goal.returns-clause-takes
 returns-clause-takes g c T order at message root s r =
     let i = c.gather-gathered.result in
     let octets = c.args.octets.now in
     let held = c.gather-gathered.ensures.gathers T order at message root s r in
-    let e = c.in_ok-progress-2.ensures in
+    let e = c.in_ok-progress.ensures in
     let below : i < length octets = omega (arith, c.gather-gathered.ensures.within, c.if-gathered-octets.false) in
-    takes_more c.args.catalogue.now T order at message root c.advance.new.self s octets i c.in_ok-progress-2.progress
+    takes_more c.args.catalogue.now T order at message root c.advance.new.self s octets i c.in_ok-progress.progress
     below held.takes.answers
     (takes_to c.args.catalogue.now T order at message root c.gather-gathered.new.self c.advance.new.self (s ++ take i octets) (get_or octets i 0)
-    c.in_ok-progress-2.progress c.gather-gathered.ensures.fits e.order e.root e.message e.here e.steps e.minds (held.takes.reads (λ fault. fault)))
+    c.in_ok-progress.progress c.gather-gathered.ensures.fits e.order e.root e.message e.here e.steps e.minds (held.takes.reads (λ fault. fault)))
 
 pub returns-clause-done : goal.returns-clause-done
 returns-clause-done g c is =
     let f = c.gather-gathered.ensures.fits in
-    done c.args.catalogue.now c.advance.new.self c.in_ok-progress-2.progress (f.here + 1) _
-    (c.in_ok-progress-2.ensures.steps f.here f.stands) is
-
-pub tell-requires-clause-around : goal.tell-requires-clause-around
-tell-requires-clause-around g c =
-    around_number c.args.catalogue.now c.args.self.now c.args.octets.now c.in-Some.of c.in-Some.count c.in-Some.number c.requires.fits c.in-Some.ensures c.further-self.result (omega (arith, c.further-self.ensures))
-
-pub returns-in_err-progress-clause-writes : goal.returns-in_err-progress-clause-writes
-returns-in_err-progress-clause-writes g c T order at message root s r =
-    let C = c.args.catalogue.now in
-    let d = c.args.self.now in
-    let octets = c.args.octets.now in
-    let h = c.in-Some.ensures in
-    let f = c.requires.fits in
-    let i = c.in-Some.count - 1 in
-    let b = get_or octets i 0 in
-    let so_far = s ++ take i octets in
-    let here = at + length so_far in
-    let whole = gathered_whole C d octets c.in-Some.of c.in-Some.count c.in-Some.number f h c.further-self.result c.further-self.ensures in
-    let before = before_last C d octets c.in-Some.of c.in-Some.count c.in-Some.number f h c.further-self.result in
-    let held = whole.1 T order at message root s r in
-    let k = held.takes.reads (λ fault. fault) in
-    let below : i < length octets = omega (arith, h.stands.some, h.stands.within) in
-    let ls = lines_whole C d octets c.in-Some.of c.in-Some.count c.in-Some.number f h c.further-self.result here c.further-self.ensures k.offset in
-    let one = rw (k.same_message, k.same_root, ← ls, ← due_is C T order at message root before so_far b whole.0 k) at
-    (c.in_err-progress.ensures.writes here (here + 1) (lines_at C d octets c.in-Some.of c.in-Some.count c.in-Some.number f h here) (h.stands.is, refl)) in
-    writes_broken c.from_residual.result T order at message root s octets _ _ c.from_residual.ensures.0
-    (breaks_off T order at message root s octets i _ _ _ below held.takes.answers
-    (rw (said_none message root _ held.quiet) (wrote-nil _)) one)
-
-pub returns-in-Some-clause-writes : goal.returns-in-Some-clause-writes
-returns-in-Some-clause-writes g c T order at message root s r =
-    let C = c.args.catalogue.now in
-    let d = c.args.self.now in
-    let octets = c.args.octets.now in
-    let h = c.in-Some.ensures in
-    let f = c.requires.fits in
-    let i = c.in-Some.count - 1 in
-    let b = get_or octets i 0 in
-    let so_far = s ++ take i octets in
-    let here = at + length so_far in
-    let whole = gathered_whole C d octets c.in-Some.of c.in-Some.count c.in-Some.number f h c.further-self.result c.further-self.ensures in
-    let before = before_last C d octets c.in-Some.of c.in-Some.count c.in-Some.number f h c.further-self.result in
-    let held = whole.1 T order at message root s r in
-    let k = held.takes.reads (λ fault. fault) in
-    let below : i < length octets = omega (arith, h.stands.some, h.stands.within) in
-    let all : i + 1 ≡ c.in-Some.count = omega (arith, h.stands.some) in
-    let ls = lines_whole C d octets c.in-Some.of c.in-Some.count c.in-Some.number f h c.further-self.result here c.further-self.ensures k.offset in
-    let none : Wrote (g.O.Out.log c.args.out.now) (g.O.Out.log c.args.out.now) (lines_text message root (dues order T at s (take i octets))) =
-    rw (said_none message root _ held.quiet) (wrote-nil _) in
-    let one = rw (k.same_message, k.same_root, ← ls, ← due_is C T order at message root before so_far b whole.0 k) at
-    (c.in_ok-progress.ensures.writes here (here + 1) (lines_at C d octets c.in-Some.of c.in-Some.count c.in-Some.number f h here) (h.stands.is, refl)) in
-    rw (← all, text_more message root order T at s octets i below) (wrote-append _ _ _ _ _ none one)
-
-pub returns-in-Some-clause-takes : goal.returns-in-Some-clause-takes
-returns-in-Some-clause-takes g c T order at message root s r =
-    let C = c.args.catalogue.now in
-    let d = c.args.self.now in
-    let octets = c.args.octets.now in
-    let h = c.in-Some.ensures in
-    let f = c.requires.fits in
-    let i = c.in-Some.count - 1 in
-    let b = get_or octets i 0 in
-    let p = c.in_ok-progress.progress in
-    let new = c.tell.new.self in
-    let e = c.in_ok-progress.ensures in
-    let step = c.further-self.ensures in
-    let there = c.further-self.result in
-    let whole = gathered_whole C d octets c.in-Some.of c.in-Some.count c.in-Some.number f h there step in
-    let before = before_last C d octets c.in-Some.of c.in-Some.count c.in-Some.number f h there in
-    let lines = lines_at C d octets c.in-Some.of c.in-Some.count c.in-Some.number f h in
-    let held = whole.1 T order at message root s r in
-    let below : i < length octets = omega (arith, h.stands.some, h.stands.within) in
-    let all : i + 1 ≡ c.in-Some.count = omega (arith, h.stands.some) in
-    subst (λ n. TakesRun C T order at message root new s (take n octets) p) all
-    (takes_more C T order at message root new s octets i p below held.takes.answers
-    (takes_to C T order at message root before new (s ++ take i octets) b p whole.0 e.order e.root e.message e.here
-    (λ here stands. rw (told_whole C d octets c.in-Some.of c.in-Some.count c.in-Some.number f h there here step stands) (e.steps here (lines here) (h.stands.is, refl)))
-    (λ here front stands old. minds_whole C d octets c.in-Some.of c.in-Some.count c.in-Some.number f h new there here front step stands (e.inside here (lines here))
-    (λ asked o recalls. e.hears asked o here (here + 1) (lines here) recalls (h.stands.is, refl)) old)
-    (held.takes.reads (λ fault. fault))))
-
-pub returns-in-Some-clause-fits : goal.returns-in-Some-clause-fits
-returns-in-Some-clause-fits g c goes_on =
-    let C = c.args.catalogue.now in
-    let d = c.args.self.now in
-    let octets = c.args.octets.now in
-    let h = c.in-Some.ensures in
-    let f = c.requires.fits in
-    let b = get_or octets (c.in-Some.count - 1) 0 in
-    let new = c.tell.new.self in
-    let e = c.in_ok-progress.ensures in
-    let there = c.further-self.result in
-    let whole = gathered_whole C d octets c.in-Some.of c.in-Some.count c.in-Some.number f h there c.further-self.ensures in
-    let before = before_last C d octets c.in-Some.of c.in-Some.count c.in-Some.number f h there in
-    let g' = whole.0 in
-    let told = told_whole C d octets c.in-Some.of c.in-Some.count c.in-Some.number f h there g'.here c.further-self.ensures g'.stands in
-    let k = goes C new c.in_ok-progress.progress (g'.here + 1) (stepped C before g'.here b)
-    (rw told (e.steps g'.here (lines_at C d octets c.in-Some.of c.in-Some.count c.in-Some.number f h g'.here) (h.stands.is, refl))) goes_on in
-    let next = e.next goes_on in
-    let same = same_some g'.leaf (innermost.Number c.in-Some.of) (sym g'.goes_on ∙ h.leaf) in
-    let link : Link C g'.root d.outer.items c.in-Some.of.0 = rw same at g'.link in
-    step_fits C before new g' b k (e.here g'.here g'.stands) next.ahead next.inside
-    (next.link g'.root k.leaf link k.goes_on) next.known_outer (next.known k.leaf k.goes_on) (next.clean k.leaf k.goes_on)
-
-pub returns-in-Some-clause-done : goal.returns-in-Some-clause-done
-returns-in-Some-clause-done g c is =
-    let C = c.args.catalogue.now in
-    let d = c.args.self.now in
-    let h = c.in-Some.ensures in
-    let f = c.requires.fits in
-    let whole = gathered_whole C d c.args.octets.now c.in-Some.of c.in-Some.count c.in-Some.number f h c.further-self.result c.further-self.ensures in
-    done C c.tell.new.self c.in_ok-progress.progress (whole.0.here + 1) _
-    (c.in_ok-progress.ensures.steps whole.0.here (lines_at C d c.args.octets.now c.in-Some.of c.in-Some.count c.in-Some.number f h whole.0.here) (h.stands.is, refl)) is
+    done c.args.catalogue.now c.advance.new.self c.in_ok-progress.progress (f.here + 1) _
+    (c.in_ok-progress.ensures.steps f.here f.stands) is
