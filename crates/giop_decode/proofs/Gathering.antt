@@ -1,9 +1,10 @@
 -- Octets that only add to what is held, taken together.
-use Rattle.std.proofs.lemmas.Bool.{cases_lt}
 use Rattle.std.proofs.Common.{◌≡◌, ℕ, suc, ◌+◌, ◌-◌, ◌%◌, ◌<◌, ◌≤◌, ◌⊎◌, inl, inr, false, List, [], ◌∷◌, ◌++◌, length, Some, refl, sym, ◌∙◌, ap, subst, append-nil, append_assoc, arith, length-append}
 use Rattle.giop_cdr.specs.Numbers.{num}
 use Rattle.giop_sig.specs.declared.types.TypeId.{TypeId}
 use Rattle.giop_decode.specs.declared.decoder.Decoder.{Decoder}
+use Rattle.giop_cdr.specs.declared.order.Order.{Order}
+use Rattle.giop_decode.specs.declared.frame.Frame.{Frame}
 use Rattle.giop_decode.specs.declared.leaf.Leaf.{Leaf as Innermost}
 use Rattle.giop_decode.specs.declared.leaf.Leaf.TheVariants as innermost
 use Rattle.giop_decode.specs.declared.progress.Progress.TheVariants as progress
@@ -12,34 +13,43 @@ use Rattle.giop_decode.specs.Reading.{headed, read}
 use Rattle.giop_decode.specs.Runs.{dues, AllGathered}
 use Rattle.giop_decode.specs.Pieces.{tail}
 use Rattle.giop_decode.specs.Spine.{plain, Content, Seg, Short, lines_of}
-use Rattle.giop_decode.specs.Steps.{after, content_step, head_width, AreHeld}
-use Rattle.giop_decode.specs.Turns.{IsClean, is_inside}
+use Rattle.giop_decode.specs.Steps.{after, coding_in, content_step, head_width, AreHeld}
+use Rattle.giop_decode.specs.Turns.{coding_by, is_inside, places, ticked, ticked_by, AreAhead, IsClean}
 use Rattle.giop_decode.proofs.Advancing.{same_some}
+use Rattle.giop_decode.proofs.Counting.{ahead_first, coding_ticked, free_ticked_by, ticked_more, ticked_none}
 use Rattle.giop_decode.proofs.Hearing.{minds_by, recalls_by}
-use Rattle.giop_decode.proofs.PieceLaws.{content_held, full_more, last_more}
+use Rattle.giop_decode.proofs.PieceLaws.{content_held}
 use Rattle.giop_decode.proofs.Runs.{dues_both, dues_none, takes_one, takes_both}
+use Rattle.giop_decode.proofs.Surrounding.{coded_in, free_coding_by}
 use Rattle.giop_decode.proofs.Taking.{takes_to, due_is}
-use Rattle.giop_decode.proofs.Waiting.{held_in, Holds, step_held, held_comes, held_here, held_fits, held_minds}
+use Rattle.giop_decode.proofs.Waiting.{Holds, step_held, held_comes, held_here, held_fits, held_minds}
 use Rattle.giop_sig.specs.Table.{Table}
 use Rattle.giop_sig.specs.Trees.{tree}
 
--- a decoder that stands as many octets further on in the same innermost part, and may hold others
-pub record IsFurther (d new : Decoder) (count : ℕ) : Type 0 where
+-- a decoder that stands as many octets further on in the same innermost part, in these frames, and may
+-- hold others
+pub record IsFurther (d new : Decoder) (count : ℕ) (frames : List Frame) : Type 0 where
   pub order : new.order ≡ d.order
   pub root : new.root ≡ d.root
   pub message : new.message ≡ d.message
   pub at : new.at ≡ (d.at + count) % 8
-  pub outer : new.outer ≡ d.outer
+  pub outer : new.outer.items ≡ frames
   pub inside : new.inside ≡ d.inside
   pub leaf : new.leaf ≡ d.leaf
   pub memory : new.memory ≡ d.memory
 
+-- so many octets were counted in each encapsulation, and none has ended
+abbrev pub IsCountedBy : Decoder → Decoder → ℕ → Type 0
+IsCountedBy d new count =
+    IsFurther d new count (ticked_by count d.outer.items)
+    × AreAhead (ticked_by count d.outer.items)
+
 module _ (C : Table) (d new : Decoder) where
-  still_here : (here : ℕ) → IsFurther d new 0 → d.at < 8 → IsHere d here → IsHere new here
+  still_here : (here : ℕ) → IsFurther d new 0 d.outer.items → d.at < 8 → IsHere d here → IsHere new here
   still_here here on small h = (omega (arith, on.at, h.0, small), rw on.outer h.1)
 
   -- no octet
-  pub none_gathered : IsFurther d new 0 → new.carry ≡ d.carry → new.piece.items ≡ d.piece.items →
+  pub none_gathered : IsFurther d new 0 d.outer.items → new.carry ≡ d.carry → new.piece.items ≡ d.piece.items →
       Fits C d → Fits C new × AllGathered C d new []
   none_gathered on carry piece f = (
     record {
@@ -84,27 +94,30 @@ module _ (C : Table) (d new : Decoder) where
         },
   )
 
+  -- none counted
+  none_counted : IsCountedBy d new 0 → new.carry ≡ d.carry → new.piece.items ≡ d.piece.items →
+      Fits C d → Fits C new × AllGathered C d new []
+  none_counted on carry piece f = none_gathered (subst (IsFurther d new 0) (ticked_none d.outer.items) on.0) carry piece f
+
 module _ (C : Table) (d new : Decoder) (leaf : Innermost) (b : ℕ) where
-  -- one octet that is held, in no encapsulation
-  one_gathered : is_inside d.outer.items ≡ false → IsFurther d new 1 → Fits C d →
-      d.leaf ≡ Some leaf → IsClean leaf new.carry new.piece.items →
-      ((here : ℕ) → here % 8 ≡ d.at → Holds C d new leaf here b) →
+  -- one octet that is held, and at which no encapsulation ends
+  one_gathered : AreAhead (ticked d.outer.items) → IsFurther d new 1 (ticked d.outer.items) →
+      Fits C d → d.leaf ≡ Some leaf → IsClean leaf new.carry new.piece.items →
+      ((here : ℕ) → IsHere d here → Holds C d new leaf here b) →
       Fits C new × AllGathered C d new (b ∷ [])
-  one_gathered free on f e clean holds = (
-    held_fits C d new leaf b free f e (on.leaf ∙ e) on.outer on.inside on.at clean (holds f.here f.stands.0),
-    λ T order at message root s r.
-        let e' = on.leaf ∙ e in
-        let known = f.known_outer in
-        record {
+  one_gathered ahead on f e clean holds =
+      let e' = on.leaf ∙ e in (
+        held_fits C d new leaf b ahead f e e' on.outer on.inside on.at clean (holds f.here f.stands),
+        λ T order at message root s r. record {
           takes = takes_one C T order at message root new s b progress.More
               (takes_to C T order at message root d new s b progress.More f on.order on.root on.message
-              (λ here h. held_here C d new leaf b free here on.outer on.at h)
-              (λ here h. held_comes C d new leaf b free here known e e' on.outer (holds here h.0))
-              (λ here front h old. held_minds C d new leaf b free here front known e e' on.outer on.memory (holds here h.0) old) r);
+              (λ here h. held_here C d new leaf b ahead f e e' on.outer here on.at h)
+              (λ here h. held_comes C d new leaf b ahead f e e' on.outer here h (holds here h))
+              (λ here front h old. held_minds C d new leaf b ahead f e e' on.outer here front on.memory h (holds here h) old) r);
           quiet = due_is C T order at message root d s b f r
-              ∙ ap lines_of (step_held C d new leaf b free (at + length s) known e e' on.outer (holds (at + length s) r.offset.0));
+              ∙ ap lines_of (step_held C d new leaf b ahead f e e' on.outer (at + length s) r.offset (holds (at + length s) r.offset));
         },
-  )
+      )
 
   -- one octet and then the others
   then_gathered : (mid : Decoder) (bs : List ℕ) → AllGathered C d mid (b ∷ []) →
@@ -119,105 +132,109 @@ module _ (C : Table) (d new : Decoder) (leaf : Innermost) (b : ℕ) where
 
 -- the decoder behind the first of several octets
 abbrev next_in : Decoder → List ℕ → List ℕ → Decoder
-next_in d carry piece = held_in d carry (record { items = piece }) ((d.at + 1) % 8)
+next_in d carry piece = record {
+  order = d.order;
+  root = d.root;
+  message = d.message;
+  at = (d.at + 1) % 8;
+  outer = record { items = ticked d.outer.items };
+  inside = d.inside;
+  leaf = d.leaf;
+  carry = carry;
+  piece = record { items = piece };
+  memory = d.memory;
+}
 
-next_on : (d : Decoder) (carry piece : List ℕ) → IsFurther d (next_in d carry piece) 1
+next_on : (d : Decoder) (carry piece : List ℕ) →
+    IsFurther d (next_in d carry piece) 1 (ticked d.outer.items)
 next_on d carry piece = record { order = refl; root = refl; message = refl; at = refl; outer = refl; inside = refl; leaf = refl; memory = refl }
 
-others_on : (d new : Decoder) (carry piece : List ℕ) (count : ℕ) → IsFurther d new (suc count) →
-    IsFurther (next_in d carry piece) new count
-others_on d new carry piece count on = record {
-  order = on.order;
-  root = on.root;
-  message = on.message;
-  at = omega (arith, on.at);
-  outer = on.outer;
-  inside = on.inside;
-  leaf = on.leaf;
-  memory = on.memory;
-}
+others_on : (d new : Decoder) (carry piece : List ℕ) (count : ℕ) →
+    IsCountedBy d new (suc count) → IsCountedBy (next_in d carry piece) new count
+others_on d new carry piece count on =
+    let same = ticked_more count d.outer.items in (
+      record {
+        order = on.0.order;
+        root = on.0.root;
+        message = on.0.message;
+        at = omega (arith, on.0.at);
+        outer = on.0.outer ∙ sym same;
+        inside = on.0.inside;
+        leaf = on.0.leaf;
+        memory = on.0.memory;
+      },
+      subst AreAhead (sym same) on.1,
+    )
+
+-- in no encapsulation
+pub counted_free : (d new : Decoder) (count : ℕ) → is_inside d.outer.items ≡ false →
+    AreAhead d.outer.items → IsFurther d new count d.outer.items → IsCountedBy d new count
+counted_free d new count free ahead on =
+    subst (λ fs. IsFurther d new count fs × AreAhead fs) (free_ticked_by count d.outer.items free) (on, ahead)
 
 -- ---- of a content
 
-module _ (C : Table) (of : TypeId) (total offset : ℕ) where
-  content_one : (d new : Decoder) (b : ℕ) → is_inside d.outer.items ≡ false → IsFurther d new 1 →
-      new.carry ≡ d.carry → new.piece.items ≡ d.piece.items ++ b ∷ [] → Fits C d →
-      d.leaf ≡ Some (innermost.Content of total offset) → length d.piece.items + 1 < 32 →
-      length d.piece.items + 1 < total - offset → Fits C new × AllGathered C d new (b ∷ [])
-  content_one d new b free on carry piece f e room some =
-      let leaf = innermost.Content of total offset in
-      let it : f.leaf ≡ leaf = same_some f.leaf leaf (sym f.goes_on ∙ e) in
-      let clean : IsClean leaf d.carry d.piece.items = subst (λ l. IsClean l d.carry d.piece.items) it f.clean in
-      one_gathered C d new leaf b free on f e (carry ∙ clean) (λ here h path. rw piece (content_held (tree C of.0) path total offset here d.piece.items b room
-      some))
-
-  pub content_gathered : (d new : Decoder) (octets : List ℕ) → is_inside d.outer.items ≡ false →
-      IsFurther d new (length octets) → new.carry ≡ d.carry →
-      new.piece.items ≡ d.piece.items ++ octets → Fits C d →
-      d.leaf ≡ Some (innermost.Content of total offset) →
-      (0 < length octets → length d.piece.items + length octets < 32) →
-      (0 < length octets → length d.piece.items + length octets < total - offset) →
-      Fits C new × AllGathered C d new octets
-  content_gathered d new [] free on carry piece f e room some = none_gathered C d new on carry (piece ∙ append-nil d.piece.items) f
-  content_gathered d new (b ∷ bs) free on carry piece f e room some =
-      let held = d.piece.items ++ b ∷ [] in
-      let l = length-append d.piece.items (b ∷ []) in
-      let room' = room (omega arith) in
-      let some' = some (omega arith) in
-      let one = content_one d (next_in d d.carry held) b free (next_on d d.carry held) refl refl f e (omega (arith, room')) (omega (arith, some')) in
-      let others = content_gathered (next_in d d.carry held) new bs free (others_on d new d.carry held (length bs) on) carry
-      (piece ∙ sym (append_assoc d.piece.items (b ∷ []) bs)) one.0 e (λ more. omega (arith, l, room')) (λ more. omega (arith, l, some')) in
-      (others.0, then_gathered C d new (innermost.Content of total offset) b (next_in d d.carry held) bs one.1 others.1)
-
--- The same of a piece of which so many octets may be held, where it waits for one more: a full one, or a last one with what
--- ends it.
+-- So many octets of a piece may be held, where it waits for one more: of a full one, or of a last one with what ends it.
 module _ (C : Table) (of : TypeId) (total offset most : ℕ) (full : 32 < total - offset → most < 32)
     (last : total - offset ≤ 32 → most < total - offset + tail (tree C of.0)) where
-  waits : (path : List Seg) (at : ℕ) (piece : List ℕ) (b : ℕ) → length piece < most →
-      content_step (tree C of.0) path total offset at piece b
-      ≡ Short [] (at + 1) [] (Content (tree C of.0) total offset (piece ++ b ∷ []))
-  waits path at piece b room = go (cases_lt 32 (total - offset))
-    where
-      go : (32 < total - offset) ⊎ (total - offset ≤ 32) →
-          content_step (tree C of.0) path total offset at piece b
-          ≡ Short [] (at + 1) [] (Content (tree C of.0) total offset (piece ++ b ∷ []))
-      go (inl large) = full_more (tree C of.0) path total offset at piece b large (omega (arith, full large, room))
-      go (inr small) = last_more (tree C of.0) path total offset at piece b small (omega (arith, last small, room))
-
-  pub waits_gathered : (d new : Decoder) (octets : List ℕ) → is_inside d.outer.items ≡ false →
-      IsFurther d new (length octets) → new.carry ≡ d.carry →
-      new.piece.items ≡ d.piece.items ++ octets → Fits C d →
+  pub waits_gathered : (d new : Decoder) (octets : List ℕ) → IsCountedBy d new (length octets) →
+      new.carry ≡ d.carry → new.piece.items ≡ d.piece.items ++ octets → Fits C d →
       d.leaf ≡ Some (innermost.Content of total offset) → length d.piece.items + length octets ≤ most →
       Fits C new × AllGathered C d new octets
-  waits_gathered d new [] free on carry piece f e room = none_gathered C d new on carry (piece ∙ append-nil d.piece.items) f
-  waits_gathered d new (b ∷ bs) free on carry piece f e room =
+  waits_gathered d new [] on carry piece f e room = none_counted C d new on carry (piece ∙ append-nil d.piece.items) f
+  waits_gathered d new (b ∷ bs) on carry piece f e room =
       let leaf = innermost.Content of total offset in
       let held = d.piece.items ++ b ∷ [] in
       let l = length-append d.piece.items (b ∷ []) in
       let mid = next_in d d.carry held in
       let it : f.leaf ≡ leaf = same_some f.leaf leaf (sym f.goes_on ∙ e) in
       let clean : IsClean leaf d.carry d.piece.items = subst (λ x. IsClean x d.carry d.piece.items) it f.clean in
-      let one = one_gathered C d mid leaf b free (next_on d d.carry held) f e clean
-      (λ here h path. waits path here d.piece.items b (omega (arith, room))) in
-      let others = waits_gathered mid new bs free (others_on d new d.carry held (length bs) on) carry
+      let one = one_gathered C d mid leaf b (ahead_first (length bs) d.outer.items on.1) (next_on d d.carry held) f e clean
+      (λ here h path. content_held (tree C of.0) path total offset here d.piece.items b (λ large. omega (arith, full large, room)) (λ small. omega (arith, last small, room))) in
+      let others = waits_gathered mid new bs (others_on d new d.carry held (length bs) on) carry
       (piece ∙ sym (append_assoc d.piece.items (b ∷ []) bs)) one.0 e (omega (arith, l, room)) in
       (others.0, then_gathered C d new leaf b mid bs one.1 others.1)
 
+pub content_gathered : (C : Table) (of : TypeId) (total offset : ℕ) (d new : Decoder) (octets : List ℕ) →
+    IsCountedBy d new (length octets) →
+    new.carry ≡ d.carry → new.piece.items ≡ d.piece.items ++ octets → Fits C d →
+    d.leaf ≡ Some (innermost.Content of total offset) →
+    (0 < length octets → length d.piece.items + length octets < 32) →
+    (0 < length octets → length d.piece.items + length octets < total - offset) →
+    Fits C new × AllGathered C d new octets
+content_gathered C of total offset d new [] on carry piece f e room some = none_counted C d new on carry (piece ∙ append-nil d.piece.items) f
+content_gathered C of total offset d new (b ∷ bs) on carry piece f e room some =
+    let full = room (omega arith) in
+    let last = some (omega arith) in
+    waits_gathered C of total offset (length d.piece.items + length (b ∷ bs)) (λ _. full) (λ _. omega (arith, last)) d new (b ∷ bs) on carry piece f e (omega arith)
+
 -- ---- of a number, or of the padding in front of it
 
-pub number_gathered : (C : Table) (of : TypeId) (d new : Decoder) (octets : List ℕ) →
-    is_inside d.outer.items ≡ false → IsFurther d new (length octets) →
-    new.piece.items ≡ d.piece.items → Fits C d → d.leaf ≡ Some (innermost.Number of) →
-    AreHeld (head_width (tree C of.0)) d.at d.carry octets new.carry →
-    Fits C new × AllGathered C d new octets
-number_gathered C of d new [] free on piece f e held = none_gathered C d new on held piece f
-number_gathered C of d new (b ∷ bs) free on piece f e held =
+pub number_counted : (C : Table) (of : TypeId) (d new : Decoder) (octets : List ℕ) →
+    IsCountedBy d new (length octets) → new.piece.items ≡ d.piece.items → Fits C d →
+    d.leaf ≡ Some (innermost.Number of) →
+    AreHeld (head_width (tree C of.0)) (coding_by d.order d.at d.outer.items).1 d.carry octets
+    new.carry → Fits C new × AllGathered C d new octets
+number_counted C of d new [] on piece f e held = none_counted C d new on held piece f
+number_counted C of d new (b ∷ bs) on piece f e held =
     let leaf = innermost.Number of in
     let mid = next_in d held.0 d.piece.items in
     let it : f.leaf ≡ leaf = same_some f.leaf leaf (sym f.goes_on ∙ e) in
     let clean : IsClean leaf d.carry d.piece.items = subst (λ l. IsClean l d.carry d.piece.items) it f.clean in
-    let one = one_gathered C d mid leaf b free (next_on d held.0 d.piece.items) f e clean
-    (λ here h path. ap (headed (tree C of.0) (λ xs at rest. after (plain d.order) path (tree C of.0) (num d.order xs) at rest))
-    (held.1 0 here (omega (arith, h)))) in
-    let others = number_gathered C of mid new bs free (others_on d new held.0 d.piece.items (length bs) on) piece one.0 e held.2 in
+    let one = one_gathered C d mid leaf b (ahead_first (length bs) d.outer.items on.1) (next_on d held.0 d.piece.items) f e clean (λ here h path.
+    let c = coding_in (plain d.order) (places C here d.outer.items) in
+    let k = coded_in C here (plain d.order) d.order d.at d.outer.items h.1 (record { order = refl; at = omega (arith, h.0) }) in
+    ap (headed (tree C of.0) (λ xs at rest. after c path (tree C of.0) (num c.order xs) at rest)) (held.1 c.origin here k.at)) in
+    let rest = subst (λ (c : Order × ℕ). AreHeld (head_width (tree C of.0)) c.1 held.0 bs new.carry) (sym (coding_ticked d.order d.at d.outer.items)) held.2 in
+    let others = number_counted C of mid new bs (others_on d new held.0 d.piece.items (length bs) on) piece one.0 e rest in
     (others.0, then_gathered C d new leaf b mid bs one.1 others.1)
+
+-- in no encapsulation
+pub number_gathered : (C : Table) (of : TypeId) (d new : Decoder) (octets : List ℕ) →
+    is_inside d.outer.items ≡ false → IsFurther d new (length octets) d.outer.items →
+    new.piece.items ≡ d.piece.items → Fits C d → d.leaf ≡ Some (innermost.Number of) →
+    AreHeld (head_width (tree C of.0)) d.at d.carry octets new.carry →
+    Fits C new × AllGathered C d new octets
+number_gathered C of d new octets free on piece f e held =
+    number_counted C of d new octets (counted_free d new (length octets) free f.ahead on) piece f e
+    (rw (free_coding_by d.order d.at d.outer.items free) held)

@@ -17,6 +17,7 @@ mod StoredAgain
 mod Beginning
 mod Going
 mod Surrounding
+mod Counting
 mod Turning
 mod PieceLaws
 mod Segments

@@ -1,8 +1,8 @@
 -- The encapsulations among a decoder's frames.
-use Rattle.std.proofs.Common.{◌≡◌, ℕ, zero, suc, ◌+◌, ◌-◌, ◌%◌, ◌<◌, ◌≤◌, Bool, true, false, cond, List, [], ◌∷◌, ◌++◌, length, take, drop, get_or, set, Option, Some, None, refl, sym, ◌∙◌, ap, arith, add-one, append-nil, length-set, ◌⊎◌, inl, inr, lt-ltb, le-ltb, ne_eqb}
+use Rattle.std.proofs.Common.{◌≡◌, ℕ, zero, suc, ◌+◌, ◌-◌, ◌%◌, ◌<◌, ◌≤◌, Bool, true, false, cond, List, [], ◌∷◌, ◌++◌, length, map, take, drop, get_or, set, Option, Some, None, refl, sym, ◌∙◌, ap, arith, add-one, append-nil, length-set, ◌⊎◌, inl, inr, lt-ltb, le-ltb, ne_eqb}
 use Rattle.std.specs.Prelude.{◌||◌, eqb, IfSome}
 use Rattle.std.proofs.lemmas.Bool.{cases_lt, eq-eqb}
-use Rattle.std.proofs.lemmas.List.{take_more, take_more_set}
+use Rattle.std.proofs.lemmas.List.{map-append, take_more, take_more_set}
 use Rattle.giop_cdr.specs.declared.order.Order.{Order}
 use Rattle.giop_decode.specs.declared.frame.Frame.{Frame}
 use Rattle.giop_decode.specs.Moves.{stopped_with}
@@ -13,7 +13,7 @@ use Rattle.giop_decode.specs.Fits.{Surround, Surrounds}
 use Rattle.giop_decode.specs.Reading.{cut_off}
 use Rattle.giop_decode.specs.Spine.{Done, with_front, Coding, Fault, Leaf, Line, Place, Read, Seg, Short, lines_of}
 use Rattle.giop_decode.specs.Steps.{around, coding_at, coding_in, resumed, seg_in}
-use Rattle.giop_decode.specs.Turns.{IsAhead, tick_of, AreAhead, AreKnown, IsWithin, StandAt, StandsAt, coding_by, coding_of, ended_at, gone_on, gone_to, leaf_of, has_ended, is_inside, is_some_order, part_in, place, place_in, places, ticked, ticked_at}
+use Rattle.giop_decode.specs.Turns.{IsAhead, tick_of, tick_by_of, AreAhead, AreKnown, IsWithin, StandAt, StandsAt, coding_by, coding_of, ended_at, gone_on, gone_to, leaf_of, has_ended, is_inside, is_some_order, part_in, place, place_in, places, ticked, ticked_at, ticked_by}
 use Rattle.giop_sig.specs.Table.{Table}
 use Rattle.giop_sig.specs.Trees.{tree}
 use Rattle.giop_sig.specs.Types.{Ty, Union}
@@ -227,23 +227,10 @@ coded_in C here c order at (f ∷ frames) s h =
 
 -- ---- where there is none
 
-free_first : (inside : Option Order) (rest : Bool) → is_some_order inside || rest ≡ false →
+pub free_first : (inside : Option Order) (rest : Bool) → is_some_order inside || rest ≡ false →
     (inside ≡ None) × (rest ≡ false)
 free_first None rest h = (refl, h)
 free_first (Some order) rest h = let e = h in absurd cc
-
-pub free_places : (C : Table) (here there : ℕ) (frames : List Frame) → is_inside frames ≡ false →
-    places C there frames ≡ places C here frames
-free_places C here there [] h = refl
-free_places C here there (f ∷ frames) h =
-    let n = free_first f.inside (is_inside frames) h in
-    rw (n.0, free_places C here there frames n.1) refl
-
-pub free_stand : (here : ℕ) (frames : List Frame) → is_inside frames ≡ false → StandAt here frames
-free_stand here [] h = tt
-free_stand here (f ∷ frames) h =
-    let n = free_first f.inside (is_inside frames) h in
-    (rw n.0 tt, free_stand here frames n.1)
 
 pub free_coded : (C : Table) (here : ℕ) (c : Coding) (frames : List Frame) →
     is_inside frames ≡ false → coding_in c (places C here frames) ≡ c
@@ -251,13 +238,6 @@ free_coded C here c [] h = refl
 free_coded C here c (f ∷ frames) h =
     let n = free_first f.inside (is_inside frames) h in
     rw (n.0, part_coding c (tree C f.of.0) f.index f.count) (free_coded C here c frames n.1)
-
-pub free_surrounds : (C : Table) (here at : ℕ) (frames : List Frame) → is_inside frames ≡ false →
-    Surrounds at (places C here frames)
-free_surrounds C here at [] h = tt
-free_surrounds C here at (f ∷ frames) h =
-    let n = free_first f.inside (is_inside frames) h in
-    (rw n.0 (part_surrounds at (tree C f.of.0) f.index f.count), free_surrounds C here at frames n.1)
 
 free_index : (inside : Option Order) (i : ℕ) → inside ≡ None → ticked_at inside i ≡ i
 free_index inside i h = rw h refl
@@ -302,16 +282,11 @@ pub coding_push : (order : Order) (at : ℕ) (frames : List Frame) (f : Frame) �
 coding_push order at [] f = refl
 coding_push order at (g ∷ frames) f = let c = coding_of (order, at) g.inside g.index in coding_push c.0 c.1 frames f
 
--- the frames below an index are counted, and the others aren't
-pub record IsCounted (i : ℕ) (now old : List Frame) : Type 0 where
-  pub front : take i now ≡ ticked (take i old)
+-- the frames below an index are counted so, and the others aren't
+pub record IsCounted (tick : Frame → Frame) (i : ℕ) (now old : List Frame) : Type 0 where
+  pub front : take i now ≡ map tick (take i old)
   pub back : drop i now ≡ drop i old
   pub same : length now ≡ length old
-
-ticked_push : (frames : List Frame) (f : Frame) →
-    ticked (frames ++ f ∷ []) ≡ ticked frames ++ tick_of f ∷ []
-ticked_push [] f = refl
-ticked_push (g ∷ frames) f = ap (λ fs. tick_of g ∷ fs) (ticked_push frames f)
 
 get_at : (i : ℕ) (now old : List Frame) (d : Frame) → drop i now ≡ drop i old →
     get_or now i d ≡ get_or old i d
@@ -340,13 +315,14 @@ drop_more i xs ys e = rw (add-one, drop_suc i xs, drop_suc i ys, e) refl
     drop_suc (suc k) [] = refl
     drop_suc (suc k) (z ∷ zs) = drop_suc k zs
 
-pub counted_more : (i : ℕ) (now old : List Frame) (d y : Frame) → IsCounted i now old →
-    i < length now → y ≡ tick_of (get_or now i d) → IsCounted (i + 1) (set now i y) old
-counted_more i now old d y h below is =
+pub counted_more : (tick : Frame → Frame) (i : ℕ) (now old : List Frame) (d y : Frame) →
+    IsCounted tick i now old → i < length now → y ≡ tick (get_or now i d) →
+    IsCounted tick (i + 1) (set now i y) old
+counted_more tick i now old d y h below is =
     let lt : i < length old = omega (arith, h.same) in
     record {
       front = take_more_set now i y below ∙ (rw (h.front, is, get_at i now old d h.back) refl
-          ∙ (sym (ticked_push (take i old) (get_or old i d)) ∙ ap ticked (sym (take_more old i d lt))));
+          ∙ (sym (map-append tick (take i old) (get_or old i d ∷ [])) ∙ ap (map tick) (sym (take_more old i d lt))));
       back = drop_set i now y ∙ drop_more i now old h.back;
       same = length-set now i y ∙ h.same;
     }
@@ -357,11 +333,25 @@ ahead_get [] i d h below = absurd (omega arith)
 ahead_get (f ∷ frames) zero d h below = h.0
 ahead_get (f ∷ frames) (suc i) d h below = ahead_get frames i d h.1 (omega arith)
 
-pub counted_ahead : (i : ℕ) (now old : List Frame) (d : Frame) → IsCounted i now old →
-    AreAhead old → i < length now → IsAhead (get_or now i d)
-counted_ahead i now old d h ahead below =
+pub counted_ahead : (tick : Frame → Frame) (i : ℕ) (now old : List Frame) (d : Frame) →
+    IsCounted tick i now old → AreAhead old → i < length now → IsAhead (get_or now i d)
+counted_ahead tick i now old d h ahead below =
     let lt : i < length old = omega (arith, h.same) in
     rw (get_at i now old d h.back) (ahead_get old i d ahead lt)
+
+-- several octets counted together
+ahead_ticked_get : (n : ℕ) (frames : List Frame) (i : ℕ) (d : Frame) →
+    AreAhead (ticked_by n frames) → i < length frames → IsAhead (tick_by_of n (get_or frames i d))
+ahead_ticked_get n [] i d h below = absurd (omega arith)
+ahead_ticked_get n (f ∷ frames) zero d h below = h.0
+ahead_ticked_get n (f ∷ frames) (suc i) d h below = ahead_ticked_get n frames i d h.1 (omega arith)
+
+pub counted_ahead_by : (n i : ℕ) (now old : List Frame) (d : Frame) →
+    IsCounted (tick_by_of n) i now old → AreAhead (ticked_by n old) → i < length now →
+    IsAhead (tick_by_of n (get_or now i d))
+counted_ahead_by n i now old d h ahead below =
+    let lt : i < length old = omega (arith, h.same) in
+    rw (get_at i now old d h.back) (ahead_ticked_get n old i d ahead lt)
 
 pub coding_step : (order : Order) (at : ℕ) (outer : List Frame) (i : ℕ) (f d : Frame)
     (now next : Order × ℕ) → i < length outer → f ≡ get_or outer i d →

@@ -30,7 +30,7 @@ use Rattle.giop_decode.specs.Spine.{plain, line, Coding, Line, Head, Seg, Done, 
 use Rattle.giop_decode.specs.Steps.{AreHeld, after, around, head_width, leaf_step, path_in, step}
 use Rattle.giop_decode.specs.Turns.{CanSpeak, IsClean, IsNumberOf, IsSpoken, IsWholeNumber, StandsWhole, Turns, TurnsIn, is_inside, leaf_of, leaf_type, places, still_held}
 use Rattle.giop_decode.proofs.Advancing.{lines_turned, same_some, stands_at}
-use Rattle.giop_decode.proofs.Gathering.{IsFurther, number_gathered, waits_gathered}
+use Rattle.giop_decode.proofs.Gathering.{IsFurther, counted_free, number_gathered, waits_gathered}
 use Rattle.giop_decode.proofs.Hearing.{heard_on, leaf_inside, minds_by, recalls_by}
 use Rattle.giop_decode.proofs.PieceLaws.{full_whole, octets_last, text_last}
 use Rattle.giop_decode.proofs.Surrounding.{free_coded}
@@ -283,12 +283,12 @@ module _ (C : Table) (d : Decoder) (of : TypeId) (total offset : ℕ) (octets : 
 
 -- octets that only add to what is held
 adds_gathered : (C : Table) (d new : Decoder) (leaf : Innermost) (octets : List ℕ) → is_inside d.outer.items ≡ false →
-    IsFurther d new (length octets) → Fits C d → d.leaf ≡ Some leaf →
+    IsFurther d new (length octets) d.outer.items → Fits C d → d.leaf ≡ Some leaf →
     Adds C d leaf octets new.carry new.piece.items → Fits C new × AllGathered C d new octets
 adds_gathered C d new (innermost.Number of) octets free on f e h = number_gathered C of d new octets free on h.1 f e h.0
 adds_gathered C d new (innermost.Opening of count) octets free on f e h = absurd h
 adds_gathered C d new (innermost.Content of total offset) octets free on f e h =
-    waits_gathered C of total offset (length new.piece.items) h.2 h.3 d new octets free on h.0 h.1 f e
+    waits_gathered C of total offset (length new.piece.items) h.2 h.3 d new octets (counted_free d new (length octets) free f.ahead on) h.0 h.1 f e
     (omega (arith, ap length h.1, length-append d.piece.items octets))
 
 -- a decoder before octets that it takes together

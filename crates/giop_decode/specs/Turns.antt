@@ -132,6 +132,22 @@ tick_of f = record { of = f.of; index = ticked_at f.inside f.index; count = f.co
 abbrev pub ticked : List Frame → List Frame
 ticked frames = map tick_of frames
 
+abbrev pub ticked_by_at : ℕ → Option Order → ℕ → ℕ
+ticked_by_at n None i = i
+ticked_by_at n (Some order) i = i + n
+
+abbrev pub tick_by_of : ℕ → Frame → Frame
+tick_by_of n f = record {
+  of = f.of;
+  index = ticked_by_at n f.inside f.index;
+  count = f.count;
+  inside = f.inside;
+}
+
+-- so many octets more in each encapsulation
+abbrev pub ticked_by : ℕ → List Frame → List Frame
+ticked_by n frames = map (tick_by_of n) frames
+
 abbrev pub coding_of : Order × ℕ → Option Order → ℕ → Order × ℕ
 coding_of c None i = c
 coding_of c (Some order) i = (order, i % 8)

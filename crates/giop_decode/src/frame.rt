@@ -1,13 +1,13 @@
 //! The parts that are begun and not ended, and have parts of their own.
 
-ghost use Rattle.std.specs.Prelude.{◌≡◌, ℕ, ◌+◌, ◌-◌, ◌<◌, List, [], ◌++◌, length, ◌↔◌, IsTrue, IfSome, IfNone, false};
+ghost use Rattle.std.specs.Prelude.{◌≡◌, ℕ, ◌+◌, ◌-◌, ◌<◌, ◌≤◌, List, [], ◌++◌, length, ◌↔◌, IsTrue, IfSome, IfNone, false};
 ghost use Rattle.std.specs.Option.{option_map};
 ghost use Rattle.arrayvec.specs.ArrayVec.{array_vec_len};
 ghost use Rattle.giop_decode.specs.Spine.{Coding, Seg, Head, Done};
 ghost use Rattle.giop_decode.specs.Steps.{around};
 ghost use Rattle.giop_decode.specs.Fits.{HasHead, OpenFrom};
 ghost use Rattle.giop_decode.specs.Begins.{start_outer, start_leaf};
-ghost use Rattle.giop_decode.specs.Turns.{IsAhead, coding_of, tick_of, ended_at, places, AreKnown, AreAhead, StandAt, IsClean, Link, IsWhole, coding_by, gone_on, has_ended, is_inside, leaf_type, ticked};
+ghost use Rattle.giop_decode.specs.Turns.{IsAhead, coding_of, tick_of, tick_by_of, ended_at, places, AreKnown, AreAhead, StandAt, IsClean, Link, IsWhole, coding_by, gone_on, has_ended, is_inside, leaf_type, ticked, ticked_by};
 ghost use Rattle.giop_sig.specs.Fits.{IsFit, IsEmptyStruct, IsRoot};
 ghost use Rattle.giop_decode.specs.Recalling.{leaf_in_string};
 ghost use Rattle.giop_sig.specs.Trees.{tree};
@@ -75,6 +75,81 @@ fn counted(frame: Frame) -> Frame
             ..frame
         },
         None => frame,
+    }
+}
+
+/// Counts so many octets in each encapsulation, where there is one.
+#[inline(always)]
+pub(crate) fn tick_by(inside: bool, outer: &mut ArrayVec<Frame, 24>, octets: usize)
+    requires inside { inside ≡ is_inside outer.old.items }
+    requires ahead { AreAhead (ticked_by octets outer.old.items) }
+    ensures ticked { outer.new.items ≡ ticked_by octets outer.old.items }
+{
+    if inside {
+        tick_all(outer, octets);
+    }
+}
+
+/// Counts so many octets in each frame that is an encapsulation.
+fn tick_all(outer: &mut ArrayVec<Frame, 24>, octets: usize)
+    requires ahead { AreAhead (ticked_by octets outer.old.items) }
+    ensures ticked { outer.new.items ≡ ticked_by octets outer.old.items }
+{
+    for frame in outer.iter_mut() {
+        *frame = counted_by(*frame, octets);
+    }
+}
+
+/// A frame after so many octets more, which are counted in an encapsulation.
+fn counted_by(frame: Frame, octets: usize) -> Frame
+    requires ahead { IsAhead (tick_by_of octets frame) }
+    ensures ticked { result ≡ tick_by_of octets frame }
+{
+    match frame.inside {
+        Some(_) => Frame {
+            index: frame.index + octets as u32,
+            ..frame
+        },
+        None => frame,
+    }
+}
+
+/// How many of so many octets stand before the last one of each encapsulation: all of them where there is none.
+#[inline(always)]
+pub(crate) fn before_end(inside: bool, outer: &[Frame], octets: usize) -> usize
+    requires inside { inside ≡ is_inside outer.now }
+    requires ahead { AreAhead outer.now }
+    ensures within { result ≤ octets }
+    ensures ahead { AreAhead (ticked_by result outer.now) }
+{
+    if !inside {
+        return octets;
+    }
+    before_ends(outer, octets)
+}
+
+/// How many of so many octets stand before the last one of each frame that is an encapsulation.
+fn before_ends(outer: &[Frame], octets: usize) -> usize
+    requires ahead { AreAhead outer.now }
+    ensures within { result ≤ octets }
+    ensures ahead { AreAhead (ticked_by result outer.now) }
+{
+    let mut count = octets;
+    for frame in outer {
+        count = before_last(*frame, count);
+    }
+    count
+}
+
+/// How many of so many octets stand before the last one of a frame that is an encapsulation.
+fn before_last(frame: Frame, octets: usize) -> usize
+    requires ahead { IsAhead frame }
+    ensures within { result ≤ octets }
+    ensures ahead { IsAhead (tick_by_of result frame) }
+{
+    match frame.inside {
+        Some(_) => octets.min((frame.count - frame.index - 1) as usize),
+        None => octets,
     }
 }
 

@@ -10,6 +10,7 @@ ghost use Rattle.giop_sig.specs.Types.{Ty};
 use crate::ahead::Ahead;
 use crate::contents::gather_content;
 use crate::decoder::Decoder;
+use crate::frame::{before_end, coding, tick_by};
 use crate::heads::{gather_number, width};
 use crate::leaf::Leaf;
 use crate::progress::Progress;
@@ -128,7 +129,8 @@ impl Decoder {
         Ok((ahead.count, progress))
     }
 
-    /// Takes the octets that only add to what is held, all that stand there together, and answers how many there were.
+    /// Takes the octets that only add to what is held, all that stand there together before the last one of an
+    /// encapsulation, and answers how many there were.
     #[inline(always)]
     fn gather(&mut self, catalogue: &Catalogue, octets: &[u8]) -> usize
         requires { Fits catalogue.now self.old }
@@ -139,21 +141,22 @@ impl Decoder {
         let Some(leaf) = self.leaf else {
             unreachable!();
         };
-        if self.inside {
-            return 0;
-        }
+        let most = before_end(self.inside, self.outer.as_slice(), octets.len());
         match leaf {
             Leaf::Number(of) => {
+                let (_, at) = coding(self.inside, self.order, self.at, self.outer.as_slice());
                 let width = width(catalogue, of);
-                let count = gather_number(&mut self.carry, self.at, width, octets);
+                let count = gather_number(&mut self.carry, at, width, &octets[..most]);
                 self.at = further(self.at, count);
+                tick_by(self.inside, &mut self.outer, count);
                 count
             }
             Leaf::Opening { .. } => 0,
             Leaf::Content { total, offset, .. } => {
                 let left = total.saturating_sub(offset);
-                let count = gather_content(left, octets, &mut self.piece);
+                let count = gather_content(left, &octets[..most], &mut self.piece);
                 self.at = further(self.at, count);
+                tick_by(self.inside, &mut self.outer, count);
                 count
             }
         }

@@ -1,14 +1,15 @@
 use Rattle.std.proofs.Common.{sym, ◌∙◌, arith}
 use Rattle.giop_decode.proofs.Surrounding.{counted_more, counted_ahead, free_ticked}
+use Rattle.giop_decode.specs.Turns.{tick_of}
 use Rattle.giop_decode.proofs.frame.tick.Goals as goal
 
 pub loop-frame-preserved : goal.loop-frame-preserved
-loop-frame-preserved c = counted_more c.loop-frame.frame-index c.loop-frame.frame-items _ _ _ c.loop-frame.invariant (omega arith) c.counted.ensures.ticked
+loop-frame-preserved c = counted_more tick_of c.loop-frame.frame-index c.loop-frame.frame-items _ _ _ c.loop-frame.invariant (omega arith) c.counted.ensures.ticked
 
 pub counted-requires : goal.counted-requires
 counted-requires c =
     record {
-      ahead = counted_ahead c.loop-frame.frame-index c.loop-frame.frame-items _ _
+      ahead = counted_ahead tick_of c.loop-frame.frame-index c.loop-frame.frame-items _ _
           c.loop-frame.invariant c.requires.ahead (omega arith);
     }
 

@@ -1,0 +1,113 @@
+-- Octets counted together in the encapsulations among a decoder's frames.
+use Rattle.std.proofs.Common.{◌≡◌, ℕ, suc, ◌+◌, ◌%◌, ◌<◌, ◌≤◌, false, List, [], ◌∷◌, ◌++◌, length, take, get_or, Option, Some, None, refl, ◌∙◌, ap, arith}
+use Rattle.std.specs.Prelude.{IfSome}
+use Rattle.std.proofs.lemmas.List.{map-append, take_more}
+use Rattle.giop_cdr.specs.declared.order.Order.{Order}
+use Rattle.giop_decode.specs.declared.frame.Frame.{Frame}
+use Rattle.giop_decode.specs.Turns.{IsAhead, AreAhead, coding_by, coding_of, is_inside, tick_of, tick_by_of, ticked, ticked_at, ticked_by, ticked_by_at}
+use Rattle.giop_decode.proofs.Surrounding.{free_first}
+
+none_at : (inside : Option Order) (i : ℕ) → ticked_by_at 0 inside i ≡ i
+none_at None i = refl
+none_at (Some order) i = omega arith
+
+one_none : (f : Frame) → tick_by_of 0 f ≡ f
+one_none f = rw (none_at f.inside f.index) refl
+
+pub ticked_none : (frames : List Frame) → ticked_by 0 frames ≡ frames
+ticked_none [] = refl
+ticked_none (f ∷ frames) = rw (one_none f, ticked_none frames) refl
+
+more_at : (n : ℕ) (inside : Option Order) (i : ℕ) →
+    ticked_by_at n inside (ticked_at inside i) ≡ ticked_by_at (suc n) inside i
+more_at n None i = refl
+more_at n (Some order) i = omega arith
+
+one_more : (n : ℕ) (f : Frame) → tick_by_of n (tick_of f) ≡ tick_by_of (suc n) f
+one_more n f = rw (more_at n f.inside f.index) refl
+
+-- one octet and then others
+pub ticked_more : (n : ℕ) (frames : List Frame) →
+    ticked_by n (ticked frames) ≡ ticked_by (suc n) frames
+ticked_more n [] = refl
+ticked_more n (f ∷ frames) = rw (one_more n f, ticked_more n frames) refl
+
+fewer_at : (m n : ℕ) (inside : Option Order) (i count : ℕ) → m ≤ n →
+    IfSome inside (λ order. ticked_by_at n inside i < count) →
+    IfSome inside (λ order. ticked_by_at m inside i < count)
+fewer_at m n None i count le h = tt
+fewer_at m n (Some order) i count le h = omega (arith, le, h)
+
+-- some octet is still to come after fewer of them
+pub ahead_fewer : (m n : ℕ) (frames : List Frame) → m ≤ n → AreAhead (ticked_by n frames) →
+    AreAhead (ticked_by m frames)
+ahead_fewer m n [] le h = tt
+ahead_fewer m n (f ∷ frames) le h = (fewer_at m n f.inside f.index f.count le h.0, ahead_fewer m n frames le h.1)
+
+first_at : (n : ℕ) (inside : Option Order) (i count : ℕ) →
+    IfSome inside (λ order. ticked_by_at (suc n) inside i < count) →
+    IfSome inside (λ order. ticked_at inside i < count)
+first_at n None i count h = tt
+first_at n (Some order) i count h = omega (arith, h)
+
+-- and after the first of them
+pub ahead_first : (n : ℕ) (frames : List Frame) → AreAhead (ticked_by (suc n) frames) →
+    AreAhead (ticked frames)
+ahead_first n [] h = tt
+ahead_first n (f ∷ frames) h = (first_at n f.inside f.index f.count h.0, ahead_first n frames h.1)
+
+free_at : (n : ℕ) (inside : Option Order) (i : ℕ) → inside ≡ None → ticked_by_at n inside i ≡ i
+free_at n inside i h = rw h refl
+
+pub free_ticked_by : (n : ℕ) (frames : List Frame) → is_inside frames ≡ false →
+    frames ≡ ticked_by n frames
+free_ticked_by n [] h = refl
+free_ticked_by n (f ∷ frames) h =
+    let k = free_first f.inside (is_inside frames) h in
+    let one : f ≡ tick_by_of n f = rw (free_at n f.inside f.index k.0) refl in
+    ap (λ g. g ∷ frames) one ∙ ap (λ fs. tick_by_of n f ∷ fs) (free_ticked_by n frames k.1)
+
+-- the frames before an index leave room for these octets, and the one at it for fewer
+pub before_more : (outer : List Frame) (i before now : ℕ) (d : Frame) → i < length outer →
+    now ≤ before → AreAhead (ticked_by before (take i outer)) →
+    IsAhead (tick_by_of now (get_or outer i d)) → AreAhead (ticked_by now (take (i + 1) outer))
+before_more outer i before now d below le h one =
+    let f = get_or outer i d in
+    rw (take_more outer i d below, map-append (tick_by_of now) (take i outer) (f ∷ []))
+    (push (ticked_by now (take i outer)) (tick_by_of now f) (ahead_fewer now before (take i outer) le h) one)
+  where
+    push : (frames : List Frame) (f : Frame) → AreAhead frames → IsAhead f →
+        AreAhead (frames ++ f ∷ [])
+    push [] f h k = (k, tt)
+    push (g ∷ frames) f h k = (h.0, push frames f h.1 k)
+
+-- ---- how the innermost part's octets are taken
+
+coding_next : (order : Order) (at : ℕ) (inside : Option Order) (i : ℕ) →
+    coding_of (order, (at + 1) % 8) inside (ticked_at inside i)
+    ≡ ((coding_of (order, at) inside i).0, ((coding_of (order, at) inside i).1 + 1) % 8)
+coding_next order at None i = refl
+coding_next order at (Some inner) i =
+    let e : (i + 1) % 8 ≡ (i % 8 + 1) % 8 = omega arith in
+    ap (λ n. (inner, n)) e
+
+-- an octet further on
+pub coding_ticked : (order : Order) (at : ℕ) (frames : List Frame) →
+    coding_by order ((at + 1) % 8) (ticked frames)
+    ≡ ((coding_by order at frames).0, ((coding_by order at frames).1 + 1) % 8)
+coding_ticked order at [] = refl
+coding_ticked order at (f ∷ frames) =
+    let c = coding_of (order, at) f.inside f.index in
+    ap (λ (k : Order × ℕ). coding_by k.0 k.1 (ticked frames)) (coding_next order at f.inside f.index) ∙ coding_ticked c.0 c.1 frames
+
+small_of : (order : Order) (at : ℕ) (inside : Option Order) (i : ℕ) → at < 8 →
+    (coding_of (order, at) inside i).1 < 8
+small_of order at None i h = h
+small_of order at (Some inner) i h = omega arith
+
+pub coding_small : (order : Order) (at : ℕ) (frames : List Frame) → at < 8 →
+    (coding_by order at frames).1 < 8
+coding_small order at [] h = h
+coding_small order at (f ∷ frames) h =
+    let c = coding_of (order, at) f.inside f.index in
+    coding_small c.0 c.1 frames (small_of order at f.inside f.index h)
