@@ -10,3 +10,4 @@ pub mod Doing
 pub mod Running
 pub mod Runs
 pub mod Idle
+pub mod Heading

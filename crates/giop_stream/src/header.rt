@@ -1,6 +1,6 @@
 //! The fields of a message header, and the octets that it may have (GIOP Message Formats, GIOP Message Header).
 
-ghost use Rattle.std.specs.Prelude.{◌≡◌, ◌≤◌, ◌<◌, ℕ, List, [], ◌∷◌, length};
+ghost use Rattle.std.specs.Prelude.{◌≡◌, ◌≤◌, ◌<◌, ◌+◌, ℕ, List, [], ◌∷◌, length, take, None, IsTrue};
 ghost use Rattle.giop_cdr.specs.Numbers.{little, num};
 ghost use Rattle.giop_message.specs.Headers.{has_more, size};
 ghost use Rattle.giop_stream.specs.Headers.{wrong};
@@ -69,4 +69,20 @@ pub fn wrong_in(front: &[u8]) -> Option<StreamFault>
         _ => (true, StreamFault::Magic),
     };
     if is_right { None } else { Some(fault) }
+}
+
+/// Whether no octet of a header's front is wrong; behind its first seven any may come.
+#[tactic(auto, unfolding(crate::specs::Headers::wrong))]
+pub fn begins_right(front: &[u8]) -> bool
+    requires { 7 ≤ length front.now }
+    ensures { IsTrue result → (k : ℕ) → k < length front.now →
+        wrong (take (k + 1) front.now) ≡ None }
+{
+    front[0] == b'G'
+        && front[1] == b'I'
+        && front[2] == b'O'
+        && front[3] == b'P'
+        && front[4] == 1
+        && front[5] < 3
+        && (front[6] < 2 || 0 < front[5])
 }

@@ -1,16 +1,20 @@
-//! A piece of a stream, in runs of octets of a message's contents where there are such.
+//! A piece of a stream, in runs where its octets only add to a header, or are of a message's contents alone.
 
-ghost use Rattle.std.specs.Prelude.{◌≡◌, ◌+◌, ◌*◌, ◌++◌, ◌^◌, ◌≤◌, ◌<◌, ℕ, List, length, None, OnOk, if◌then◌else◌};
+ghost use Rattle.std.specs.Prelude.{◌≡◌, ◌+◌, ◌*◌, ◌++◌, ◌^◌, ◌≤◌, ◌<◌, ℕ, List, length, take, [], None, OnOk, if◌then◌else◌};
 
 use crate::framing::{Framing, LIMIT};
-use crate::header::size_of;
+use crate::header::{begins_right, size_of, wrong_in};
+use arrayvec::ArrayVec;
 use giop_print::{Out, OutFault};
 use giop_sig::{Catalogue, Requests};
 
 impl Framing {
     ghost use Rattle.giop_print.specs.Output.{Writes};
+    ghost use Rattle.giop_sig.specs.Table.{Table};
+    ghost use Rattle.giop_message.specs.Signatures.{Listed};
     ghost use Rattle.giop_stream.specs.Rules.{rules};
     ghost use Rattle.giop_message.specs.Headers.{size};
+    ghost use Rattle.giop_stream.specs.Headers.{wrong};
     ghost use Rattle.giop_stream.specs.Keeping.{AreReady};
     ghost use Rattle.giop_stream.specs.Engine.{State};
     ghost use Rattle.giop_stream.specs.Step as one;
@@ -71,7 +75,59 @@ impl Framing {
         Ok(())
     }
 
-    /// The octets of a piece, in runs where they are of a message's contents alone.
+    /// How many of these octets only add to a header: they are right, and none of them is its last.
+    fn ahead(&self, octets: &[u8]) -> usize
+        ensures within { result ≤ length octets.now }
+        ensures before_last { 0 < result → length self.now.header.items + result < 12 }
+        ensures running { 0 < result → self.now.stopped ≡ None }
+        ensures limit { 0 < result → self.now.totals.octets + result ≤ 2 ^ 48 }
+        ensures right { (k : ℕ) → k < result →
+            wrong (self.now.header.items ++ take (k + 1) octets.now) ≡ None }
+    {
+        if self.stopped.is_some() || 11 <= self.header.len() {
+            return 0;
+        }
+        let unread = LIMIT.saturating_sub(self.totals.octets);
+        let room = (11 - self.header.len())
+            .min(octets.len())
+            .min(unread as usize);
+        if room == 11 && begins_right(octets) {
+            return 11;
+        }
+        let mut front: ArrayVec<u8, 12> = ArrayVec::new();
+        front.try_extend_from_slice(self.header.as_slice()).unwrap();
+        let mut ahead = 0;
+        while ahead < room {
+            front.push(octets[ahead]);
+            if wrong_in(front.as_slice()).is_some() {
+                return ahead;
+            }
+            ahead += 1;
+        }
+        ahead
+    }
+
+    /// Octets that only add to a header.
+    fn heads(&mut self, octets: &[u8])
+        requires before_last { length self.old.header.items + length octets.now < 12 }
+        requires running { self.old.stopped ≡ None }
+        requires limit { self.old.totals.octets + length octets.now ≤ 2 ^ 48 }
+        requires right { (k : ℕ) → k < length octets.now →
+            wrong (self.old.header.items ++ take (k + 1) octets.now) ≡ None }
+        ensures shows { (C : Table) (l : Listed) (s : State) → Shows C l (shown self.old) s →
+            Shows C l (shown self.new)
+            (one.run_state (rules C l self.old.slots.slots.most) s octets.now) }
+        ensures lines { (C : Table) (l : Listed) (s : State) → Shows C l (shown self.old) s →
+            one.run (rules C l self.old.slots.slots.most) s octets.now ≡ [] }
+        ensures ready { (C : Table) → AreReady C (self.old.totals.octets + 1) self.old.slots →
+            AreReady C (self.new.totals.octets + 1) self.new.slots }
+        ensures most { self.new.slots.slots.most ≡ self.old.slots.slots.most }
+    {
+        self.totals.octets += octets.len() as u64;
+        self.header.try_extend_from_slice(octets).unwrap();
+    }
+
+    /// The octets of a piece, in runs where there are such.
     pub fn steps<O: Out>(
         &mut self,
         catalogue: &Catalogue,
@@ -93,7 +149,11 @@ impl Framing {
         let mut rest = piece;
         while let Some(octet) = rest.first() {
             let quiet = self.quiet(rest.len());
-            if quiet == 0 {
+            let ahead = self.ahead(rest);
+            if 0 < ahead {
+                self.heads(&rest[..ahead]);
+                rest = &rest[ahead..];
+            } else if quiet == 0 {
                 self.step(catalogue, requests, *octet, out)?;
                 rest = &rest[1..];
             } else {

@@ -1,4 +1,4 @@
-use Rattle.std.proofs.Common.{◌≡◌, ℕ, ◌-◌, ◌<◌, List, [], ◌∷◌, ◌++◌, take, drop, length, refl, sym, ap, ◌∙◌, take_all, length-drop, arith}
+use Rattle.std.proofs.Common.{◌≡◌, ℕ, ◌-◌, ◌<◌, List, [], ◌∷◌, ◌++◌, take, drop, length, refl, sym, ap, ◌∙◌, append-nil, take_all, length-drop, arith}
 use Rattle.std.proofs.lemmas.List.{take-append-drop}
 use Rattle.std.proofs.lemmas.List.Elements.{All-from_get_or}
 use Rattle.giop_print.proofs.Writing.{writes_err, wrote-append, wrote-front}
@@ -6,6 +6,7 @@ use Rattle.giop_stream.specs.Rules.{rules}
 use Rattle.giop_stream.specs.Shown.{shown}
 use Rattle.giop_stream.specs.Engine.{State}
 use Rattle.giop_stream.specs.Step.{run, run_state}
+use Rattle.giop_stream.specs.Text.{lines_text}
 use Rattle.giop_stream.specs.Showing.{IsReached, Shows}
 use Rattle.giop_stream.proofs.Keep.Performing.{nothing_text}
 use Rattle.giop_stream.proofs.Moves.Doing.{reached_on, reached_at}
@@ -71,6 +72,33 @@ loop-octet-preserved-then-quiet-eq0 g c =
       shows = λ s r h. rw (run_state_on R s so_far.come (octet ∷ [])) (next s r h).shows;
       text = λ s r h. rw (run_text_on R s so_far.come (octet ∷ [])) (wrote-append _ _ _ _ _ (so_far.text s r h) (next s r h).text);
       ready = c.in_ok-step.ensures.ready;
+    }
+
+pub loop-octet-preserved-then-ahead-gt0 : goal.loop-octet-preserved-then-ahead-gt0
+unfolding lines_text
+loop-octet-preserved-then-ahead-gt0 g c =
+    let C = c.args.catalogue.now in
+    let kept = c.args.requests.now in
+    let R = rules C kept c.args.self.now.slots.slots.most in
+    let so_far = c.loop-octet.invariant in
+    let n = c.ahead-ahead.result in
+    let rest = c.loop-octet.rest.now in
+    let left : drop n rest ≡ take (length rest - n) (drop n rest) = sym (take_all (length rest - n) (drop n rest) (omega (arith, length-drop n rest))) in
+    let most = c.args.self.now.slots.slots.most in
+    let silent =
+    λ (s : State) (r : IsReached C kept most s) (h : Shows C kept (shown c.args.self.now) s).
+    rw so_far.most at (c.heads.ensures.lines C kept (run_state R s so_far.come) (so_far.shows s r h)) in
+    let shows =
+    λ (s : State) (r : IsReached C kept most s) (h : Shows C kept (shown c.args.self.now) s).
+    rw so_far.most at (c.heads.ensures.shows C kept (run_state R s so_far.come) (so_far.shows s r h)) in
+    record {
+      come = so_far.come ++ take n rest;
+      most = c.heads.ensures.most ∙ so_far.most;
+      split = further so_far.come rest (take n rest) _ c.args.piece.now so_far.split
+          (sym (take-append-drop n rest) ∙ ap (λ (z : List ℕ). take n rest ++ z) left);
+      shows = λ s r h. rw (run_state_on R s so_far.come (take n rest)) (shows s r h);
+      text = λ s r h. rw (run_text_on R s so_far.come (take n rest), silent s r h) (rw (append-nil (lines_text (run R s so_far.come))) (so_far.text s r h));
+      ready = c.heads.ensures.ready C so_far.ready;
     }
 
 pub returns-in_err-run-clause-does : goal.returns-in_err-run-clause-does
