@@ -1,5 +1,5 @@
 -- Octets that only add to what is held, taken together.
-use Rattle.std.proofs.Common.{◌≡◌, ℕ, suc, ◌+◌, ◌-◌, ◌%◌, ◌<◌, ◌≤◌, ◌⊎◌, inl, inr, false, List, [], ◌∷◌, ◌++◌, length, Some, refl, sym, ◌∙◌, ap, subst, append-nil, append_assoc, arith, length-append}
+use Rattle.std.proofs.Common.{◌≡◌, ℕ, suc, ◌+◌, ◌-◌, ◌%◌, ◌<◌, ◌≤◌, false, List, [], ◌∷◌, ◌++◌, length, Some, refl, sym, ◌∙◌, ap, subst, append-nil, append_assoc, arith, length-append}
 use Rattle.giop_cdr.specs.Numbers.{num}
 use Rattle.giop_sig.specs.declared.types.TypeId.{TypeId}
 use Rattle.giop_decode.specs.declared.decoder.Decoder.{Decoder}
@@ -12,8 +12,8 @@ use Rattle.giop_decode.specs.Holding.{Fits, IsHere, Minds, standing_in}
 use Rattle.giop_decode.specs.Reading.{headed, read}
 use Rattle.giop_decode.specs.Runs.{dues, AllGathered}
 use Rattle.giop_decode.specs.Pieces.{tail}
-use Rattle.giop_decode.specs.Spine.{plain, Content, Seg, Short, lines_of}
-use Rattle.giop_decode.specs.Steps.{after, coding_in, content_step, head_width, AreHeld}
+use Rattle.giop_decode.specs.Spine.{plain, lines_of}
+use Rattle.giop_decode.specs.Steps.{after, coding_in, head_width, AreHeld}
 use Rattle.giop_decode.specs.Turns.{coding_by, is_inside, places, ticked, ticked_by, AreAhead, IsClean}
 use Rattle.giop_decode.proofs.Advancing.{same_some}
 use Rattle.giop_decode.proofs.Counting.{ahead_first, coding_ticked, free_ticked_by, ticked_more, ticked_none}

@@ -1,5 +1,5 @@
 -- Octets that come together: those of a number, or the rest of a piece.
-use Rattle.std.proofs.Common.{◌≡◌, ℕ, ◌+◌, ◌-◌, ◌%◌, ◌^◌, true, false, ◌<◌, ◌≤◌, List, [], ◌∷◌, ◌++◌, length, take, drop, get_or, Some, refl, sym, ◌∙◌, ap, subst, arith, length-append, length-drop, take-add, append-nil, append_assoc}
+use Rattle.std.proofs.Common.{◌≡◌, ℕ, ◌+◌, ◌-◌, ◌%◌, ◌^◌, true, false, ◌<◌, ◌≤◌, List, [], ◌∷◌, ◌++◌, length, take, drop, get_or, Some, refl, sym, ◌∙◌, ap, subst, arith, length-append, length-drop, take-add, append_assoc}
 use Rattle.std.proofs.Math.Bool.{and-true, and-false}
 use Rattle.std.proofs.lemmas.List.{get_or-drop, length-take-le}
 use Rattle.giop_cdr.proofs.NumberLaws.{num_bound}
@@ -17,7 +17,7 @@ use Rattle.giop_decode.specs.declared.leaf.Step.{Step}
 use Rattle.giop_decode.specs.declared.leaf.Turn.TheVariants as turns
 use Rattle.giop_decode.specs.declared.leaf.Spoken.{Spoken}
 use Rattle.giop_decode.specs.declared.leaf.Spoken.TheVariants as spokens
-use Rattle.giop_decode.specs.Fits.{ContentFits, HeadFits, IsBare}
+use Rattle.giop_decode.specs.Fits.{ContentFits, IsBare}
 use Rattle.giop_decode.specs.Heard.{Heard, heard, hushed, in_string, is_header_root, is_text, nothing}
 use Rattle.giop_decode.specs.Holding.{Fits, IsHere, Minds, Recalls, standing}
 use Rattle.giop_decode.specs.Moves.{IsAround, leaf_in, stepped, told}
@@ -25,10 +25,9 @@ use Rattle.giop_decode.specs.Pieces.{tail}
 use Rattle.giop_decode.specs.Reading.{headed}
 use Rattle.giop_decode.specs.Recalling.{Voices, hushes, leaf_in_string, turn_in_string}
 use Rattle.giop_decode.specs.Runs.{Adds, AllGathered, ComesWhole}
-use Rattle.giop_decode.specs.Spine
-use Rattle.giop_decode.specs.Spine.{plain, line, Coding, Line, Head, Seg, Done, Piece, lines_of, with_front}
+use Rattle.giop_decode.specs.Spine.{plain, line, Coding, Line, Seg, Piece, lines_of, with_front}
 use Rattle.giop_decode.specs.Steps.{AreHeld, after, around, head_width, leaf_step, path_in, step}
-use Rattle.giop_decode.specs.Turns.{CanSpeak, IsClean, IsNumberOf, IsSpoken, IsWholeNumber, StandsWhole, Turns, TurnsIn, is_inside, leaf_of, leaf_type, places, still_held}
+use Rattle.giop_decode.specs.Turns.{CanSpeak, IsClean, IsSpoken, IsWholeNumber, StandsWhole, Turns, TurnsIn, is_inside, leaf_of, leaf_type, places, still_held}
 use Rattle.giop_decode.proofs.Advancing.{lines_turned, same_some, stands_at}
 use Rattle.giop_decode.proofs.Gathering.{IsFurther, counted_free, number_gathered, waits_gathered}
 use Rattle.giop_decode.proofs.Hearing.{heard_on, leaf_inside, minds_by, recalls_by}
@@ -38,10 +37,8 @@ use Rattle.giop_decode.proofs.Waiting.{held_in}
 use Rattle.giop_sig.specs.declared.types.TypeId.{TypeId}
 use Rattle.giop_sig.specs.Table.{Table}
 use Rattle.giop_sig.specs.Trees.{tree}
-use Rattle.giop_decode.proofs.Law.{length_one_more}
 use Rattle.giop_decode.proofs.Padding.{padded_held, takes_last}
 use Rattle.giop_decode.proofs.Runs.{take_more}
-use Rattle.giop_decode.proofs.Shapes.{aligned}
 use Rattle.giop_decode.proofs.Turning.{number_prim, turns_number}
 use Rattle.giop_print.specs.declared.path.Root.TheVariants as roots
 use Rattle.giop_sig.specs.Types.{Encapsulation, Octets, Plain, Single, Text, Ty}

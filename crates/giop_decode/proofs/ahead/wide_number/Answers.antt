@@ -1,4 +1,4 @@
-use Rattle.std.proofs.Common.{◌∙◌, refl, arith}
+use Rattle.std.proofs.Common.{◌∙◌}
 use Rattle.giop_decode.proofs.Whole.{whole_number}
 use Rattle.giop_decode.proofs.ahead.wide_number.Goals as goal
 

@@ -1,9 +1,9 @@
-use Rattle.std.proofs.Common.{◌≡◌, ◌+◌, ◌-◌, ◌<◌, ◌++◌, take, length, get_or, arith, refl, sym, ◌∙◌, subst}
+use Rattle.std.proofs.Common.{◌+◌, ◌<◌, ◌++◌, take, length, get_or, arith}
 use Rattle.giop_decode.proofs.Runs.{text_more, takes_more, breaks_off, writes_broken}
 use Rattle.giop_decode.proofs.Segments.{said_none}
 use Rattle.giop_decode.proofs.Taking.{takes_to, due_is, done}
 use Rattle.giop_decode.proofs.decoder.Decoder.take_some.Goals as goal
-use Rattle.giop_decode.specs.Runs.{dues, TakesRun}
+use Rattle.giop_decode.specs.Runs.{dues}
 use Rattle.giop_decode.specs.Spelling.{lines_text}
 use Rattle.giop_print.specs.Output.{Wrote}
 use Rattle.giop_print.proofs.Writing.{wrote-append, wrote-nil}
