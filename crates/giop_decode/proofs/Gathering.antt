@@ -45,11 +45,13 @@ IsCountedBy d new count =
     × AreAhead (ticked_by count d.outer.items)
 
 module _ (C : Table) (d new : Decoder) where
-  still_here : (here : ℕ) → IsFurther d new 0 d.outer.items → d.at < 8 → IsHere d here → IsHere new here
+  still_here : (here : ℕ) → IsFurther d new 0 d.outer.items → d.at < 8 → IsHere d here →
+      IsHere new here
   still_here here on small h = (omega (arith, on.at, h.0, small), rw on.outer h.1)
 
   -- no octet
-  pub none_gathered : IsFurther d new 0 d.outer.items → new.carry ≡ d.carry → new.piece.items ≡ d.piece.items →
+  pub none_gathered : IsFurther d new 0 d.outer.items → new.carry ≡ d.carry →
+      new.piece.items ≡ d.piece.items →
       Fits C d → Fits C new × AllGathered C d new []
   none_gathered on carry piece f = (
     record {
@@ -179,7 +181,8 @@ module _ (C : Table) (of : TypeId) (total offset most : ℕ) (full : 32 < total 
     (last : total - offset ≤ 32 → most < total - offset + tail (tree C of.0)) where
   pub waits_gathered : (d new : Decoder) (octets : List ℕ) → IsCountedBy d new (length octets) →
       new.carry ≡ d.carry → new.piece.items ≡ d.piece.items ++ octets → Fits C d →
-      d.leaf ≡ Some (innermost.Content of total offset) → length d.piece.items + length octets ≤ most →
+      d.leaf ≡ Some (innermost.Content of total offset) →
+      length d.piece.items + length octets ≤ most →
       Fits C new × AllGathered C d new octets
   waits_gathered d new [] on carry piece f e room = none_counted C d new on carry (piece ∙ append-nil d.piece.items) f
   waits_gathered d new (b ∷ bs) on carry piece f e room =
@@ -190,12 +193,14 @@ module _ (C : Table) (of : TypeId) (total offset most : ℕ) (full : 32 < total 
       let it : f.leaf ≡ leaf = same_some f.leaf leaf (sym f.goes_on ∙ e) in
       let clean : IsClean leaf d.carry d.piece.items = subst (λ x. IsClean x d.carry d.piece.items) it f.clean in
       let one = one_gathered C d mid leaf b (ahead_first (length bs) d.outer.items on.1) (next_on d d.carry held) f e clean
-      (λ here h path. content_held (tree C of.0) path total offset here d.piece.items b (λ large. omega (arith, full large, room)) (λ small. omega (arith, last small, room))) in
+      (λ here h path. content_held (tree C of.0) path total offset here d.piece.items b (λ large. omega (arith, full large, room))
+      (λ small. omega (arith, last small, room))) in
       let others = waits_gathered mid new bs (others_on d new d.carry held (length bs) on) carry
       (piece ∙ sym (append_assoc d.piece.items (b ∷ []) bs)) one.0 e (omega (arith, l, room)) in
       (others.0, then_gathered C d new leaf b mid bs one.1 others.1)
 
-pub content_gathered : (C : Table) (of : TypeId) (total offset : ℕ) (d new : Decoder) (octets : List ℕ) →
+pub content_gathered : (C : Table) (of : TypeId) (total offset : ℕ) (d new : Decoder)
+    (octets : List ℕ) →
     IsCountedBy d new (length octets) →
     new.carry ≡ d.carry → new.piece.items ≡ d.piece.items ++ octets → Fits C d →
     d.leaf ≡ Some (innermost.Content of total offset) →
@@ -206,7 +211,8 @@ content_gathered C of total offset d new [] on carry piece f e room some = none_
 content_gathered C of total offset d new (b ∷ bs) on carry piece f e room some =
     let full = room (omega arith) in
     let last = some (omega arith) in
-    waits_gathered C of total offset (length d.piece.items + length (b ∷ bs)) (λ _. full) (λ _. omega (arith, last)) d new (b ∷ bs) on carry piece f e (omega arith)
+    waits_gathered C of total offset (length d.piece.items + length (b ∷ bs)) (λ _. full)
+    (λ _. omega (arith, last)) d new (b ∷ bs) on carry piece f e (omega arith)
 
 -- ---- of a number, or of the padding in front of it
 

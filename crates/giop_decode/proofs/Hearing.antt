@@ -154,7 +154,8 @@ pub piece_both : (h : Heard) (held rest : List ℕ) →
     with_piece (with_piece h held) rest ≡ with_piece h (held ++ rest)
 piece_both h held rest = rw (append_assoc h.so_far held rest) refl
 
-pub piece_more : (h : Heard) (octets : List ℕ) (more : Bool) → more ≡ true → with_piece h octets ≡ heard_piece h octets more
+pub piece_more : (h : Heard) (octets : List ℕ) (more : Bool) → more ≡ true →
+    with_piece h octets ≡ heard_piece h octets more
 piece_more h octets more e = rw e refl
 
 -- only a part with one whole around it is a member of the root

@@ -50,7 +50,8 @@ padding_below : (at size : ℕ) → IsAlignment size → padding at size < size
 unfolding padding
 padding_below at size h = by_alignment (λ n. (n - at % n) % n < n) size h (omega arith) (omega arith) (omega arith) (omega arith)
 
-pub stands_whole : (w at pad count : ℕ) (octets : List ℕ) → IsAlignment w → at < 8 → pad ≡ padding at w →
+pub stands_whole : (w at pad count : ℕ) (octets : List ℕ) → IsAlignment w → at < 8 →
+    pad ≡ padding at w →
     count ≡ pad + w → count ≤ length octets →
     StandsWhole w at octets count (take (count - pad) (drop pad octets))
 stands_whole w at pad count octets k small padded counted within =
@@ -81,7 +82,8 @@ stands_whole w at pad count octets k small padded counted within =
           (omega (arith, size, some));
     })
 
-pub whole_number : (p : Primitive) (order : Order) (at count : ℕ) (octets all : List ℕ) (number : Taken) →
+pub whole_number : (p : Primitive) (order : Order) (at count : ℕ) (octets all : List ℕ)
+    (number : Taken) →
     StandsWhole (size_of p) at octets count all → length all ≡ size_of p → AreOctets all →
     taken_as p (num order all) ≡ Some number →
     IsWholeNumber (Single (Plain p)) order at octets count number
@@ -112,7 +114,8 @@ module _ (C : Table) (d : Decoder) (of : TypeId) (octets : List ℕ) (count : �
       let it : f.leaf ≡ innermost.Number of = same_some f.leaf (innermost.Number of) (sym f.goes_on ∙ e) in
       subst (λ l. IsClean l d.carry d.piece.items) it f.clean
 
-  pub comes_head : (all : List ℕ) (s : Step) → StandsWhole (head_width (tree C of.0)) d.at octets count all →
+  pub comes_head : (all : List ℕ) (s : Step) →
+      StandsWhole (head_width (tree C of.0)) d.at octets count all →
       TurnsIn (tree C of.0) of.0 s.turn [] [] → CanSpeak (tree C of.0) s.spoken →
       Voices (tree C of.0) false s.turn s.spoken →
       ((coding : Coding) (path : List Seg) (at : ℕ) → Turns C (tree C of.0) s.turn s.spoken [] [] path at
@@ -144,7 +147,8 @@ module _ (C : Table) (d : Decoder) (of : TypeId) (octets : List ℕ) (count : �
         says = λ path here. rw no_piece (turns (plain d.order) path (here + 1)).says;
       }
 
-  pub comes_number : (number : Taken) → IsWholeNumber (tree C of.0) d.order d.at octets count number →
+  pub comes_number : (number : Taken) →
+      IsWholeNumber (tree C of.0) d.order d.at octets count number →
       ComesWhole C d octets of count (record { turn = turns.Ended; spoken = spokens.Number number }) []
   comes_number number h =
       comes_head h.all (record { turn = turns.Ended; spoken = spokens.Number number }) h.stands tt h.is (refl, refl)
@@ -158,7 +162,8 @@ bare_silent (Octets bound) h = refl
 bare_silent (Encapsulation E) h = refl
 bare_silent T h = absurd h
 
-module _ (C : Table) (d : Decoder) (of : TypeId) (total offset : ℕ) (octets : List ℕ) (count : ℕ) (f : Fits C d)
+module _ (C : Table) (d : Decoder) (of : TypeId) (total offset : ℕ) (octets : List ℕ) (count : ℕ)
+    (f : Fits C d)
     (e : d.leaf ≡ Some (innermost.Content of total offset)) (outside : d.inside ≡ false) where
   content : ContentFits (tree C of.0) (tree C of.0) total offset d.piece.items
   content = (stands_at C d f (innermost.Content of total offset) e).fits
@@ -177,7 +182,8 @@ module _ (C : Table) (d : Decoder) (of : TypeId) (total offset : ℕ) (octets : 
       append_assoc d.piece.items (take (count - 1) octets) (get_or octets (count - 1) 0 ∷ [])
       ∙ ap (λ xs. d.piece.items ++ xs) (sym (ap (λ n. take n octets) i ∙ take_more octets (count - 1) (omega (arith, some, within))))
 
-  held_size : (n : ℕ) → n ≤ length octets → length (d.piece.items ++ take n octets) ≡ length d.piece.items + n
+  held_size : (n : ℕ) → n ≤ length octets →
+      length (d.piece.items ++ take n octets) ≡ length d.piece.items + n
   held_size n within = length-append d.piece.items (take n octets) ∙ ap (λ k. length d.piece.items + k) (length-take-le n octets within)
 
   pub comes_full : 32 < total - offset → count ≡ 32 - length d.piece.items → count ≤ length octets →
@@ -210,7 +216,8 @@ module _ (C : Table) (d : Decoder) (of : TypeId) (total offset : ℕ) (octets : 
         says = λ path here. refl;
       }
 
-  pub comes_bare : IsBare (tree C of.0) → total - offset ≤ 32 → count ≡ total - offset - length d.piece.items →
+  pub comes_bare : IsBare (tree C of.0) → total - offset ≤ 32 →
+      count ≡ total - offset - length d.piece.items →
       count ≤ length octets →
       ComesWhole C d octets of count (record { turn = turns.Ended; spoken = spokens.Piece offset false }) (take count octets)
   comes_bare bare small counted within =
@@ -279,7 +286,8 @@ module _ (C : Table) (d : Decoder) (of : TypeId) (total offset : ℕ) (octets : 
 -- ---- what they do to a decoder
 
 -- octets that only add to what is held
-adds_gathered : (C : Table) (d new : Decoder) (leaf : Innermost) (octets : List ℕ) → is_inside d.outer.items ≡ false →
+adds_gathered : (C : Table) (d new : Decoder) (leaf : Innermost) (octets : List ℕ) →
+    is_inside d.outer.items ≡ false →
     IsFurther d new (length octets) d.outer.items → Fits C d → d.leaf ≡ Some leaf →
     Adds C d leaf octets new.carry new.piece.items → Fits C new × AllGathered C d new octets
 adds_gathered C d new (innermost.Number of) octets free on f e h = number_gathered C of d new octets free on h.1 f e h.0
@@ -289,7 +297,8 @@ adds_gathered C d new (innermost.Content of total offset) octets free on f e h =
     (omega (arith, ap length h.1, length-append d.piece.items octets))
 
 -- a decoder before octets that it takes together
-module _ (C : Table) (d : Decoder) (octets : List ℕ) (of : TypeId) (count : ℕ) (s : Step) (rest : List ℕ) (f : Fits C d)
+module _ (C : Table) (d : Decoder) (octets : List ℕ) (of : TypeId) (count : ℕ) (s : Step)
+    (rest : List ℕ) (f : Fits C d)
     (h : ComesWhole C d octets of count s rest) where
   free : is_inside d.outer.items ≡ false
   free = sym f.inside ∙ h.outside
@@ -324,27 +333,33 @@ module _ (C : Table) (d : Decoder) (octets : List ℕ) (of : TypeId) (count : �
   abbrev pub lines_at : ℕ → List Line
   lines_at here = h.lines (path_in [] (places C here d.outer.items)) here
 
-  pub says_at : (here : ℕ) → IsSpoken (tree C of.0) (path_in [] (places C here d.outer.items)) (here + 1) s.spoken (d.piece.items ++ rest) (lines_at here)
+  pub says_at : (here : ℕ) → IsSpoken (tree C of.0) (path_in [] (places C here d.outer.items))
+      (here + 1) s.spoken (d.piece.items ++ rest) (lines_at here)
   says_at here = h.says (path_in [] (places C here d.outer.items)) here
 
   pub told_whole : (at here : ℕ) → at ≡ (d.at + (count - 1)) % 8 → IsHere (before_last at) here →
-      stepped C (before_last at) here (get_or octets (count - 1) 0) ≡ told C d of.0 s.turn s.spoken (lines_at here) here
+      stepped C (before_last at) here (get_or octets (count - 1) 0) ≡ told C d of.0 s.turn s.spoken
+      (lines_at here) here
   told_whole at here e stands =
       let ps = places C here d.outer.items in
       let b = get_or octets (count - 1) 0 in
       let path = path_in [] ps in
       ap (λ l. step (plain d.order) [] ps (leaf_in C (before_last at) l) here b) h.goes_on
-      ∙ (ap (λ c. around (plain d.order) [] ps (leaf_step c path (leaf_of C h.leaf h.carry h.piece) here b)) (free_coded C here (plain d.order) d.outer.items free)
+      ∙ (ap (λ c. around (plain d.order) [] ps (leaf_step c path (leaf_of C h.leaf h.carry h.piece) here b))
+      (free_coded C here (plain d.order) d.outer.items free)
       ∙ ap (around (plain d.order) [] ps) (h.comes path here (stands.0 ∙ e)))
 
   pub lines_whole : (at here : ℕ) → at ≡ (d.at + (count - 1)) % 8 → IsHere (before_last at) here → lines_of (stepped C (before_last at) here (get_or octets (count - 1) 0)) ≡ lines_at here
   lines_whole at here e stands =
       ap lines_of (told_whole at here e stands)
-      ∙ lines_turned C here (plain d.order) [] d.outer.items (tree C of.0) s.turn d.carry (still_held s.spoken d.piece.items) (lines_at here) f.ahead f.known_outer
+      ∙ lines_turned C here (plain d.order) [] d.outer.items (tree C of.0) s.turn d.carry (still_held s.spoken d.piece.items)
+      (lines_at here) f.ahead f.known_outer
 
   pub minds_whole : (new : Decoder) (at here : ℕ) (front : List Line) → at ≡ (d.at + (count - 1)) % 8 → IsHere (before_last at) here →
-      in_string (told C d of.0 s.turn s.spoken (lines_at here) here) ≡ turn_in_string (tree C of.0) s.turn →
-      ((d.root ≡ roots.Body → ⊥) → (o : Heard) → Recalls d.memory o → Recalls new.memory (hushed (hushes s.spoken) (heard (is_header_root d.root) o (lines_at here)))) →
+      in_string (told C d of.0 s.turn s.spoken (lines_at here) here) ≡ turn_in_string (tree C of.0)
+      s.turn →
+      ((d.root ≡ roots.Body → ⊥) → (o : Heard) → Recalls d.memory o → Recalls new.memory (hushed (hushes s.spoken)
+      (heard (is_header_root d.root) o (lines_at here)))) →
       Minds d.root (before_last at) (standing C (before_last at) front here) → Minds d.root new (with_front front (stepped C (before_last at) here (get_or octets (count - 1) 0)))
   minds_whole new at here front e stands inside hears old =
       let r = stepped C (before_last at) here (get_or octets (count - 1) 0) in

@@ -266,7 +266,8 @@ pub record StandsWhole (width at : ℕ) (octets : List ℕ) (count : ℕ) (all :
       number_step origin width here held (get_or octets (count - 1) 0) ≡ grab_of true all (here + 1)
 
 -- a number of a type, whose octets stand so
-pub record IsWholeNumber (T : Ty) (order : Order) (at : ℕ) (octets : List ℕ) (count : ℕ) (number : Taken) : Type 0 where
+pub record IsWholeNumber (T : Ty) (order : Order) (at : ℕ) (octets : List ℕ) (count : ℕ)
+    (number : Taken) : Type 0 where
   pub all : List ℕ
   pub stands : StandsWhole (head_width T) at octets count all
   pub is : IsNumberOf T number

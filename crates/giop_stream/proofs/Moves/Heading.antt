@@ -19,10 +19,12 @@ AreRight front octets = (k : ℕ) → k < length octets → wrong (front ++ take
 take_more : (k x : ℕ) (xs : List ℕ) → take (k + 1) (x ∷ xs) ≡ x ∷ take k xs
 take_more k x xs = let one : k + 1 ≡ suc k = omega arith in rw one refl
 
-right_first : (front : List ℕ) (x : ℕ) (xs : List ℕ) → AreRight front (x ∷ xs) → wrong (front ++ x ∷ []) ≡ None
+right_first : (front : List ℕ) (x : ℕ) (xs : List ℕ) → AreRight front (x ∷ xs) →
+    wrong (front ++ x ∷ []) ≡ None
 right_first front x xs h = h 0 (omega arith)
 
-right_more : (front : List ℕ) (x : ℕ) (xs : List ℕ) → AreRight front (x ∷ xs) → AreRight (front ++ x ∷ []) xs
+right_more : (front : List ℕ) (x : ℕ) (xs : List ℕ) → AreRight front (x ∷ xs) →
+    AreRight (front ++ x ∷ []) xs
 right_more front x xs h =
     λ k less. ap wrong (append_assoc front (x ∷ []) (take (k + 1) xs) ∙ ap (λ (z : List ℕ). front ++ z) (sym (take_more (k + 1) x xs)))
     ∙ h (k + 1) (omega (arith, less))
@@ -36,7 +38,8 @@ held_none m =
     let none : m.totals.octets + 0 ≡ m.totals.octets = omega arith in
     λ j. record m { totals = record m.totals { octets = none j }; header = append-nil m.header j }
 
-held_more : (m : Memory) (x : ℕ) (xs : List ℕ) → held_all (steps.held_on m x) xs ≡ held_all m (x ∷ xs)
+held_more : (m : Memory) (x : ℕ) (xs : List ℕ) →
+    held_all (steps.held_on m x) xs ≡ held_all m (x ∷ xs)
 unfolding steps.held_on
 held_more m x xs =
     let count : suc m.totals.octets + length xs ≡ m.totals.octets + length (x ∷ xs) = omega arith in
@@ -62,7 +65,8 @@ module _ (C : Table) (l : Listed) (most : ℕ) where
   abbrev R : Rules
   R = rules C l most
 
-  pub heads_show : (xs : List ℕ) (m : Memory) (s : State) → Shows C l m s → Fit m xs → Shows C l (held_all m xs) (run_state R s xs)
+  pub heads_show : (xs : List ℕ) (m : Memory) (s : State) → Shows C l m s → Fit m xs →
+      Shows C l (held_all m xs) (run_state R s xs)
   unfolding run_state
   heads_show [] m s h f = subst (λ (n : Memory). Shows C l n s) (sym (held_none m)) h
   heads_show (x ∷ xs) m s h f =
@@ -75,7 +79,8 @@ module _ (C : Table) (l : Listed) (most : ℕ) where
       rw (held_step C l most m s h x f.free room few (right_first m.header x xs f.right) other)
       (subst (λ (n : Memory). Shows C l n (run_state R (held_on s (m.header ++ x ∷ [])).state xs)) (held_more m x xs) more)
 
-  pub heads_quiet : (xs : List ℕ) (m : Memory) (s : State) → Shows C l m s → Fit m xs → run R s xs ≡ []
+  pub heads_quiet : (xs : List ℕ) (m : Memory) (s : State) → Shows C l m s → Fit m xs →
+      run R s xs ≡ []
   unfolding run held_on
   heads_quiet [] m s h f = refl
   heads_quiet (x ∷ xs) m s h f =

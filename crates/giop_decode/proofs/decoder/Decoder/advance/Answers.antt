@@ -121,7 +121,8 @@ returns-clause-minds g c here front h old_minds =
     let before : Recalls d.memory (hushed (leaf_in_string T leaf) (heard header nothing front)) =
     subst (λ b. Recalls d.memory (hushed b (heard header nothing front))) (leaf_inside C leaf d.carry d.piece.items)
     (rw c.in-Some.is at (recalls_by d.root d (standing C d front here) asked old_minds)) in
-    let now = rw (c.of-of.ensures, append-nil piece) at (c.in_ok-progress.ensures.hears asked (hushed (leaf_in_string T leaf) (heard header nothing front)) here (here + 1) t.lines before) in
+    let now = rw (c.of-of.ensures, append-nil piece) at (c.in_ok-progress.ensures.hears asked (hushed (leaf_in_string T leaf)
+    (heard header nothing front)) here (here + 1) t.lines before) in
     let on = heard_on header C leaf turn spoken (path_in [] ps) (here + 1) piece front t.lines (stepped C d here c.args.octet)
     c.take_octet-step.ensures.voices t.says (ap in_string e ∙ i) ls in
     subst (Recalls c.tell.new.self.memory) on (now t.says))

@@ -31,6 +31,7 @@ returns-in-Some c =
     let e : d.leaf ≡ Some (innermost.Number c.in-Some-Number.of) = some ∙ ap Some number in
     let head = (stands_at C d c.requires (innermost.Number c.in-Some-Number.of) e).fits.kind in
     let v = c.take_value.ensures in
-    comes_head C d c.in-Some-Number.of c.args.octets.now c.in-Some.count c.requires e c.if-self.false (c.if-not-is_empty.ensures.0 refl) c.in-Some.whole.now c.take_value.result
+    comes_head C d c.in-Some-Number.of c.args.octets.now c.in-Some.count c.requires e c.if-self.false
+    (c.if-not-is_empty.ensures.0 refl) c.in-Some.whole.now c.take_value.result
     (subst (λ w. StandsWhole w d.at c.args.octets.now c.in-Some.count c.in-Some.whole.now) (c.width.ensures.width head) c.in-Some.ensures.stands)
     v.turns_in v.speaks v.voices v.turns

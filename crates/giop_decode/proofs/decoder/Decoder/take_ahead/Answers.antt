@@ -14,102 +14,110 @@ use Rattle.giop_decode.proofs.decoder.Decoder.take_ahead.Goals as goal
 
 pub tell-requires-clause-around : goal.tell-requires-clause-around
 tell-requires-clause-around g c =
-    around_whole c.args.catalogue.now c.args.self.now c.args.octets.now c.args.ahead.of c.args.ahead.count c.args.ahead.step c.args.ahead.rest.now c.requires.fits c.requires.ahead
+    let a = c.args.ahead in
+    around_whole c.args.catalogue.now c.args.self.now c.args.octets.now a.of a.count a.step a.rest.now c.requires.fits c.requires.ahead
     c.further-self.result (omega (arith, c.further-self.ensures))
 
 pub returns-in_err-progress-clause-writes : goal.returns-in_err-progress-clause-writes
 returns-in_err-progress-clause-writes g c T order at message root s r =
+    let a = c.args.ahead in
     let C = c.args.catalogue.now in
     let d = c.args.self.now in
     let octets = c.args.octets.now in
     let h = c.requires.ahead in
     let f = c.requires.fits in
-    let i = c.args.ahead.count - 1 in
+    let i = a.count - 1 in
     let b = get_or octets i 0 in
     let so_far = s ++ take i octets in
     let here = at + length so_far in
-    let whole = gathered_whole C d octets c.args.ahead.of c.args.ahead.count c.args.ahead.step c.args.ahead.rest.now f h c.further-self.result c.further-self.ensures in
-    let before = before_last C d octets c.args.ahead.of c.args.ahead.count c.args.ahead.step c.args.ahead.rest.now f h c.further-self.result in
+    let whole = gathered_whole C d octets a.of a.count a.step a.rest.now f h c.further-self.result c.further-self.ensures in
+    let before = before_last C d octets a.of a.count a.step a.rest.now f h c.further-self.result in
     let held = whole.1 T order at message root s r in
     let k = held.takes.reads (λ fault. fault) in
     let below : i < length octets = omega (arith, h.some, h.within) in
-    let ls = lines_whole C d octets c.args.ahead.of c.args.ahead.count c.args.ahead.step c.args.ahead.rest.now f h c.further-self.result here c.further-self.ensures k.offset in
+    let ls = lines_whole C d octets a.of a.count a.step a.rest.now f h c.further-self.result here c.further-self.ensures k.offset in
     let one = rw (← ls, ← due_is C T order at message root before so_far b whole.0 k, k.same_message, k.same_root) at
-    (c.in_err-progress.ensures.writes here (here + 1) (lines_at C d octets c.args.ahead.of c.args.ahead.count c.args.ahead.step c.args.ahead.rest.now f h here) (says_at C d octets c.args.ahead.of c.args.ahead.count c.args.ahead.step c.args.ahead.rest.now f h here)) in
+    (c.in_err-progress.ensures.writes here (here + 1) (lines_at C d octets a.of a.count a.step a.rest.now f h here)
+    (says_at C d octets a.of a.count a.step a.rest.now f h here)) in
     writes_broken c.from_residual.result T order at message root s octets _ _ c.from_residual.ensures.0
     (breaks_off T order at message root s octets i _ _ _ below held.takes.answers
     (rw (said_none message root _ held.quiet) (wrote-nil _)) one)
 
 pub returns-clause-writes : goal.returns-clause-writes
 returns-clause-writes g c T order at message root s r =
+    let a = c.args.ahead in
     let C = c.args.catalogue.now in
     let d = c.args.self.now in
     let octets = c.args.octets.now in
     let h = c.requires.ahead in
     let f = c.requires.fits in
-    let i = c.args.ahead.count - 1 in
+    let i = a.count - 1 in
     let b = get_or octets i 0 in
     let so_far = s ++ take i octets in
     let here = at + length so_far in
-    let whole = gathered_whole C d octets c.args.ahead.of c.args.ahead.count c.args.ahead.step c.args.ahead.rest.now f h c.further-self.result c.further-self.ensures in
-    let before = before_last C d octets c.args.ahead.of c.args.ahead.count c.args.ahead.step c.args.ahead.rest.now f h c.further-self.result in
+    let whole = gathered_whole C d octets a.of a.count a.step a.rest.now f h c.further-self.result c.further-self.ensures in
+    let before = before_last C d octets a.of a.count a.step a.rest.now f h c.further-self.result in
     let held = whole.1 T order at message root s r in
     let k = held.takes.reads (λ fault. fault) in
     let below : i < length octets = omega (arith, h.some, h.within) in
-    let all : i + 1 ≡ c.args.ahead.count = omega (arith, h.some) in
-    let ls = lines_whole C d octets c.args.ahead.of c.args.ahead.count c.args.ahead.step c.args.ahead.rest.now f h c.further-self.result here c.further-self.ensures k.offset in
+    let all : i + 1 ≡ a.count = omega (arith, h.some) in
+    let ls = lines_whole C d octets a.of a.count a.step a.rest.now f h c.further-self.result here c.further-self.ensures k.offset in
     let none : Wrote (g.O.Out.log c.args.out.now) (g.O.Out.log c.args.out.now) (lines_text message root (dues order T at s (take i octets))) =
     rw (said_none message root _ held.quiet) (wrote-nil _) in
     let one = rw (← ls, ← due_is C T order at message root before so_far b whole.0 k, k.same_message, k.same_root) at
-    (c.in_ok-progress.ensures.writes here (here + 1) (lines_at C d octets c.args.ahead.of c.args.ahead.count c.args.ahead.step c.args.ahead.rest.now f h here) (says_at C d octets c.args.ahead.of c.args.ahead.count c.args.ahead.step c.args.ahead.rest.now f h here)) in
+    (c.in_ok-progress.ensures.writes here (here + 1) (lines_at C d octets a.of a.count a.step a.rest.now f h here)
+    (says_at C d octets a.of a.count a.step a.rest.now f h here)) in
     rw (← all, text_more message root order T at s octets i below) (wrote-append _ _ _ _ _ none one)
 
 pub returns-clause-takes : goal.returns-clause-takes
 returns-clause-takes g c T order at message root s r =
+    let a = c.args.ahead in
     let C = c.args.catalogue.now in
     let d = c.args.self.now in
     let octets = c.args.octets.now in
     let h = c.requires.ahead in
     let f = c.requires.fits in
-    let i = c.args.ahead.count - 1 in
+    let i = a.count - 1 in
     let b = get_or octets i 0 in
     let p = c.in_ok-progress.progress in
     let new = c.tell.new.self in
     let e = c.in_ok-progress.ensures in
     let step = c.further-self.ensures in
     let there = c.further-self.result in
-    let whole = gathered_whole C d octets c.args.ahead.of c.args.ahead.count c.args.ahead.step c.args.ahead.rest.now f h there step in
-    let before = before_last C d octets c.args.ahead.of c.args.ahead.count c.args.ahead.step c.args.ahead.rest.now f h there in
-    let lines = lines_at C d octets c.args.ahead.of c.args.ahead.count c.args.ahead.step c.args.ahead.rest.now f h in
-    let says = says_at C d octets c.args.ahead.of c.args.ahead.count c.args.ahead.step c.args.ahead.rest.now f h in
+    let whole = gathered_whole C d octets a.of a.count a.step a.rest.now f h there step in
+    let before = before_last C d octets a.of a.count a.step a.rest.now f h there in
+    let lines = lines_at C d octets a.of a.count a.step a.rest.now f h in
+    let says = says_at C d octets a.of a.count a.step a.rest.now f h in
     let held = whole.1 T order at message root s r in
     let below : i < length octets = omega (arith, h.some, h.within) in
-    let all : i + 1 ≡ c.args.ahead.count = omega (arith, h.some) in
+    let all : i + 1 ≡ a.count = omega (arith, h.some) in
     subst (λ n. TakesRun C T order at message root new s (take n octets) p) all
     (takes_more C T order at message root new s octets i p below held.takes.answers
     (takes_to C T order at message root before new (s ++ take i octets) b p whole.0 e.order e.root e.message e.here
-    (λ here stands. rw (told_whole C d octets c.args.ahead.of c.args.ahead.count c.args.ahead.step c.args.ahead.rest.now f h there here step stands) (e.steps here (lines here) (says here)))
-    (λ here front stands old. minds_whole C d octets c.args.ahead.of c.args.ahead.count c.args.ahead.step c.args.ahead.rest.now f h new there here front step stands (e.inside here (lines here))
+    (λ here stands. rw (told_whole C d octets a.of a.count a.step a.rest.now f h there here step stands) (e.steps here (lines here) (says here)))
+    (λ here front stands old. minds_whole C d octets a.of a.count a.step a.rest.now f h new there here front step stands (e.inside here (lines here))
     (λ asked o recalls. e.hears asked o here (here + 1) (lines here) recalls (says here)) old)
     (held.takes.reads (λ fault. fault))))
 
 pub returns-clause-fits : goal.returns-clause-fits
 returns-clause-fits g c goes_on =
+    let a = c.args.ahead in
     let C = c.args.catalogue.now in
     let d = c.args.self.now in
     let octets = c.args.octets.now in
     let h = c.requires.ahead in
     let f = c.requires.fits in
-    let b = get_or octets (c.args.ahead.count - 1) 0 in
+    let b = get_or octets (a.count - 1) 0 in
     let new = c.tell.new.self in
     let e = c.in_ok-progress.ensures in
     let there = c.further-self.result in
-    let whole = gathered_whole C d octets c.args.ahead.of c.args.ahead.count c.args.ahead.step c.args.ahead.rest.now f h there c.further-self.ensures in
-    let before = before_last C d octets c.args.ahead.of c.args.ahead.count c.args.ahead.step c.args.ahead.rest.now f h there in
+    let whole = gathered_whole C d octets a.of a.count a.step a.rest.now f h there c.further-self.ensures in
+    let before = before_last C d octets a.of a.count a.step a.rest.now f h there in
     let g' = whole.0 in
-    let told = told_whole C d octets c.args.ahead.of c.args.ahead.count c.args.ahead.step c.args.ahead.rest.now f h there g'.here c.further-self.ensures g'.stands in
+    let told = told_whole C d octets a.of a.count a.step a.rest.now f h there g'.here c.further-self.ensures g'.stands in
     let k = goes C new c.in_ok-progress.progress (g'.here + 1) (stepped C before g'.here b)
-    (rw told (e.steps g'.here (lines_at C d octets c.args.ahead.of c.args.ahead.count c.args.ahead.step c.args.ahead.rest.now f h g'.here) (says_at C d octets c.args.ahead.of c.args.ahead.count c.args.ahead.step c.args.ahead.rest.now f h g'.here))) goes_on in
+    (rw told (e.steps g'.here (lines_at C d octets a.of a.count a.step a.rest.now f h g'.here)
+    (says_at C d octets a.of a.count a.step a.rest.now f h g'.here))) goes_on in
     let next = e.next goes_on in
     let same = ap leaf_type (same_some g'.leaf h.leaf (sym g'.goes_on ∙ h.goes_on)) ∙ h.same in
     let link : Link C g'.root d.outer.items c.args.ahead.of.0 = subst (Link C g'.root d.outer.items) same g'.link in
@@ -118,11 +126,13 @@ returns-clause-fits g c goes_on =
 
 pub returns-clause-done : goal.returns-clause-done
 returns-clause-done g c is =
+    let a = c.args.ahead in
     let C = c.args.catalogue.now in
     let d = c.args.self.now in
     let octets = c.args.octets.now in
     let h = c.requires.ahead in
     let f = c.requires.fits in
-    let whole = gathered_whole C d octets c.args.ahead.of c.args.ahead.count c.args.ahead.step c.args.ahead.rest.now f h c.further-self.result c.further-self.ensures in
+    let whole = gathered_whole C d octets a.of a.count a.step a.rest.now f h c.further-self.result c.further-self.ensures in
     done C c.tell.new.self c.in_ok-progress.progress (whole.0.here + 1) _
-    (c.in_ok-progress.ensures.steps whole.0.here (lines_at C d octets c.args.ahead.of c.args.ahead.count c.args.ahead.step c.args.ahead.rest.now f h whole.0.here) (says_at C d octets c.args.ahead.of c.args.ahead.count c.args.ahead.step c.args.ahead.rest.now f h whole.0.here)) is
+    (c.in_ok-progress.ensures.steps whole.0.here (lines_at C d octets a.of a.count a.step a.rest.now f h whole.0.here)
+    (says_at C d octets a.of a.count a.step a.rest.now f h whole.0.here)) is
