@@ -255,7 +255,9 @@ impl Slots {
         ensures ready { (C : Table) (n : ℕ) → AreReady C n self.old → AreReady C n self.new }
         ensures most { self.new.slots.most ≡ self.old.slots.most }
     {
-        self.own = None;
+        if self.own.is_some() {
+            self.own = None;
+        }
         self.payload = Payload::Nobody;
     }
 
