@@ -22,22 +22,22 @@ impl Framing {
     ghost use Rattle.giop_stream.specs.Showing.{Shows, IsReached, Does};
     ghost use Rattle.giop_stream.specs.Holding.{AreOf};
 
-    /// How many of so many octets are of a message's contents alone: they come behind its request id, and none of them is
-    /// its last.
+    /// How many of so many octets are of a message's contents alone: none of them is the last of its request id, or its last.
     fn quiet(&self, room: usize) -> usize
         ensures within { result ≤ room }
         ensures full { 0 < result → length self.now.header.items ≡ 12 }
         ensures running { 0 < result → self.now.stopped ≡ None }
-        ensures named { 0 < result → 4 ≤ self.now.come }
+        ensures apart { 0 < result → self.now.come < 4 → self.now.come + result < 4 }
         ensures before_last { 0 < result → self.now.come + result < size self.now.header.items }
         ensures limit { 0 < result → self.now.totals.octets + result ≤ 2 ^ 48 }
     {
-        if self.stopped.is_some() || self.header.len() < 12 || self.come < 4 {
+        if self.stopped.is_some() || self.header.len() < 12 {
             return 0;
         }
         let left = size_of(self.header.as_slice()).saturating_sub(self.come);
         let unread = LIMIT.saturating_sub(self.totals.octets);
-        room.min(left.saturating_sub(1) as usize)
+        before_id(self.come, room)
+            .min(left.saturating_sub(1) as usize)
             .min(unread as usize)
     }
 
@@ -51,7 +51,7 @@ impl Framing {
     ) -> Result<(), OutFault>
         requires full { length self.old.header.items ≡ 12 }
         requires running { self.old.stopped ≡ None }
-        requires named { 4 ≤ self.old.come }
+        requires apart { self.old.come < 4 → self.old.come + length octets.now < 4 }
         requires before_last { self.old.come + length octets.now < size self.old.header.items }
         requires limit { self.old.totals.octets + length octets.now ≤ 2 ^ 48 }
         requires some { 0 < length octets.now }
@@ -162,5 +162,18 @@ impl Framing {
             }
         }
         Ok(())
+    }
+}
+
+/// How many of so many octets of a payload, behind so many others, come before the last one of its request id: all of them
+/// where that has come.
+fn before_id(come: u32, room: usize) -> usize
+    ensures within { result ≤ room }
+    ensures apart { come < 4 → come + result < 4 }
+{
+    if come < 4 {
+        room.min((3 - come) as usize)
+    } else {
+        room
     }
 }

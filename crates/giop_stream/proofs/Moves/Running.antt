@@ -1,6 +1,6 @@
 -- Octets that are of a message's contents alone, all at once: what is known of the stream with them, and that the code does
 -- their steps.
-use Rattle.std.proofs.Common.{◌≡◌, ℕ, suc, ◌+◌, ◌-◌, ◌^◌, ◌<◌, ◌≤◌, Bool, true, false, List, [], ◌∷◌, ◌++◌, length, get_or, refl, sym, ap, subst, ◌∙◌, append_assoc, append-nil, length-append, Option, Some, None, Result, Ok, Err, arith}
+use Rattle.std.proofs.Common.{◌≡◌, ◌≢◌, ℕ, suc, ◌+◌, ◌-◌, ◌^◌, ◌<◌, ◌≤◌, Bool, true, false, List, [], ◌∷◌, ◌++◌, length, get_or, refl, sym, ap, subst, ◌∙◌, append_assoc, append-nil, length-append, Option, Some, None, Result, Ok, Err, arith}
 use mir.Val.{bool_byte}
 use Rattle.std.specs.Prelude.{OnOk}
 use Rattle.std.specs.Result.{OkIff, result_unwrap_or}
@@ -47,11 +47,11 @@ use Rattle.giop_stream.proofs.Moves.Settling.{goes_on}
 
 -- ---- One of them.
 
--- So many octets more are of the contents of this message alone: its request id has come, and none of them is its last.
+-- So many octets more are of the contents of this message alone: none of them is the last of its request id, or its last.
 pub record Within (p : List ℕ) (m : Message) (n : ℕ) : Type 0 where
   pub free : (cut p).stop ≡ None
   pub current : (cut p).current ≡ Some m
-  pub named : 4 ≤ length m.payload
+  pub apart : length m.payload < 4 → length m.payload + n < 4
   pub before_last : length m.payload + n < size m.header
   pub room : length p + n ≤ limit
 
@@ -62,6 +62,13 @@ within_grows p m x n h =
     ∙ (next_payload (cut p).whole m (cut p).held (length p) x (le-ltb limit (suc (length p)) (omega (arith, h.room)))
     ∙ goes_on (cut p).whole (with_octet m x) (omega (arith, h.before_last, length_push m.payload x))))
 
+-- the next one is not the last of the request id
+not_named : (p : List ℕ) (m : Message) (x n : ℕ) → Within p m (suc n) →
+    length (m.payload ++ x ∷ []) ≢ 4
+not_named p m x n h e =
+    let three : length m.payload ≡ 3 = omega (arith, e, length_push m.payload x) in
+    omega (arith, three, h.apart (omega (arith, three)))
+
 within_on : (p : List ℕ) (m : Message) (x n : ℕ) → Within p m (suc n) → Within (p ++ x ∷ []) (with_octet m x) n
 unfolding of_parts
 within_on p m x n h =
@@ -69,28 +76,29 @@ within_on p m x n h =
     record {
       free = ap (λ (d : Cut). d.stop) grown;
       current = ap (λ (d : Cut). d.current) grown;
-      named = omega (arith, h.named, length_push m.payload x);
+      apart = λ less. omega (arith, h.apart (omega (arith, less, length_push m.payload x)), length_push m.payload x);
       before_last = omega (arith, h.before_last, length_push m.payload x);
       room = omega (arith, h.room, length_push p x);
     }
 
 -- it does nothing but come to the message whose it is,
-comes_alone : (most : ℕ) (live : List Open) (m : Message) → 4 < length m.payload → length m.payload < size m.header → happens most live m ≡ at_octet live m
+comes_alone : (most : ℕ) (live : List Open) (m : Message) → 0 < length m.payload →
+    length m.payload ≢ 4 → length m.payload < size m.header →
+    happens most live m ≡ at_octet live m
 unfolding happens
-comes_alone most live m past less =
+comes_alone most live m some other less =
     rw (
-      ne_eqb (length m.payload) 0 (λ e. omega (arith, past, e)),
-      ne_eqb (length m.payload) 4
-          (λ e. omega (arith, past, e)),
+      ne_eqb (length m.payload) 0 (λ e. omega (arith, some, e)),
+      ne_eqb (length m.payload) 4 other,
       ne_eqb (length m.payload) (size m.header) (λ e. omega (arith, less, e)),
     )
     (append-nil (at_octet live m))
 
 -- whose the next one is too
-whose_on : (live : List Open) (m : Message) (x : ℕ) → 4 ≤ length m.payload → whose live (with_octet m x) ≡ whose live m
-whose_on live m x named =
-    whose_elsewhere live (with_octet m x) (ne_eqb (length (m.payload ++ x ∷ [])) 4
-    (λ e. omega (arith, named, length_push m.payload x, e))) ∙ whose_next live m x
+whose_on : (live : List Open) (m : Message) (x : ℕ) → length (m.payload ++ x ∷ []) ≢ 4 →
+    whose live (with_octet m x) ≡ whose live m
+whose_on live m x other =
+    whose_elsewhere live (with_octet m x) (ne_eqb (length (m.payload ++ x ∷ [])) 4 other) ∙ whose_next live m x
 
 module _ (C : Table) (l : Listed) where
   takes_live : (at : ℕ) (c : Tracked) (w : Option Title) (x : ℕ) → (effect_to C l at c w (Takes x)).tracked.live ≡ c.live
@@ -114,7 +122,7 @@ module _ (C : Table) (l : Listed) where
         let last : get_or (m.payload ++ x ∷ []) (length (m.payload ++ x ∷ []) - 1) 0 ≡ x =
         get_or_push m.payload x 0 (length (m.payload ++ x ∷ []) - 1) (omega (arith, length_push m.payload x)) in
         let alone =
-        comes_alone most (open_after most p) (with_octet m x) (omega (arith, h.named, length_push m.payload x))
+        comes_alone most (open_after most p) (with_octet m x) (omega (arith, length_push m.payload x)) (not_named p m x n h)
         (omega (arith, h.before_last, length_push m.payload x)) in
         rw (alone, ← whose_next (open_after most p) m x)
         (octet_does C l (stage (rules C l most) p) (with_octet m x) x (suc (length p)) last
@@ -132,7 +140,7 @@ module _ (C : Table) (l : Listed) where
         let live : open_after most (p ++ x ∷ []) ≡ open_after most p =
         ap (λ (c : Tracked). c.live) octet_adds.stage
         ∙ takes_live (suc (length p)) (stage (rules C l most) p) (whose (open_after most p) m) x in
-        ap (λ (open' : List Open). whose open' (with_octet m x)) live ∙ whose_on (open_after most p) m x h.named
+        ap (λ (open' : List Open). whose open' (with_octet m x)) live ∙ whose_on (open_after most p) m x (not_named p m x n h)
 
 -- ---- All of them.
 
@@ -198,7 +206,8 @@ started_last R causal laws p m free current =
     omega (arith, so.starts, count, at_hand.number_is)
 
 module _ (C : Table) (l : Listed) (most : ℕ) (s : State) (reached : IsReached C l most s) (m : Memory) (h : Shows C l m s)
-    (free : m.stopped ≡ None) (c : Message) (current : (cut reached.stream).current ≡ Some c) (q : List ℕ) (named : 4 ≤ m.come)
+    (free : m.stopped ≡ None) (c : Message) (current : (cut reached.stream).current ≡ Some c) (q : List ℕ)
+    (apart : m.come < 4 → m.come + length q < 4)
     (before_last : m.come + length q < size m.header) (room : m.totals.octets + length q ≤ 2 ^ 48) where
   abbrev R : Rules
   R = rules C l most
@@ -216,7 +225,7 @@ module _ (C : Table) (l : Listed) (most : ℕ) (s : State) (reached : IsReached 
       record {
         free = runs_on C l most s reached m h free;
         current = current;
-        named = omega (arith, named, come);
+        apart = λ less. omega (arith, apart (omega (arith, less, come)), come);
         before_last = omega (arith, before_last, come, ap size (header_is C l most s reached m h free c current));
         room = omega (arith, room, all);
       }

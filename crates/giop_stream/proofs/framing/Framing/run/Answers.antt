@@ -18,10 +18,10 @@ returns-in_err-faulted-clause-does g c s r h =
     let q = c.args.octets.now in
     let asks = c.requires in
     let here = has_current C kept c.args.self.now.slots.slots.most s r m h asks.running asks.full in
-    let keeps = run_keeps C kept c.args.self.now.slots.slots.most s r m h asks.running here.0 here.1 q asks.named asks.before_last asks.limit in
-    let rises = run_rises C kept c.args.self.now.slots.slots.most s r m h asks.running here.0 here.1 q asks.named asks.before_last asks.limit in
+    let keeps = run_keeps C kept c.args.self.now.slots.slots.most s r m h asks.running here.0 here.1 q asks.apart asks.before_last asks.limit in
+    let rises = run_rises C kept c.args.self.now.slots.slots.most s r m h asks.running here.0 here.1 q asks.apart asks.before_last asks.limit in
     let failed = c.from_residual.ensures.0 in
-    run_does C kept c.args.self.now.slots.slots.most s r m h asks.running here.0 here.1 q asks.named asks.before_last asks.limit _ _ _ _
+    run_does C kept c.args.self.now.slots.slots.most s r m h asks.running here.0 here.1 q asks.apart asks.before_last asks.limit _ _ _ _
     (writes_failed c.from_residual.result (g.O.Out.log c.args.out.now) (g.O.Out.log c.take.new.out) _ failed
     (c.in_err-faulted.ensures.does (stage (rules C kept c.args.self.now.slots.slots.most) r.stream)
     (whose (open_after c.args.self.now.slots.slots.most r.stream) here.0) keeps rises).text) (on_err _ c.from_residual.result failed)
@@ -34,13 +34,13 @@ returns-clause-does g c s r h =
     let q = c.args.octets.now in
     let asks = c.requires in
     let here = has_current C kept c.args.self.now.slots.slots.most s r m h asks.running asks.full in
-    let keeps = run_keeps C kept c.args.self.now.slots.slots.most s r m h asks.running here.0 here.1 q asks.named asks.before_last asks.limit in
-    let fits = run_fits C kept c.args.self.now.slots.slots.most s r m h asks.running here.0 here.1 q asks.named asks.before_last asks.limit in
-    let rises = run_rises C kept c.args.self.now.slots.slots.most s r m h asks.running here.0 here.1 q asks.named asks.before_last asks.limit in
+    let keeps = run_keeps C kept c.args.self.now.slots.slots.most s r m h asks.running here.0 here.1 q asks.apart asks.before_last asks.limit in
+    let fits = run_fits C kept c.args.self.now.slots.slots.most s r m h asks.running here.0 here.1 q asks.apart asks.before_last asks.limit in
+    let rises = run_rises C kept c.args.self.now.slots.slots.most s r m h asks.running here.0 here.1 q asks.apart asks.before_last asks.limit in
     let all : c.unwrap_or-come.result ≡ length q =
     c.unwrap_or-come.ensures ∙ number_fits c.try_from.result (length q) _ (omega (arith, fits)) c.try_from.ensures in
     let does = c.in_ok-faulted.ensures.does (stage (rules C kept c.args.self.now.slots.slots.most) r.stream) (whose (open_after c.args.self.now.slots.slots.most r.stream) here.0) keeps rises in
-    run_does C kept c.args.self.now.slots.slots.most s r m h asks.running here.0 here.1 q asks.named asks.before_last asks.limit _ _ _ _ does.text
-    (run_shows C kept c.args.self.now.slots.slots.most s r m h asks.running here.0 here.1 q asks.named asks.before_last asks.limit _ refl
+    run_does C kept c.args.self.now.slots.slots.most s r m h asks.running here.0 here.1 q asks.apart asks.before_last asks.limit _ _ _ _ does.text
+    (run_shows C kept c.args.self.now.slots.slots.most s r m h asks.running here.0 here.1 q asks.apart asks.before_last asks.limit _ refl
     (ap (λ (n : ℕ). m.totals.faults + n) (c.from.ensures ∙ (one_byte _ ∙ sym does.faults))) refl refl refl
     (omega (arith, c.saturating_add-self.ensures, all, fits)) does.kept)
