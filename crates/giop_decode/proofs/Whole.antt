@@ -157,11 +157,6 @@ module _ (C : Table) (d : Decoder) (of : TypeId) (octets : List ℕ) (count : �
 
 -- ---- the rest of a piece ahead
 
-bare_silent : (T : Ty) → IsBare T → is_text T ≡ false
-bare_silent (Octets bound) h = refl
-bare_silent (Encapsulation E) h = refl
-bare_silent T h = absurd h
-
 module _ (C : Table) (d : Decoder) (of : TypeId) (total offset : ℕ) (octets : List ℕ) (count : ℕ)
     (f : Fits C d)
     (e : d.leaf ≡ Some (innermost.Content of total offset)) (outside : d.inside ≡ false) where
