@@ -26,7 +26,7 @@ pub enum Number {
 }
 
 /// The number that the octets of a primitive spell, as that primitive.
-#[inline]
+#[inline(always)]
 pub fn number_of(order: Order, prim: Prim, octets: &[u8]) -> Result<Number, CdrFault>
     requires { length octets.now ≡ size_of prim }
     ensures ok { IfOk result (λ number. number_of prim order octets.now ≡ Some number) }
@@ -38,7 +38,7 @@ pub fn number_of(order: Order, prim: Prim, octets: &[u8]) -> Result<Number, CdrF
 }
 
 /// The number that octets spell.
-#[inline]
+#[inline(always)]
 fn spelled(order: Order, octets: &[u8]) -> u64
     requires { length octets.now ≤ 8 }
     ensures value { result ≡ num order octets.now }
@@ -51,7 +51,7 @@ fn spelled(order: Order, octets: &[u8]) -> u64
 }
 
 /// What a number of a primitive's size is as that primitive.
-#[inline]
+#[inline(always)]
 #[tactic(auto, unfolding(crate::specs::Numbers::twos_complement))]
 fn interpreted(prim: Prim, n: u64) -> Result<Number, CdrFault>
     requires { n < 256 ^ size_of prim }
@@ -74,7 +74,7 @@ fn interpreted(prim: Prim, n: u64) -> Result<Number, CdrFault>
 }
 
 /// The number that octets spell, the first heaviest.
-#[inline]
+#[inline(always)]
 #[tactic(auto, using(crate::proofs::Spelling::spelling_steps))]
 fn heaviest_first(octets: &[u8]) -> u64
     requires { length octets.now ≤ 8 }
@@ -89,7 +89,7 @@ fn heaviest_first(octets: &[u8]) -> u64
 }
 
 /// The number that octets spell, the first lightest.
-#[inline]
+#[inline(always)]
 #[tactic(auto, using(crate::proofs::Spelling::spelling_steps))]
 fn lightest_first(octets: &[u8]) -> u64
     requires { length octets.now ≤ 8 }

@@ -239,6 +239,7 @@ pub(crate) fn whole(catalogue: &Catalogue, t: TypeId) -> Option<u32>
 }
 
 /// Begins a type: adds the frames on the way to its first number, and answers the type that begins with it.
+#[inline(always)]
 pub(crate) fn begin(catalogue: &Catalogue, outer: &mut ArrayVec<Frame, 24>, t: TypeId) -> TypeId
     requires known { t.0 < length catalogue.now.types }
     requires known_outer { AreKnown catalogue.now outer.old.items }
@@ -269,6 +270,7 @@ pub(crate) fn begin(catalogue: &Catalogue, outer: &mut ArrayVec<Frame, 24>, t: T
 
 /// Goes on behind a part that has ended, and answers the innermost part that comes next, the rest of an encapsulation or
 /// the next number, or None where the whole has ended.
+#[inline(always)]
 pub(crate) fn go_on(catalogue: &Catalogue, outer: &mut ArrayVec<Frame, 24>) -> Option<Leaf>
     requires known { AreKnown catalogue.now outer.old.items }
     requires open { (at : ℕ) × OpenFrom 24 (places catalogue.now at outer.old.items) }

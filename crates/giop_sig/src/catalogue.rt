@@ -106,6 +106,7 @@ impl Catalogue {
     }
 
     /// The outermost form of a type.
+    #[inline(always)]
     pub fn shape(&self, t: TypeId) -> Shape
         requires { t.0 < length self.now.types }
         ensures is { result ≡ shape_of (node_at self.now t.0) }
@@ -118,6 +119,7 @@ impl Catalogue {
 
     /// The type of the part at a place: of a member, a case or a tagged type's part by its place from 0, of an element and
     /// of what an encapsulation holds for any place.
+    #[inline(always)]
     pub fn part(&self, t: TypeId, place: u32) -> TypeId
         requires known { t.0 < length self.now.types }
         requires place { HasPlace (shape_in (tree self.now t.0)) place }

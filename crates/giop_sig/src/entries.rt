@@ -96,6 +96,7 @@ impl Entry {
     ghost use Rattle.giop_sig.specs.Views.{node_view, IsSized};
 
     /// The outermost form of the type.
+    #[inline(always)]
     pub(crate) fn shape(&self) -> Shape
         requires { IsSized self.now }
         ensures { result ≡ shape_of (node_view self.now) }
@@ -115,6 +116,7 @@ impl Entry {
     }
 
     /// The type of the part at a place, of an element and of what an encapsulation holds for any place.
+    #[inline(always)]
     pub(crate) fn part(&self, place: u32) -> TypeId
         requires { HasPlace (shape_of (node_view self.now)) place }
         ensures { result.0 ≡ type_of (part_at (node_view self.now) place) }
