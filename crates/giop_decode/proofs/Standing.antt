@@ -91,26 +91,25 @@ spells_more w a b c end more text e r s =
 
 -- room for all of it
 pub spells_here : (C : Table) (root : Root) (outer : List Frame) (switch : Option TypeId) (w : Bool)
-    (a b c d : Line) (word : List ℕ) → line_text b ≡ end_text C switch ++ line_text a →
+    (a b c d : Line) → line_text b ≡ end_text C switch ++ line_text a →
     line_room b + length (end_text C switch) ≡ line_room a → Spells w b c (frames_text C outer) →
-    w ≡ true → word ≡ root_word root → line_text d ≡ word ++ line_text c →
-    line_room d + length word ≡ line_room c →
+    w ≡ true → line_text d ≡ root_word root ++ line_text c →
+    line_room d + length (root_word root) ≡ line_room c →
     Spells true a d (path_text root (path_in [] (places C 0 outer) ++ end_segs C switch))
-spells_here C root outer switch w a b c d word be br s whole is de dr =
+spells_here C root outer switch w a b c d be br s whole de dr =
     let frames = frames_text C outer in
     let end = end_text C switch in
     let front : s.front ≡ frames = s.all whole in
     let c_text : line_text c ≡ frames ++ line_text b = rw front at s.spelled in
     let c_room : line_room c + length frames ≡ line_room b = rw front at s.room in
-    let d_room : line_room d + length (root_word root) ≡ line_room c = rw is at dr in
     record {
       front = root_word root ++ (frames ++ end);
-      spelled = rw (de, is, c_text, be) (sym (append_assoc (root_word root) (frames ++ end)
+      spelled = rw (de, c_text, be) (sym (append_assoc (root_word root) (frames ++ end)
           (line_text a)
           ∙ ap (λ text. root_word root ++ text) (append_assoc frames end (line_text a))));
       room = omega (
         arith,
-        d_room,
+        dr,
         c_room,
         br,
         length-append (root_word root)

@@ -11,7 +11,7 @@ ghost use Rattle.giop_sig.specs.Types.{shape_in, IsUnion};
 ghost use Rattle.giop_sig.specs.Trees.{tree};
 
 use crate::frame::Frame;
-use giop_print::{Line, Path, Position, Root, root_word};
+use giop_print::{Line, Path, Position, Root, put_root};
 use giop_sig::{Catalogue, Shape, TypeId};
 use std::marker::Model;
 
@@ -59,7 +59,7 @@ impl Position for Here<'_> {
         if line.room() < SEGMENT {
             return false;
         }
-        line.put_octets(root_word(self.root));
+        put_root(line, self.root);
         true
     }
 

@@ -1,6 +1,6 @@
 -- How the code spells octets and numbers, one after another.
 use Rattle.std.proofs.Common.{◌≡◌, ℕ, zero, suc, ◌+◌, ◌-◌, ◌*◌, ◌/◌, ◌%◌, ◌^◌, ◌<◌, ◌≤◌, List, [], ◌∷◌, ◌++◌, length, get_or, refl, sym, ap, ◌∙◌, arith, append_assoc, append-nil, pow-suc, add-one, drop, flat_map, Bool, true, ◌&&◌, T, eqb, eqb→eq, eq-zero-or-pos, inl, inr}
-use Rattle.std.proofs.lemmas.Nat.{pow-add}
+use Rattle.std.proofs.lemmas.Nat.{pow-add, shr-shr}
 use Rattle.std.proofs.lemmas.List.{drop_all, drop_more}
 use lib.Ieee.Fits.{and_l, and_r}
 use Rattle.giop_print.specs.declared.line.TheConstants.{PAIRS}
@@ -80,13 +80,26 @@ pub escaped_before : (text before : List ℕ) (xs : List ℕ) (i : ℕ) → 0 < 
 unfolding escaped
 escaped_before text before xs i p h e = rw (from_end xs i p h, e) (sym (append_assoc (escaped_octet (get_or xs (i - 1) 0)) (flat_map escaped_octet (drop i xs)) text))
 
--- one digit more of a number, from the lowest
+-- the digits of one octet more of a number, from the lowest
 pub hex_number_none : (text : List ℕ) (n : ℕ) → text ≡ hex_number 0 n ++ text
 unfolding hex_number
 hex_number_none text n = refl
 
-pub hex_number_before : (text before : List ℕ) (k n : ℕ) → before ≡ hex_number k n ++ text → hex_digit (n / 2 ^ (4 * k) % 16) ∷ before ≡ hex_number (k + 1) n ++ text
+-- the two digits of an octet of a number
+high_digit : (k n : ℕ) → n / 2 ^ (8 * k) % 256 / 16 ≡ n / 16 ^ (2 * k + 1) % 16
+high_digit k n =
+    let e : 4 * (2 * k + 1) ≡ 8 * k + 4 = omega arith in
+    rw (pow-16 (2 * k + 1), e, ← shr-shr n (8 * k) 4) (omega arith)
+
+low_digit : (k n : ℕ) → n / 2 ^ (8 * k) % 256 % 16 ≡ n / 16 ^ (2 * k) % 16
+low_digit k n =
+    let e : 4 * (2 * k) ≡ 8 * k = omega arith in
+    rw (pow-16 (2 * k), e) (omega arith)
+
+pub hex_number_before : (text before : List ℕ) (k n : ℕ) → before ≡ hex_number (2 * k) n ++ text → hex_octet (n / 2 ^ (8 * k) % 256) ++ before ≡ hex_number (2 * (k + 1)) n ++ text
 unfolding hex_number
-hex_number_before text before k n e = rw (add-one, ← pow-16 k, e) refl
+hex_number_before text before k n e =
+    let s : 2 * (k + 1) ≡ suc (suc (2 * k)) = omega arith in
+    rw (s, high_digit, low_digit, e, add-one) refl
 
 pub ruleset spelling_steps = (hex_last, hex_before, escaped_last, escaped_before, hex_number_none, hex_number_before)

@@ -125,5 +125,5 @@ writes_failed (Ok v) a b x e p = absurd (false≢true e)
 writes_failed (Err v) a b x e p = p
 
 -- the parts of a line of a message
-pub writes_headed : {A E : Type 0} (r : Result A E) (a b : OutLog) (message : ℕ) (place kind rest : List ℕ) → Writes r a b (headed message place kind (rest ++ [])) → Writes r a b (headed message place kind rest)
-writes_headed r a b message place kind rest w = subst (Writes r a b) (ap (headed message place kind) (append-nil rest)) w
+pub writes_headed : {A E : Type 0} (r : Result A E) (a b : OutLog) (message : ℕ) (place kind rest : List ℕ) → Writes r a b (headed message place (kind ++ (rest ++ []))) → Writes r a b (headed message place (kind ++ rest))
+writes_headed r a b message place kind rest w = subst (Writes r a b) (ap (λ z. headed message place (kind ++ z)) (append-nil rest)) w

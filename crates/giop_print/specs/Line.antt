@@ -14,9 +14,9 @@ line_room l = l.at
 abbrev pub numbered : ℕ → List ℕ → List ℕ
 numbered message rest = codes "m" ++ (decimal message ++ rest)
 
--- a line of a message at a place: what the place is followed by, and the rest
-abbrev pub headed : ℕ → List ℕ → List ℕ → List ℕ → List ℕ
-headed message place kind rest = numbered message (codes " " ++ (place ++ (kind ++ rest)))
+-- a line of a message at a place, and what the place is followed by
+abbrev pub headed : ℕ → List ℕ → List ℕ → List ℕ
+headed message place rest = numbered message (codes " " ++ (place ++ rest))
 
 -- what spelling a text before what was spelled of a line did: all of it stands there now, or an end
 -- of it

@@ -8,7 +8,6 @@ mod path;
 mod position;
 mod sheet;
 mod sink;
-mod text;
 mod value;
 mod words;
 mod written;
@@ -22,7 +21,7 @@ pub use lines::{
     split_piece_line, split_rest_line, start_line, stream_fault_line, total_line, unfinished_line,
     value_line,
 };
-pub use path::{Path, Root, root_word};
+pub use path::{Path, Root, put_root};
 pub use position::Position;
 pub use sheet::Sheet;
 pub use sink::{Out, OutFault, put_all, put_parts};

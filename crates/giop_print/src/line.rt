@@ -2,10 +2,9 @@
 
 ghost use Rattle.std.specs.Prelude.{◌≡◌, ◌≤◌, ◌<◌, ◌+◌, ◌-◌, ◌*◌, [], ◌∷◌, ◌++◌, length, drop, decimal};
 ghost use Rattle.std.specs.Fmt.{signed_decimal};
-ghost use Rattle.giop_print.specs.Text.{hex_octet, hex, hex_number, escaped_octet, escaped};
+ghost use Rattle.giop_print.specs.Text.{hex_octet, hex, hex_number, escaped_octet, escaped, quoted};
 ghost use Rattle.giop_print.specs.Lines.{piece_octets, split_text};
 
-use crate::text::hex_digit;
 use crate::value::Piece;
 use itoa::write_digits;
 
@@ -172,17 +171,30 @@ impl Line {
         }
     }
 
-    /// Puts so many digits of a number, the lowest last, before what was spelled.
+    /// Puts an octet between quotes before what was spelled.
+    #[inline]
+    pub(crate) fn put_quoted(&mut self, octet: u8)
+        requires { 6 ≤ line_room self.old }
+        ensures text { line_text self.new ≡ quoted (octet ∷ []) ++ line_text self.old }
+        ensures room { line_room self.old ≤ line_room self.new + 6 }
+    {
+        self.put(b'"');
+        self.put_escaped_octet(octet);
+        self.put(b'"');
+    }
+
+    /// Puts the digits of a number of so many octets, two for each, before what was spelled.
+    #[inline]
     #[tactic(auto, using(crate::proofs::Spelling::spelling_steps))]
-    pub(crate) fn put_hex_number(&mut self, n: u64, digits: u8)
-        requires digits { digits ≤ 16 }
+    pub(crate) fn put_bits(&mut self, n: u64, octets: u8)
+        requires octets { octets ≤ 8 }
         requires room { 16 ≤ line_room self.old }
-        ensures text { line_text self.new ≡ hex_number digits n ++ line_text self.old }
-        ensures room { line_room self.new + digits ≡ line_room self.old }
+        ensures text { line_text self.new ≡ hex_number (2 * octets) n ++ line_text self.old }
+        ensures room { line_room self.new + 2 * octets ≡ line_room self.old }
     {
         let mut done = 0;
-        while done < digits {
-            self.put(hex_digit(((n >> (4 * done)) % 16) as u8));
+        while done < octets {
+            self.put_octet(((n >> (8 * done)) % 256) as u8);
             done += 1;
         }
     }

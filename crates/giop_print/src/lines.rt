@@ -10,9 +10,8 @@ ghost use Rattle.giop_print.specs.Lines.{kind_line, kind_word, spaced, number_te
 use crate::line::Line;
 use crate::position::Position;
 use crate::sink::{Out, OutFault, put_all, put_parts};
-use crate::text::quoted_octet;
 use crate::value::{Piece, Value};
-use crate::words::{kind_word, more_word, order_word, piece_word, truth_word, type_word};
+use crate::words::{more_word, order_word, piece_word, put_kind, truth_word, type_word};
 use giop_cdr::{Number, Order, Prim, size};
 use itoa::Buffer;
 
@@ -26,11 +25,11 @@ pub fn value_line<O: Out, P: Position>(
     ensures { Writes result (O.log out.old) (O.log out.new)
         (value_line message (P.spelled path.now) value.entry) }
 {
-    let mut digits = Buffer::new();
     match value {
         Value::Primitive(prim, number) => number_line(out, message, path, prim, number),
         Value::Enum(name) => kind_line(out, message, path, b" enum ", name),
         Value::Count(count) => {
+            let mut digits = Buffer::new();
             let count = digits.format(count).as_bytes();
             kind_line(out, message, path, b" count ", count)
         }
@@ -49,17 +48,17 @@ fn number_line<O: Out, P: Position>(
     ensures { Writes result (O.log out.old) (O.log out.new)
         (kind_line message (P.spelled path.now) (spaced (kind_word prim)) (number_text (size_of prim) number)) }
 {
-    let kind = kind_word(prim);
     let mut line = Line::new();
     line.put(b'\n');
     match number {
         Number::Unsigned(n) => line.put_number(n),
         Number::Signed(n) => line.put_signed(n),
-        Number::Bits(bits) => line.put_hex_number(bits, 2 * size(prim)),
-        Number::Truth(truth) => return kind_line(out, message, path, kind, truth_word(truth)),
-        Number::Char(octet) => return kind_line(out, message, path, kind, &quoted_octet(octet)),
+        Number::Bits(bits) => line.put_bits(bits, size(prim)),
+        Number::Truth(truth) => line.put_octets(truth_word(truth)),
+        Number::Char(octet) => line.put_quoted(octet),
     }
-    placed_line(out, message, path, kind, &mut line)
+    put_kind(&mut line, prim);
+    spelled_line(out, message, path, &mut line)
 }
 
 /// How long a text may be that is spelled with its line. Most are shorter.
@@ -125,7 +124,7 @@ fn long_line<'a, O: Out, P: Position>(
     rest: &'a [u8],
 ) -> Result<(), OutFault>
     ensures { Writes result (O.log out.old) (O.log out.new)
-        (headed message (P.spelled path.now) kind.now rest.now) }
+        (headed message (P.spelled path.now) (kind.now ++ rest.now)) }
 {
     let mut digits = Buffer::new();
     let path = path.path();
@@ -142,7 +141,7 @@ fn long_line<'a, O: Out, P: Position>(
     )
 }
 
-/// What begins a line of a message at a position, and the rest of it, which is spelled.
+/// What begins a line of a message at a position, a kind, and the rest of it, which is spelled.
 fn placed_line<O: Out, P: Position>(
     out: &mut O,
     message: u64,
@@ -151,34 +150,39 @@ fn placed_line<O: Out, P: Position>(
     line: &mut Line,
 ) -> Result<(), OutFault>
     ensures { Writes result (O.log out.old) (O.log out.new)
-        (headed message (P.spelled path.now) kind.now (line_text line.old)) }
+        (headed message (P.spelled path.now) (kind.now ++ line_text line.old)) }
+{
+    if kind.len() > line.room() {
+        return long_line(out, message, path, kind, line.text());
+    }
+    line.put_octets(kind);
+    spelled_line(out, message, path, line)
+}
+
+/// What begins a line of a message at a position, and the rest of it, which is spelled with its kind.
+fn spelled_line<O: Out, P: Position>(
+    out: &mut O,
+    message: u64,
+    path: &P,
+    line: &mut Line,
+) -> Result<(), OutFault>
+    ensures { Writes result (O.log out.old) (O.log out.new)
+        (headed message (P.spelled path.now) (line_text line.old)) }
 {
     let room = line.room();
-    if spell_place(path, kind, line) && line.room() > NUMBER {
+    if path.spell(line) && line.room() > NUMBER {
         line.put(b' ');
         return numbered_line(out, message, line);
     }
     line.cut(room);
-    long_line(out, message, path, kind, line.text())
-}
-
-/// Spells a position and a kind before what was spelled of a line, and answers whether that had room for them.
-#[inline]
-fn spell_place<P: Position>(path: &P, kind: &[u8], line: &mut Line) -> bool
-    ensures { Spells result line.old line.new (P.spelled path.now ++ kind.now) }
-{
-    if kind.len() > line.room() {
-        return false;
-    }
-    line.put_octets(kind);
-    path.spell(line)
+    long_line(out, message, path, &[], line.text())
 }
 
 /// How many octets the number of a message may take with what stands before it.
 const NUMBER: usize = 21;
 
 /// The number of a message, and the rest of its line, which is spelled.
-#[inline]
+#[inline(always)]
 fn numbered_line<O: Out>(out: &mut O, message: u64, line: &mut Line) -> Result<(), OutFault>
     requires { 21 ≤ line_room line.old }
     ensures { Writes result (O.log out.old) (O.log out.new)

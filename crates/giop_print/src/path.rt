@@ -1,8 +1,10 @@
 //! Where a value stands in its message.
 
 ghost use Rattle.std.specs.Prelude.{◌≡◌, ◌≤◌, ◌<◌, ◌+◌, ◌++◌, length};
+ghost use Rattle.giop_print.specs.Line.{line_text, line_room};
 ghost use Rattle.giop_print.specs.Paths.{root_word, name_segment, index_segment};
 
+use crate::line::Line;
 use arrayvec::ArrayVec;
 use itoa::Buffer;
 use std::marker::Model;
@@ -123,7 +125,7 @@ impl Path {
 }
 
 /// The word of a root.
-pub fn root_word(root: Root) -> &'static [u8]
+fn root_word(root: Root) -> &'static [u8]
     ensures value { result.now ≡ root_word root }
     ensures short { length result.now ≤ 9 }
 {
@@ -131,5 +133,20 @@ pub fn root_word(root: Root) -> &'static [u8]
         Root::Header => b"header",
         Root::Exception => b"exception",
         Root::Body => b"body",
+    }
+}
+
+/// Puts the word of a root before what was spelled of a line. Each word has a copy of its own, whose length the compiler
+/// knows.
+#[inline(always)]
+pub fn put_root(line: &mut Line, root: Root)
+    requires { 9 ≤ line_room line.old }
+    ensures text { line_text line.new ≡ root_word root ++ line_text line.old }
+    ensures room { line_room line.new + length (root_word root) ≡ line_room line.old }
+{
+    match root {
+        Root::Header => line.put_octets(b"header"),
+        Root::Exception => line.put_octets(b"exception"),
+        Root::Body => line.put_octets(b"body"),
     }
 }

@@ -1,8 +1,10 @@
 //! The words of the lines.
 
-ghost use Rattle.std.specs.Prelude.{◌≡◌, ◌≤◌, length};
+ghost use Rattle.std.specs.Prelude.{◌≡◌, ◌≤◌, ◌++◌, length};
+ghost use Rattle.giop_print.specs.Line.{line_text, line_room};
 ghost use Rattle.giop_print.specs.Lines.{order_word, type_word, more_word, truth_word, kind_word, piece_word, spaced};
 
+use crate::line::Line;
 use crate::value::Piece;
 use giop_cdr::{Order, Prim};
 use itoa::Buffer;
@@ -47,27 +49,31 @@ pub fn more_word(more: bool) -> &'static [u8]
 
 /// The word of a truth.
 pub fn truth_word(truth: bool) -> &'static [u8]
-    ensures { result.now ≡ truth_word truth }
+    ensures value { result.now ≡ truth_word truth }
+    ensures short { length result.now ≤ 5 }
 {
     if truth { b"true" } else { b"false" }
 }
 
-/// The word of a primitive's kind, between spaces.
-pub fn kind_word(prim: Prim) -> &'static [u8]
-    ensures { result.now ≡ spaced (kind_word prim) }
+/// Puts the word of a primitive's kind, between spaces, before what was spelled of a line. Each word has a copy of its
+/// own, whose length the compiler knows.
+#[inline(always)]
+pub fn put_kind(line: &mut Line, prim: Prim)
+    requires { 11 ≤ line_room line.old }
+    ensures { line_text line.new ≡ spaced (kind_word prim) ++ line_text line.old }
 {
     match prim {
-        Prim::Octet => b" octet ",
-        Prim::Char => b" char ",
-        Prim::Boolean => b" boolean ",
-        Prim::Short => b" short ",
-        Prim::UShort => b" ushort ",
-        Prim::Long => b" long ",
-        Prim::ULong => b" ulong ",
-        Prim::LongLong => b" longlong ",
-        Prim::ULongLong => b" ulonglong ",
-        Prim::Float => b" float ",
-        Prim::Double => b" double ",
+        Prim::Octet => line.put_octets(b" octet "),
+        Prim::Char => line.put_octets(b" char "),
+        Prim::Boolean => line.put_octets(b" boolean "),
+        Prim::Short => line.put_octets(b" short "),
+        Prim::UShort => line.put_octets(b" ushort "),
+        Prim::Long => line.put_octets(b" long "),
+        Prim::ULong => line.put_octets(b" ulong "),
+        Prim::LongLong => line.put_octets(b" longlong "),
+        Prim::ULongLong => line.put_octets(b" ulonglong "),
+        Prim::Float => line.put_octets(b" float "),
+        Prim::Double => line.put_octets(b" double "),
     }
 }
 

@@ -14,7 +14,6 @@ pub returns : goal.returns
 returns c =
     let here = c.self.inside in
     rw (← c.self.view_is)
-    (spells_here here.catalogue.now here.root here.outer.now here.switch _ _ _ _ _ _
+    (spells_here here.catalogue.now here.root here.outer.now here.switch _ _ _ _ _
     c.spell_end.ensures.text c.spell_end.ensures.room c.if-not-spell_segments.ensures refl
-    c.root_word.ensures.value
-    c.put_octets.ensures.text c.put_octets.ensures.room)
+    c.put_root.ensures.text c.put_root.ensures.room)
