@@ -211,7 +211,7 @@ tag_in T = None
 abbrev pub switch_seg : Ty → Seg
 switch_seg T = Switch (tag_in T)
 
--- the line that an octet gives, if any, where these octets of a piece are held
+-- the line that an octet gives, if any, where a piece has these octets, held ones and those ahead
 abbrev pub IsSpoken : Ty → List Seg → ℕ → Spoken → List ℕ → List Line → Type 0
 IsSpoken T path at spokens.Nothing piece lines = lines ≡ []
 IsSpoken T path at spokens.Length piece lines = lines ≡ []

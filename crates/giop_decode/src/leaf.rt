@@ -87,7 +87,7 @@ pub(crate) enum Spoken {
     Size(u32),
     /// The byte order of an encapsulation.
     Ordered(Order),
-    /// The piece of a content that is held, which is let go once that is said.
+    /// A piece of a content: what is held of it, which is let go once the piece is said, and the octets ahead that end it.
     Piece {
         /// Where it begins in the content.
         offset: u32,
