@@ -33,8 +33,7 @@ use Rattle.giop_sig.specs.Trees.{tree}
 
 leaf_ty-leaf_of : (C : Table) (leaf : Innermost) (carry piece : List ℕ) → leaf_ty (leaf_of C leaf carry piece) ≡ tree C (leaf_type leaf)
 leaf_ty-leaf_of C (innermost.Number of) carry piece = refl
-leaf_ty-leaf_of C (innermost.Opening of left) carry piece = refl
-leaf_ty-leaf_of C (innermost.Content of total offset) carry piece = refl
+leaf_ty-leaf_of C _ carry piece = refl
 
 pub record Stands (C : Table) (d : Decoder) (leaf : Innermost) : Type 0 where
   pub are_open : (at : ℕ) × OpenFrom 24 (places C at d.outer.items)
@@ -72,10 +71,7 @@ pub comes_by : (C : Table) (T : Ty) (d : Decoder) (named ended : Bool) (turn : T
     named ≡ names_operation (is_header_root d.root) lines → ended ≡ has_ended d.outer.items → r ≡ settled C T d turn lines at → IsProgress named ended turn d.leaf p → Comes C d p at r
 comes_by C T d named ended (turns.Refused kind) lines at p r n k e h = rw h (lines, (T, e))
 comes_by C T d named ended (turns.More leaf) lines at p r n k e h = going_by C d named ended d.leaf lines at p r n k refl e h
-comes_by C T d named ended turns.Ended lines at p r n k e h = going_by C d named ended d.leaf lines at p r n k refl e h
-comes_by C T d named ended (turns.Opened count) lines at p r n k e h = going_by C d named ended d.leaf lines at p r n k refl e h
-comes_by C T d named ended (turns.Selected i) lines at p r n k e h = going_by C d named ended d.leaf lines at p r n k refl e h
-comes_by C T d named ended (turns.Entered order count) lines at p r n k e h = going_by C d named ended d.leaf lines at p r n k refl e h
+comes_by C T d named ended _ lines at p r n k e h = going_by C d named ended d.leaf lines at p r n k refl e h
 
 -- a decoder that goes on, behind its lines
 pub record Goes (C : Table) (d : Decoder) (at : ℕ) (r : Read) : Type 0 where
@@ -85,18 +81,13 @@ pub record Goes (C : Table) (d : Decoder) (at : ℕ) (r : Read) : Type 0 where
   pub goes_on : d.leaf ≡ Some leaf
 
 pub goes : (C : Table) (d : Decoder) (p : Progress) (at : ℕ) (r : Read) → Comes C d p at r → GoesOn p → Goes C d at r
-goes C d progress.More at r c h = record { lines = c.0; is = c.1.0; leaf = c.1.1.0; goes_on = c.1.1.1 }
-goes C d progress.Named at r c h = record { lines = c.0; is = c.1.0; leaf = c.1.1.0; goes_on = c.1.1.1 }
 goes C d progress.Done at r c h = absurd h
 goes C d (progress.Fault kind) at r c h = absurd h
+goes C d _ at r c h = record { lines = c.0; is = c.1.0; leaf = c.1.1.0; goes_on = c.1.1.1 }
 
 pub moved : (named ended : Bool) (turn : Turn) (leaf : Option Innermost) (p : Progress) → IsProgress named ended turn leaf p → GoesOn p → IsMoved turn
 moved named ended (turns.Refused kind) leaf p h g = rw h at g
-moved named ended (turns.More leaf') leaf p h g = tt
-moved named ended turns.Ended leaf p h g = tt
-moved named ended (turns.Opened count) leaf p h g = tt
-moved named ended (turns.Selected i) leaf p h g = tt
-moved named ended (turns.Entered order count) leaf p h g = tt
+moved named ended _ leaf p h g = tt
 
 -- where it goes on, no encapsulation has ended
 going_unended : (named ended : Bool) (leaf : Option Innermost) (p : Progress) → IsGoing named ended leaf p → GoesOn p → ended ≡ false
@@ -106,11 +97,7 @@ going_unended named false (Some leaf) p h g = refl
 
 pub unended : (named ended : Bool) (turn : Turn) (leaf : Option Innermost) (p : Progress) → IsProgress named ended turn leaf p → GoesOn p → ended ≡ false
 unended named ended (turns.Refused kind) leaf p h g = absurd (rw h at g)
-unended named ended (turns.More leaf') leaf p h g = going_unended named ended leaf p h g
-unended named ended turns.Ended leaf p h g = going_unended named ended leaf p h g
-unended named ended (turns.Opened count) leaf p h g = going_unended named ended leaf p h g
-unended named ended (turns.Selected i) leaf p h g = going_unended named ended leaf p h g
-unended named ended (turns.Entered order count) leaf p h g = going_unended named ended leaf p h g
+unended named ended _ leaf p h g = going_unended named ended leaf p h g
 
 fits_in : (T : Ty) (end at : ℕ) (C : Table) (d : Decoder) (lines : List Line) (leaf : Innermost) (r : Read) → Sound T end r → r ≡ standing C d lines at → d.leaf ≡ Some leaf →
     FitsIn T (places C at d.outer.items) (leaf_of C leaf d.carry d.piece.items)

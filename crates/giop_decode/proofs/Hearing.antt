@@ -30,24 +30,16 @@ use Rattle.giop_sig.specs.Types.{Cases, Ty, Single, Text, Octets, Struct, Union,
 
 content_in : (T : Ty) (total offset : ℕ) (piece : List ℕ) → in_content (Content T total offset piece) ≡ is_text T
 content_in (Text bound) total offset piece = refl
-content_in (Single scalar) total offset piece = refl
-content_in (Octets bound) total offset piece = refl
-content_in (Struct n names parts) total offset piece = refl
-content_in (Union choice scalar select names cases) total offset piece = refl
-content_in (Sequence bound T) total offset piece = refl
-content_in (Array n T) total offset piece = refl
-content_in (Encapsulation T) total offset piece = refl
+content_in _ total offset piece = refl
 
 pub leaf_inside : (C : Table) (leaf : Innermost) (carry piece : List ℕ) → in_content (leaf_of C leaf carry piece) ≡ leaf_in_string (tree C (leaf_type leaf)) leaf
-leaf_inside C (innermost.Number of) carry piece = refl
-leaf_inside C (innermost.Opening of left) carry piece = refl
 leaf_inside C (innermost.Content of total offset) carry piece = content_in (tree C of.0) total offset piece
+leaf_inside C _ carry piece = refl
 
 -- an encapsulation's end in a string cuts it off
 pub cut_inside : (leaf : Leaf) → is_text (cut_off leaf) ≡ in_content leaf
-cut_inside (Head T carry) = refl
-cut_inside (Opening T n) = refl
 cut_inside (Content T total offset piece) = sym (content_in T total offset piece)
+cut_inside _ = refl
 
 pub shut_inside : (ended : Bool) (lines : List Line) (at : ℕ) (outer : List Place) (leaf : Leaf) → in_string (shut ended lines at outer leaf) ≡ in_content leaf
 shut_inside true lines at outer leaf = cut_inside leaf
@@ -56,13 +48,7 @@ shut_inside false lines at outer leaf = refl
 -- the rest of an encapsulation is no string
 pub rest_silent : (T : Ty) → IsEncapsulation T → is_text T ≡ false
 rest_silent (Encapsulation T) h = refl
-rest_silent (Single scalar) h = absurd h
-rest_silent (Text bound) h = absurd h
-rest_silent (Octets bound) h = absurd h
-rest_silent (Struct n names parts) h = absurd h
-rest_silent (Union n scalar select names cases) h = absurd h
-rest_silent (Sequence bound T) h = absurd h
-rest_silent (Array n T) h = absurd h
+rest_silent _ h = absurd h
 
 pub stopped_silent : (C : Table) (frames : List Frame) (carry piece : List ℕ) (leaf : Option Innermost) (lines : List Line) (at : ℕ) →
     IfSome leaf (λ l. leaf_in_string (tree C (leaf_type l)) l ≡ false) → in_string (stopped_with C frames carry piece leaf lines at) ≡ false
@@ -71,14 +57,12 @@ stopped_silent C frames carry piece (Some leaf) lines at h =
     shut_inside (has_ended frames) lines at (places C at frames) (leaf_of C leaf carry piece) ∙ (leaf_inside C leaf carry piece ∙ h)
 
 text_inside : (T : Ty) (leaf : Innermost) → leaf_in_string T leaf ≡ true → is_text T ≡ true
-text_inside T (innermost.Number of) h = cc
-text_inside T (innermost.Opening of left) h = cc
 text_inside T (innermost.Content of total offset) h = h
+text_inside T _ h = cc
 
 pub front_inside : (front : List Line) (r : Read) → in_string (with_front front r) ≡ in_string r
 front_inside front (Done lines at rest) = refl
-front_inside front (Short lines at outer leaf) = refl
-front_inside front (Fault lines at kind T) = refl
+front_inside front _ = refl
 
 hushed_twice : (was : Bool) (h : Heard) → hushed true (hushed was h) ≡ hushed true h
 hushed_twice true h = refl
@@ -111,12 +95,10 @@ spoken_heard : (header : Bool) (T : Ty) (was : Bool) (turn : Turn) (spoken : Spo
     hushed (hushes spoken) (heard header (hushed was h) lines) ≡ hushed (turn_in_string T turn) (heard header h lines)
 spoken_heard header T was turn spokens.Nothing path at piece lines h v says k = rw (says, v) refl
 spoken_heard header T was turn spokens.Length path at piece lines h v says k = rw (says, v) (hushed_twice was h)
-spoken_heard header T was turn (spokens.Number number) path at piece lines h v says k = rw (v.0, v.1) refl
-spoken_heard header T was turn (spokens.Switch number) path at piece lines h v says k = rw (v.0, v.1) refl
-spoken_heard header T was turn (spokens.Count count) path at piece lines h v says k = rw (v.0, v.1) refl
 spoken_heard header T was turn (spokens.Size size) path at piece lines h v says k = rw (v.0, v.1, says) refl
 spoken_heard header T was turn (spokens.Ordered order) path at piece lines h v says k = rw (v.0, v.1, says) refl
 spoken_heard header T was turn (spokens.Piece offset more) path at piece lines h v says k = rw (says, v) (piece_heard header T was more h path at offset piece k)
+spoken_heard header T was turn _ path at piece lines h v says k = rw (v.0, v.1) refl
 
 -- What a reading leaves in mind, behind the lines of its front and of one octet.
 pub heard_on : (header : Bool) (C : Table) (leaf : Innermost) (turn : Turn) (spoken : Spoken) (path : List Seg) (at : ℕ) (piece : List ℕ) (front lines : List Line) (r : Read) →
@@ -134,14 +116,12 @@ heard_on header C leaf turn spoken path at piece front lines r v says inside are
 pub minds_by : (root : Root) (d : Decoder) (r : Read) →
     ((root ≡ roots.Body → ⊥) → Recalls d.memory (heard_of (is_header_root root) r)) → Minds root d r
 minds_by roots.Body d r h = tt
-minds_by roots.Header d r h = h (λ e. cc)
-minds_by roots.Exception d r h = h (λ e. cc)
+minds_by _ d r h = h (λ e. cc)
 
 pub recalls_by : (root : Root) (d : Decoder) (r : Read) → (root ≡ roots.Body → ⊥) → Minds root d r →
     Recalls d.memory (heard_of (is_header_root root) r)
 recalls_by roots.Body d r asked h = absurd (asked refl)
-recalls_by roots.Header d r asked h = h
-recalls_by roots.Exception d r asked h = h
+recalls_by _ d r asked h = h
 
 -- ---- pieces and members
 
@@ -173,9 +153,8 @@ no_member name C here (f ∷ g ∷ outer) h = deep name (seg_in (place C here f)
 
 -- the one part around it
 only : (C : Table) (here : ℕ) (outer : List Frame) (d : Frame) → length outer ≡ 1 → path_in [] (places C here outer) ≡ seg_in (place C here (slice_index_or outer 0 d)) ∷ []
-only C here [] d h = absurd (omega arith)
 only C here (f ∷ []) d h = refl
-only C here (f ∷ g ∷ outer) d h = absurd (omega arith)
+only C here _ d h = absurd (omega arith)
 
 named_by : (name : List ℕ) (T : Ty) (i count : ℕ) → HasMember (shape_in T) i → is_member name (seg_in (part_in T i count) ∷ []) ≡ bytes_eq name (name_in T i)
 named_by name (Struct n names parts) i count h = refl

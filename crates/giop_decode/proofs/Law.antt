@@ -351,8 +351,7 @@ pub selected_goes : (coding : Coding) (path : List Seg) (T : Ty) (selected : Sel
     (read coding (inner_path path T i) (part_of T i) at s)))
 selected_goes coding path T (Case i) each at s b =
     ap (within (Member T i)) (each i at s b) ∙ member_goes coding path T i (read coding (inner_path path T i) (part_of T i) at s) b
-selected_goes coding path T Nothing each at s b = refl
-selected_goes coding path T Refused each at s b = refl
+selected_goes coding path T _ each at s b = refl
 
 pub union_goes : (coding : Coding) (path : List Seg) (choice : Choice) (scalar : Scalar)
     (select : ℕ → Selected) (names : ℕ → List ℕ) (cases : ℕ → Ty) (n : ℕ) →

@@ -171,8 +171,7 @@ member_quiet : (n : ℕ) (coding : Coding) (path : List Seg) (T : Ty) (selected 
     Quiet n (member selected (λ i at s. within (Member T i)
     (read coding (inner_path path T i) (part_of T i) at s)) n [])
 member_quiet n coding path T (Case i) = quiet_within n (Member T i) _ (read_quiet coding (inner_path path T i) (part_of T i) n)
-member_quiet n coding path T Nothing = (refl, refl, refl)
-member_quiet n coding path T Refused = (refl, refl, refl)
+member_quiet n coding path T _ = (refl, refl, refl)
 
 -- ---- encapsulations
 

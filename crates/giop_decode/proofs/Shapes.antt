@@ -50,8 +50,7 @@ empty_is T n h e = rw (h.2, e) tt
 
 pub some_is : (T : Ty) (n : ℕ) → HasShape T (shapes.Members n) → IsEmptyStruct T → n ≡ 0
 some_is (Struct zero names parts) n h empty = let e = h.2 in cc
-some_is (Struct (suc m) names parts) n h empty = absurd empty
-some_is T n h empty = absurd empty
+some_is _ n h empty = absurd empty
 
 pub some_array : (T : Ty) (n : ℕ) → HasShape T (shapes.Array n) → IsEmptyStruct T → ⊥
 some_array T n h empty = rw h.1 at empty

@@ -35,8 +35,7 @@ pub sound_followed : (T : Ty) (end : ℕ) (r : Read) (next : ℕ → List ℕ �
     Keeps T next → Sound T end (followed r next)
 sound_followed T end (Done lines at rest) next h keeps =
     sound_front T _ lines _ (subst (λ e. Sound T e (next at rest)) h (keeps at rest))
-sound_followed T end (Short lines at outer leaf) next h keeps = h
-sound_followed T end (Fault lines at kind S) next h keeps = h
+sound_followed T end _ next h keeps = h
 
 pub sound_part : (T : Ty) (end i count : ℕ) (r : Read) → HasParts T count → i < count →
     Sound (part_of T i) end r → Sound T end (within (Part T i count) r)
@@ -139,8 +138,7 @@ selected_keeps : (coding : Coding) (path : List Seg) (T : Ty) (selected : Select
     (read coding (inner_path path T i) (part_of T i) at s)))
 selected_keeps coding path T (Case i) kind each at s =
     sound_member T _ i _ (kind i refl) (each i (kind i refl) at s)
-selected_keeps coding path T Nothing kind each at s = refl
-selected_keeps coding path T Refused kind each at s = refl
+selected_keeps coding path T _ kind each at s = refl
 
 -- what follows a number, where the parts' readings keep
 pub elements_keep : (coding : Coding) (path : List Seg) (bound : Option ℕ) (T : Ty) (n : ℕ) →

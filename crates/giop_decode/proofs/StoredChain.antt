@@ -194,8 +194,7 @@ stand_above here (f ∷ frames) h =
 some_fit : (T : Ty) → IsFit 24 T → IsEmptyStruct T → ⊥
 unfolding IsFit
 some_fit (Struct zero names parts) fit empty = absurd (omega (arith, fit.0))
-some_fit (Struct (suc n) names parts) fit empty = empty
-some_fit T fit empty = empty
+some_fit _ fit empty = empty
 
 root_linked : (C : Table) (root : ℕ) (frames : List Frame) (leaf : Innermost) →
     Link C root frames (leaf_type leaf) → root ≡ root_of frames leaf

@@ -197,23 +197,11 @@ no_order (suc (suc b)) h k = refl
 module _ (C : Table) (coding : Coding) (path : List Seg) (at : ℕ) where
   pub size_none : (T : Ty) → IsEncapsulation T → after coding path T 0 at [] ≡ Fault (line at path (Size 0) ∷ []) at kinds.EncapShort T
   size_none (Encapsulation T) h = refl
-  size_none (Single scalar) h = absurd h
-  size_none (Text bound) h = absurd h
-  size_none (Octets bound) h = absurd h
-  size_none (Struct n names parts) h = absurd h
-  size_none (Union n scalar select names cases) h = absurd h
-  size_none (Sequence bound T) h = absurd h
-  size_none (Array n T) h = absurd h
+  size_none _ h = absurd h
 
   pub size_some : (T : Ty) (left : ℕ) → IsEncapsulation T → after coding path T (suc left) at [] ≡ Short (line at path (Size (suc left)) ∷ []) at [] (Opening T left)
   size_some (Encapsulation T) left h = rw (block_none 1 at (lit< tt)) refl
-  size_some (Single scalar) left h = absurd h
-  size_some (Text bound) left h = absurd h
-  size_some (Octets bound) left h = absurd h
-  size_some (Struct n names parts) left h = absurd h
-  size_some (Union n scalar select names cases) left h = absurd h
-  size_some (Sequence bound T) left h = absurd h
-  size_some (Array n T) left h = absurd h
+  size_some _ left h = absurd h
 
 module _ (C : Table) (coding : Coding) (path : List Seg) (T : Ty) (count here b : ℕ) where
   pub order_bad : order_of b ≡ None → leaf_step coding path (Opening T (count - 1)) here b ≡ Fault [] (here + 1) kinds.EncapOrder T

@@ -99,13 +99,7 @@ whole_number p order at count octets all number stands width are taken = record 
 
 still_nothing : (spoken : Spoken) → still_held spoken [] ≡ []
 still_nothing spokens.Nothing = refl
-still_nothing spokens.Length = refl
-still_nothing (spokens.Number number) = refl
-still_nothing (spokens.Switch number) = refl
-still_nothing (spokens.Count count) = refl
-still_nothing (spokens.Size size) = refl
-still_nothing (spokens.Ordered order) = refl
-still_nothing (spokens.Piece offset more) = refl
+still_nothing _ = refl
 
 module _ (C : Table) (d : Decoder) (of : TypeId) (octets : List ℕ) (count : ℕ) (f : Fits C d)
     (e : d.leaf ≡ Some (innermost.Number of)) (outside : d.inside ≡ false) (empty : d.carry ≡ []) where

@@ -50,8 +50,7 @@ followed_strings : (r : Read) (next : ℕ → List ℕ → Read) → Strings r �
 followed_strings (Done lines at rest) next h k =
     whole_then lines h.contents _ (h.lines ∙ (ap (λ begun. flat_map pieces_of h.contents ++ begun) (h.none refl) ∙ append-nil (flat_map pieces_of h.contents)))
     (k at rest)
-followed_strings (Short lines at outer leaf) next h k = h
-followed_strings (Fault lines at kind T) next h k = h
+followed_strings _ next h k = h
 
 within_strings : (place : Place) (r : Read) → Strings r → Strings (within place r)
 within_strings place (Short lines at outer leaf) h = record { contents = h.contents; begun = h.begun; lines = h.lines; unended = h.unended; none = h.none }
@@ -200,8 +199,7 @@ member_strings : (selected : Selected) (case : ℕ → ℕ → List ℕ → Read
     ((i at : ℕ) (s : List ℕ) → Strings (case i at s)) → (at : ℕ) (s : List ℕ) →
     Strings (member selected case at s)
 member_strings (Case i) case h at s = h i at s
-member_strings Nothing case h at s = no_strings (Done [] at s) refl
-member_strings Refused case h at s = no_strings (Done [] at s) refl
+member_strings _ case h at s = no_strings (Done [] at s) refl
 
 -- ---- encapsulations
 

@@ -24,9 +24,8 @@ closes_say : (stage : Stage) → AtClose (Sayings (close stage))
 unfolding saying_of close
 closes_say (In_typed section h outer leaf) = inl refl
 closes_say (In_padding b) = lack_says (may_lack b)
-closes_say (In_rest offset []) = inr (inl refl)
 closes_say (In_rest offset (x ∷ held)) = inr (inr refl)
-closes_say Over = inr (inl refl)
+closes_say _ = inr (inl refl)
 
 -- a close that ends has no more of the rest
 ends_only : (stage : Stage) → Sayings (close stage) ≡ End ∷ [] →

@@ -71,9 +71,7 @@ over_same : (S : Signatures) (header t : List ℕ) (m : Message) → is_over (st
     told_of (goes_on S header m t) ≡ told_of m
 unfolding is_over stage_of
 over_same S header t (Comes told at Over) e = ap told_of (over_goes S header told at t)
-over_same S header t (Comes told at (Messages.In_typed section h outer leaf)) e = absurd cc
-over_same S header t (Comes told at (Messages.In_padding b)) e = absurd cc
-over_same S header t (Comes told at (Messages.In_rest offset held)) e = absurd cc
+over_same S header t _ e = absurd cc
 
 pub text_over : (S : Signatures) (number place : ℕ) (header s more : List ℕ) →
     is_over (stage_of (message S header s)) ≡ true → due_text S number place header s more ≡ []

@@ -28,10 +28,8 @@ EndsOtherwise T = (n : ℕ) × (names : ℕ → List ℕ) × (parts : ℕ → Ty
 
 pub request_ends : (minor : ℕ) → IfSome (header_type minor 0) EndsOtherwise
 unfolding type_in trees_after builtin_types
-request_ends zero = (_, _, _, refl, refl)
-request_ends (suc zero) = (_, _, _, refl, refl)
-request_ends (suc (suc zero)) = (_, _, _, refl, refl)
 request_ends (suc (suc (suc minor))) = tt
+request_ends _ = (_, _, _, refl, refl)
 
 -- ---- the headers fit
 
@@ -101,12 +99,11 @@ short_front front r at' outer' leaf' e = refl
 goes_on : (coding : Coding) (d n : ℕ) (names : ℕ → List ℕ) (parts : ℕ → Ty) (i at : ℕ)
     (inner : Read) → IsFit (suc d) (Struct (suc n) names parts) → suc i < suc n → Now at inner →
     done_test (resumed coding [] (Part (Struct (suc n) names parts) i (suc n)) inner) ≡ false
-goes_on coding d n names parts i at (Short lines at' outer leaf) fit below now = refl
-goes_on coding d n names parts i at (Fault lines at' why T) fit below now = refl
 goes_on coding d n names parts i at (Done lines at' rest) fit below now =
     let T = Struct (suc n) names parts in
     rw (now.1, now.2)
     (short_front lines (parts_from (part_at coding [] T (suc n)) (suc n - suc i) (suc i) at []) at _ _ (next_part coding [] d T i (suc n) at fit refl below))
+goes_on coding d n names parts i at _ fit below now = refl
 
 -- in the last part, or in one whose end goes on to the next
 module _ (coding : Coding) (is : Bool) (n : ℕ) (names : ℕ → List ℕ) (parts : ℕ → Ty)
@@ -156,16 +153,14 @@ last_no_call coding is T outer leaf at b (n, names, parts, same, other) fit fits
 
 -- of a reading that is faulted no line ends an operation
 abbrev pub CallsNone : Bool → Read → Type 0
-CallsNone is (Done lines at rest) = Unit {0}
-CallsNone is (Short lines at outer leaf) = Unit {0}
 CallsNone is (Fault lines at why T) = Each (λ l. ends_operation is l ≡ false) lines
+CallsNone is _ = Unit {0}
 
 -- where no line does, whatever has come of it
 each_none : (is : Bool) (r : Read) → Each (λ l. ends_operation is l ≡ false) (lines_of r) →
     CallsNone is r
-each_none is (Done lines at rest) h = tt
-each_none is (Short lines at outer leaf) h = tt
 each_none is (Fault lines at why T) h = h
+each_none is _ h = tt
 
 and_false : (a b c : Bool) → c ≡ false → (a && (b && c)) ≡ false
 and_false true true c e = e

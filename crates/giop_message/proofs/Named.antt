@@ -150,12 +150,8 @@ module _ (S : Signatures) (header : List ℕ) where
   -- without a header type the first octets are of the rest
   rest_few : (xs : List ℕ) → length xs ≤ 4 → told_of (of_header S header None 12 xs) ≡ []
   unfolding of_header rest rest_in told_of
-  rest_few [] h = refl
-  rest_few (a ∷ []) h = refl
-  rest_few (a ∷ b ∷ []) h = refl
-  rest_few (a ∷ b ∷ c ∷ []) h = refl
-  rest_few (a ∷ b ∷ c ∷ d ∷ []) h = refl
   rest_few (a ∷ b ∷ c ∷ d ∷ e ∷ xs) h = absurd (omega arith)
+  rest_few _ h = refl
 
   are_values : List Told → Type 0
   are_values ts = Each (λ r. r.saying ≡ Value) (map remark_of ts)

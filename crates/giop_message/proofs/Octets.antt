@@ -42,9 +42,8 @@ due_is S header s more before m n is now same =
 
 -- a fault, behind the lines
 abbrev pub wrongs : Read → List Told
-wrongs (Done lines at rest) = []
-wrongs (Short lines at outer leaf) = []
 wrongs (Fault lines at why T) = tell at (Wrong why) ∷ []
+wrongs _ = []
 
 -- ---- the text
 
@@ -79,11 +78,10 @@ tells_text number place offset n root is h (l ∷ l' ∷ ls) one = absurd one
 wrongs_text : (number place n : ℕ) (st : Read) → Now (n + 1) st →
     told_text number place n (wrongs st) ≡ fault_text number (place + 1) st
 unfolding told_text speech_line saying_of text_of tell
-wrongs_text number place n (Done lines at rest) now = refl
-wrongs_text number place n (Short lines at outer leaf) now = refl
 wrongs_text number place n (Fault lines at why T) now =
     let e : at - n ≡ 1 = omega (arith, now.1) in
     rw e (append-nil _)
+wrongs_text number place n _ now = refl
 
 -- where no line ends an operation none is called
 pub no_first : (root : Root) (is : Bool) (h : Heard) (lines : List Line) →

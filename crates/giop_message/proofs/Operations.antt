@@ -33,8 +33,6 @@ mute_parts n part quiet h (suc more) i = mute_followed n (part i n []) (parts_fr
 pub read_mute : (coding : Coding) (path : List Seg) (T : Ty) (n : ℕ) →
     in_string (read coding path T n []) ≡ false
 read_mute coding path (Single scalar) n = rw (number_none coding.origin (width scalar) n (width_pos scalar)) refl
-read_mute coding path (Text bound) n = rw (number_none coding.origin 4 n (lit< tt)) refl
-read_mute coding path (Octets bound) n = rw (number_none coding.origin 4 n (lit< tt)) refl
 read_mute coding path (Struct count names parts) n =
     mute_parts n (part_at coding path (Struct count names parts) count) (part_quiet coding path (Struct count names parts) count n)
     (λ i. mute_within (Part (Struct count names parts) i count) (read coding (path ++ Name (names i) ∷ []) (parts i) n [])
@@ -42,9 +40,8 @@ read_mute coding path (Struct count names parts) n =
 read_mute coding path (Array count T) n =
     mute_parts n (part_at coding path (Array count T) count) (part_quiet coding path (Array count T) count n)
     (λ i. mute_within (Part (Array count T) i count) (read coding (path ++ Index i ∷ []) T n []) ∙ read_mute coding (path ++ Index i ∷ []) T n) count 0
-read_mute coding path (Sequence bound T) n = rw (number_none coding.origin 4 n (lit< tt)) refl
 read_mute coding path (Union choice scalar select names cases) n = rw (number_none coding.origin (width scalar) n (width_pos scalar)) refl
-read_mute coding path (Encapsulation T) n = rw (number_none coding.origin 4 n (lit< tt)) refl
+read_mute coding path _ n = rw (number_none coding.origin 4 n (lit< tt)) refl
 
 part_mute : (coding : Coding) (path : List Seg) (T : Ty) (count n i : ℕ) →
     in_string (part_at coding path T count i n []) ≡ false

@@ -117,10 +117,9 @@ offset_is n r q lines e now = subst (EndsAt n) (sym e) tt
 short_by : (n end : ℕ) (named : Bool) (r st : Read) (lines : List Line) →
     r ≡ Spine.with_front lines st → Now n st → decoders.IsAnswer end named progress.More r →
     (ls : List Line) × (outer : List Place) × (leaf : Leaf) × (r ≡ Short ls n outer leaf)
-short_by n end named r (Done ls at rest) lines e now answer = absurd (subst (decoders.IsAnswer end named progress.More) e answer)
 short_by n end named r (Short ls at outer leaf) lines e now answer =
     (lines ++ ls, outer, leaf, e ∙ ap (λ k. Short (lines ++ ls) k outer leaf) now.1)
-short_by n end named r (Fault ls at why U) lines e now answer = absurd (subst (decoders.IsAnswer end named progress.More) e answer)
+short_by n end named r _ lines e now answer = absurd (subst (decoders.IsAnswer end named progress.More) e answer)
 
 -- ---- an octet of it
 

@@ -149,9 +149,8 @@ fault_by : (S : Signatures) (header : List ℕ) (section : Section) (end : ℕ) 
     (kind : Kind) (r : Read) → decoders.IsAnswer end named (progress.Fault kind) r →
     is_over (stage_of (through S header section nothing r)) ≡ true
 unfolding passes stage_of is_over
-fault_by S header section end named kind (Done lines at rest) answer = absurd answer
-fault_by S header section end named kind (Short lines at outer leaf) answer = absurd answer
 fault_by S header section end named kind (Fault lines at why U) answer = refl
+fault_by S header section end named kind _ answer = absurd answer
 
 inside_goes : (w : Begun) (s octets : List ℕ) → Inside w s octets →
     is_over (stage_of (message w.S w.header s)) ≡ false

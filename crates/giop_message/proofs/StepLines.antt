@@ -41,9 +41,8 @@ one_faulted n kinds.EncapShort lines h = h
 one_faulted n why lines h = rw h tt
 
 pub one_of : (n : ℕ) (st : Read) → Now n st → OneAt n (lines_of st)
-one_of n (Done lines at rest) now = now.0
-one_of n (Short lines at outer leaf) now = now.0
 one_of n (Fault lines at why T) now = one_faulted n why lines now.0
+one_of n _ now = now.0
 
 -- ---- the innermost part
 
@@ -161,9 +160,8 @@ leaf_says coding path leaf at b =
 -- ---- what stands around it says nothing
 
 quiet_bare : (n : ℕ) (r : Read) → Quiet n r → lines_of r ≡ []
-quiet_bare n (Done lines at rest) k = k.0
-quiet_bare n (Short lines at outer leaf) k = k.0
 quiet_bare n (Fault lines at why S) k = absurd k
+quiet_bare n _ k = k.0
 
 -- lines, and then a reading that has none
 lines_alone : (n : ℕ) (lines : List Line) (r : Read) → Quiet n r →

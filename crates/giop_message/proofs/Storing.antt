@@ -34,8 +34,7 @@ said : (wanted : Wanted) (octets : List ℕ) → IsPaddingOf octets wanted
     → get_or octets 0 0 ≡ wanted_octet wanted
 unfolding padding_octets
 said wanteds.Nothing octets e = ap (λ (xs : List ℕ). get_or xs 0 0) e.is
-said (wanteds.Type of) octets e = ap (λ (xs : List ℕ). get_or xs 0 0) e.is
-said wanteds.Exception octets e = ap (λ (xs : List ℕ). get_or xs 0 0) e.is
+said _ octets e = ap (λ (xs : List ℕ). get_or xs 0 0) e.is
 
 pub nothing_again : (wanted : Wanted) (octets : List ℕ) → IsPaddingOf octets wanted
     → get_or octets 0 0 ≡ 0 → wanteds.Nothing ≡ wanted

@@ -33,17 +33,8 @@ takes_test node = true
 
 takes_by : (node : Node) → takes_test node ≡ true → TakesOctet node
 unfolding takes_test
-takes_by (nodes.prim p) e = tt
-takes_by (nodes.enumeration names) e = tt
-takes_by (nodes.text bound) e = tt
-takes_by (nodes.octets bound) e = tt
 takes_by (nodes.members []) e = absurd cc
-takes_by (nodes.members (p ∷ ps)) e = tt
-takes_by (nodes.union switch cases otherwise) e = tt
-takes_by (nodes.sequence bound element) e = tt
-takes_by (nodes.array count element) e = tt
-takes_by (nodes.encapsulation held) e = tt
-takes_by (nodes.tagged special tag inner other) e = tt
+takes_by _ e = tt
 
 scalar_test : Node → Bool
 scalar_test (nodes.prim p) = true
@@ -54,14 +45,7 @@ scalar_by : (node : Node) → scalar_test node ≡ true → IsScalarNode node
 unfolding scalar_test
 scalar_by (nodes.prim p) e = tt
 scalar_by (nodes.enumeration names) e = tt
-scalar_by (nodes.text bound) e = absurd cc
-scalar_by (nodes.octets bound) e = absurd cc
-scalar_by (nodes.members parts) e = absurd cc
-scalar_by (nodes.union switch cases otherwise) e = absurd cc
-scalar_by (nodes.sequence bound element) e = absurd cc
-scalar_by (nodes.array count element) e = absurd cc
-scalar_by (nodes.encapsulation held) e = absurd cc
-scalar_by (nodes.tagged special tag inner other) e = absurd cc
+scalar_by _ e = absurd cc
 
 switch_test : List Node → ℕ → ℕ → Bool
 switch_test types n i = ltb i n && scalar_test (node_in types i)
@@ -120,10 +104,7 @@ names_by (x ∷ xs) e = let k = both (leb (length x) 64) (names_test xs) e in (l
 
 -- a union is formed by this test only where it has no default
 node_test : List Node → ℕ → Node → Bool
-node_test types n (nodes.prim p) = true
 node_test types n (nodes.enumeration names) = leb (length names) 1024 && names_test names
-node_test types n (nodes.text bound) = true
-node_test types n (nodes.octets bound) = true
 node_test types n (nodes.members parts) = leb (length parts) 256 && parts_test types n parts
 node_test types n (nodes.union switch cases selecteds.Refused) = switch_test types n switch && (leb (length cases) 256 && cases_test types n cases)
 node_test types n (nodes.union switch cases otherwise) = false
@@ -132,16 +113,14 @@ node_test types n (nodes.array count element) = ltb 0 count && inner_test types 
 node_test types n (nodes.encapsulation held) = inner_test types n held
 node_test types n (nodes.tagged special tag inner other) =
     switch_test types n tag.type && parts_test types n (tag ∷ inner ∷ other ∷ [])
+node_test types n _ = true
 
 node_by : (types : List Node) (n : ℕ) (node : Node)
     → node_test types n node ≡ true → IsFormed types n node
 unfolding node_test
-node_by types n (nodes.prim p) e = tt
 node_by types n (nodes.enumeration names) e =
     let k = both (leb (length names) 1024) (names_test names) e in
     (leb-true (length names) 1024 k.0, All-from_recursion (λ name. length name ≤ 64) names (names_by names k.1))
-node_by types n (nodes.text bound) e = tt
-node_by types n (nodes.octets bound) e = tt
 node_by types n (nodes.members parts) e =
     let k = both (leb (length parts) 256) (parts_test types n parts) e in
     (leb-true (length parts) 256 k.0, All-from_recursion (IsPart types n) parts (parts_by types n parts k.1))
@@ -164,6 +143,7 @@ node_by types n (nodes.tagged special tag inner other) e =
     let k = both (switch_test types n tag.type) (parts_test types n (tag ∷ inner ∷ other ∷ [])) e in
     let p = parts_by types n (tag ∷ inner ∷ other ∷ []) k.1 in
     (switch_by types n tag.type k.0, p.0, p.1.0, p.1.1.0)
+node_by types n _ e = tt
 
 table_test : List Node → ℕ → List Node → Bool
 table_test types n [] = true
@@ -349,6 +329,4 @@ least_depth t laws =
 
 pub fixed_built_in : (f : Fixed) → fixed_number f < BUILTIN_LEN
 fixed_built_in fixeds.ExceptionId = lit< tt
-fixed_built_in fixeds.SystemException = lit< tt
-fixed_built_in fixeds.Forward = lit< tt
-fixed_built_in fixeds.Addressing = lit< tt
+fixed_built_in _ = lit< tt

@@ -27,7 +27,8 @@ use Rattle.giop_sig.specs.CallReading.{ReturnRead, return_at, new_operation_at, 
 use Rattle.giop_sig.proofs.PlaceLaws.{size, within_same, within_on, node_more, item_more, item_names, params_more, return_more, return_names, return_operations, structs_more}
 use Rattle.giop_sig.proofs.ReadingLaws.{Out, good, broken, out_bind, out_more, Apart, if_apart}
 use Rattle.giop_sig.proofs.TypeLaws.{added_bind, is_not, type_reads}
-use Rattle.giop_sig.proofs.ItemLaws.{made_item, item_reads, some_none, no_none}
+use Rattle.giop_sig.proofs.ItemLaws.{made_item, item_reads, some_none, unused_reads}
+use Rattle.giop_sig.proofs.ItemTaken.{none_of}
 use Rattle.giop_sig.proofs.CallTaken.{TakenReturn, return_takes, OperationTaken, new_operation_takes, TakenList, list_takes}
 use Rattle.giop_sig.proofs.DeclaredLaws.{TakenDeclaration}
 
@@ -94,40 +95,16 @@ return_reads at s (Some e) text more some free apart h =
 
 operation_keeps : (s : Scope) (w : List ℕ) → length w ≤ 128 → length s.table.operations < 4096
     → operation_in s.table w ≡ None → (k : Kind) → OfOperation k s w
-operation_keeps s w short few new kinds.Token = tt
-operation_keeps s w short few new kinds.Syntax = tt
-operation_keeps s w short few new kinds.UnknownType = tt
 operation_keeps s w short few new kinds.Duplicate = new
 operation_keeps s w short few new kinds.Limit = (short, few)
-operation_keeps s w short few new kinds.Depth = tt
-operation_keeps s w short few new kinds.Label = tt
-operation_keeps s w short few new kinds.Empty = tt
-operation_keeps s w short few new kinds.OutOfMemory = tt
+operation_keeps s w short few new _ = tt
 
 -- the operations are those of the scope before
 operation_same : (s t : Scope) (w : List ℕ) → t.table.operations ≡ s.table.operations → (k : Kind)
     → OfOperation k s w → OfOperation k t w
-operation_same s t w same kinds.Token h = tt
-operation_same s t w same kinds.Syntax h = tt
-operation_same s t w same kinds.UnknownType h = tt
 operation_same s t w same kinds.Duplicate h = ap (λ os. operation_in (record s.table { operations = os }) w) same ∙ h
 operation_same s t w same kinds.Limit h = (h.0, let few = h.1 in omega (arith, ap length same))
-operation_same s t w same kinds.Depth h = tt
-operation_same s t w same kinds.Label h = tt
-operation_same s t w same kinds.Empty h = tt
-operation_same s t w same kinds.OutOfMemory h = tt
-
-name_by : (types : List Node) (s : Scope) (text w rest : List ℕ) (more : List Token) (a b : Bool)
-    → is_some (operation_in s.table w) ≡ a → leb 4096 (length s.table.operations) ≡ b
-    → length w ≤ 128 → AreTokens rest more
-    → Out {X = List ℕ × List ℕ} (λ rest. (w, rest)) (λ k. OfOperation k s w) types more
-    (cond a (Err (refused kinds.Duplicate text))
-    (cond b (Err (refused kinds.Limit text)) (Ok (w, rest))))
-name_by types s text w rest more true b p q short m = broken (refused kinds.Duplicate text) (some_none (operation_in s.table w) p)
-name_by types s text w rest more false true p q short m =
-    broken (refused kinds.Limit text) (inl (λ h. let z = leb-true 4096 (length s.table.operations) q in let f = h.1 in omega arith))
-name_by types s text w rest more false false p q short m =
-    good rest m (operation_keeps s w short (leb-false 4096 (length s.table.operations) q) (no_none (operation_in s.table w) p))
+operation_same s t w same _ h = tt
 
 long_name : (types : List Node) (s : Scope) (text w : List ℕ) (more : List Token) (v : Bool)
     → ltb 128 (length w) ≡ v → AreTokens text (word w ∷ more)
@@ -139,7 +116,9 @@ long_name types s text w more true e h =
     (broken (too_long text) (inl (λ r. let z = ltb-true 128 (length w) e in let f = r.0 in omega arith)))
 long_name types s text w more false e h =
     rw (operation_name_again text w more h (ltb-false 128 (length w) e))
-    (name_by types s text w h.0 more (is_some (operation_in s.table w)) (leb 4096 (length s.table.operations)) refl refl (ltb-false 128 (length w) e) h.2)
+    (unused_reads (is_some (operation_in s.table w)) (leb 4096 (length s.table.operations)) text w h.0 h.2 (some_none (operation_in s.table w))
+    (λ k r. let z = leb-true 4096 (length s.table.operations) k in let f = r.1 in omega arith)
+    (λ k f. operation_keeps s w (ltb-false 128 (length w) e) (leb-false 4096 (length s.table.operations) f) (none_of (operation_in s.table w) k)))
 
 name_reads : (types : List Node) (s : Scope) (text w : List ℕ) (more : List Token)
     → AreTokens text (word w ∷ more)
@@ -151,8 +130,7 @@ name_reads types s text w more h = long_name types s text w more (ltb 128 (lengt
 
 direction_word_of : (d : Direction) → direction_of (direction_word d) ≡ Some d
 direction_word_of directions.In = refl
-direction_word_of directions.Out = refl
-direction_word_of directions.Inout = refl
+direction_word_of _ = refl
 
 direction_again : (d : Direction) (text : List ℕ) (more : List Token)
     (h : AreTokens text (word (direction_word d) ∷ more)) → direction_at text ≡ Ok (d, h.0)
@@ -209,15 +187,13 @@ made_params w s ps rest = (
 
 request_on : (d : Direction) (p : Part) (q r : List Part)
     → in_request d p q ++ r ≡ q ++ onto_request d p r
-request_on directions.In p q r = append_assoc q (p ∷ []) r
 request_on directions.Out p q r = refl
-request_on directions.Inout p q r = append_assoc q (p ∷ []) r
+request_on _ p q r = append_assoc q (p ∷ []) r
 
 reply_on : (d : Direction) (p : Part) (q r : List Part)
     → in_reply d p q ++ r ≡ q ++ onto_reply d p r
 reply_on directions.In p q r = refl
-reply_on directions.Out p q r = append_assoc q (p ∷ []) r
-reply_on directions.Inout p q r = append_assoc q (p ∷ []) r
+reply_on _ p q r = append_assoc q (p ∷ []) r
 
 abbrev way_on : Way → Scope → Param → Way
 way_on w s p = way_of (params_of w p.direction (made_item s p.item []) [] false)
@@ -376,21 +352,12 @@ pub operation_takes : (s : Scope) (whole text : List ℕ) (x : Declared)
     → TakenDeclaration s whole x
 unfolding operation_at
 operation_takes s whole text x before e =
-    let t = bind_ok (return_at (left_of text) s text)
-    (λ t. new_operation_at t.0 t.2 >>= λ n. mark_at marks.OpenParenthesis n.1 >>= λ o. params_at (left_of t.2) t.1 t.0 o >>= λ m. mark_at marks.Semicolon m.3
-    >>= λ r. added (left_of t.2) m.0 (nodes.members m.1) >>= λ q. added (left_of t.2) q.0 (nodes.members m.2) >>= λ p. Ok (with_call n.0 q.1 p, r)) x e in
+    let t = bind_ok _ _ x e in
     let at = left_of (t.0).2 in
-    let n = bind_ok (new_operation_at (t.0).0 (t.0).2)
-    (λ n. mark_at marks.OpenParenthesis n.1 >>= λ o. params_at at (t.0).1 (t.0).0 o >>= λ m. mark_at marks.Semicolon m.3
-    >>= λ r. added at m.0 (nodes.members m.1) >>= λ q. added at q.0 (nodes.members m.2) >>= λ p. Ok (with_call n.0 q.1 p, r)) x t.2 in
-    let o = bind_ok (mark_at marks.OpenParenthesis (n.0).1)
-    (λ o. params_at at (t.0).1 (t.0).0 o >>= λ m. mark_at marks.Semicolon m.3 >>= λ r. added at m.0 (nodes.members m.1)
-    >>= λ q. added at q.0 (nodes.members m.2) >>= λ p. Ok (with_call (n.0).0 q.1 p, r)) x n.2 in
-    let m = bind_ok (params_at at (t.0).1 (t.0).0 o.0)
-    (λ m. mark_at marks.Semicolon m.3 >>= λ r. added at m.0 (nodes.members m.1) >>= λ q. added at q.0 (nodes.members m.2)
-    >>= λ p. Ok (with_call (n.0).0 q.1 p, r)) x o.2 in
-    let r = bind_ok (mark_at marks.Semicolon (m.0).3)
-    (λ r. added at (m.0).0 (nodes.members (m.0).1) >>= λ q. added at q.0 (nodes.members (m.0).2) >>= λ p. Ok (with_call (n.0).0 q.1 p, r)) x m.2 in
+    let n = bind_ok _ _ x t.2 in
+    let o = bind_ok _ _ x n.2 in
+    let m = bind_ok _ _ x o.2 in
+    let r = bind_ok _ _ x m.2 in
     let q = bind_ok (added at (m.0).0 (nodes.members (m.0).1)) (λ q. added at q.0 (nodes.members (m.0).2) >>= λ p. Ok (with_call (n.0).0 q.1 p, r.0)) x r.2 in
     let p = bind_ok (added at (q.0).0 (nodes.members (m.0).2)) (λ p. Ok (with_call (n.0).0 (q.0).1 p, r.0)) x q.2 in
     subst (TakenDeclaration s whole) (ok_is (with_call (n.0).0 (q.0).1 p.0, r.0) x p.2)

@@ -29,7 +29,7 @@ use Rattle.giop_sig.specs.ItemReading.{ItemRead, item_at}
 use Rattle.giop_sig.specs.CallReading.{ReturnRead, return_after, return_at, new_operation_at, direction_of, as_direction, direction_at, in_request, in_reply, Params, Way, params_of, behind_param, param_step, ParamsRead, way_of, params_run, no_way, params_after, params_at}
 use Rattle.giop_sig.proofs.ReadingLaws.{Took}
 use Rattle.giop_sig.proofs.TypeTaken.{Grows, grows_none, grows_on, type_takes, added_grows}
-use Rattle.giop_sig.proofs.ItemTaken.{AreParts, parts_stay, TakenItem, item_takes}
+use Rattle.giop_sig.proofs.ItemTaken.{none_of, unused_is, AreParts, parts_stay, TakenItem, item_takes}
 
 -- ---- what an operation returns
 
@@ -81,29 +81,16 @@ pub record OperationTaken (s : Scope) (text : List ℕ) (x : List ℕ × List �
   pub few : length s.table.operations < 4096
   pub front : Takes text (word x.0) x.1
 
-none_of : {X : Type 0} (o : Option X) → is_some o ≡ false → o ≡ None
-none_of None e = refl
-none_of (Some x) e = absurd cc
-
-operation_by : (s : Scope) (text : List ℕ) (n x : List ℕ × List ℕ) (a b : Bool)
-    → is_some (operation_in s.table n.0) ≡ a → leb 4096 (length s.table.operations) ≡ b
-    → (length n.0 ≤ 128) × Takes text (word n.0) n.1
-    → cond a (Err (refused kinds.Duplicate text))
-    (cond b (Err (refused kinds.Limit text)) (Ok (n.0, n.1))) ≡ Ok x → OperationTaken s text x
-operation_by s text n x true b p q w e = absurd cc
-operation_by s text n x false true p q w e = absurd cc
-operation_by s text n x false false p q w e =
-    subst (OperationTaken s text) (ok_is n x e) (record
-    { short = w.0; new = none_of (operation_in s.table n.0) p; few = leb-false 4096 (length s.table.operations) q; front = w.1 })
-
 pub new_operation_takes : (s : Scope) (text : List ℕ) (x : List ℕ × List ℕ)
     → new_operation_at s text ≡ Ok x → OperationTaken s text x
 unfolding new_operation_at
 new_operation_takes s text x e =
-    let a = bind_ok (operation_name_at text) (λ n. cond (is_some (operation_in s.table n.0)) (Err (refused kinds.Duplicate text))
-    (cond (leb 4096 (length s.table.operations)) (Err (refused kinds.Limit text)) (Ok (n.0, n.1)))) x e in
-    operation_by s text a.0 x (is_some (operation_in s.table (a.0).0)) (leb 4096 (length s.table.operations)) refl refl
-    ((operation_name_word text a.0 a.1).1, operation_name_takes text a.0 a.1) a.2
+    let a = bind_ok _ _ x e in
+    let w = operation_name_word text a.0 a.1 in
+    let known = operation_in s.table (a.0).0 in
+    let u = unused_is (is_some known) (leb 4096 (length s.table.operations)) text a.0 x a.2 in
+    subst (OperationTaken s text) u.0
+    (record { short = w.1; new = none_of known u.1; few = leb-false 4096 (length s.table.operations) u.2; front = word_takes text a.0 w.0 })
 
 -- ---- parameters
 
@@ -136,26 +123,22 @@ direction_takes text x e =
 -- a member more, or none
 request_more : (d : Direction) (p : Part) (ps : List Part)
     → length (in_request d p ps) ≤ length ps + 1
-request_more directions.In p ps = omega (arith, length-append ps (p ∷ []))
 request_more directions.Out p ps = omega arith
-request_more directions.Inout p ps = omega (arith, length-append ps (p ∷ []))
+request_more _ p ps = omega (arith, length-append ps (p ∷ []))
 
 reply_more : (d : Direction) (p : Part) (ps : List Part) → length (in_reply d p ps) ≤ length ps + 1
 reply_more directions.In p ps = omega arith
-reply_more directions.Out p ps = omega (arith, length-append ps (p ∷ []))
-reply_more directions.Inout p ps = omega (arith, length-append ps (p ∷ []))
+reply_more _ p ps = omega (arith, length-append ps (p ∷ []))
 
 request_parts : (s : Scope) (d : Direction) (p : Part) (ps : List Part) → AreParts s ps
     → IsPart s.table.types (length s.table.types) p → AreParts s (in_request d p ps)
-request_parts s directions.In p ps all is = All-push (IsPart s.table.types (length s.table.types)) ps p all is
 request_parts s directions.Out p ps all is = all
-request_parts s directions.Inout p ps all is = All-push (IsPart s.table.types (length s.table.types)) ps p all is
+request_parts s _ p ps all is = All-push (IsPart s.table.types (length s.table.types)) ps p all is
 
 reply_parts : (s : Scope) (d : Direction) (p : Part) (ps : List Part) → AreParts s ps
     → IsPart s.table.types (length s.table.types) p → AreParts s (in_reply d p ps)
 reply_parts s directions.In p ps all is = all
-reply_parts s directions.Out p ps all is = All-push (IsPart s.table.types (length s.table.types)) ps p all is
-reply_parts s directions.Inout p ps all is = All-push (IsPart s.table.types (length s.table.types)) ps p all is
+reply_parts s _ p ps all is = All-push (IsPart s.table.types (length s.table.types)) ps p all is
 
 pub record SoundWays (x : ParamsRead) : Type 0 where
   pub scope : IsScope x.0

@@ -20,8 +20,8 @@ use Rattle.giop_sig.specs.ItemReading.{declared_at, members_at, filled_at, Decla
 use Rattle.giop_sig.proofs.PlaceLaws.{size, within_same, within_on, Grown, node_more, struct_more}
 use Rattle.giop_sig.proofs.ReadingLaws.{Out, good, broken, out_bind, if_apart, Took}
 use Rattle.giop_sig.proofs.TypeLaws.{added_bind}
-use Rattle.giop_sig.proofs.ItemLaws.{declared_reads, members_reads, some_keeps, type_apart, some_none, no_none}
-use Rattle.giop_sig.proofs.ItemTaken.{DeclaredTaken, declared_takes, filled_takes, members_takes, TakenMembers, RepositoryTaken, new_repository_takes}
+use Rattle.giop_sig.proofs.ItemLaws.{declared_reads, members_reads, some_keeps, type_apart, some_none}
+use Rattle.giop_sig.proofs.ItemTaken.{none_of, DeclaredTaken, declared_takes, filled_takes, members_takes, TakenMembers, RepositoryTaken, new_repository_takes}
 
 -- of a text that begins with members
 filled_reads : (types : List Node) (is : List Item) (text : List ℕ) (more : List Token)
@@ -108,16 +108,10 @@ pub structure_takes : (s : Scope) (whole text : List ℕ) (x : Declared)
 unfolding structure_at
 structure_takes s whole text x before e =
     let at = left_of text in
-    let n = bind_ok (declared_at s s.table.declared text)
-    (λ n. mark_at marks.OpenBrace n.1 >>= λ o. filled_at o >>= λ f. members_at at s f >>= λ m. mark_at marks.Semicolon m.2
-    >>= λ r. added at m.0 (nodes.members m.1) >>= λ p. Ok (with_named n.0 p, r)) x e in
-    let o = bind_ok (mark_at marks.OpenBrace (n.0).1)
-    (λ o. filled_at o >>= λ f. members_at at s f >>= λ m. mark_at marks.Semicolon m.2 >>= λ r. added at m.0 (nodes.members m.1)
-    >>= λ p. Ok (with_named (n.0).0 p, r)) x n.2 in
-    let f = bind_ok (filled_at o.0) (λ f. members_at at s f >>= λ m. mark_at marks.Semicolon m.2 >>= λ r. added at m.0 (nodes.members m.1)
-    >>= λ p. Ok (with_named (n.0).0 p, r)) x o.2 in
-    let m = bind_ok (members_at at s f.0) (λ m. mark_at marks.Semicolon m.2 >>= λ r. added at m.0 (nodes.members m.1)
-    >>= λ p. Ok (with_named (n.0).0 p, r)) x f.2 in
+    let n = bind_ok _ _ x e in
+    let o = bind_ok _ _ x n.2 in
+    let f = bind_ok _ _ x o.2 in
+    let m = bind_ok _ _ x f.2 in
     let r = bind_ok (mark_at marks.Semicolon (m.0).2) (λ r. added at (m.0).0 (nodes.members (m.0).1) >>= λ p. Ok (with_named (n.0).0 p, r)) x m.2 in
     let p = bind_ok (added at (m.0).0 (nodes.members (m.0).1)) (λ p. Ok (with_named (n.0).0 p, r.0)) x r.2 in
     subst (TakenDeclaration s whole) (ok_is (with_named (n.0).0 p.0, r.0) x p.2)
@@ -128,15 +122,9 @@ structure_takes s whole text x before e =
 
 repository_keeps : (s : Scope) (r : List ℕ) → length r ≤ 128 → exception_in s.table r ≡ None
     → (k : Kind) → OfRepository k s r
-repository_keeps s r short new kinds.Token = tt
-repository_keeps s r short new kinds.Syntax = tt
-repository_keeps s r short new kinds.UnknownType = tt
 repository_keeps s r short new kinds.Duplicate = new
 repository_keeps s r short new kinds.Limit = short
-repository_keeps s r short new kinds.Depth = tt
-repository_keeps s r short new kinds.Label = tt
-repository_keeps s r short new kinds.Empty = tt
-repository_keeps s r short new kinds.OutOfMemory = tt
+repository_keeps s r short new _ = tt
 
 repository_by : (types : List Node) (s : Scope) (text r rest : List ℕ) (more : List Token)
     (a b : Bool) → ltb 128 (length r) ≡ a
@@ -146,7 +134,7 @@ repository_by : (types : List Node) (s : Scope) (text r rest : List ℕ) (more :
     (cond b (Err (refused kinds.Duplicate text)) (Ok (r, rest))))
 repository_by types s text r rest more true b p q m = broken (refused kinds.Limit text) (inl (λ h. let z = ltb-true 128 (length r) p in omega arith))
 repository_by types s text r rest more false true p q m = broken (refused kinds.Duplicate text) (some_none (exception_in s.table r) q)
-repository_by types s text r rest more false false p q m = good rest m (repository_keeps s r (ltb-false 128 (length r) p) (no_none (exception_in s.table r) q))
+repository_by types s text r rest more false false p q m = good rest m (repository_keeps s r (ltb-false 128 (length r) p) (none_of (exception_in s.table r) q))
 
 repository_reads : (types : List Node) (s : Scope) (text r : List ℕ) (more : List Token)
     → AreTokens text (repository r ∷ more)
@@ -207,16 +195,10 @@ pub raise_takes : (s : Scope) (whole text : List ℕ) (x : Declared)
 unfolding raise_at
 raise_takes s whole text x before e =
     let at = left_of text in
-    let n = bind_ok (declared_at s (length s.table.exceptions) text)
-    (λ n. new_repository_at s n.1 >>= λ i. mark_at marks.OpenBrace i.1 >>= λ o. members_at at s o >>= λ m. mark_at marks.Semicolon m.2
-    >>= λ r. added at m.0 (nodes.members m.1) >>= λ p. Ok (with_raised n.0 i.0 p, r)) x e in
-    let i = bind_ok (new_repository_at s (n.0).1) (λ i. mark_at marks.OpenBrace i.1 >>= λ o. members_at at s o >>= λ m. mark_at marks.Semicolon m.2
-    >>= λ r. added at m.0 (nodes.members m.1) >>= λ p. Ok (with_raised (n.0).0 i.0 p, r)) x n.2 in
-    let o = bind_ok (mark_at marks.OpenBrace (i.0).1)
-    (λ o. members_at at s o >>= λ m. mark_at marks.Semicolon m.2 >>= λ r. added at m.0 (nodes.members m.1)
-    >>= λ p. Ok (with_raised (n.0).0 (i.0).0 p, r)) x i.2 in
-    let m = bind_ok (members_at at s o.0) (λ m. mark_at marks.Semicolon m.2 >>= λ r. added at m.0 (nodes.members m.1)
-    >>= λ p. Ok (with_raised (n.0).0 (i.0).0 p, r)) x o.2 in
+    let n = bind_ok _ _ x e in
+    let i = bind_ok _ _ x n.2 in
+    let o = bind_ok _ _ x i.2 in
+    let m = bind_ok _ _ x o.2 in
     let r = bind_ok (mark_at marks.Semicolon (m.0).2) (λ r. added at (m.0).0 (nodes.members (m.0).1) >>= λ p. Ok (with_raised (n.0).0 (i.0).0 p, r)) x m.2 in
     let p = bind_ok (added at (m.0).0 (nodes.members (m.0).1)) (λ p. Ok (with_raised (n.0).0 (i.0).0 p, r.0)) x r.2 in
     subst (TakenDeclaration s whole) (ok_is (with_raised (n.0).0 (i.0).0 p.0, r.0) x p.2)

@@ -27,18 +27,12 @@ pub depth_grown : (tree : ℕ → Ty) (node : Node)
     → depth (grow tree node) ≡ depth_by (shape_of node)
     (λ i. depth (tree (type_of (part_at node i))))
 unfolding depth
-depth_grown tree (nodes.prim p) = refl
-depth_grown tree (nodes.enumeration names) = refl
-depth_grown tree (nodes.text bound) = refl
-depth_grown tree (nodes.octets bound) = refl
 depth_grown tree (nodes.members parts) = ap (λ n. 1 + n) (most_same (length parts) _ _ (λ i lt. ap depth (sym (part_grown tree (nodes.members parts) i lt))))
 depth_grown tree (nodes.union switch cases otherwise) =
     ap (λ n. 1 + max 1 n) (most_same (length cases) _ _ (λ i lt. ap depth (sym (part_grown tree (nodes.union switch cases otherwise) i lt))))
-depth_grown tree (nodes.sequence bound element) = refl
-depth_grown tree (nodes.array count element) = refl
-depth_grown tree (nodes.encapsulation held) = refl
 depth_grown tree (nodes.tagged special tag inner other) =
     ap (λ n. 1 + max 1 n) (most_same 3 _ _ (λ i lt. ap depth (sym (part_grown tree (nodes.tagged special tag inner other) i lt))))
+depth_grown tree _ = refl
 
 -- the depth of a node's tree, at its shape
 pub depth_at_shape : (types : List Node) (node : Node) (s : Shape) → s ≡ shape_of node

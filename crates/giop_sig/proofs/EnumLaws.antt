@@ -19,14 +19,14 @@ use Rattle.giop_sig.specs.Scopes.{Scope, with_named, declare}
 use Rattle.giop_sig.specs.Validity.{Kind, IsFree, OfNewName, OfSome, OfNames, OfDeclaration, is_among}
 use Rattle.giop_sig.specs.Outcomes.{refused}
 use Rattle.giop_sig.specs.TypeReading.{added}
-use Rattle.giop_sig.specs.ItemReading.{declared_at, Declared}
+use Rattle.giop_sig.specs.ItemReading.{new_name_at, declared_at, Declared}
 use Rattle.giop_sig.specs.Repeats.{in_steps}
 use Rattle.giop_sig.specs.EnumReading.{NamesRead, enumerator_at, names_end, names_step, too_many_names, names_by, names_at, enumeration_at}
 use Rattle.giop_sig.proofs.PlaceLaws.{Within, within_same, node_more}
 use Rattle.giop_sig.proofs.ReadingLaws.{lift, Out, good, broken, out_bind, if_apart, Took}
 use Rattle.giop_sig.proofs.TypeLaws.{added_bind}
-use Rattle.giop_sig.proofs.ItemTaken.{declared_takes}
-use Rattle.giop_sig.proofs.ItemLaws.{declared_reads, name_keeps, some_keeps}
+use Rattle.giop_sig.proofs.ItemTaken.{new_name_takes, declared_takes}
+use Rattle.giop_sig.proofs.ItemLaws.{new_name_reads, declared_reads, some_keeps}
 
 -- what is read, told otherwise
 pub out_as : {X : Type 0} {made made2 : List ℕ → X} {rule rule2 : Kind → Type 0}
@@ -42,31 +42,14 @@ out_as {rule = rule} {rule2 = rule2} {types = types} {types2 = types2} (Err e) o
 
 -- ---- a text that is spelled so
 
-enumerator_by : (seen : List (List ℕ)) (w text : List ℕ) (types : List Node) (ts : List Token)
-    (free : IsFree w) (h : AreTokens text (word w ∷ ts)) (a b c : Bool) → ltb 64 (length w) ≡ a
-    → is_among seen w ≡ b → leb 1024 (length seen) ≡ c
-    → Out (λ rest. (seen ++ w ∷ [], rest)) (λ k. OfNewName k 1024 seen w) types ts
-    (enumerator_at seen text)
-unfolding enumerator_at
-enumerator_by seen w text types ts free h true b c p q r =
-    let long = ltb-true 64 (length w) p in
-    rw (identifier_long text w ts h free long) (broken (too_long text) (inl (λ k. let short = k.0 in omega arith)))
-enumerator_by seen w text types ts free h false true c p q r =
-    rw (identifier_again text w ts h free (ltb-false 64 (length w) p), q) (broken (refused kinds.Duplicate text) (λ k. absurd (false≢true (sym k ∙ q))))
-enumerator_by seen w text types ts free h false false true p q r =
-    let many = leb-true 1024 (length seen) r in
-    rw (identifier_again text w ts h free (ltb-false 64 (length w) p), q, r) (broken (refused kinds.Limit text) (inl (λ k. let few = k.1 in omega arith)))
-enumerator_by seen w text types ts free h false false false p q r =
-    let short = ltb-false 64 (length w) p in
-    let few : length seen < 1024 = let m = leb-false 1024 (length seen) r in omega arith in
-    rw (identifier_again text w ts h free short, q, r) (good h.0 h.2 (name_keeps 1024 seen w free short few q))
-
 pub enumerator_reads : (seen : List (List ℕ)) (w text : List ℕ) (types : List Node)
     (ts : List Token) → IsFree w → AreTokens text (word w ∷ ts)
     → Out (λ rest. (seen ++ w ∷ [], rest)) (λ k. OfNewName k 1024 seen w) types ts
     (enumerator_at seen text)
+unfolding enumerator_at
 enumerator_reads seen w text types ts free h =
-    enumerator_by seen w text types ts free h (ltb 64 (length w)) (is_among seen w) (leb 1024 (length seen)) refl refl refl
+    out_bind (new_name_at 1024 seen text) (λ n. Ok (seen ++ n.0 ∷ [], n.1)) (new_name_reads types 1024 seen text w ts free h)
+    (λ rest tokens keeps. good rest tokens keeps) (λ k whole. whole) within_same
 
 step_last : (seen : List (List ℕ)) (w text : List ℕ) (types : List Node) (more : List Token)
     → IsFree w → AreTokens text (word w ∷ mark marks.CloseBrace ∷ more)
@@ -169,26 +152,14 @@ name_fits : (seen : List (List ℕ)) (name : List ℕ) → length name ≤ 64 �
 name_fits seen name short few are =
     record { few = omega (arith, length-append seen (name ∷ [])); short = All-push (λ n. length n ≤ 64) seen name are.short short }
 
-taken_by : (seen : List (List ℕ)) (text : List ℕ) (w : List ℕ × List ℕ) (x : NamesRead) (b c : Bool)
-    → leb 1024 (length seen) ≡ c → identifier_at text ≡ Ok w
-    → cond b (Err (refused kinds.Duplicate text))
-    (cond c (Err (refused kinds.Limit text)) (Ok (seen ++ w.0 ∷ [], w.1)))
-    ≡ Ok x → TakenName seen text x
-taken_by seen text w x true c q i e = absurd cc
-taken_by seen text w x false true q i e = absurd cc
-taken_by seen text w x false false q i e =
-    let k = identifier_word text w i in
-    let few : length seen < 1024 = let m = leb-false 1024 (length seen) q in omega arith in
-    subst (TakenName seen text) (ok_is (seen ++ w.0 ∷ [], w.1) x e)
-    (record { name = w.0; all = refl; free = k.1; front = identifier_takes text w i; fits = name_fits seen w.0 k.2 few })
-
 name_taken : (seen : List (List ℕ)) (text : List ℕ) (x : NamesRead)
     → enumerator_at seen text ≡ Ok x → TakenName seen text x
 unfolding enumerator_at
 name_taken seen text x e =
-    let a = bind_ok (identifier_at text) (λ w. cond (is_among seen w.0) (Err (refused kinds.Duplicate text))
-    (cond (leb 1024 (length seen)) (Err (refused kinds.Limit text)) (Ok (seen ++ w.0 ∷ [], w.1)))) x e in
-    taken_by seen text a.0 x (is_among seen (a.0).0) (leb 1024 (length seen)) refl a.1 a.2
+    let a = bind_ok (new_name_at 1024 seen text) (λ n. Ok (seen ++ n.0 ∷ [], n.1)) x e in
+    let k = new_name_takes 1024 seen text a.0 a.1 in
+    subst (TakenName seen text) (ok_is (seen ++ (a.0).0 ∷ [], (a.0).1) x a.2)
+    (record { name = (a.0).0; all = refl; free = k.free; front = k.front; fits = name_fits seen (a.0).0 k.short k.few })
 
 -- names that were read behind others
 record TakenNames (seen : List (List ℕ)) (text : List ℕ) (x : NamesRead) : Type 0 where
@@ -279,16 +250,10 @@ pub enumeration_takes : (s : Scope) (text : List ℕ) (x : Declared) → enumera
     → TakenEnumeration s text x
 unfolding enumeration_at OfDeclaration
 enumeration_takes s text x e =
-    let d = bind_ok (declared_at s s.table.declared text)
-    (λ d. mark_at marks.OpenBrace d.1 >>= λ o. names_at o >>= λ ns. mark_at marks.Semicolon ns.1 >>= λ r. added (left_of text) s (nodes.enumeration ns.0)
-    >>= λ p. Ok (with_named d.0 p, r)) x e in
-    let o = bind_ok (mark_at marks.OpenBrace (d.0).1)
-    (λ o. names_at o >>= λ ns. mark_at marks.Semicolon ns.1 >>= λ r. added (left_of text) s (nodes.enumeration ns.0)
-    >>= λ p. Ok (with_named (d.0).0 p, r)) x d.2 in
-    let ns = bind_ok (names_at o.0) (λ ns. mark_at marks.Semicolon ns.1 >>= λ r. added (left_of text) s (nodes.enumeration ns.0)
-    >>= λ p. Ok (with_named (d.0).0 p, r)) x o.2 in
-    let r = bind_ok (mark_at marks.Semicolon (ns.0).1)
-    (λ r. added (left_of text) s (nodes.enumeration (ns.0).0) >>= λ p. Ok (with_named (d.0).0 p, r)) x ns.2 in
+    let d = bind_ok _ _ x e in
+    let o = bind_ok _ _ x d.2 in
+    let ns = bind_ok _ _ x o.2 in
+    let r = bind_ok _ _ x ns.2 in
     let p = bind_ok (added (left_of text) s (nodes.enumeration (ns.0).0)) (λ p. Ok (with_named (d.0).0 p, r.0)) x r.2 in
     let a = declared_takes s s.table.declared text d.0 d.1 in
     let b = (all_names_taken o.0 ns.0 ns.1).took in

@@ -303,8 +303,7 @@ version_takes text x e =
 head_takes : (text : List ℕ) (x : ℕ × List ℕ) → head_at text ≡ Ok x → TakenHead text x
 unfolding head_at
 head_takes text x e =
-    let k = bind_ok (keyword_at (codes "signatures") text)
-    (λ k. version_at k >>= λ v. mark_at marks.Semicolon v.1 >>= λ r. Ok (v.0, r)) x e in
+    let k = bind_ok _ _ x e in
     let v = bind_ok (version_at k.0) (λ v. mark_at marks.Semicolon v.1 >>= λ r. Ok (v.0, r)) x k.2 in
     let r = bind_ok (mark_at marks.Semicolon (v.0).1) (λ r. Ok ((v.0).0, r)) x v.2 in
     let is = version_takes k.0 v.0 v.1 in

@@ -79,8 +79,6 @@ limit_broken file b few (inr many) = absurd (omega arith)
 
 refuses : (k : Kind) (text : List ℕ) (file : SignatureFile) → Spells text file
     → BrokenIn k (first_scope file.version) file.declarations → Refuses k file
-refuses kinds.Token text file spells b = b.breaks
-refuses kinds.Syntax text file spells b = b.breaks
 refuses kinds.OutOfMemory text file spells b = tt
 refuses kinds.Depth text file spells b =
     is_broken kinds.Depth file b (λ le. let deep = b.breaks in omega arith)
@@ -90,6 +88,7 @@ refuses kinds.Limit text file spells b =
     limit_broken file b (not_too_many text file spells b) b.breaks
 refuses kinds.Label text file spells b = is_broken kinds.Label file b b.breaks
 refuses kinds.Empty text file spells b = is_broken kinds.Empty file b b.breaks
+refuses _ text file spells b = b.breaks
 
 -- a text that spells a file is refused for a rule that one of its declarations breaks
 pub file_refuses : UnionReads → (text : List ℕ) (e : Refusal) (file : SignatureFile)

@@ -29,10 +29,6 @@ part_in types n (p ∷ ps) (suc i) all lt = part_in types n ps i all.1 (omega ar
 -- the part in a place is one that the whole can have
 pub part_formed : (types : List Node) (n : ℕ) (node : Node) (i : ℕ) → IsFormed types n node
     → HasPlace (shape_of node) i → IsInner types n (type_of (part_at node i))
-part_formed types n (nodes.prim p) i formed has = absurd has
-part_formed types n (nodes.enumeration names) i formed has = absurd has
-part_formed types n (nodes.text bound) i formed has = absurd has
-part_formed types n (nodes.octets bound) i formed has = absurd has
 part_formed types n (nodes.members parts) i formed has =
     (part_in types n parts i (recursion_from_All (IsPart types n) parts formed.1) has).inner
 part_formed types n (nodes.union switch cases otherwise) i formed has =
@@ -45,14 +41,11 @@ part_formed types n (nodes.array count element) i formed has = formed.1
 part_formed types n (nodes.encapsulation held) i formed has = formed
 part_formed types n (nodes.tagged special tag inner other) i formed has =
     (part_in types n (tag ∷ inner ∷ other ∷ []) i (formed.1, (formed.2, (formed.3, tt))) has).inner
+part_formed types n _ i formed has = absurd has
 
 -- the names of parts are short
 pub name_short : (types : List Node) (n : ℕ) (node : Node) (i : ℕ) → IsFormed types n node
     → HasMember (shape_of node) i → length (name_of (part_at node i)) ≤ 64
-name_short types n (nodes.prim p) i formed has = absurd has
-name_short types n (nodes.enumeration names) i formed has = absurd has
-name_short types n (nodes.text bound) i formed has = absurd has
-name_short types n (nodes.octets bound) i formed has = absurd has
 name_short types n (nodes.members parts) i formed has =
     (part_in types n parts i (recursion_from_All (IsPart types n) parts formed.1) has).short
 name_short types n (nodes.union switch cases otherwise) i formed has =
@@ -60,24 +53,15 @@ name_short types n (nodes.union switch cases otherwise) i formed has =
     let is = on_some (IsPart types n) (case_part (slice_get cases i)) there.0 there.1
     (case_read (IsPart types n) cases i (recursion_from_All (λ (c : Case). IsPart types n c.part) cases formed.2)) in
     subst (λ o. length (name_of o) ≤ 64) (sym there.1) is.short
-name_short types n (nodes.sequence bound element) i formed has = absurd has
-name_short types n (nodes.array count element) i formed has = absurd has
-name_short types n (nodes.encapsulation held) i formed has = absurd has
 name_short types n (nodes.tagged special tag inner other) i formed has =
     (part_in types n (tag ∷ inner ∷ other ∷ []) i (formed.1, (formed.2, (formed.3, tt))) has).short
+name_short types n _ i formed has = absurd has
 
 pub switch_formed : (types : List Node) (n : ℕ) (node : Node) → IsFormed types n node
     → IsUnion (shape_of node) → IsSwitch types n (switch_at node)
-switch_formed types n (nodes.prim p) formed is = absurd is
-switch_formed types n (nodes.enumeration names) formed is = absurd is
-switch_formed types n (nodes.text bound) formed is = absurd is
-switch_formed types n (nodes.octets bound) formed is = absurd is
-switch_formed types n (nodes.members parts) formed is = absurd is
 switch_formed types n (nodes.union switch cases otherwise) formed is = formed.0
-switch_formed types n (nodes.sequence bound element) formed is = absurd is
-switch_formed types n (nodes.array count element) formed is = absurd is
-switch_formed types n (nodes.encapsulation held) formed is = absurd is
 switch_formed types n (nodes.tagged special tag inner other) formed is = formed.0
+switch_formed types n _ formed is = absurd is
 
 -- the names of an enum are short
 names_short : (names : List (List ℕ)) (n : ℕ) → AllByRecursion (λ name. length name ≤ 64) names
@@ -88,29 +72,15 @@ names_short (x ∷ xs) (suc n) all = names_short xs n all.1
 
 pub enum_name_short : (types : List Node) (i : ℕ) (node : Node) (n : ℕ) → IsFormed types i node
     → IfSome (name_at node n) (λ name. length name ≤ 64)
-enum_name_short types i (nodes.prim p) n formed = tt
 enum_name_short types i (nodes.enumeration names) n formed = names_short names n (recursion_from_All (λ name. length name ≤ 64) names formed.1)
-enum_name_short types i (nodes.text bound) n formed = tt
-enum_name_short types i (nodes.octets bound) n formed = tt
-enum_name_short types i (nodes.members parts) n formed = tt
-enum_name_short types i (nodes.union switch cases otherwise) n formed = tt
-enum_name_short types i (nodes.sequence bound element) n formed = tt
-enum_name_short types i (nodes.array count element) n formed = tt
-enum_name_short types i (nodes.encapsulation held) n formed = tt
-enum_name_short types i (nodes.tagged special tag inner other) n formed = tt
+enum_name_short types i _ n formed = tt
 
 -- an entry that is formed can be counted
 pub sized : (types : List Node) (n : ℕ) (e : Entry) → IsFormed types n (node_view e) → IsSized e
-sized types n (entries.Prim p) formed = tt
 sized types n (entries.Enumeration names) formed = omega (arith, formed.0, length-map names.items (λ x. x.items))
-sized types n (entries.Text bound) formed = tt
-sized types n (entries.Octets bound) formed = tt
 sized types n (entries.Members parts) formed = omega (arith, formed.0, length-map parts.items part_view)
 sized types n (entries.Union switch cases otherwise) formed = omega (arith, formed.1, length-map cases.items case_view)
-sized types n (entries.Sequence bound element) formed = tt
-sized types n (entries.Array count element) formed = tt
-sized types n (entries.Encapsulation held) formed = tt
-sized types n (entries.Tagged t) formed = tt
+sized types n _ formed = tt
 
 -- ---- two tables that agree below a number
 
@@ -132,10 +102,7 @@ switch_moved types others n i same is = record { below = is.below; scalar = subs
 -- what can stand at a number depends on the nodes below it alone
 pub formed_moved : (types others : List Node) (n : ℕ) (node : Node) → SameNodes types others n
     → IsFormed types n node → IsFormed others n node
-formed_moved types others n (nodes.prim p) same formed = tt
 formed_moved types others n (nodes.enumeration names) same formed = formed
-formed_moved types others n (nodes.text bound) same formed = tt
-formed_moved types others n (nodes.octets bound) same formed = tt
 formed_moved types others n (nodes.members parts) same formed = (formed.0, λ k d lt. part_moved types others n (get_or parts k d) same (formed.1 k d lt))
 formed_moved types others n (nodes.union switch cases otherwise) same formed = (
   switch_moved types others n switch same formed.0,
@@ -152,6 +119,7 @@ formed_moved types others n (nodes.tagged special tag inner other) same formed =
   part_moved types others n inner same formed.2,
   part_moved types others n other same formed.3,
 )
+formed_moved types others n _ same formed = tt
 
 -- what can stand at a number can still stand there once types are added behind
 pub formed_stays : (types more : List Node) (n : ℕ) (node : Node) → n ≤ length types

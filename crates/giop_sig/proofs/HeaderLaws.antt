@@ -11,22 +11,15 @@ use Rattle.giop_sig.proofs.Builtins.{header_found}
 
 in_last : (kind : ℕ) → IfSome (header_type 2 kind) BeginsWithId
 unfolding type_in trees_after builtin_types
-in_last zero = (_, _, _, refl, refl, refl)
-in_last (suc zero) = (_, _, _, refl, refl, refl)
-in_last (suc (suc zero)) = (_, _, _, refl, refl, refl)
-in_last (suc (suc (suc zero))) = (_, _, _, refl, refl, refl)
-in_last (suc (suc (suc (suc zero)))) = (_, _, _, refl, refl, refl)
 in_last (suc (suc (suc (suc (suc zero))))) = tt
 in_last (suc (suc (suc (suc (suc (suc zero)))))) = tt
-in_last (suc (suc (suc (suc (suc (suc (suc zero))))))) = (_, _, _, refl, refl, refl)
 in_last (suc (suc (suc (suc (suc (suc (suc (suc kind)))))))) = tt
+in_last _ = (_, _, _, refl, refl, refl)
 
 in_cancel : (minor : ℕ) → IfSome (header_type minor 2) BeginsWithId
 unfolding type_in trees_after builtin_types
-in_cancel zero = (_, _, _, refl, refl, refl)
-in_cancel (suc zero) = (_, _, _, refl, refl, refl)
-in_cancel (suc (suc zero)) = (_, _, _, refl, refl, refl)
 in_cancel (suc (suc (suc minor))) = tt
+in_cancel _ = (_, _, _, refl, refl, refl)
 
 pub id_first : (minor kind : ℕ) → IdStandsFirst minor kind
     → IfSome (header_type minor kind) BeginsWithId

@@ -11,7 +11,7 @@ use Rattle.giop_tokens.specs.declared.marks.Mark.TheVariants as marks
 use Rattle.giop_tokens.specs.Tokens.{Token, word, mark, AreTokens}
 use Rattle.giop_tokens.specs.Reading.{◌>>=◌}
 use Rattle.giop_tokens.specs.Readers.{mark_at, mark_if}
-use Rattle.giop_tokens.specs.Names.{too_long}
+use Rattle.giop_tokens.specs.Names.{too_long, identifier_at}
 use Rattle.giop_tokens.proofs.ReaderLaws.{mark_again, mark_if_again, identifier_again, identifier_long}
 use Rattle.giop_sig.specs.Table.{Node, Part}
 use Rattle.giop_sig.specs.Table as nodes
@@ -25,114 +25,79 @@ use Rattle.giop_sig.proofs.PlaceLaws.{size, within_same, length_more, item_more,
 use Rattle.giop_sig.proofs.ReadingLaws.{Out, good, broken, out_bind, out_more, Apart, if_apart}
 use Rattle.giop_sig.proofs.SizeReads.{enclosed_reads}
 use Rattle.giop_sig.proofs.TypeLaws.{added_bind, type_reads}
+use Rattle.giop_sig.proofs.ItemTaken.{none_of, unused}
 
 -- ---- a list that isn't empty
 
 pub some_keeps : {X : Type 0} (x : X) (xs : List X) (k : Kind) → OfSome k (x ∷ xs)
 some_keeps x xs kinds.Token = tt
-some_keeps x xs kinds.Syntax = tt
-some_keeps x xs kinds.UnknownType = tt
-some_keeps x xs kinds.Duplicate = tt
-some_keeps x xs kinds.Limit = tt
-some_keeps x xs kinds.Depth = tt
-some_keeps x xs kinds.Label = tt
-some_keeps x xs kinds.Empty = tt
-some_keeps x xs kinds.OutOfMemory = tt
+some_keeps x xs _ = tt
 
 -- ---- names
 
 -- what is asked of a name that is new
 pub name_keeps : (most : ℕ) (seen : List (List ℕ)) (w : List ℕ) → IsFree w → length w ≤ 64
     → length seen < most → is_among seen w ≡ false → (k : Kind) → OfNewName k most seen w
-name_keeps most seen w free short few new kinds.Token = tt
 name_keeps most seen w free short few new kinds.Syntax = free
-name_keeps most seen w free short few new kinds.UnknownType = tt
 name_keeps most seen w free short few new kinds.Duplicate = new
 name_keeps most seen w free short few new kinds.Limit = (short, few)
-name_keeps most seen w free short few new kinds.Depth = tt
-name_keeps most seen w free short few new kinds.Label = tt
-name_keeps most seen w free short few new kinds.Empty = tt
-name_keeps most seen w free short few new kinds.OutOfMemory = tt
+name_keeps most seen w free short few new _ = tt
 
-name_by : (types : List Node) (most : ℕ) (seen : List (List ℕ)) (text w rest : List ℕ)
-    (more : List Token) (a b : Bool) → is_among seen w ≡ a → leb most (length seen) ≡ b → IsFree w
-    → length w ≤ 64 → AreTokens rest more
-    → Out {X = List ℕ × List ℕ} (λ rest. (w, rest)) (λ k. OfNewName k most seen w) types more
-    (cond a (Err (refused kinds.Duplicate text))
-    (cond b (Err (refused kinds.Limit text)) (Ok (w, rest))))
-name_by types most seen text w rest more true b p q free short m = broken (refused kinds.Duplicate text) (λ h. false≢true (sym h ∙ p))
-name_by types most seen text w rest more false true p q free short m =
-    broken (refused kinds.Limit text) (inl (λ h. let z = leb-true most (length seen) q in let f = h.1 in omega arith))
-name_by types most seen text w rest more false false p q free short m = good rest m (name_keeps most seen w free short (leb-false most (length seen) q) p)
+-- a word, where it is new and there is room for one more; or a rule is broken
+pub unused_reads : {rule : Kind → Type 0} {types : List Node} {more : List Token} (known full : Bool)
+    (text w rest : List ℕ) → AreTokens rest more → (known ≡ true → rule kinds.Duplicate → ⊥)
+    → (full ≡ true → rule kinds.Limit → ⊥) → (known ≡ false → full ≡ false → (k : Kind) → rule k)
+    → Out {X = List ℕ × List ℕ} (λ rest. (w, rest)) rule types more (unused known full text (w, rest))
+unused_reads true full text w rest m double many keeps = broken (refused kinds.Duplicate text) (double refl)
+unused_reads false true text w rest m double many keeps = broken (refused kinds.Limit text) (inl (many refl))
+unused_reads false false text w rest m double many keeps = good rest m (keeps refl refl)
 
-long_by : (types : List Node) (most : ℕ) (seen : List (List ℕ)) (text w : List ℕ)
-    (more : List Token) (v : Bool) → ltb 64 (length w) ≡ v → IsFree w
-    → AreTokens text (word w ∷ more)
-    → Out {X = List ℕ × List ℕ} (λ rest. (w, rest)) (λ k. OfNewName k most seen w) types more
-    (new_name_at most seen text)
-unfolding new_name_at
-long_by types most seen text w more true e free h =
-    rw (identifier_long text w more h free (ltb-true 64 (length w) e))
-    (broken (too_long text) (inl (λ r. let z = ltb-true 64 (length w) e in let f = r.0 in omega arith)))
-long_by types most seen text w more false e free h =
-    rw (identifier_again text w more h free (ltb-false 64 (length w) e))
-    (name_by types most seen text w h.0 more (is_among seen w) (leb most (length seen)) refl refl free (ltb-false 64 (length w) e) h.2)
+-- what follows an identifier that isn't too long
+identifier_by : {X : Type 0} {made : List ℕ → X} {rule : Kind → Type 0} {types : List Node} {more : List Token}
+    (f : List ℕ × List ℕ → Result X Refusal) (text w : List ℕ) (v : Bool) → ltb 64 (length w) ≡ v → IsFree w
+    → AreTokens text (word w ∷ more) → (64 < length w → rule kinds.Limit → ⊥)
+    → (length w ≤ 64 → (rest : List ℕ) → AreTokens rest more → Out made rule types more (f (w, rest)))
+    → Out made rule types more (identifier_at text >>= f)
+identifier_by {more = more} f text w true e free h long on =
+    let z = ltb-true 64 (length w) e in rw (identifier_long text w more h free z) (broken (too_long text) (inl (long z)))
+identifier_by {more = more} f text w false e free h long on =
+    let z = ltb-false 64 (length w) e in rw (identifier_again text w more h free z) (on z h.0 h.2)
 
 pub new_name_reads : (types : List Node) (most : ℕ) (seen : List (List ℕ)) (text w : List ℕ)
     (more : List Token) → IsFree w → AreTokens text (word w ∷ more)
     → Out {X = List ℕ × List ℕ} (λ rest. (w, rest)) (λ k. OfNewName k most seen w) types more
     (new_name_at most seen text)
-new_name_reads types most seen text w more free h = long_by types most seen text w more (ltb 64 (length w)) refl free h
+unfolding new_name_at
+new_name_reads types most seen text w more free h =
+    identifier_by (λ n. unused (is_among seen n.0) (leb most (length seen)) text n) text w (ltb 64 (length w)) refl free h
+    (λ long r. let f = r.0 in omega arith)
+    (λ short rest m. unused_reads (is_among seen w) (leb most (length seen)) text w rest m (λ k r. false≢true (sym r ∙ k))
+    (λ k r. let z = leb-true most (length seen) k in let f = r.1 in omega arith)
+    (λ k f. name_keeps most seen w free short (leb-false most (length seen) f) k))
 
 declared_keeps : (s : Scope) (count : ℕ) (w : List ℕ) → IsFree w → length w ≤ 64 → count < 4096
     → lookup (bytes_eq w) s.names.known ≡ None → (k : Kind) → OfDeclared k s count w
-declared_keeps s count w free short few new kinds.Token = tt
 declared_keeps s count w free short few new kinds.Syntax = free
-declared_keeps s count w free short few new kinds.UnknownType = tt
 declared_keeps s count w free short few new kinds.Duplicate = new
 declared_keeps s count w free short few new kinds.Limit = (short, few)
-declared_keeps s count w free short few new kinds.Depth = tt
-declared_keeps s count w free short few new kinds.Label = tt
-declared_keeps s count w free short few new kinds.Empty = tt
-declared_keeps s count w free short few new kinds.OutOfMemory = tt
+declared_keeps s count w free short few new _ = tt
 
 pub some_none : {X : Type 0} (o : Option X) → is_some o ≡ true → o ≡ None → ⊥
 some_none None e h = absurd cc
 some_none (Some x) e h = absurd cc
 
-pub no_none : {X : Type 0} (o : Option X) → is_some o ≡ false → o ≡ None
-no_none None e = refl
-no_none (Some x) e = absurd cc
-
-declared_by : (types : List Node) (s : Scope) (count : ℕ) (text w rest : List ℕ) (more : List Token)
-    (a b : Bool) → is_some (lookup (bytes_eq w) s.names.known) ≡ a → leb 4096 count ≡ b → IsFree w
-    → length w ≤ 64 → AreTokens rest more
-    → Out {X = List ℕ × List ℕ} (λ rest. (w, rest)) (λ k. OfDeclared k s count w) types more
-    (cond a (Err (refused kinds.Duplicate text))
-    (cond b (Err (refused kinds.Limit text)) (Ok (w, rest))))
-declared_by types s count text w rest more true b p q free short m = broken (refused kinds.Duplicate text) (some_none (lookup (bytes_eq w) s.names.known) p)
-declared_by types s count text w rest more false true p q free short m =
-    broken (refused kinds.Limit text) (inl (λ h. let z = leb-true 4096 count q in let f = h.1 in omega arith))
-declared_by types s count text w rest more false false p q free short m =
-    good rest m (declared_keeps s count w free short (leb-false 4096 count q) (no_none (lookup (bytes_eq w) s.names.known) p))
-
-long_declared : (types : List Node) (s : Scope) (count : ℕ) (text w : List ℕ) (more : List Token)
-    (v : Bool) → ltb 64 (length w) ≡ v → IsFree w → AreTokens text (word w ∷ more)
-    → Out {X = List ℕ × List ℕ} (λ rest. (w, rest)) (λ k. OfDeclared k s count w) types more
-    (declared_at s count text)
-unfolding declared_at
-long_declared types s count text w more true e free h =
-    rw (identifier_long text w more h free (ltb-true 64 (length w) e))
-    (broken (too_long text) (inl (λ r. let z = ltb-true 64 (length w) e in let f = r.0 in omega arith)))
-long_declared types s count text w more false e free h =
-    rw (identifier_again text w more h free (ltb-false 64 (length w) e))
-    (declared_by types s count text w h.0 more (is_some (lookup (bytes_eq w) s.names.known)) (leb 4096 count) refl refl free (ltb-false 64 (length w) e) h.2)
-
 pub declared_reads : (types : List Node) (s : Scope) (count : ℕ) (text w : List ℕ)
     (more : List Token) → IsFree w → AreTokens text (word w ∷ more)
     → Out {X = List ℕ × List ℕ} (λ rest. (w, rest)) (λ k. OfDeclared k s count w) types more
     (declared_at s count text)
-declared_reads types s count text w more free h = long_declared types s count text w more (ltb 64 (length w)) refl free h
+unfolding declared_at
+declared_reads types s count text w more free h =
+    let known = lookup (bytes_eq w) s.names.known in
+    identifier_by (λ n. unused (is_some (lookup (bytes_eq n.0) s.names.known)) (leb 4096 count) text n) text w (ltb 64 (length w)) refl free h
+    (λ long r. let f = r.0 in omega arith)
+    (λ short rest m. unused_reads (is_some known) (leb 4096 count) text w rest m (some_none known)
+    (λ k r. let z = leb-true 4096 count k in let f = r.1 in omega arith)
+    (λ k f. declared_keeps s count w free short (leb-false 4096 count f) (none_of known k)))
 
 -- ---- items
 
@@ -176,11 +141,7 @@ item_reads at most seen s i text more some free apart h =
 -- a type doesn't begin with a mark
 pub type_apart : (e : TypeExpr) (more : List Token) → Apart marks.CloseBrace (spell_type e more)
 type_apart (Base p) more = refl
-type_apart (Text o) more = refl
-type_apart Reference more = refl
-type_apart (Named w) more = refl
-type_apart (SequenceOf e o) more = refl
-type_apart (EncapsulationOf e) more = refl
+type_apart _ more = refl
 
 abbrev made_member : List (List ℕ) → List Part → Scope → Item → List ℕ → Members
 made_member seen parts s i rest =

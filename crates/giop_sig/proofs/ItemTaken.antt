@@ -37,35 +37,26 @@ pub record NameTaken (most : ℕ) (seen : List (List ℕ)) (text : List ℕ)
   pub few : length seen < most
   pub front : Takes text (word x.0) x.1
 
-new_by : (most : ℕ) (seen : List (List ℕ)) (text : List ℕ) (n x : List ℕ × List ℕ) (a b : Bool)
-    → leb most (length seen) ≡ b → cond a (Err (refused kinds.Duplicate text))
-    (cond b (Err (refused kinds.Limit text)) (Ok (n.0, n.1))) ≡ Ok x
-    → NameTaken most seen text n → NameTaken most seen text x
-new_by most seen text n x true b few e t = absurd cc
-new_by most seen text n x false true few e t = absurd cc
-new_by most seen text n x false false few e t = subst (NameTaken most seen text) (ok_is n x e) t
+-- a word, unless it is known, or as many are known as may be
+abbrev pub unused : Bool → Bool → List ℕ → List ℕ × List ℕ → Result (List ℕ × List ℕ) Refusal
+unused known full text n =
+    cond known (Err (refused kinds.Duplicate text)) (cond full (Err (refused kinds.Limit text)) (Ok (n.0, n.1)))
 
-few_by : (most : ℕ) (seen : List (List ℕ)) (text : List ℕ) (n x : List ℕ × List ℕ) (a b : Bool)
-    → leb most (length seen) ≡ b → cond a (Err (refused kinds.Duplicate text))
-    (cond b (Err (refused kinds.Limit text)) (Ok (n.0, n.1))) ≡ Ok x → length seen < most
-few_by most seen text n x true b few e = absurd cc
-few_by most seen text n x false true few e = absurd cc
-few_by most seen text n x false false few e = leb-false most (length seen) few
+pub unused_is : (known full : Bool) (text : List ℕ) (n x : List ℕ × List ℕ)
+    → unused known full text n ≡ Ok x → (n ≡ x) × (known ≡ false) × (full ≡ false)
+unused_is true full text n x e = absurd cc
+unused_is false true text n x e = absurd cc
+unused_is false false text n x e = (ok_is n x e, refl, refl)
 
 pub new_name_takes : (most : ℕ) (seen : List (List ℕ)) (text : List ℕ) (x : List ℕ × List ℕ)
     → new_name_at most seen text ≡ Ok x → NameTaken most seen text x
 unfolding new_name_at
 new_name_takes most seen text x e =
-    let a = bind_ok (identifier_at text) (λ n. cond (is_among seen n.0) (Err (refused kinds.Duplicate text))
-    (cond (leb most (length seen)) (Err (refused kinds.Limit text)) (Ok (n.0, n.1)))) x e in
+    let a = bind_ok _ _ x e in
     let w = identifier_word text a.0 a.1 in
-    new_by most seen text a.0 x (is_among seen (a.0).0) (leb most (length seen)) refl a.2
-    (record {
-      free = w.1;
-      short = w.2;
-      few = few_by most seen text a.0 x (is_among seen (a.0).0) (leb most (length seen)) refl a.2;
-      front = word_takes text a.0 w.0;
-    })
+    let u = unused_is (is_among seen (a.0).0) (leb most (length seen)) text a.0 x a.2 in
+    subst (NameTaken most seen text) u.0
+    (record { free = w.1; short = w.2; few = leb-false most (length seen) u.2; front = word_takes text a.0 w.0 })
 
 pub record DeclaredTaken (s : Scope) (count : ℕ) (text : List ℕ)
     (x : List ℕ × List ℕ) : Type 0 where
@@ -75,29 +66,20 @@ pub record DeclaredTaken (s : Scope) (count : ℕ) (text : List ℕ)
   pub few : count < 4096
   pub front : Takes text (word x.0) x.1
 
-none_of : {X : Type 0} (o : Option X) → is_some o ≡ false → o ≡ None
+pub none_of : {X : Type 0} (o : Option X) → is_some o ≡ false → o ≡ None
 none_of None e = refl
 none_of (Some x) e = absurd cc
-
-declared_by : (s : Scope) (count : ℕ) (text : List ℕ) (n x : List ℕ × List ℕ) (a b : Bool)
-    → is_some (lookup (bytes_eq n.0) s.names.known) ≡ a → leb 4096 count ≡ b
-    → (IsFree n.0) × (length n.0 ≤ 64) × Takes text (word n.0) n.1
-    → cond a (Err (refused kinds.Duplicate text))
-    (cond b (Err (refused kinds.Limit text)) (Ok (n.0, n.1))) ≡ Ok x → DeclaredTaken s count text x
-declared_by s count text n x true b p q w e = absurd cc
-declared_by s count text n x false true p q w e = absurd cc
-declared_by s count text n x false false p q w e =
-    subst (DeclaredTaken s count text) (ok_is n x e)
-    (record { free = w.0; short = w.1; new = none_of (lookup (bytes_eq n.0) s.names.known) p; few = leb-false 4096 count q; front = w.2 })
 
 pub declared_takes : (s : Scope) (count : ℕ) (text : List ℕ) (x : List ℕ × List ℕ)
     → declared_at s count text ≡ Ok x → DeclaredTaken s count text x
 unfolding declared_at
 declared_takes s count text x e =
-    let a = bind_ok (identifier_at text) (λ n. cond (is_some (lookup (bytes_eq n.0) s.names.known)) (Err (refused kinds.Duplicate text))
-    (cond (leb 4096 count) (Err (refused kinds.Limit text)) (Ok (n.0, n.1)))) x e in
+    let a = bind_ok _ _ x e in
     let w = identifier_word text a.0 a.1 in
-    declared_by s count text a.0 x (is_some (lookup (bytes_eq (a.0).0) s.names.known)) (leb 4096 count) refl refl (w.1, w.2, word_takes text a.0 w.0) a.2
+    let known = lookup (bytes_eq (a.0).0) s.names.known in
+    let u = unused_is (is_some known) (leb 4096 count) text a.0 x a.2 in
+    subst (DeclaredTaken s count text) u.0
+    (record { free = w.1; short = w.2; new = none_of known u.1; few = leb-false 4096 count u.2; front = word_takes text a.0 w.0 })
 
 -- ---- items
 
@@ -143,12 +125,9 @@ pub item_takes : (at most : ℕ) (seen : List (List ℕ)) (s : Scope) (text : Li
     → item_at at most seen s text ≡ Ok x → TakenItem s most seen text x
 unfolding item_at
 item_takes at most seen s text x e =
-    let t = bind_ok (type_at at 25 s text) (λ t. new_name_at most seen t.2 >>= λ n. enclosed_at marks.OpenBracket marks.CloseBracket n.1
-    >>= λ l. array_type at t.0 t.1 l.0 >>= λ p. Ok (p.0, part n.0 p.1, l.1)) x e in
-    let n = bind_ok (new_name_at most seen (t.0).2)
-    (λ n. enclosed_at marks.OpenBracket marks.CloseBracket n.1 >>= λ l. array_type at (t.0).0 (t.0).1 l.0 >>= λ p. Ok (p.0, part n.0 p.1, l.1)) x t.2 in
-    let l = bind_ok (enclosed_at marks.OpenBracket marks.CloseBracket (n.0).1)
-    (λ l. array_type at (t.0).0 (t.0).1 l.0 >>= λ p. Ok (p.0, part (n.0).0 p.1, l.1)) x n.2 in
+    let t = bind_ok _ _ x e in
+    let n = bind_ok _ _ x t.2 in
+    let l = bind_ok _ _ x n.2 in
     let p = bind_ok (array_type at (t.0).0 (t.0).1 (l.0).0) (λ p. Ok (p.0, part (n.0).0 p.1, (l.0).1)) x l.2 in
     subst (TakenItem s most seen text) (ok_is ((p.0).0, part (n.0).0 (p.0).1, (l.0).1) x p.2)
     (item_made at most seen s text t.0 n.0 l.0 p.0 (type_takes at 25 s text t.0 t.1) (new_name_takes most seen (t.0).2 n.0 n.1)
@@ -239,10 +218,8 @@ member_by at n seen parts s text m x (Some r) h e run on =
     let last : Ok (s, parts, r) ≡ Ok x = ap (then_run at n) (ok_is (record { scope = s; seen = seen; parts = parts; rest = r; closed = true }) m e) ∙ run in
     subst (TakenMembers (suc n) seen parts s text) (ok_is (s, parts, r) x last) (closes n seen parts s text r h)
 member_by at n seen parts s text m x None h e run on =
-    let i = bind_ok (item_at at 256 seen s text) (λ i. mark_at marks.Semicolon i.2
-    >>= λ r. Ok (record { scope = i.0; seen = seen ++ (i.1).name ∷ []; parts = parts ++ i.1 ∷ []; rest = r; closed = false })) m e in
-    let r = bind_ok (mark_at marks.Semicolon (i.0).2)
-    (λ r. Ok (record { scope = (i.0).0; seen = seen ++ ((i.0).1).name ∷ []; parts = parts ++ (i.0).1 ∷ []; rest = r; closed = false })) m i.2 in
+    let i = bind_ok _ _ m e in
+    let r = bind_ok _ _ m i.2 in
     let last : members_run at n (seen ++ ((i.0).1).name ∷ []) (parts ++ (i.0).1 ∷ []) (i.0).0 r.0 ≡ Ok x =
     ap (then_run at n) (ok_is (record {
       scope = (i.0).0;
@@ -328,8 +305,7 @@ pub new_repository_takes : (s : Scope) (text : List ℕ) (x : List ℕ × List �
     → new_repository_at s text ≡ Ok x → RepositoryTaken s text x
 unfolding new_repository_at
 new_repository_takes s text x e =
-    let a = bind_ok (repository_at text) (λ i. cond (ltb 128 (length i.0)) (Err (refused kinds.Limit text))
-    (cond (is_some (exception_in s.table i.0)) (Err (refused kinds.Duplicate text)) (Ok (i.0, i.1)))) x e in
+    let a = bind_ok _ _ x e in
     repository_by s text a.0 x (ltb 128 (length (a.0).0)) (is_some (exception_in s.table (a.0).0)) refl refl (repository_takes text a.0 a.1) a.2
 
 -- an id that was new is new still

@@ -33,15 +33,9 @@ use Rattle.giop_sig.proofs.Negatives.{negative_some}
 -- ---- a value
 
 enumerator_keeps : (w : List ℕ) → IsFree w → length w ≤ 64 → (k : Kind) → OfEnumerator k w
-enumerator_keeps w free short kinds.Token = tt
 enumerator_keeps w free short kinds.Syntax = free
-enumerator_keeps w free short kinds.UnknownType = tt
-enumerator_keeps w free short kinds.Duplicate = tt
 enumerator_keeps w free short kinds.Limit = short
-enumerator_keeps w free short kinds.Depth = tt
-enumerator_keeps w free short kinds.Label = tt
-enumerator_keeps w free short kinds.Empty = tt
-enumerator_keeps w free short kinds.OutOfMemory = tt
+enumerator_keeps w free short _ = tt
 
 enumerator_by : (w text rest : List ℕ) (types : List Node) (more : List Token) (v : Bool)
     → ltb 64 (length w) ≡ v → IsFree w → AreTokens rest more
@@ -71,15 +65,8 @@ value_reads (Enumerator w) text types more free h =
 
 fit_keeps : (node : Node) (v : Value) (n : Number) → label_number node v ≡ Some n
     → (k : Kind) → OfFit k node v
-fit_keeps node v n e kinds.Token = tt
-fit_keeps node v n e kinds.Syntax = tt
-fit_keeps node v n e kinds.UnknownType = tt
-fit_keeps node v n e kinds.Duplicate = tt
-fit_keeps node v n e kinds.Limit = tt
-fit_keeps node v n e kinds.Depth = tt
 fit_keeps node v n e kinds.Label = (n, e)
-fit_keeps node v n e kinds.Empty = tt
-fit_keeps node v n e kinds.OutOfMemory = tt
+fit_keeps node v n e _ = tt
 
 no_fit : (o : Option Number) → o ≡ None → (n : Number) × (o ≡ Some n) → ⊥
 no_fit None e k = absurd cc
@@ -106,15 +93,9 @@ number_reads node v text types more free h =
 
 new_keeps : (seen : List Label) (l : Label) → length seen < 1024
     → list_any (same_label l) seen ≡ false → (k : Kind) → OfNewLabel k seen l
-new_keeps seen l few new kinds.Token = tt
-new_keeps seen l few new kinds.Syntax = tt
-new_keeps seen l few new kinds.UnknownType = tt
 new_keeps seen l few new kinds.Duplicate = new
 new_keeps seen l few new kinds.Limit = few
-new_keeps seen l few new kinds.Depth = tt
-new_keeps seen l few new kinds.Label = tt
-new_keeps seen l few new kinds.Empty = tt
-new_keeps seen l few new kinds.OutOfMemory = tt
+new_keeps seen l few new _ = tt
 
 abbrev pub marks_of : Node → List Label → List Mark
 marks_of node ls = map (mark_of node) ls
@@ -155,10 +136,8 @@ not_default text ts h = if_other (is_the_word (codes "default")) text (word (cod
 -- a value of a text is none below zero that is 0
 value_above : (v : Value) (text : List ℕ) (more : List Token)
     → AreTokens text (spell_value v more) → IsAbove v
-value_above (Plain n) text more h = tt
 value_above (Below n) text more h = negative_some text h.0 n h.1
-value_above (Truth b) text more h = tt
-value_above (Enumerator w) text more h = tt
+value_above _ text more h = tt
 
 abbrev pub IsAboveLabel : Label → Type 0
 IsAboveLabel Default = Unit {0}

@@ -10,27 +10,17 @@ use Rattle.giop_sig.specs.Trees.{grow, selected_by, name_or}
 
 pub shape_grown : (tree : ℕ → Ty) (node : Node) → shape_in (grow tree node) ≡ shape_of node
 shape_grown tree (nodes.prim p) = refl
-shape_grown tree (nodes.enumeration names) = refl
-shape_grown tree (nodes.text bound) = refl
-shape_grown tree (nodes.octets bound) = refl
-shape_grown tree (nodes.members parts) = refl
-shape_grown tree (nodes.union switch cases otherwise) = refl
-shape_grown tree (nodes.sequence bound element) = refl
-shape_grown tree (nodes.array count element) = refl
-shape_grown tree (nodes.encapsulation held) = refl
-shape_grown tree (nodes.tagged special tag inner other) = refl
+shape_grown tree _ = refl
 
 pub has_shape : (T : Ty) → HasShape T (shape_in T)
-has_shape (Single (Plain p)) = refl
 has_shape (Single (Enum count names)) = (names, refl)
-has_shape (Text bound) = refl
-has_shape (Octets bound) = refl
 has_shape (Struct count names parts) = (names, parts, refl)
 has_shape (Union (Cases count) scalar select names cases) = (scalar, select, names, cases, refl)
 has_shape (Union Tag scalar select names cases) = (scalar, select, names, cases, refl)
 has_shape (Encapsulation T) = (T, refl)
 has_shape (Sequence bound T) = (T, refl)
 has_shape (Array count T) = (T, refl)
+has_shape _ = refl
 
 read_below : (ps : List Part) (i : ℕ) → i < length ps → (p : Part) × (slice_get ps i ≡ Some p)
 read_below [] i lt = absurd (omega arith)
@@ -46,23 +36,16 @@ case_below (c ∷ cs) (suc i) lt = case_below cs i (omega arith)
 -- the part in a place is there
 pub part_there : (node : Node) (i : ℕ) → HasPlace (shape_of node) i
     → (p : Part) × (part_at node i ≡ Some p)
-part_there (nodes.prim p) i has = absurd has
-part_there (nodes.enumeration names) i has = absurd has
-part_there (nodes.text bound) i has = absurd has
-part_there (nodes.octets bound) i has = absurd has
 part_there (nodes.members parts) i has = read_below parts i has
 part_there (nodes.union switch cases otherwise) i has = case_below cases i has
 part_there (nodes.sequence bound element) i has = (nodes.element_part element, refl)
 part_there (nodes.array count element) i has = (nodes.element_part element, refl)
 part_there (nodes.encapsulation held) i has = (nodes.element_part held, refl)
 part_there (nodes.tagged special tag inner other) i has = read_below (tag ∷ inner ∷ other ∷ []) i has
+part_there _ i has = absurd has
 
 pub part_grown : (tree : ℕ → Ty) (node : Node) (i : ℕ) → HasPlace (shape_of node) i
     → tree (type_of (part_at node i)) ≡ part_of (grow tree node) i
-part_grown tree (nodes.prim p) i has = absurd has
-part_grown tree (nodes.enumeration names) i has = absurd has
-part_grown tree (nodes.text bound) i has = absurd has
-part_grown tree (nodes.octets bound) i has = absurd has
 part_grown tree (nodes.members parts) i has = let p = read_below parts i has in rw (p.1) refl
 part_grown tree (nodes.union switch cases otherwise) i has = let p = case_below cases i has in rw (p.1) refl
 part_grown tree (nodes.sequence bound element) i has = refl
@@ -70,19 +53,14 @@ part_grown tree (nodes.array count element) i has = refl
 part_grown tree (nodes.encapsulation held) i has = refl
 part_grown tree (nodes.tagged special tag inner other) i has =
     let p = read_below (tag ∷ inner ∷ other ∷ []) i has in rw (p.1) refl
+part_grown tree _ i has = absurd has
 
 pub name_grown : (tree : ℕ → Ty) (node : Node) (i : ℕ) → HasMember (shape_of node) i
     → name_of (part_at node i) ≡ name_in (grow tree node) i
-name_grown tree (nodes.prim p) i has = absurd has
-name_grown tree (nodes.enumeration names) i has = absurd has
-name_grown tree (nodes.text bound) i has = absurd has
-name_grown tree (nodes.octets bound) i has = absurd has
 name_grown tree (nodes.members parts) i has = refl
 name_grown tree (nodes.union switch cases otherwise) i has = refl
-name_grown tree (nodes.sequence bound element) i has = absurd has
-name_grown tree (nodes.array count element) i has = absurd has
-name_grown tree (nodes.encapsulation held) i has = absurd has
 name_grown tree (nodes.tagged special tag inner other) i has = refl
+name_grown tree _ i has = absurd has
 
 ltb_suc_by : (v : Bool) (a b : ℕ) → nat_lt a b ≡ v → nat_lt (suc a) (suc b) ≡ v
 ltb_suc_by true a b e = lt-ltb (suc a) (suc b) (let h = ltb-true a b e in omega arith)
@@ -97,29 +75,14 @@ names_read (x ∷ xs) (suc n) =
 
 pub enum_name_grown : (tree : ℕ → Ty) (node : Node) (n : ℕ)
     → name_at node n ≡ enum_name_in (grow tree node) n
-enum_name_grown tree (nodes.prim p) n = refl
 enum_name_grown tree (nodes.enumeration names) n = names_read names n
-enum_name_grown tree (nodes.text bound) n = refl
-enum_name_grown tree (nodes.octets bound) n = refl
-enum_name_grown tree (nodes.members parts) n = refl
-enum_name_grown tree (nodes.union switch cases otherwise) n = refl
-enum_name_grown tree (nodes.sequence bound element) n = refl
-enum_name_grown tree (nodes.array count element) n = refl
-enum_name_grown tree (nodes.encapsulation held) n = refl
-enum_name_grown tree (nodes.tagged special tag inner other) n = refl
+enum_name_grown tree _ n = refl
 
 -- a value that the octets spell selects as their whole number does
 pub select_grown : (tree : ℕ → Ty) (node : Node) (number : Number) (n : ℕ)
     → taken_in (switch_of (grow tree node)) n ≡ Some number
     → selected node number ≡ select_in (grow tree node) n
-select_grown tree (nodes.prim p) number n e = refl
-select_grown tree (nodes.enumeration names) number n e = refl
-select_grown tree (nodes.text bound) number n e = refl
-select_grown tree (nodes.octets bound) number n e = refl
-select_grown tree (nodes.members parts) number n e = refl
 select_grown tree (nodes.union switch cases otherwise) number n e = ap (selected_by (selected (nodes.union switch cases otherwise))) (sym e)
-select_grown tree (nodes.sequence bound element) number n e = refl
-select_grown tree (nodes.array count element) number n e = refl
-select_grown tree (nodes.encapsulation held) number n e = refl
 select_grown tree (nodes.tagged special tag inner other) number n e =
     ap (selected_by (selected (nodes.tagged special tag inner other))) (sym e)
+select_grown tree _ number n e = refl

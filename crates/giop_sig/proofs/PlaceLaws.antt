@@ -44,15 +44,12 @@ node_more s n = record {
 
 pub place_more : (s : Scope) (e : TypeExpr) → Grown s (place s e).0
 unfolding place
-place_more s (Base p) = within_same
-place_more s (Text None) = within_same
 place_more s (Text (Some n)) = node_more s (nodes.text (Some n))
-place_more s Reference = within_same
-place_more s (Named w) = within_same
 place_more s (SequenceOf e bound) =
     let p = place s e in within_on (place_more s e) (node_more p.0 (sequence_node bound p.1))
 place_more s (EncapsulationOf e) =
     let p = place s e in within_on (place_more s e) (node_more p.0 (nodes.encapsulation p.1))
+place_more s _ = within_same
 
 pub place_names : (s : Scope) (e : TypeExpr) → (place s e).0.names ≡ s.names
 unfolding place
@@ -159,24 +156,18 @@ scope_more s (d ∷ ds) = within_on (declare_more s d) (scope_more (declare s d)
 
 -- how many sequences and encapsulations an expression begins with
 abbrev pub nest : TypeExpr → ℕ
-nest (Base p) = 0
-nest (Text bound) = 0
-nest Reference = 0
-nest (Named w) = 0
 nest (SequenceOf e bound) = suc (nest e)
 nest (EncapsulationOf e) = suc (nest e)
+nest _ = 0
 
 -- only what adds no type has the number 0
 nest_none : (s : Scope) (e : TypeExpr) → 0 < size s → (place s e).1 ≡ 0 → nest e ≡ 0
 unfolding place
-nest_none s (Base p) some zeroth = refl
-nest_none s (Text bound) some zeroth = refl
-nest_none s Reference some zeroth = refl
-nest_none s (Named w) some zeroth = refl
 nest_none s (SequenceOf e bound) some zeroth =
     absurd (omega (arith, (place_more s e).longer, zeroth))
 nest_none s (EncapsulationOf e) some zeroth =
     absurd (omega (arith, (place_more s e).longer, zeroth))
+nest_none s _ some zeroth = refl
 
 sequence_depth : (f : ℕ → Ty) (bound : Option ℕ) (n k : ℕ) (v : Bool) → eqb n 0 ≡ v
     → (n ≡ 0 → k ≡ 0) → k ≤ depth (f n)
@@ -193,10 +184,6 @@ held_depth f n k le = omega arith
 nest_depth : (s : Scope) (e : TypeExpr) → 0 < size s
     → nest e ≤ depth (type_in (place s e).0.table.types (place s e).1)
 unfolding place
-nest_depth s (Base p) some = omega arith
-nest_depth s (Text bound) some = omega arith
-nest_depth s Reference some = omega arith
-nest_depth s (Named w) some = omega arith
 nest_depth s (SequenceOf e bound) some =
     let types = (place s e).0.table.types in
     let node = sequence_node bound (place s e).1 in
@@ -209,6 +196,7 @@ nest_depth s (EncapsulationOf e) some =
     let more : suc (nest e) ≤ depth (grow (type_in types) node)
     = held_depth (type_in types) (place s e).1 (nest e) (nest_depth s e some) in
     omega (arith, more, ap depth (tree_added types node))
+nest_depth s _ some = omega arith
 
 -- a node that was added is no deeper than the deepest
 last_within : (s : Scope) (node : Node)
@@ -223,13 +211,10 @@ last_within s node =
 pub nest_deepest : (s : Scope) (e : TypeExpr) → 0 < size s → 0 < nest e
     → nest e ≤ deepest (place s e).0
 unfolding place
-nest_deepest s (Base p) some lt = absurd (omega arith)
-nest_deepest s (Text bound) some lt = absurd (omega arith)
-nest_deepest s Reference some lt = absurd (omega arith)
-nest_deepest s (Named w) some lt = absurd (omega arith)
 nest_deepest s (SequenceOf e bound) some lt =
     let p = place s e in
     omega (arith, nest_depth s (SequenceOf e bound) some, last_within p.0 (sequence_node bound p.1))
 nest_deepest s (EncapsulationOf e) some lt =
     let p = place s e in
     omega (arith, nest_depth s (EncapsulationOf e) some, last_within p.0 (nodes.encapsulation p.1))
+nest_deepest s _ some lt = absurd (omega arith)

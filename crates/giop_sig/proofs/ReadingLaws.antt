@@ -18,15 +18,13 @@ use Rattle.giop_sig.proofs.PlaceLaws.{Within, within_same}
 
 -- a refusal of this kind is right: what the kind asks doesn't hold, or the types become too deep or too many
 abbrev pub Breaks : Kind → (Kind → Type 0) → List Node → Type 0
-Breaks kinds.Token rule types = ⊥
-Breaks kinds.Syntax rule types = ⊥
-Breaks kinds.OutOfMemory rule types = ⊥
 Breaks kinds.Depth rule types = 24 < depth_of types
 Breaks kinds.UnknownType rule types = rule kinds.UnknownType → ⊥
 Breaks kinds.Duplicate rule types = rule kinds.Duplicate → ⊥
 Breaks kinds.Limit rule types = (rule kinds.Limit → ⊥) ⊎ (2 ^ 32 ≤ length types)
 Breaks kinds.Label rule types = rule kinds.Label → ⊥
 Breaks kinds.Empty rule types = rule kinds.Empty → ⊥
+Breaks _ rule types = ⊥
 
 -- what is broken in a part is broken in the whole
 pub lift : (k : Kind) (rule whole : Kind → Type 0) (types more : List Node)

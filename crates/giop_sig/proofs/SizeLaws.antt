@@ -17,15 +17,12 @@ one_more s n = omega (arith, length-append s.table.types (n ∷ []))
 typed : (s : Scope) (e : TypeExpr) (more : List Token)
     → size (place s e).0 + length more < size s + length (spell_type e more)
 unfolding place
-typed s (Base p) more = omega arith
-typed s (Text None) more = omega arith
 typed s (Text (Some n)) more = omega (arith, one_more s (nodes.text (Some n)))
-typed s Reference more = omega arith
-typed s (Named w) more = omega arith
 typed s (SequenceOf e o) more =
     let p = place s e in
     omega (arith, typed s e (spell_most o (mark marks.CloseAngle ∷ more)), most o (mark marks.CloseAngle ∷ more), one_more p.0 (sequence_node o p.1))
 typed s (EncapsulationOf e) more = let p = place s e in omega (arith, typed s e (mark marks.CloseAngle ∷ more), one_more p.0 (nodes.encapsulation p.1))
+typed s _ more = omega arith
 
 lengthened : (p : Placed) (o : Option ℕ) (more : List Token)
     → size (place_length o p).0 + length more ≤ size p.0 + length (spell_length o more)

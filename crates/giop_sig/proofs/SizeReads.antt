@@ -17,15 +17,9 @@ use Rattle.giop_sig.proofs.PlaceLaws.{within_same}
 use Rattle.giop_sig.proofs.ReadingLaws.{Out, good, broken, out_bind, Apart, if_apart}
 
 size_keeps : (n : ℕ) → 0 < n → n < 2 ^ 32 → (k : Kind) → OfSize k n
-size_keeps n some fits kinds.Token = tt
-size_keeps n some fits kinds.Syntax = tt
-size_keeps n some fits kinds.UnknownType = tt
-size_keeps n some fits kinds.Duplicate = tt
 size_keeps n some fits kinds.Limit = fits
-size_keeps n some fits kinds.Depth = tt
-size_keeps n some fits kinds.Label = tt
 size_keeps n some fits kinds.Empty = some
-size_keeps n some fits kinds.OutOfMemory = tt
+size_keeps n some fits _ = tt
 
 size_by : (types : List Node) (text rest : List ℕ) (n : ℕ) (more : List Token) (a b : Bool)
     → eqb n 0 ≡ a → ltb 4294967295 n ≡ b → AreTokens rest more

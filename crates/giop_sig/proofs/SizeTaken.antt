@@ -24,8 +24,7 @@ size_takes : (text : List ℕ) (x : ℕ × List ℕ) → size_at text ≡ Ok x
     → Takes text (number x.0) x.1
 unfolding size_at
 size_takes text x e =
-    let a = bind_ok (number_at text) (λ n. cond (eqb n.0 0) (Err (refused kinds.Empty text))
-    (cond (ltb 4294967295 n.0) (Err (refused kinds.Limit text)) (Ok (n.0, n.1)))) x e in
+    let a = bind_ok _ _ x e in
     subst (λ y. Takes text (number y.0) y.1) (size_by text a.0 x (eqb (a.0).0 0) (ltb 4294967295 (a.0).0) a.2) (number_takes text a.0 a.1)
 
 within_by : (before close : Mark) (text : List ℕ) (o : Option (List ℕ)) (x : Option ℕ × List ℕ)

@@ -32,19 +32,12 @@ tag_below false i e = let same : 2 ≡ i = cc in omega arith
 
 pub selected_below : (types : List Node) (n : ℕ) (node : Node) (number : Number) (i : ℕ)
     → IsFormed types n node → selected node number ≡ selecteds.Case i → HasMember (shape_of node) i
-selected_below types n (nodes.prim p) number i formed e = absurd cc
-selected_below types n (nodes.enumeration names) number i formed e = absurd cc
-selected_below types n (nodes.text bound) number i formed e = absurd cc
-selected_below types n (nodes.octets bound) number i formed e = absurd cc
-selected_below types n (nodes.members parts) number i formed e = absurd cc
 selected_below types n (nodes.union switch cases otherwise) number i formed e =
     case_of_below (length cases) (case_with number cases) otherwise i
     (λ k at. (position-Some (λ c. list_any (λ label. same_number label number) c.labels) cases k no_case at).0) formed.3 e
-selected_below types n (nodes.sequence bound element) number i formed e = absurd cc
-selected_below types n (nodes.array count element) number i formed e = absurd cc
-selected_below types n (nodes.encapsulation held) number i formed e = absurd cc
 selected_below types n (nodes.tagged special tag inner other) number i formed e =
     tag_below (same_number (numbers.Unsigned special) number) i e
+selected_below types n _ number i formed e = absurd cc
 
 taken_below : (types : List Node) (n : ℕ) (node : Node) (o : Option Number)
     (i : ℕ) → IsFormed types n node
@@ -70,10 +63,6 @@ part_solid types n node i formed inner has =
 grown_solid : (types : List Node) (n : ℕ) (node : Node) → IsFormed types n node → TakesOctet node
     → InnerSolid types n → IsSolid (grow (type_in types) node)
 unfolding IsSolid
-grown_solid types n (nodes.prim p) formed takes inner = tt
-grown_solid types n (nodes.enumeration names) formed takes inner = tt
-grown_solid types n (nodes.text bound) formed takes inner = tt
-grown_solid types n (nodes.octets bound) formed takes inner = tt
 grown_solid types n (nodes.members []) formed takes inner = absurd takes
 grown_solid types n (nodes.members (p ∷ ps)) formed takes inner =
     (some_part p ps, λ i lt. part_solid types n (nodes.members (p ∷ ps)) i formed inner lt)
@@ -88,6 +77,7 @@ grown_solid types n (nodes.tagged special tag one other) formed takes inner = (
   λ k i e. taken_below types n (nodes.tagged special tag one other) (taken_by (scalar_of (type_in types tag.type)) k) i formed e,
   λ i lt. part_solid types n (nodes.tagged special tag one other) i formed inner lt,
 )
+grown_solid types n _ formed takes inner = tt
 
 solid_below : (types : List Node) (fuel i : ℕ) → AreTypes types → i < fuel → i < length types
     → TakesOctet (node_in types i) → IsSolid (type_in types i)
@@ -139,17 +129,8 @@ fit_at types i are known takes =
     fit_by (type_in types i) 24 (solid_at types i are known takes) (let shallow = are.shallow in omega (arith, depth_within types i known))
 
 takes_or_empty : (node : Node) → TakesOctet node ⊎ (node ≡ nodes.members [])
-takes_or_empty (nodes.prim p) = inl tt
-takes_or_empty (nodes.enumeration names) = inl tt
-takes_or_empty (nodes.text bound) = inl tt
-takes_or_empty (nodes.octets bound) = inl tt
 takes_or_empty (nodes.members []) = inr refl
-takes_or_empty (nodes.members (p ∷ ps)) = inl tt
-takes_or_empty (nodes.union switch cases otherwise) = inl tt
-takes_or_empty (nodes.sequence bound element) = inl tt
-takes_or_empty (nodes.array count element) = inl tt
-takes_or_empty (nodes.encapsulation held) = inl tt
-takes_or_empty (nodes.tagged special tag inner other) = inl tt
+takes_or_empty _ = inl tt
 
 -- each type of a table can stand at the root of a message
 pub root_at : (types : List Node) (i : ℕ) → AreTypes types → i < length types

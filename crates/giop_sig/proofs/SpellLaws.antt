@@ -15,12 +15,10 @@ most None more = omega arith
 most (Some n) more = omega arith
 
 typed : (e : TypeExpr) (more : List Token) → length more ≤ length (spell_type e more)
-typed (Base p) more = omega arith
 typed (Text o) more = omega (arith, between marks.OpenAngle marks.CloseAngle o more)
-typed Reference more = omega arith
-typed (Named w) more = omega arith
 typed (SequenceOf e o) more = omega (arith, typed e (spell_most o (mark marks.CloseAngle ∷ more)), most o (mark marks.CloseAngle ∷ more))
 typed (EncapsulationOf e) more = omega (arith, typed e (mark marks.CloseAngle ∷ more))
+typed _ more = omega arith
 
 item : (i : Item) (more : List Token) → length more ≤ length (spell_item i more)
 item i more = omega (arith, typed i.type (word i.name ∷ spell_length i.length more), between marks.OpenBracket marks.CloseBracket i.length more)
@@ -40,9 +38,7 @@ names (n ∷ ns) more = omega (arith, more_names ns more)
 
 value : (v : Value) (more : List Token) → length more ≤ length (spell_value v more)
 value (Plain n) more = omega arith
-value (Below n) more = omega arith
-value (Truth b) more = omega arith
-value (Enumerator w) more = omega arith
+value _ more = omega arith
 
 pub label : (l : Label) (more : List Token) → length more ≤ length (spell_label l more)
 label Default more = omega arith

@@ -12,15 +12,8 @@ HasLine f = (f.line ≡ 0) ↔ (f.kind ≡ kinds.OutOfMemory)
 
 told : (text : List ℕ) (k : SigFaultKind) (left : ℕ)
     → HasLine (fault_of text (record { kind = k; left = left }))
-told text kinds.Token left = (λ e. absurd (omega arith), λ e. absurd cc)
-told text kinds.Syntax left = (λ e. absurd (omega arith), λ e. absurd cc)
-told text kinds.UnknownType left = (λ e. absurd (omega arith), λ e. absurd cc)
-told text kinds.Duplicate left = (λ e. absurd (omega arith), λ e. absurd cc)
-told text kinds.Limit left = (λ e. absurd (omega arith), λ e. absurd cc)
-told text kinds.Depth left = (λ e. absurd (omega arith), λ e. absurd cc)
-told text kinds.Label left = (λ e. absurd (omega arith), λ e. absurd cc)
-told text kinds.Empty left = (λ e. absurd (omega arith), λ e. absurd cc)
 told text kinds.OutOfMemory left = (λ e. refl, λ e. refl)
+told text _ left = (λ e. absurd (omega arith), λ e. absurd cc)
 
 pub has_line : (text : List ℕ) (r : Refusal) (f : SigFault) → f ≡ fault_of text r → HasLine f
 has_line text r f is = subst HasLine (sym is) (told text r.kind r.left)

@@ -47,10 +47,6 @@ union_same types n f g choice node same switch parts =
 
 grow_same : (types : List Node) (n : ℕ) (f g : ℕ → Ty) (node : Node) → SameBelow n f g
     → IsFormed types n node → grow f node ≡ grow g node
-grow_same types n f g (nodes.prim p) same formed = refl
-grow_same types n f g (nodes.enumeration names) same formed = refl
-grow_same types n f g (nodes.text bound) same formed = refl
-grow_same types n f g (nodes.octets bound) same formed = refl
 grow_same types n f g (nodes.members parts) same formed =
     ap (Struct (length parts) (λ i. name_of (slice_get parts i)))
     (fun_ext (λ i. part_same types n f g (slice_get parts i) same (part_read (IsPart types n) parts i (recursion_from_All (IsPart types n) parts formed.1))))
@@ -63,6 +59,7 @@ grow_same types n f g (nodes.encapsulation held) same formed = ap Encapsulation 
 grow_same types n f g (nodes.tagged special tag inner other) same formed =
     union_same types n f g Tag (nodes.tagged special tag inner other) same (same tag.type formed.0.below)
     (λ i. part_read (IsPart types n) (tag ∷ inner ∷ other ∷ []) i (formed.1, (formed.2, (formed.3, tt))))
+grow_same types n f g _ same formed = refl
 
 -- what is done stays
 kept : (done : List Ty) (ns : List Node) (i : ℕ) → i < length done
@@ -105,14 +102,7 @@ single_of : (f : ℕ → Ty) (node : Node) → IsScalarNode node
     → grow f node ≡ Single (scalar_of (grow f node))
 single_of f (nodes.prim p) is = refl
 single_of f (nodes.enumeration names) is = refl
-single_of f (nodes.text bound) is = absurd is
-single_of f (nodes.octets bound) is = absurd is
-single_of f (nodes.members parts) is = absurd is
-single_of f (nodes.union switch cases otherwise) is = absurd is
-single_of f (nodes.sequence bound element) is = absurd is
-single_of f (nodes.array count element) is = absurd is
-single_of f (nodes.encapsulation held) is = absurd is
-single_of f (nodes.tagged special tag inner other) is = absurd is
+single_of f _ is = absurd is
 
 -- the type of one number that a union's discriminator has
 pub single_at : (types : List Node) (i : ℕ) → AreTypes types → i < length types
@@ -124,17 +114,10 @@ single_at types i are lt is =
 pub switch_grown : (types : List Node) (n : ℕ) (node : Node) → IsFormed types n node
     → AreTypes types → n ≤ length types → IsUnion (shape_of node)
     → type_in types (switch_at node) ≡ switch_of (grow (type_in types) node)
-switch_grown types n (nodes.prim p) formed are le is = absurd is
-switch_grown types n (nodes.enumeration names) formed are le is = absurd is
-switch_grown types n (nodes.text bound) formed are le is = absurd is
-switch_grown types n (nodes.octets bound) formed are le is = absurd is
-switch_grown types n (nodes.members parts) formed are le is = absurd is
 switch_grown types n (nodes.union switch cases otherwise) formed are le is = single_at types switch are (let b = formed.0.below in omega arith) formed.0.scalar
-switch_grown types n (nodes.sequence bound element) formed are le is = absurd is
-switch_grown types n (nodes.array count element) formed are le is = absurd is
-switch_grown types n (nodes.encapsulation held) formed are le is = absurd is
 switch_grown types n (nodes.tagged special tag inner other) formed are le is =
     single_at types tag.type are (let b = formed.0.below in omega arith) formed.0.scalar
+switch_grown types n _ formed are le is = absurd is
 
 -- ---- a table that grows
 

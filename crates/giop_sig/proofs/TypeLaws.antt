@@ -102,42 +102,15 @@ no_base w free = rw (
 
 base_word_of : (p : Primitive) → base_of (base_word p) ≡ Some (base_number p)
 base_word_of prims.Octet = refl
-base_word_of prims.Char = refl
-base_word_of prims.Boolean = refl
-base_word_of prims.Short = refl
-base_word_of prims.UShort = refl
-base_word_of prims.Long = refl
-base_word_of prims.ULong = refl
-base_word_of prims.LongLong = refl
-base_word_of prims.ULongLong = refl
-base_word_of prims.Float = refl
-base_word_of prims.Double = refl
+base_word_of _ = refl
 
 no_sequence : (p : Primitive) → bytes_eq (base_word p) (codes "sequence") ≡ false
 no_sequence prims.Octet = refl
-no_sequence prims.Char = refl
-no_sequence prims.Boolean = refl
-no_sequence prims.Short = refl
-no_sequence prims.UShort = refl
-no_sequence prims.Long = refl
-no_sequence prims.ULong = refl
-no_sequence prims.LongLong = refl
-no_sequence prims.ULongLong = refl
-no_sequence prims.Float = refl
-no_sequence prims.Double = refl
+no_sequence _ = refl
 
 no_encapsulation : (p : Primitive) → bytes_eq (base_word p) (codes "encapsulation") ≡ false
 no_encapsulation prims.Octet = refl
-no_encapsulation prims.Char = refl
-no_encapsulation prims.Boolean = refl
-no_encapsulation prims.Short = refl
-no_encapsulation prims.UShort = refl
-no_encapsulation prims.Long = refl
-no_encapsulation prims.ULong = refl
-no_encapsulation prims.LongLong = refl
-no_encapsulation prims.ULongLong = refl
-no_encapsulation prims.Float = refl
-no_encapsulation prims.Double = refl
+no_encapsulation _ = refl
 
 -- ---- types
 
@@ -192,15 +165,10 @@ string_reads at s o rest more apart h =
 
 named_keeps : (names : Names) (w : List ℕ) (i : ℕ) → IsFree w → length w ≤ 64
     → named names w ≡ Some i → (k : Kind) → OfTypeName k names w
-named_keeps names w i free short is kinds.Token = tt
 named_keeps names w i free short is kinds.Syntax = free
 named_keeps names w i free short is kinds.UnknownType = (i, is)
-named_keeps names w i free short is kinds.Duplicate = tt
 named_keeps names w i free short is kinds.Limit = short
-named_keeps names w i free short is kinds.Depth = tt
-named_keeps names w i free short is kinds.Label = tt
-named_keeps names w i free short is kinds.Empty = tt
-named_keeps names w i free short is kinds.OutOfMemory = tt
+named_keeps names w i free short is _ = tt
 
 not_found : (names : Names) (w : List ℕ) → named names w ≡ None
     → (i : ℕ) × (named names w ≡ Some i) → ⊥
@@ -261,15 +229,8 @@ closed_reads at s e o rest more m keeps apart =
     (λ k w. w.1) (node_more (place s e).0 (sequence_node o (place s e).1))
 
 version_keeps : (names : Names) → has_encapsulations names ≡ true → (k : Kind) → OfVersion k names
-version_keeps names has kinds.Token = tt
 version_keeps names has kinds.Syntax = has
-version_keeps names has kinds.UnknownType = tt
-version_keeps names has kinds.Duplicate = tt
-version_keeps names has kinds.Limit = tt
-version_keeps names has kinds.Depth = tt
-version_keeps names has kinds.Label = tt
-version_keeps names has kinds.Empty = tt
-version_keeps names has kinds.OutOfMemory = tt
+version_keeps names has _ = tt
 
 -- an encapsulation behind what it holds
 held_reads : (at : ℕ) (s : Scope) (e : TypeExpr) (rest : List ℕ) (more : List Token)

@@ -222,8 +222,7 @@ sequence_took : (at : ℕ) (element : List ℕ → Result TypeRead Refusal) (s :
 sequence_took at element s text w rest x takes t same e =
     let i = bind_ok (mark_at marks.OpenAngle rest) (λ inner. element inner >>= behind_element at) x e in
     let y = bind_ok (element i.0) (behind_element at) x i.2 in
-    let b = bind_ok (most_at (y.0).2) (λ b. mark_at marks.CloseAngle b.1 >>= λ r. added at (y.0).0 (sequence_node b.0 (y.0).1)
-    >>= λ t. Ok (t.0, t.1, r)) x y.2 in
+    let b = bind_ok _ _ x y.2 in
     let r = bind_ok (mark_at marks.CloseAngle (b.0).1) (λ r. added at (y.0).0 (sequence_node (b.0).0 (y.0).1) >>= λ t. Ok (t.0, t.1, r)) x b.2 in
     let p = bind_ok (added at (y.0).0 (sequence_node (b.0).0 (y.0).1)) (λ t. Ok (t.0, t.1, r.0)) x r.2 in
     subst (TakenType s text) (ok_is ((p.0).0, (p.0).1, r.0) x p.2)
@@ -258,8 +257,7 @@ encapsulation_took at held s text w rest x false takes t same has e = absurd cc
 encapsulation_took at held s text w rest x true takes t same has e =
     let i = bind_ok (mark_at marks.OpenAngle rest) (λ inner. held inner >>= behind_held at) x e in
     let y = bind_ok (held i.0) (behind_held at) x i.2 in
-    let r = bind_ok (mark_at marks.CloseAngle (y.0).2)
-    (λ r. added at (y.0).0 (nodes.encapsulation (y.0).1) >>= λ t. Ok (t.0, t.1, r)) x y.2 in
+    let r = bind_ok _ _ x y.2 in
     let p = bind_ok (added at (y.0).0 (nodes.encapsulation (y.0).1)) (λ t. Ok (t.0, t.1, r.0)) x r.2 in
     subst (TakenType s text) (ok_is ((p.0).0, (p.0).1, r.0) x p.2)
     (held_made at s text w rest i.0 r.0 y.0 p.0 has t same i.1 (takes i.0 y.0 y.1) r.1 p.1)

@@ -56,14 +56,7 @@ switch_taken at s text x e =
 discriminator_scalar : (node : Node) → IsDiscriminator node → IsScalarNode node
 discriminator_scalar (nodes.prim p) is = tt
 discriminator_scalar (nodes.enumeration names) is = tt
-discriminator_scalar (nodes.text bound) is = is
-discriminator_scalar (nodes.octets bound) is = is
-discriminator_scalar (nodes.members parts) is = is
-discriminator_scalar (nodes.union switch cases otherwise) is = is
-discriminator_scalar (nodes.sequence bound element) is = is
-discriminator_scalar (nodes.array count element) is = is
-discriminator_scalar (nodes.encapsulation held) is = is
-discriminator_scalar (nodes.tagged special tag inner other) is = is
+discriminator_scalar _ is = is
 
 -- the node of a union that was read
 abbrev pub union_node : ℕ → CasesRead → Node

@@ -74,13 +74,10 @@ case_reads at switch node s labels names cases otherwise c text more same some a
 
 pub place_grows : (s : Scope) (e : TypeExpr) → Grows s (place s e).0
 unfolding place
-place_grows s (Base p) = grows_none s
-place_grows s (Text None) = grows_none s
 place_grows s (Text (Some n)) = node_grows s (nodes.text (Some n))
-place_grows s Reference = grows_none s
-place_grows s (Named w) = grows_none s
 place_grows s (SequenceOf e bound) = grows_on s (place s e).0 (place s (SequenceOf e bound)).0 (place_grows s e) (node_grows (place s e).0 _)
 place_grows s (EncapsulationOf e) = grows_on s (place s e).0 (place s (EncapsulationOf e)).0 (place_grows s e) (node_grows (place s e).0 _)
+place_grows s _ = grows_none s
 
 length_grows : (s : Scope) (o : Option ℕ) (p : Placed) → Grows s p.0 → Grows s (place_length o p).0
 length_grows s None p g = g

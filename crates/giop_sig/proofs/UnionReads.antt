@@ -45,13 +45,11 @@ default_on : (otherwise : Selected) (i : ℕ) (c : UnionCase) (cs : List UnionCa
     → default_or (chosen otherwise (has_default (labels_of c)) i) (i + 1) cs
     ≡ default_or otherwise i (c ∷ cs)
 default_on selecteds.Nothing i c cs = default_by (has_default (labels_of c)) i cs
-default_on (selecteds.Case j) i c cs = refl
-default_on selecteds.Refused i c cs = refl
+default_on _ i c cs = refl
 
 default_end : (otherwise : Selected) (i : ℕ) → otherwise ≡ default_or otherwise i []
 default_end selecteds.Nothing i = refl
-default_end (selecteds.Case j) i = refl
-default_end selecteds.Refused i = refl
+default_end _ i = refl
 
 -- what was kept of the cases is what they make
 record MakesCases (node : Node) (s : Scope) (cases : List Case) (otherwise : Selected) (place : ℕ)
@@ -112,7 +110,6 @@ cases_reads at switch node known s (c ∷ cs) text more names some below same fr
 -- ---- the discriminator
 
 pub discriminates : (node : Node) → can_switch node ≡ true → IsDiscriminator node
-discriminates (nodes.prim prims.Octet) e = absurd cc
 discriminates (nodes.prim prims.Char) e = tt
 discriminates (nodes.prim prims.Boolean) e = tt
 discriminates (nodes.prim prims.Short) e = tt
@@ -121,20 +118,10 @@ discriminates (nodes.prim prims.Long) e = tt
 discriminates (nodes.prim prims.ULong) e = tt
 discriminates (nodes.prim prims.LongLong) e = tt
 discriminates (nodes.prim prims.ULongLong) e = tt
-discriminates (nodes.prim prims.Float) e = absurd cc
-discriminates (nodes.prim prims.Double) e = absurd cc
 discriminates (nodes.enumeration names) e = tt
-discriminates (nodes.text bound) e = absurd cc
-discriminates (nodes.octets bound) e = absurd cc
-discriminates (nodes.members parts) e = absurd cc
-discriminates (nodes.union switch cases otherwise) e = absurd cc
-discriminates (nodes.sequence bound element) e = absurd cc
-discriminates (nodes.array count element) e = absurd cc
-discriminates (nodes.encapsulation held) e = absurd cc
-discriminates (nodes.tagged special tag inner other) e = absurd cc
+discriminates _ e = absurd cc
 
 no_discriminator : (node : Node) → can_switch node ≡ false → IsDiscriminator node → ⊥
-no_discriminator (nodes.prim prims.Octet) e is = is
 no_discriminator (nodes.prim prims.Char) e is = absurd cc
 no_discriminator (nodes.prim prims.Boolean) e is = absurd cc
 no_discriminator (nodes.prim prims.Short) e is = absurd cc
@@ -143,28 +130,12 @@ no_discriminator (nodes.prim prims.Long) e is = absurd cc
 no_discriminator (nodes.prim prims.ULong) e is = absurd cc
 no_discriminator (nodes.prim prims.LongLong) e is = absurd cc
 no_discriminator (nodes.prim prims.ULongLong) e is = absurd cc
-no_discriminator (nodes.prim prims.Float) e is = is
-no_discriminator (nodes.prim prims.Double) e is = is
 no_discriminator (nodes.enumeration names) e is = absurd cc
-no_discriminator (nodes.text bound) e is = is
-no_discriminator (nodes.octets bound) e is = is
-no_discriminator (nodes.members parts) e is = is
-no_discriminator (nodes.union switch cases otherwise) e is = is
-no_discriminator (nodes.sequence bound element) e is = is
-no_discriminator (nodes.array count element) e is = is
-no_discriminator (nodes.encapsulation held) e is = is
-no_discriminator (nodes.tagged special tag inner other) e is = is
+no_discriminator _ e is = is
 
 switch_keeps : (node : Node) → IsDiscriminator node → (k : Kind) → OfSwitch k node
-switch_keeps node is kinds.Token = tt
-switch_keeps node is kinds.Syntax = tt
-switch_keeps node is kinds.UnknownType = tt
-switch_keeps node is kinds.Duplicate = tt
-switch_keeps node is kinds.Limit = tt
-switch_keeps node is kinds.Depth = tt
 switch_keeps node is kinds.Label = is
-switch_keeps node is kinds.Empty = tt
-switch_keeps node is kinds.OutOfMemory = tt
+switch_keeps node is _ = tt
 
 -- what isn't in the table is no discriminator
 below_by : (s : Scope) (i : ℕ) (v : Bool) → ltb i (size s) ≡ v

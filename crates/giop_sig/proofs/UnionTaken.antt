@@ -56,13 +56,11 @@ word_taken text w rest x false false false false p q r h e =
 
 token_taken : (text : List ℕ) (t : Option Token) (rest : List ℕ) (x : Value × List ℕ)
     → next text ≡ Ok (t, rest) → token_value text t rest ≡ Ok x → TakenValue text x
-token_taken text None rest x h e = absurd cc
 token_taken text (Some (word w)) rest x h e =
     word_taken text w rest x (bytes_eq w (codes "true")) (bytes_eq w (codes "false")) (is_reserved w) (ltb 64 (length w)) refl refl refl h e
 token_taken text (Some (number n)) rest x h e = subst (TakenValue text) (ok_is (Plain n, rest) x e) (record { free = tt; front = λ more m. (rest, h, m) })
 token_taken text (Some (negative n)) rest x h e = subst (TakenValue text) (ok_is (Below n, rest) x e) (record { free = tt; front = λ more m. (rest, h, m) })
-token_taken text (Some (repository r)) rest x h e = absurd cc
-token_taken text (Some (mark m)) rest x h e = absurd cc
+token_taken text _ rest x h e = absurd cc
 
 value_taken : (text : List ℕ) (x : Value × List ℕ) → value_at text ≡ Ok x → TakenValue text x
 unfolding value_at
@@ -274,8 +272,7 @@ case_made x ls i rest t u e = record {
 case_taken : (at switch : ℕ) (x y : CasesRead) → case_at at switch x ≡ Ok y → TakenCase x y
 unfolding case_at
 case_taken at switch x y e =
-    let ls = bind_ok (labels_at (node_at (x.0).table switch) (x.1).labels x.2)
-    (λ ls. item_at at 256 (x.1).names x.0 ls.3 >>= λ i. mark_at marks.Semicolon i.2 >>= λ rest. Ok (i.0, with_case x.1 ls i.1, rest)) y e in
+    let ls = bind_ok _ _ y e in
     let i = bind_ok (item_at at 256 (x.1).names x.0 (ls.0).3) (λ i. mark_at marks.Semicolon i.2 >>= λ rest. Ok (i.0, with_case x.1 ls.0 i.1, rest)) y ls.2 in
     let r = bind_ok (mark_at marks.Semicolon (i.0).2) (λ rest. Ok ((i.0).0, with_case x.1 ls.0 (i.0).1, rest)) y i.2 in
     subst (TakenCase x) (ok_is ((i.0).0, with_case x.1 ls.0 (i.0).1, r.0) y r.2)

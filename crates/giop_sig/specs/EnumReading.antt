@@ -12,7 +12,7 @@ use Rattle.giop_sig.specs.Scopes.{Scope, with_named}
 use Rattle.giop_sig.specs.Validity.{is_among}
 use Rattle.giop_sig.specs.Outcomes.{refused}
 use Rattle.giop_sig.specs.TypeReading.{added}
-use Rattle.giop_sig.specs.ItemReading.{declared_at, Declared}
+use Rattle.giop_sig.specs.ItemReading.{new_name_at, declared_at, Declared}
 use Rattle.giop_sig.specs.Repeats.{in_steps}
 
 -- enumerators, and what follows them
@@ -22,10 +22,8 @@ NamesRead = List (List ℕ) × List ℕ
 -- an enumerator behind others
 unfoldable pub enumerator_at : List (List ℕ) → List ℕ → Result NamesRead Refusal
 enumerator_at seen text = do
-  w ← identifier_at text
-  if is_among seen w.0 then Err (refused kinds.Duplicate text)
-      else (if nat_le 1024 (length seen) then Err (refused kinds.Limit text)
-      else Ok (seen ++ w.0 ∷ [], w.1))
+  w ← new_name_at 1024 seen text
+  Ok (seen ++ w.0 ∷ [], w.1)
 
 -- a comma, behind which another enumerator stands, or the closing mark
 abbrev pub names_end : NamesRead → Option (List ℕ) → Result (Bool × NamesRead) Refusal

@@ -33,7 +33,7 @@ fn add_name(alloc: Global, names: &mut Vec<Vec<u8>>, name: &[u8]) -> Result<(), 
 }
 
 /// An enumerator behind others; what follows it.
-#[tactic(auto, unfolding(crate::specs::EnumReading::enumerator_at))]
+#[tactic(auto, unfolding(crate::specs::EnumReading::enumerator_at, crate::specs::ItemReading::new_name_at))]
 fn enumerator<'a>(alloc: Global, names: &mut Vec<Vec<u8>>, text: &'a [u8]) -> Result<&'a [u8], Stop>
     ensures { Gives (λ x. (map (λ n. n.items) names.new.items, x.now)) result
         (enumerator_at (map (λ n. n.items) names.old.items) text.now) }

@@ -107,16 +107,7 @@ first_repository r after h =
 first_mark : (m : Mark) (after : List ℕ) → first (octet_of m ∷ after) ≡ lexed (mark m) after
 unfolding first mark_of
 first_mark marks.OpenBrace after = refl
-first_mark marks.CloseBrace after = refl
-first_mark marks.OpenParenthesis after = refl
-first_mark marks.CloseParenthesis after = refl
-first_mark marks.OpenAngle after = refl
-first_mark marks.CloseAngle after = refl
-first_mark marks.OpenBracket after = refl
-first_mark marks.CloseBracket after = refl
-first_mark marks.Comma after = refl
-first_mark marks.Semicolon after = refl
-first_mark marks.Colon after = refl
+first_mark _ after = refl
 
 -- a text that begins with a run of word octets
 first_run : (w after : List ℕ) (t : Token) → 0 < length w → AllByRecursion (λ b. is_word b ≡ true) w → is_word (slice_index after 0) ≡ false → word_token w ≡ Some t → first (w ++ after) ≡ lexed t after
@@ -163,16 +154,7 @@ word_stop b w = (word_white b (is_white b) refl w, word_slash b (eqb b 47) refl 
 
 mark_stop : (m : Mark) → IsStop (octet_of m)
 mark_stop marks.OpenBrace = (refl, refl)
-mark_stop marks.CloseBrace = (refl, refl)
-mark_stop marks.OpenParenthesis = (refl, refl)
-mark_stop marks.CloseParenthesis = (refl, refl)
-mark_stop marks.OpenAngle = (refl, refl)
-mark_stop marks.CloseAngle = (refl, refl)
-mark_stop marks.OpenBracket = (refl, refl)
-mark_stop marks.CloseBracket = (refl, refl)
-mark_stop marks.Comma = (refl, refl)
-mark_stop marks.Semicolon = (refl, refl)
-mark_stop marks.Colon = (refl, refl)
+mark_stop _ = (refl, refl)
 
 gap_run : (w after : List ℕ) → 0 < length w → AllByRecursion (λ b. is_word b ≡ true) w → gap false (w ++ after) ≡ w ++ after
 gap_run [] after some h = absurd (omega arith)

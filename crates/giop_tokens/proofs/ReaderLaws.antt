@@ -73,16 +73,7 @@ bytes_self w = (bytes_eq-Decides w w).1 refl
 
 octet_self : (m : Mark) → eqb (octet_of m) (octet_of m) ≡ true
 octet_self marks.OpenBrace = refl
-octet_self marks.CloseBrace = refl
-octet_self marks.OpenParenthesis = refl
-octet_self marks.CloseParenthesis = refl
-octet_self marks.OpenAngle = refl
-octet_self marks.CloseAngle = refl
-octet_self marks.OpenBracket = refl
-octet_self marks.CloseBracket = refl
-octet_self marks.Comma = refl
-octet_self marks.Semicolon = refl
-octet_self marks.Colon = refl
+octet_self _ = refl
 
 pub word_again : (text w : List ℕ) (ts : List Token) (h : AreTokens text (word w ∷ ts)) → word_at text ≡ Ok (w, h.0)
 word_again text w ts h = as_again as_word text (word w) ts w h refl
@@ -182,38 +173,20 @@ if_takes is text after e =
 
 word_told : (t : Token) (w : List ℕ) → as_word t ≡ Some w → t ≡ word w
 word_told (word v) w e = ap word (some_is v w e)
-word_told (number n) w e = absurd cc
-word_told (negative n) w e = absurd cc
-word_told (repository r) w e = absurd cc
-word_told (mark m) w e = absurd cc
+word_told _ w e = absurd cc
 
 number_told : (t : Token) (n : ℕ) → as_number t ≡ Some n → t ≡ number n
 number_told (number k) n e = ap number (some_is k n e)
-number_told (word v) n e = absurd cc
-number_told (negative k) n e = absurd cc
-number_told (repository r) n e = absurd cc
-number_told (mark m) n e = absurd cc
+number_told _ n e = absurd cc
 
 repository_told : (t : Token) (r : List ℕ) → as_repository t ≡ Some r → t ≡ repository r
 repository_told (repository s) r e = ap repository (some_is s r e)
-repository_told (word v) r e = absurd cc
-repository_told (number k) r e = absurd cc
-repository_told (negative k) r e = absurd cc
-repository_told (mark m) r e = absurd cc
+repository_told _ r e = absurd cc
 
 mark_again_of : (m : Mark) → mark_of (octet_of m) ≡ Some m
 unfolding mark_of
 mark_again_of marks.OpenBrace = refl
-mark_again_of marks.CloseBrace = refl
-mark_again_of marks.OpenParenthesis = refl
-mark_again_of marks.CloseParenthesis = refl
-mark_again_of marks.OpenAngle = refl
-mark_again_of marks.CloseAngle = refl
-mark_again_of marks.OpenBracket = refl
-mark_again_of marks.CloseBracket = refl
-mark_again_of marks.Comma = refl
-mark_again_of marks.Semicolon = refl
-mark_again_of marks.Colon = refl
+mark_again_of _ = refl
 
 -- marks of one octet are equal
 pub mark_same : (m n : Mark) → octet_of m ≡ octet_of n → m ≡ n
@@ -221,17 +194,11 @@ mark_same m n e = some_is m n (sym (mark_again_of m) ∙ ap mark_of e ∙ mark_a
 
 mark_told : (m : Mark) (t : Token) → is_the_mark m t ≡ true → t ≡ mark m
 mark_told m (mark n) e = ap mark (mark_same n m (eqb-true (octet_of n) (octet_of m) e))
-mark_told m (word v) e = absurd cc
-mark_told m (number k) e = absurd cc
-mark_told m (negative k) e = absurd cc
-mark_told m (repository r) e = absurd cc
+mark_told m _ e = absurd cc
 
 keyword_told : (w : List ℕ) (t : Token) → is_the_word w t ≡ true → t ≡ word w
 keyword_told w (word v) e = ap word ((bytes_eq-Decides v w).0 e)
-keyword_told w (number k) e = absurd cc
-keyword_told w (negative k) e = absurd cc
-keyword_told w (repository r) e = absurd cc
-keyword_told w (mark m) e = absurd cc
+keyword_told w _ e = absurd cc
 
 -- the first token, where it is known to be another
 first_is : (text : List ℕ) (s t : Token) (rest : List ℕ) → next text ≡ Ok (Some s, rest) → s ≡ t → next text ≡ Ok (Some t, rest)

@@ -278,10 +278,7 @@ unfolding changed
 changed_each P live whom (Opens i) h w = each_append (λ o. P o.opener) live _ h (w, tt)
 changed_each P live whom Closes h w = each_filter (λ o. P o.opener) (λ o. not (o.opener.number == whom.number)) live h
 changed_each P live whom (Cancelled j) h w = each_filter (λ o. P o.opener) (λ o. not (o.opener.number == whom.number)) live h
-changed_each P live whom Begins h w = h
-changed_each P live whom (Takes x) h w = h
-changed_each P live whom (Continues i) h w = h
-changed_each P live whom (Imposed fault) h w = h
+changed_each P live whom _ h w = h
 
 pub opened_each : (P : Title → Type 0) (live : List Open) (es : List Event) → Each (λ o. P o.opener) live
     → Each (λ e. P e.whom) es → Each (λ o. P o.opener) (opened live es)

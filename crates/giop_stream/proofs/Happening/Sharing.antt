@@ -46,11 +46,7 @@ silent : (what : Happening) → IsLater what → octet what ≡ []
 unfolding octet
 silent Begins h = absurd h
 silent (Takes x) h = absurd h
-silent (Opens i) h = refl
-silent (Continues i) h = refl
-silent (Cancelled j) h = refl
-silent (Imposed fault) h = refl
-silent Closes h = refl
+silent _ h = refl
 
 silent_header : (i : ℕ) (now : Now) → joined i (header_acts now) ≡ []
 unfolding IsSilent octet

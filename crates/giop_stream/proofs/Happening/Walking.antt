@@ -11,11 +11,7 @@ use Rattle.giop_stream.specs.Events.{Happening, Begins, Takes, Opens, Continues,
 abbrev pub IsLater : Happening → Type 0
 IsLater Begins = ⊥
 IsLater (Takes x) = ⊥
-IsLater (Opens i) = Unit {0}
-IsLater (Continues i) = Unit {0}
-IsLater (Cancelled j) = Unit {0}
-IsLater (Imposed fault) = Unit {0}
-IsLater Closes = Unit {0}
+IsLater _ = Unit {0}
 
 -- what holds of no event and of events joined
 pub record IsJoined (Q : List Event → Type 0) : Type 0 where

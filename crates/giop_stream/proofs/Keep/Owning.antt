@@ -91,9 +91,8 @@ module _ (C : Table) (l : Listed) where
 
     -- of no message,
     of_none : (of : Payload) → IsWhose C l of own c None → own ≡ None
-    of_none payload.Own h = absurd h
-    of_none (payload.Open k) h = absurd h
     of_none payload.Nobody h = h
+    of_none _ h = absurd h
 
     pub own_known : (of : Payload) (current : Option Message) → IsWhose C l of own c (whose_in c.live current) → IsOwn C l own (own_in c.known c.live current)
     own_known of None h = rw (of_none of h) tt
@@ -135,9 +134,8 @@ module _ (C : Table) (l : Listed) (s : State) (c : Tracked) (own : Option Kept_m
   slot_is current e k o here = rw e.slots (slots_get c k o here)
 
   owns_none : (of : Payload) → Tells s c None → IsWhose C l of own c None → IsOwner of s
-  owns_none payload.Own e h = absurd h
-  owns_none (payload.Open k) e h = absurd h
   owns_none payload.Nobody e h = e.owner
+  owns_none _ e h = absurd h
 
   owns_other : (m : Message) → Tells s c (Some m) → has_named m ≡ true → (of : Payload) (r : Option Open)
       → opener_of c.live m ≡ r → IsWhose C l of own c (opener_title r) → IsOwner of s

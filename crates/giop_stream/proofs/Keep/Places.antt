@@ -13,24 +13,17 @@ use Rattle.giop_stream.proofs.Keep.InPlace.{own_then, others_then, slot_at, no_s
 
 stays_live : (live : List Open) (whom : Title) (what : Happening) → stays what ≡ true → changed live whom what ≡ live
 unfolding changed
-stays_live live whom Begins h = refl
-stays_live live whom (Takes x) h = refl
 stays_live live whom (Opens i) h = absurd cc
-stays_live live whom (Continues i) h = refl
 stays_live live whom (Cancelled j) h = absurd cc
-stays_live live whom (Imposed fault) h = refl
 stays_live live whom Closes h = absurd cc
+stays_live live whom _ h = refl
 
 goes_live : (live : List Open) (whom : Title) (what : Happening) → goes what ≡ true
     → changed live whom what ≡ filter (λ o. not (o.opener.number == whom.number)) live
 unfolding changed
-goes_live live whom Begins h = absurd cc
-goes_live live whom (Takes x) h = absurd cc
-goes_live live whom (Opens i) h = absurd cc
-goes_live live whom (Continues i) h = absurd cc
 goes_live live whom (Cancelled j) h = refl
-goes_live live whom (Imposed fault) h = absurd cc
 goes_live live whom Closes h = refl
+goes_live live whom _ h = absurd cc
 
 live_at : (R : Reading) (c : Tracked) (e : Event) → (tracked_at R c e).live ≡ changed c.live e.whom e.what
 unfolding tracked_at

@@ -79,18 +79,14 @@ few_at_close a b c more (inr (inr e)) = absurd cc
 
 turn_stands : (at n : ℕ) (rs : List Remark) → InTurn (map (λ r. r.saying) rs) → standing (λ i. false) (said_lines at n rs) ≡ said_lines at n rs
 unfolding standing is_last_of
-turn_stands at n [] h = refl
-turn_stands at n (r ∷ []) h = refl
 turn_stands at n (r ∷ s ∷ []) h = let e = two_values r.saying s.saying h in rw (e.0, eq-eqb n n refl) refl
 turn_stands at n (r ∷ s ∷ t ∷ rs) h = absurd (few_in_turn r.saying s.saying t.saying (map (λ r. r.saying) rs) h)
+turn_stands at n _ h = refl
 
 one_fault : (at n : ℕ) (s : Saying) (text : List ℕ) → fault_count (record { place = at; number = n; content = Said s text } ∷ []) ≡ (if is_fault s || false then 1 else 0)
 unfolding fault_count
 one_fault at n Value text = refl
-one_fault at n Call text = refl
-one_fault at n Rest text = refl
-one_fault at n Fault text = refl
-one_fault at n End text = refl
+one_fault at n _ text = refl
 
 turn_faults : (at n : ℕ) (rs : List Remark) → InTurn (map (λ r. r.saying) rs) → fault_count (said_lines at n rs) ≡ (if list_any (λ r. is_fault r.saying) rs then 1 else 0)
 unfolding fault_count
@@ -104,11 +100,8 @@ turn_faults at n (r ∷ s ∷ []) h = go (two_values r.saying s.saying h)
 turn_faults at n (r ∷ s ∷ t ∷ rs) h = absurd (few_in_turn r.saying s.saying t.saying (map (λ r. r.saying) rs) h)
 
 one_last : (s : Saying) → InTurn (s ∷ []) → is_last s ≡ is_fault s
-one_last Value h = refl
-one_last Call h = refl
-one_last Rest h = refl
-one_last Fault h = refl
 one_last End h = absurd (no_end h)
+one_last _ h = refl
 
 turn_last : (at n : ℕ) (rs : List Remark) → InTurn (map (λ r. r.saying) rs) → list_any (is_last_of n) (said_lines at n rs) ≡ list_any (λ r. is_fault r.saying) rs
 unfolding is_last_of
@@ -123,10 +116,9 @@ turn_last at n (r ∷ s ∷ t ∷ rs) h = absurd (few_in_turn r.saying s.saying 
 
 close_stands : (at n : ℕ) (cs : List (Saying × List ℕ)) → AtClose (map (λ c. c.0) cs) → standing (λ i. false) (close_lines at n cs) ≡ close_lines at n cs
 unfolding standing is_last_of
-close_stands at n [] h = refl
-close_stands at n (c ∷ []) h = refl
 close_stands at n (c ∷ d ∷ []) h = let e = two_closes c.0 d.0 h in rw (e.0, eq-eqb n n refl) refl
 close_stands at n (c ∷ d ∷ e ∷ cs) h = absurd (few_at_close c.0 d.0 e.0 (map (λ c. c.0) cs) h)
+close_stands at n _ h = refl
 
 close_faults : (at n : ℕ) (cs : List (Saying × List ℕ)) → AtClose (map (λ c. c.0) cs) → fault_count (close_lines at n cs) ≡ (if list_any (λ c. is_fault c.0) cs then 1 else 0)
 unfolding fault_count

@@ -48,18 +48,12 @@ version a b c d e f w = ltb-true f 3 (go (nat_lt f 3) w)
 
 minor_few : (header : List ℕ) → length header ≡ 12 → offence header ≡ None → minor header < 3
 unfolding offence fronts minor
-minor_few [] twelve h = absurd (omega (arith, twelve))
-minor_few (a ∷ []) twelve h = absurd (omega (arith, twelve))
-minor_few (a ∷ b ∷ []) twelve h = absurd (omega (arith, twelve))
-minor_few (a ∷ b ∷ c ∷ []) twelve h = absurd (omega (arith, twelve))
-minor_few (a ∷ b ∷ c ∷ d ∷ []) twelve h = absurd (omega (arith, twelve))
-minor_few (a ∷ b ∷ c ∷ d ∷ e ∷ []) twelve h = absurd (omega (arith, twelve))
-minor_few (a ∷ b ∷ c ∷ d ∷ e ∷ f ∷ []) twelve h = absurd (omega (arith, twelve))
 minor_few (a ∷ b ∷ c ∷ d ∷ e ∷ f ∷ g ∷ more) twelve h =
     let two = behind (a ∷ []) _ (behind [] _ h) in
     let four = behind (a ∷ b ∷ c ∷ []) _ (behind (a ∷ b ∷ []) _ two) in
     let six = behind (a ∷ b ∷ c ∷ d ∷ e ∷ []) _ (behind (a ∷ b ∷ c ∷ d ∷ []) _ four) in
     version a b c d e f (right_here (a ∷ b ∷ c ∷ d ∷ e ∷ f ∷ []) _ six)
+minor_few _ twelve h = absurd (omega (arith, twelve))
 
 -- ---- Its type, by its kind.
 

@@ -69,10 +69,9 @@ module _ (R : Rules) (laws : IsInTurn R.reading) (p : List ℕ) (x : ℕ) (sound
 -- ---- What is kept throughout.
 
 sound_by : (R : Rules) (p : List ℕ) (x : ℕ) (o : Octet) → Then R p x o → IsSound R (p ++ x ∷ [])
-sound_by R p x Behind h = h.2.sound
 sound_by R p x (Ends fault) h = h.1.sound
-sound_by R p x (Held front) h = h.2.sound
 sound_by R p x (Of now) h = h.1.adds.sound
+sound_by R p x _ h = h.2.sound
 
 record IsKept (R : Rules) (p : List ℕ) : Type 0 where
   sound : IsSound R p

@@ -143,9 +143,8 @@ kept_own C l (Some m) w (Some xs) h = h
 module _ (C : Table) (l : Listed) (s : State) (c : Tracked) (own : Option Kept_message) where
   -- of no message
   none_turn : (of : Payload) → comes_itself s ≡ false → IsWhose C l of own c None → IsTurn of s
-  none_turn payload.Own t h = absurd h
-  none_turn (payload.Open k) t h = absurd h
   none_turn payload.Nobody t h = t
+  none_turn _ t h = absurd h
 
   none_back : (of : Payload) → Tells s c None → comes_itself s ≡ false → IsOwn C l own s.own → IsOwner of s → IsTurn of s → IsWhose C l of own c None
   none_back payload.Own e t k h u = absurd (false≢true (sym t ∙ u))

@@ -39,15 +39,7 @@ any_class t g n (d ∷ cs) h k = class_by t g n d cs (n == rank d) refl h k (λ 
 known_class : (c : Class) → list_any (λ d. rank c == rank d) classes ≡ true
 unfolding classes
 known_class Start = refl
-known_class Said_value = refl
-known_class Said_call = refl
-known_class Continuing = refl
-known_class Cancelling = refl
-known_class Imposing = refl
-known_class Said_rest = refl
-known_class Said_fault = refl
-known_class Said_end = refl
-known_class Stop = refl
+known_class _ = refl
 
 record Ranked (t : Line → Bool) (ls : List Line) : Type 0 where
   at : ℕ
@@ -107,10 +99,7 @@ unfoldable pub is_final : Happening → Bool
 is_final Closes = true
 is_final (Cancelled j) = true
 is_final (Imposed fault) = true
-is_final Begins = false
-is_final (Takes x) = false
-is_final (Opens i) = false
-is_final (Continues i) = false
+is_final _ = false
 
 any_weaker : {A : Type 0} (p q : A → Bool) → ((x : A) → p x ≡ true → q x ≡ true) → (xs : List A) → list_any p xs ≡ true → list_any q xs ≡ true
 any_weaker p q f [] h = absurd cc
@@ -134,10 +123,7 @@ tells_final R ending e so_far all Closes h =
     (R.closes e.whom.header so_far) (ending.ends e.whom.header so_far))
 tells_final R ending e so_far all (Cancelled j) h = rw (eq-eqb e.whom.number e.whom.number refl) refl
 tells_final R ending e so_far all (Imposed fault) h = rw (eq-eqb e.whom.number e.whom.number refl) refl
-tells_final R ending e so_far all Begins h = absurd cc
-tells_final R ending e so_far all (Takes x) h = absurd cc
-tells_final R ending e so_far all (Opens i) h = absurd cc
-tells_final R ending e so_far all (Continues i) h = absurd cc
+tells_final R ending e so_far all _ h = absurd cc
 
 kept_final : (R : Reading) → IsEnding R → (e : Event) (o : Option (List ℕ)) (xs : List ℕ) → o ≡ Some xs
     → is_final e.what ≡ true → list_any (is_last_of e.whom.number) (lines_for R e o) ≡ true

@@ -49,10 +49,9 @@ more_of : (R : Rules) (p : List ℕ) (x : ℕ) (c : Cut) (ls : List Line) (track
 more_of R p x c ls tracked h = record { more = ls; grows = h.lines; here = h.here; rises = h.rises }
 
 more_by : (R : Rules) (p : List ℕ) (x : ℕ) (o : Octet) → Then R p x o → More R p x
-more_by R p x Behind h = more_of R p x _ _ _ h.2
 more_by R p x (Ends fault) h = more_of R p x _ _ _ h.1
-more_by R p x (Held front) h = more_of R p x _ _ _ h.2
 more_by R p x (Of now) h = more_of R p x _ _ _ h.1.adds
+more_by R p x _ h = more_of R p x _ _ _ h.2
 
 -- ---- Octet by octet.
 

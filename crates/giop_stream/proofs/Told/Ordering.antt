@@ -98,15 +98,7 @@ first_stays (c ∷ cs) l ls r h m = first_by c cs l ls (rank_of l == rank c) ref
 a_class : (c : Class) → list_any (λ d. rank c == rank d) classes ≡ true
 unfolding classes
 a_class Start = refl
-a_class Said_value = refl
-a_class Said_call = refl
-a_class Continuing = refl
-a_class Cancelling = refl
-a_class Imposing = refl
-a_class Said_rest = refl
-a_class Said_fault = refl
-a_class Said_end = refl
-a_class Stop = refl
+a_class _ = refl
 
 classes_rise : Rise classes
 unfolding classes

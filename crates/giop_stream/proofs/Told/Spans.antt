@@ -57,10 +57,7 @@ pub record SaySpans (lo hi : ℕ) (ss : List Saying) : Type 0 where
 pub rank_said : (e : Event) (s : Saying) (text : List ℕ) → rank_of (line e (Said s text)) ≡ said_rank s
 unfolding line
 rank_said e Value text = refl
-rank_said e Call text = refl
-rank_said e Rest text = refl
-rank_said e Fault text = refl
-rank_said e End text = refl
+rank_said e _ text = refl
 
 pub said_each : {A : Type 0} (P : ℕ → Type 0) (e : Event) (f : A → Saying) (g : A → List ℕ) (xs : List A) → Each (λ s. P (said_rank s)) (map f xs) → Each (λ l. P (rank_of l)) (map (λ a. line e (Said (f a) (g a))) xs)
 said_each P e f g [] h = tt

@@ -86,10 +86,8 @@ unfolding Calm tells NoStart line
 calm Begins h = absurd h
 calm (Takes x) h = absurd h
 calm (Opens i) h = λ R e so_far all. tt
-calm (Continues i) h = λ R e so_far all. (refl, tt)
-calm (Cancelled j) h = λ R e so_far all. (refl, tt)
-calm (Imposed fault) h = λ R e so_far all. (refl, tt)
 calm Closes h = λ R e so_far all. closes_none R e so_far all
+calm _ h = λ R e so_far all. (refl, tt)
 
 quiet_imposed : (now : Now) (w : Option ImposedFault) → Each Quiet (imposed now w)
 quiet_imposed now None = tt

@@ -27,15 +27,10 @@ joined_own e = rw (eq-eqb e.whom.number e.whom.number refl) (append-nil (octet e
 tells_early : (R : Reading) → IsCausal R → (e : Event) (so_far more : List ℕ) (what : Happening)
     → tells R e so_far ((so_far ++ octet what) ++ more) what ≡ tells R e so_far (so_far ++ octet what) what
 unfolding tells octet
-tells_early R causal e so_far more Begins = refl
 tells_early R causal e so_far more (Takes x) =
     ap (map (λ r. line e (Said r.saying r.text)))
     (causal.earlier e.whom.header (so_far ++ x ∷ []) more (suc (length so_far)) (omega (arith, length_push so_far x)))
-tells_early R causal e so_far more (Opens id) = refl
-tells_early R causal e so_far more (Continues i) = refl
-tells_early R causal e so_far more (Cancelled j) = refl
-tells_early R causal e so_far more (Imposed fault) = refl
-tells_early R causal e so_far more Closes = refl
+tells_early R causal e so_far more _ = refl
 
 -- Telling by the octets so far.
 unfoldable pub heard : Reading → List Event → List Event → List Line

@@ -51,9 +51,8 @@ unfoldable pub digit : ℕ → ℕ
 digit c = if nat_lt c 58 then c - 48 else c - 87
 
 unfoldable pub octets : List ℕ → List ℕ
-octets [] = []
-octets (a ∷ []) = []
 octets (a ∷ (b ∷ more)) = if a == 32 then octets (b ∷ more) else (16 * digit a + digit b) ∷ octets more
+octets _ = []
 
 record Writes (R : Rules) (p lines end : List ℕ) : Type 0 where
   text : text R p ≡ lines
