@@ -105,8 +105,9 @@ fits_in T end at C d lines leaf r sound is goes_on = (subst (Sound T end) (is �
 
 -- What a step leaves of a decoder that fits, fits as well.
 pub step_fits : (C : Table) (d new : Decoder) (f : Fits C d) (octet : ℕ) (g : Goes C new (f.here + 1) (stepped C d f.here octet)) → IsHere new (f.here + 1) → AreAhead new.outer.items →
-    new.inside ≡ is_inside new.outer.items → Link C f.root new.outer.items (leaf_type g.leaf) → AreKnown C new.outer.items → leaf_type g.leaf < length C.types → IsClean g.leaf new.carry new.piece.items → Fits C new
-step_fits C d new f octet g here ahead inside link known_outer known clean =
+    new.inside ≡ is_inside new.outer.items → Link C f.root new.outer.items (leaf_type g.leaf) → AreKnown C new.outer.items → leaf_type g.leaf < length C.types → IsClean g.leaf new.carry new.piece.items →
+    (is_header_root new.root ≡ false → new.memory.request_id ≡ None) → Fits C new
+step_fits C d new f octet g here ahead inside link known_outer known clean heeds =
     let sound : Sound (tree C f.root) (f.here + 1) (stepped C d f.here octet) =
     subst (λ l. Sound (tree C f.root) (f.here + 1) (step (plain d.order) [] (places C f.here d.outer.items) (leaf_in C d l) f.here octet)) (sym f.goes_on)
     (step_keeps 24 (plain d.order) [] (tree C f.root) (places C f.here d.outer.items) (leaf_of C f.leaf d.carry d.piece.items) f.here octet f.fit f.fits
@@ -127,6 +128,7 @@ step_fits C d new f octet g here ahead inside link known_outer known clean =
       known = known;
       clean = clean;
       at = omega (arith, here.0);
+      heeds = heeds;
     }
 
 lines_entered : (C : Table) (coding : Coding) (path : List Seg) (frames : List Frame) (test : Bool) (inner : List Place) (leaf : Leaf) (lines : List Line) (at : ℕ) → AreKnown C frames →

@@ -17,7 +17,6 @@ use Rattle.giop_decode.specs.Steps.{after, coding_in, head_width, AreHeld}
 use Rattle.giop_decode.specs.Turns.{coding_by, is_inside, places, ticked, ticked_by, AreAhead, IsClean}
 use Rattle.giop_decode.proofs.Advancing.{same_some}
 use Rattle.giop_decode.proofs.Counting.{ahead_first, coding_ticked, free_ticked_by, ticked_more, ticked_none}
-use Rattle.giop_decode.proofs.Hearing.{minds_by, recalls_by}
 use Rattle.giop_decode.proofs.PieceLaws.{content_held}
 use Rattle.giop_decode.proofs.Runs.{dues_both, dues_none, takes_one, takes_both}
 use Rattle.giop_decode.proofs.Surrounding.{coded_in, free_coding_by}
@@ -70,6 +69,7 @@ module _ (C : Table) (d new : Decoder) where
       known = f.known;
       clean = rw (carry, piece) f.clean;
       at = omega (arith, on.at);
+      heeds = rw (on.root, on.memory) f.heeds;
     },
     λ T order at message root s r.
         let same : standing_in C d d.leaf r.lines (at + length s) ≡ standing_in C new new.leaf r.lines (at + length s) =
@@ -77,7 +77,7 @@ module _ (C : Table) (d new : Decoder) where
         ∙ (sym (rw (on.outer, carry, piece) refl)
         ∙ ap (λ l. standing_in C new l r.lines (at + length s)) (sym (on.leaf ∙ f.goes_on))) in
         let minds : Minds root new (read (plain order) [] T at s) =
-        minds_by root new (read (plain order) [] T at s) (λ asked. rw on.memory (recalls_by root d (read (plain order) [] T at s) asked r.minds)) in
+        rw on.memory r.minds in
         record {
           takes = record {
             answers = refl;
@@ -109,7 +109,7 @@ module _ (C : Table) (d new : Decoder) (leaf : Innermost) (b : ℕ) where
       Fits C new × AllGathered C d new (b ∷ [])
   one_gathered ahead on f e clean holds =
       let e' = on.leaf ∙ e in (
-        held_fits C d new leaf b ahead f e e' on.outer on.inside on.at clean (holds f.here f.stands),
+        held_fits C d new leaf b ahead f e e' on.outer on.root on.memory on.inside on.at clean (holds f.here f.stands),
         λ T order at message root s r. record {
           takes = takes_one C T order at message root new s b progress.More
               (takes_to C T order at message root d new s b progress.More f on.order on.root on.message

@@ -1,24 +1,20 @@
--- What is heard of an octet, and what is minded of a reading.
+-- What is heard of an octet.
 use Rattle.std.specs.Prelude.{slice_index_or, codes}
 use Rattle.std.specs.Str.{bytes_eq}
 use Rattle.std.proofs.Common.{◌≡◌, ◌≢◌, ℕ, ◌&&◌, Bool, true, false, List, [], ◌∷◌, ◌++◌, length, append_assoc, refl, ◌∙◌, arith, Option, Some, None, sym}
-use Rattle.giop_decode.specs.declared.decoder.Decoder.{Decoder}
 use Rattle.giop_cdr.specs.declared.order.Order.{Order}
 use Rattle.giop_decode.specs.declared.leaf.Leaf.{Leaf as Innermost}
 use Rattle.giop_decode.specs.declared.leaf.Leaf.TheVariants as innermost
 use Rattle.giop_decode.specs.declared.leaf.Turn.{Turn}
 use Rattle.giop_decode.specs.declared.leaf.Spoken.{Spoken}
 use Rattle.giop_decode.specs.declared.leaf.Spoken.TheVariants as spokens
-use Rattle.giop_decode.specs.Heard.{Heard, hear_value, ended, with_piece, heard_piece, is_member, heard, heard_of, hushed, in_content, in_string, is_header_root, is_text, nothing}
-use Rattle.giop_decode.specs.Holding.{Minds, Recalls}
+use Rattle.giop_decode.specs.Heard.{Heard, hear_value, ended, with_piece, heard_piece, is_member, heard, heard_of, hushed, in_content, in_string, is_text, nothing}
 use Rattle.giop_decode.specs.Recalling.{Voices, hushes, leaf_in_string, turn_in_string}
 use Rattle.giop_decode.specs.Spine.{Leaf, Head, Opening, Held, Seg, Name, Index, Switch, Line, line, Value, Piece, Place, Content, Read, Done, Short, Fault, lines_of, with_front}
 use Rattle.giop_decode.specs.declared.frame.Frame.{Frame}
 use Rattle.giop_decode.specs.Steps.{path_in, seg_in}
 use Rattle.giop_decode.specs.Turns.{has_ended, leaf_of, leaf_type, place, part_in, places, IsSpoken}
 use Rattle.giop_decode.proofs.Resuming.{heard-append, lines_front}
-use Rattle.giop_print.specs.declared.path.Root.{Root}
-use Rattle.giop_print.specs.declared.path.Root.TheVariants as roots
 use Rattle.std.specs.Prelude.{IfSome}
 use Rattle.giop_decode.specs.Fits.{IsEncapsulation}
 use Rattle.giop_decode.specs.Moves.{stopped_with}
@@ -109,19 +105,6 @@ heard_on header C leaf turn spoken path at piece front lines r v says inside are
     let T = tree C (leaf_type leaf) in
     spoken_heard header T (leaf_in_string T leaf) turn spoken path at piece lines (heard header nothing front) v says (text_inside T leaf)
     ∙ rw (front_inside front r, inside, lines_front front r, are, heard-append) refl
-
--- ---- where something is minded
-
--- of a body nothing is
-pub minds_by : (root : Root) (d : Decoder) (r : Read) →
-    ((root ≡ roots.Body → ⊥) → Recalls d.memory (heard_of (is_header_root root) r)) → Minds root d r
-minds_by roots.Body d r h = tt
-minds_by _ d r h = h (λ e. cc)
-
-pub recalls_by : (root : Root) (d : Decoder) (r : Read) → (root ≡ roots.Body → ⊥) → Minds root d r →
-    Recalls d.memory (heard_of (is_header_root root) r)
-recalls_by roots.Body d r asked h = absurd (asked refl)
-recalls_by _ d r asked h = h
 
 -- ---- pieces and members
 

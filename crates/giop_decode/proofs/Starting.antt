@@ -1,5 +1,5 @@
 -- A decoder before the first octet.
-use Rattle.std.proofs.Common.{◌≡◌, ℕ, ◌+◌, ◌%◌, ◌<◌, [], length, Some, refl, sym, ◌∙◌, ap, subst, add-zero, inl, inr, arith}
+use Rattle.std.proofs.Common.{◌≡◌, ℕ, ◌+◌, ◌%◌, ◌<◌, [], length, Some, refl, sym, ◌∙◌, ap, subst, add-zero, inl, inr, arith, None}
 use Rattle.giop_cdr.specs.declared.order.Order.{Order}
 use Rattle.giop_decode.specs.declared.decoder.Decoder.{Decoder}
 use Rattle.giop_decode.specs.declared.leaf.Leaf.TheVariants as innermost
@@ -11,7 +11,6 @@ use Rattle.giop_decode.specs.Reading.{read}
 use Rattle.giop_decode.specs.Spine.{plain, Head, Short}
 use Rattle.giop_decode.specs.Turns.{places, is_inside, AreKnown, Link, AreAhead, StandAt}
 use Rattle.giop_decode.proofs.Around.{read_none}
-use Rattle.giop_decode.proofs.Hearing.{minds_by}
 use Rattle.giop_decode.proofs.Sound.{read_keeps}
 use Rattle.giop_print.specs.declared.path.Root.{Root}
 use Rattle.giop_sig.specs.declared.types.TypeId.{TypeId}
@@ -33,7 +32,7 @@ module _ (C : Table) (T : Ty) (order : Order) (at message : ℕ) (root : Root) (
       record {
         lines = [];
         is = none ∙ sym (ap (λ l. standing_in C d l [] (at + 0)) goes_on ∙ rw (add-zero at, are at, empty) refl);
-        minds = minds_by root d (read (plain order) [] T at []) (λ asked. rw none recalls);
+        minds = rw none recalls;
         same_order = same_order;
         same_message = same_message;
         same_root = same_root;
@@ -45,8 +44,9 @@ pub first_fits : (C : Table) (of : ℕ) (d : Decoder) (first : TypeId) → of < 
     d.piece.items ≡ [] → ((here : ℕ) → places C here d.outer.items ≡ start_outer (tree C of)) →
     StandAt d.at d.outer.items → AreAhead d.outer.items → d.inside ≡ is_inside d.outer.items →
     start_leaf (tree C of) ≡ Head (tree C first.0) [] → Link C of d.outer.items first.0 →
-    AreKnown C d.outer.items → first.0 < length C.types → d.at < 8 → Fits C d
-first_fits C of d first known_root fit goes_on empty none are stand ahead inside leaf link known_outer known at =
+    AreKnown C d.outer.items → first.0 < length C.types → d.at < 8 →
+    d.memory.request_id ≡ None → Fits C d
+first_fits C of d first known_root fit goes_on empty none are stand ahead inside leaf link known_outer known at none_said =
     let T = tree C of in
     let sound : Sound T (0 + 0) (Short [] 0 (start_outer T) (start_leaf T)) =
     subst (Sound T (0 + 0)) (read_none (plain d.order) [] 24 T 0 fit) (read_keeps 24 (plain d.order) [] T fit 0 []) in
@@ -66,6 +66,7 @@ first_fits C of d first known_root fit goes_on empty none are stand ahead inside
       known = known;
       clean = none;
       at = at;
+      heeds = λ other. none_said;
     }
 
 -- what can stand at the root, and isn't the empty struct, fits

@@ -1,5 +1,5 @@
 -- What is restored of a decoder fits, reads and is stored as the decoder did and was.
-use Rattle.std.proofs.Common.{◌≡◌, ℕ, List, Option, Some, None, refl, sym, ap, ◌∙◌}
+use Rattle.std.proofs.Common.{◌≡◌, ℕ, List, [], Option, Some, None, refl, sym, ap, ◌∙◌}
 use Rattle.giop_cdr.specs.declared.order.Order.{Order}
 use Rattle.giop_decode.specs.declared.decoder.Decoder.{Decoder}
 use Rattle.giop_decode.specs.declared.leaf.Leaf.{Leaf as Innermost}
@@ -8,10 +8,10 @@ use Rattle.giop_decode.specs.declared.memory.Buffer.TheVariants as buffers
 use Rattle.giop_decode.specs.declared.memory.Memory.{Memory}
 use Rattle.giop_decode.specs.Heard.{Heard}
 use Rattle.giop_decode.specs.Holding.{Fits, IsHeld, Minds, Reads, Recalls, standing, standing_in}
-use Rattle.giop_decode.specs.Spine.{Line, Read}
+use Rattle.giop_decode.specs.Reading.{read}
+use Rattle.giop_decode.specs.Spine.{plain, Line, Read}
 use Rattle.giop_decode.specs.Stored.{IsKept, IsRestored, Stored, fixed_octets, kept_name}
 use Rattle.giop_print.specs.declared.path.Root.{Root}
-use Rattle.giop_print.specs.declared.path.Root.TheVariants as roots
 use Rattle.giop_sig.specs.Table.{Table}
 use Rattle.giop_sig.specs.Types.{Ty}
 
@@ -32,6 +32,7 @@ restored_fits C d e r h = record {
   known = h.known;
   clean = rw (r.carry, r.piece) h.clean;
   at = rw r.at h.at;
+  heeds = rw (r.root, r.memory.request_id) h.heeds;
 }
 
 -- ---- readings
@@ -50,7 +51,6 @@ recalls_again m n h kept recalls = record {
 
 minds_again : (root : Root) (d e : Decoder) (r : Read) → IsRestored d e → Minds root d r →
     Minds root e r
-minds_again roots.Body d e r restored minds = tt
 minds_again root d e r restored minds = recalls_again d.memory e.memory _ restored.memory minds
 
 standing_again : (C : Table) (d e : Decoder) (lines : List Line) (at : ℕ) → IsRestored d e →
@@ -67,7 +67,7 @@ pub restored_reads : (C : Table) (d e : Decoder) (T : Ty) (order : Order) (at me
 restored_reads C d e T order at message root s r reads = record {
   lines = reads.lines;
   is = reads.is ∙ standing_again C d e reads.lines _ r;
-  minds = minds_again root d e _ r reads.minds;
+  minds = minds_again root d e (read (plain order) [] T at s) r reads.minds;
   same_order = r.order ∙ reads.same_order;
   same_message = r.message ∙ reads.same_message;
   same_root = r.root ∙ reads.same_root;

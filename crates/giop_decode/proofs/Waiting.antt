@@ -11,7 +11,7 @@ use Rattle.giop_decode.specs.Spine.{plain, Line, Seg, Short, with_front}
 use Rattle.giop_decode.specs.Steps.{around, coding_in, leaf_step, path_in, step}
 use Rattle.giop_decode.specs.Turns.{places, leaf_of, leaf_type, ticked, AreAhead, AreKnown, IsClean}
 use Rattle.giop_decode.proofs.Advancing.{same_some, step_fits}
-use Rattle.giop_decode.proofs.Hearing.{leaf_inside, minds_by, recalls_by}
+use Rattle.giop_decode.proofs.Hearing.{leaf_inside}
 use Rattle.giop_decode.proofs.Around.{around-short}
 use Rattle.giop_decode.proofs.Surrounding.{inside_ticked, known_ticked, places_ticked, stand_ticked, surrounds}
 use Rattle.giop_decode.proofs.Linking.{link_ticked}
@@ -72,21 +72,20 @@ module _ (C : Table) (d new : Decoder) (leaf : Innermost) (octet : ℕ)
   pub held_here : (here : ℕ) → new.at ≡ (d.at + 1) % 8 → IsHere d here → IsHere new (here + 1)
   held_here here at h = (omega (arith, h.0, at), rw counts (stand_ticked here d.outer.items h.1))
 
-  pub held_fits : new.inside ≡ d.inside → new.at ≡ (d.at + 1) % 8 →
+  pub held_fits : new.root ≡ d.root → new.memory ≡ d.memory → new.inside ≡ d.inside → new.at ≡ (d.at + 1) % 8 →
       IsClean leaf new.carry new.piece.items → Holds C d new leaf f.here octet → Fits C new
-  held_fits encloses at clean holds =
+  held_fits root memory encloses at clean holds =
       let it : f.leaf ≡ leaf = same_some f.leaf leaf (sym f.goes_on ∙ e) in
       step_fits C d new f octet (record { lines = []; is = held_stands f.here f.stands holds; leaf = leaf; goes_on = e' })
       (held_here f.here at f.stands) (rw counts on) (rw (encloses, counts, inside_ticked d.outer.items) f.inside)
-      (rw (counts, ← it) (link_ticked C f.root d.outer.items (leaf_type f.leaf) f.link)) (rw counts known_on) (rw (← it) f.known) clean
+      (rw (counts, ← it) (link_ticked C f.root d.outer.items (leaf_type f.leaf) f.link)) (rw counts known_on) (rw (← it) f.known) clean (rw (root, memory) f.heeds)
 
   pub held_minds : (here : ℕ) (front : List Line) → new.memory ≡ d.memory → IsHere d here →
       Holds C d new leaf here octet → Minds d.root d (standing C d front here) →
       Minds d.root new (with_front front (stepped C d here octet))
   held_minds here front memory h holds old =
-      minds_by d.root new (with_front front (stepped C d here octet)) (λ asked.
       let header = is_header_root d.root in
       let before : Recalls d.memory (heard_of header (Short front here (places C here d.outer.items) (leaf_of C leaf d.carry d.piece.items))) =
-      subst (λ l. Recalls d.memory (heard_of header (standing_in C d l front here))) e (recalls_by d.root d (standing C d front here) asked old) in
+      subst (λ l. Recalls d.memory (heard_of header (standing_in C d l front here))) e old in
       let now = rw (leaf_inside C leaf d.carry d.piece.items, ← leaf_inside C leaf new.carry new.piece.items) at before in
-      rw (memory, step_held here h holds, append-nil front) now)
+      rw (memory, step_held here h holds, append-nil front) now

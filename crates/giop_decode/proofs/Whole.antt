@@ -30,7 +30,7 @@ use Rattle.giop_decode.specs.Steps.{AreHeld, after, around, head_width, leaf_ste
 use Rattle.giop_decode.specs.Turns.{CanSpeak, IsClean, IsSpoken, IsWholeNumber, StandsWhole, Turns, TurnsIn, is_inside, leaf_of, leaf_type, places, still_held}
 use Rattle.giop_decode.proofs.Advancing.{lines_turned, same_some, stands_at}
 use Rattle.giop_decode.proofs.Gathering.{IsFurther, counted_free, number_gathered, waits_gathered}
-use Rattle.giop_decode.proofs.Hearing.{heard_on, leaf_inside, minds_by, recalls_by}
+use Rattle.giop_decode.proofs.Hearing.{heard_on, leaf_inside}
 use Rattle.giop_decode.proofs.PieceLaws.{full_whole, octets_last, text_last}
 use Rattle.giop_decode.proofs.Surrounding.{free_coded}
 use Rattle.giop_decode.proofs.Waiting.{held_in}
@@ -40,7 +40,6 @@ use Rattle.giop_sig.specs.Trees.{tree}
 use Rattle.giop_decode.proofs.Padding.{padded_held, takes_last}
 use Rattle.giop_decode.proofs.Runs.{take_more}
 use Rattle.giop_decode.proofs.Turning.{number_prim, turns_number}
-use Rattle.giop_print.specs.declared.path.Root.TheVariants as roots
 use Rattle.giop_sig.specs.Types.{Encapsulation, Octets, Plain, Single, Text, Ty}
 
 -- ---- where they stand
@@ -347,7 +346,7 @@ module _ (C : Table) (d : Decoder) (octets : List ℕ) (of : TypeId) (count : �
   pub minds_whole : (new : Decoder) (at here : ℕ) (front : List Line) → at ≡ (d.at + (count - 1)) % 8 → IsHere (before_last at) here →
       in_string (told C d of.0 s.turn s.spoken (lines_at here) here) ≡ turn_in_string (tree C of.0)
       s.turn →
-      ((d.root ≡ roots.Body → ⊥) → (o : Heard) → Recalls d.memory o → Recalls new.memory (hushed (hushes s.spoken)
+      ((o : Heard) → Recalls d.memory o → Recalls new.memory (hushed (hushes s.spoken)
       (heard (is_header_root d.root) o (lines_at here)))) →
       Minds d.root (before_last at) (standing C (before_last at) front here) → Minds d.root new (with_front front (stepped C (before_last at) here (get_or octets (count - 1) 0)))
   minds_whole new at here front e stands inside hears old =
@@ -356,13 +355,12 @@ module _ (C : Table) (d : Decoder) (octets : List ℕ) (of : TypeId) (count : �
       let path = path_in [] (places C here d.outer.items) in
       let back = sym h.same in
       let T = tree C (leaf_type h.leaf) in
-      minds_by d.root new (with_front front r) (λ asked.
       let before : Recalls d.memory (hushed (leaf_in_string T h.leaf) (heard header nothing front)) =
       subst (λ b. Recalls d.memory (hushed b (heard header nothing front))) (leaf_inside C h.leaf h.carry h.piece)
-      (rw h.goes_on at (recalls_by d.root (before_last at) (standing C (before_last at) front here) asked old)) in
+      (rw h.goes_on at old) in
       let on = heard_on header C h.leaf s.turn s.spoken path (here + 1) (d.piece.items ++ rest) front (lines_at here) r
       (subst (λ t. Voices (tree C t) (leaf_in_string (tree C t) h.leaf) s.turn s.spoken) back h.voices)
       (subst (λ t. IsSpoken (tree C t) path (here + 1) s.spoken (d.piece.items ++ rest) (lines_at here)) back (says_at here))
       (subst (λ t. in_string r ≡ turn_in_string (tree C t) s.turn) back (ap in_string (told_whole at here e stands) ∙ inside))
       (lines_whole at here e stands) in
-      subst (Recalls new.memory) on (hears asked (hushed (leaf_in_string T h.leaf) (heard header nothing front)) before))
+      subst (Recalls new.memory) on (hears (hushed (leaf_in_string T h.leaf) (heard header nothing front)) before)

@@ -1,11 +1,12 @@
 -- Which frames and innermost part can stand in a table, by the numbers of the types: what is tested of a decoder that comes from
 -- octets (state).
-use Rattle.std.specs.Prelude.{◌≡◌, ℕ, ◌<◌, List, [], ◌∷◌, length, Option, Some, None}
+use Rattle.std.specs.Prelude.{◌≡◌, ℕ, ◌<◌, false, List, [], ◌∷◌, length, Option, Some, None}
 use Rattle.giop_cdr.specs.declared.order.Order.{Order}
 use Rattle.giop_decode.specs.declared.decoder.Decoder.{Decoder}
 use Rattle.giop_decode.specs.declared.frame.Frame.{Frame}
 use Rattle.giop_decode.specs.declared.leaf.Leaf.{Leaf as Innermost}
 use Rattle.giop_decode.specs.Fits.{HasParts, FitsIn, IsEncapsulation}
+use Rattle.giop_decode.specs.Heard.{is_header_root}
 use Rattle.giop_decode.specs.Turns.{leaf_of, leaf_type, is_inside, part_index, IsClean}
 use Rattle.giop_sig.specs.Fits.{IsEmptyStruct}
 use Rattle.giop_sig.specs.Table.{Table, part_number}
@@ -48,3 +49,4 @@ pub record Chains (C : Table) (d : Decoder) : Type 0 where
   pub inside : d.inside ≡ is_inside d.outer.items
   pub fits : LeafFits C leaf d.carry d.piece.items
   pub at : d.at < 8
+  pub heeds : is_header_root d.root ≡ false → d.memory.request_id ≡ None

@@ -14,7 +14,6 @@ use Rattle.giop_decode.specs.Fits.{FitsIn}
 use Rattle.giop_decode.specs.Heard.{Heard, heard_of, is_header_root, names_operation}
 use Rattle.giop_decode.specs.Turns.{places, AreKnown, AreAhead, StandAt, is_inside, Link, leaf_of, leaf_type, IsClean}
 use Rattle.giop_print.specs.declared.path.Root.{Root}
-use Rattle.giop_print.specs.declared.path.Root.TheVariants as roots
 use Rattle.giop_sig.specs.Types.{Ty}
 use Rattle.giop_sig.specs.Fits.{IsFit}
 use Rattle.giop_sig.specs.Table.{Table}
@@ -45,6 +44,8 @@ pub record Fits (C : Table) (d : Decoder) : Type 0 where
   pub known : leaf_type leaf < length C.types
   pub clean : IsClean leaf d.carry d.piece.items
   pub at : d.at < 8
+  -- none but a header has a request id
+  pub heeds : is_header_root d.root ≡ false → d.memory.request_id ≡ None
 
 -- the value has ended
 abbrev pub IsDone : Decoder → Type 0
@@ -74,10 +75,8 @@ pub record Recalls (m : Memory) (h : Heard) : Type 0 where
   pub status : m.status ≡ h.status
   pub name : IsHeld m.buffer m.name.items h.name h.so_far
 
--- What a decoder has in mind of a reading, whether that goes on, has ended or is faulted: of a header, or of a repository id.
--- Of a body nothing is asked, so nothing is minded.
+-- what a decoder has in mind of a reading, whether that goes on, has ended or is faulted
 abbrev pub Minds : Root → Decoder → Read → Type 0
-Minds roots.Body d r = Unit {0}
 Minds root d r = Recalls d.memory (heard_of (is_header_root root) r)
 
 -- The decoder's fields are what reading the list has begun and not ended, and what it leaves in mind.

@@ -7,7 +7,9 @@ use Rattle.giop_decode.specs.declared.leaf.Turn.TheVariants as turns
 use Rattle.giop_decode.specs.declared.leaf.Spoken.{Spoken}
 use Rattle.giop_decode.specs.declared.leaf.Spoken.TheVariants as spokens
 use Rattle.giop_decode.specs.Heard.{is_text}
-use Rattle.giop_sig.specs.Types.{Ty}
+use Rattle.giop_cdr.specs.declared.number.Number.{Number as Taken}
+use Rattle.giop_cdr.specs.declared.prim.Primitive.{Primitive}
+use Rattle.giop_sig.specs.Types.{Plain, Single, Ty}
 
 -- a string's length hushes the name
 abbrev pub hushes : Spoken → Bool
@@ -32,3 +34,14 @@ Voices T was turn spokens.Nothing = turn_in_string T turn ≡ was
 Voices T was turn spokens.Length = turn_in_string T turn ≡ true
 Voices T was turn (spokens.Piece offset more) = turn_in_string T turn ≡ is_text T && more
 Voices T was turn spoken = (was ≡ false) × (turn_in_string T turn ≡ false)
+
+-- a type of one primitive
+abbrev pub IsPrim : Ty → Type 0
+IsPrim T = (p : Primitive) × (T ≡ Single (Plain p))
+
+-- The number of a primitive, of which nothing is heard but the request id of a header.
+pub record IsPlain (T : Ty) (spoken : Spoken) : Type 0 where
+  pub prim : Primitive
+  pub number : Taken
+  pub is : T ≡ Single (Plain prim)
+  pub says : spoken ≡ spokens.Number number

@@ -5,6 +5,7 @@ ghost use Rattle.giop_cdr.specs.Alignment.{IsAlignment};
 ghost use Rattle.giop_cdr.specs.Primitives.{size_of};
 ghost use Rattle.giop_decode.specs.Fits.{IsBare};
 ghost use Rattle.giop_decode.specs.Holding.{Fits};
+ghost use Rattle.giop_decode.specs.Recalling.{IsPlain, IsPrim};
 ghost use Rattle.giop_decode.specs.Runs.{ComesWhole};
 ghost use Rattle.giop_decode.specs.Turns.{IsWholeNumber, StandsWhole};
 ghost use Rattle.giop_sig.specs.Types.{Single, Plain};
@@ -39,8 +40,10 @@ impl Decoder {
         octets: &'a [u8],
     ) -> Option<Ahead<'a>>
         requires { Fits catalogue.now self.now }
-        ensures { IfSome result (λ ahead. ComesWhole catalogue.now self.now octets.now ahead.of
+        ensures ahead { IfSome result (λ ahead. ComesWhole catalogue.now self.now octets.now ahead.of
             ahead.count ahead.step ahead.rest.now) }
+        ensures plain { IfSome result (λ ahead.
+            IsPlain (tree catalogue.now ahead.of.0) ahead.step.spoken) }
     {
         if self.inside || !self.carry.is_empty() {
             return None;
@@ -257,8 +260,9 @@ pub(crate) fn whole_number(
 ) -> Option<(usize, Number)>
     requires known { of.0 < length catalogue.now.types }
     requires small { at < 8 }
-    ensures { IfSome result (λ whole.
+    ensures whole { IfSome result (λ whole.
         IsWholeNumber (tree catalogue.now of.0) order at octets.now whole.0 whole.1) }
+    ensures plain { IfSome result (λ _. IsPrim (tree catalogue.now of.0)) }
 {
     match catalogue.shape(of) {
         Shape::Prim(prim) => match size(prim) {

@@ -10,6 +10,7 @@ use crate::decoder::Decoder;
 use crate::frame::{Frame, is_empty, is_inside, whole};
 use crate::heads::width;
 use crate::leaf::Leaf;
+use crate::memory::is_header;
 use giop_cdr::Carry;
 use giop_sig::{Catalogue, Shape, TypeId};
 
@@ -23,6 +24,7 @@ impl Decoder {
         };
         let root = root_of(self.outer.as_slice(), leaf);
         self.at < 8
+            && (is_header(self.root) || self.memory.request_id.is_none())
             && catalogue.has(leaf.of())
             && catalogue.has(root)
             && !is_empty(catalogue, root)

@@ -12,7 +12,7 @@ ghost use Rattle.giop_decode.specs.Steps.{around, path_in};
 ghost use Rattle.giop_decode.specs.Fits.{OpenFrom};
 ghost use Rattle.giop_decode.specs.Turns.{places, AreKnown, Link, TurnsIn, CanSpeak, IsSpoken, turned, still_held, leaf_type, IsClean, StandAt, is_inside};
 ghost use Rattle.giop_decode.specs.Heard.{Heard, heard, heard_of, hushed, in_string, is_header_root};
-ghost use Rattle.giop_decode.specs.Recalling.{hushes, turn_in_string};
+ghost use Rattle.giop_decode.specs.Recalling.{IsPlain, hushes, turn_in_string};
 ghost use Rattle.giop_decode.specs.Holding.{Fits, IsDone, IsHere, Reads, Recalls, Takes, Minds, GoesOn, standing, due};
 ghost use Rattle.giop_decode.specs.Moves.{settled, stepped, told, Comes, IsAround, IsNext, IsMoved};
 ghost use Rattle.giop_sig.specs.Types.{Ty};
@@ -116,28 +116,26 @@ impl Decoder {
         self.leaf.is_none()
     }
 
-    /// The request id of a header, once that was read.
+    /// The request id of a header, once that was read. No other value has one.
     pub fn request_id(&self) -> Option<u32>
-        ensures { (r : Read) → Minds Root.Header self.now r →
-            result ≡ (heard_of true r).request_id }
+        ensures { (root : PathRoot) (r : Read) → Minds root self.now r →
+            result ≡ (heard_of (is_header_root root) r).request_id }
     {
         self.memory.request_id()
     }
 
-    /// The number of a header's last enum: of a reply header the status.
+    /// The number of the last enum: of a reply header the status.
     pub fn status(&self) -> Option<u32>
-        ensures { (r : Read) → Minds Root.Header self.now r → result ≡ (heard_of true r).status }
+        ensures { (root : PathRoot) (r : Read) → Minds root self.now r →
+            result ≡ (heard_of (is_header_root root) r).status }
     {
         self.memory.status()
     }
 
-    /// The last string of a header, or the repository id, once that has ended and where it is a name: of at most 128
-    /// octets.
+    /// The last string, once that has ended and where it is a name: of at most 128 octets.
     pub fn name(&self) -> Option<&[u8]>
-        ensures header { (r : Read) → Minds Root.Header self.now r →
-            option_map (λ octets. octets.now) result ≡ (heard_of true r).name }
-        ensures repository { (r : Read) → Minds Root.Exception self.now r →
-            option_map (λ octets. octets.now) result ≡ (heard_of false r).name }
+        ensures { (root : PathRoot) (r : Read) → Minds root self.now r →
+            option_map (λ octets. octets.now) result ≡ (heard_of (is_header_root root) r).name }
     {
         self.memory.name()
     }
@@ -266,12 +264,12 @@ impl Decoder {
             &mut self.carry,
             &mut self.piece,
         );
-        let progress = self.tell(catalogue, of, step, &[], out)?;
+        let progress = self.tell(catalogue, of, step, &[], false, out)?;
         Ok(progress)
     }
 
     /// Says and hears what the innermost part, of this type, gives to say by an octet, and goes on from what it has come
-    /// to. A piece that is said has the octets that are held, and these.
+    /// to. A piece that is said has the octets that are held, and these. A number may be known as a primitive's.
     #[inline(always)]
     pub(crate) fn tell<O: Out>(
         &mut self,
@@ -279,12 +277,14 @@ impl Decoder {
         of: TypeId,
         step: Step,
         rest: &[u8],
+        is_plain: bool,
         out: &mut O,
     ) -> Result<Progress, OutFault>
         requires around { IsAround catalogue.now self.old of.0 }
         requires turns_in { TurnsIn (tree catalogue.now of.0) of.0 step.turn
             self.old.carry (still_held step.spoken self.old.piece.items) }
         requires speaks { CanSpeak (tree catalogue.now of.0) step.spoken }
+        requires plain { IsTrue is_plain → IsPlain (tree catalogue.now of.0) step.spoken }
         requires short { 0 < length rest.now →
             length self.old.piece.items + length rest.now ≤ 32 }
         ensures order { OnOk result (self.new.order ≡ self.old.order) }
@@ -308,8 +308,9 @@ impl Decoder {
         ensures inside { OnOk result ((here : ℕ) (lines : List Line) →
             in_string (told catalogue.now self.old of.0 step.turn step.spoken lines here)
             ≡ turn_in_string (tree catalogue.now of.0) step.turn) }
-        ensures hears { OnOk result ((self.old.root ≡ Root.Body → ⊥) →
-            (h : Heard) (here at : ℕ) (lines : List Line) → Recalls self.old.memory h →
+        ensures id { OnOk result (is_header_root self.old.root ≡ false →
+            self.new.memory.request_id ≡ self.old.memory.request_id) }
+        ensures hears { OnOk result ((h : Heard) (here at : ℕ) (lines : List Line) → Recalls self.old.memory h →
             IsSpoken (tree catalogue.now of.0)
             (path_in [] (places catalogue.now here self.old.outer.items))
             at step.spoken (self.old.piece.items ++ rest.now) lines →
@@ -335,6 +336,7 @@ impl Decoder {
             step.spoken,
             &self.piece,
             rest,
+            is_plain,
         );
         let_go(step.spoken, &mut self.piece);
         self.at = (self.at + 1) % 8;

@@ -1,10 +1,10 @@
-//! What was last heard of a header or of a repository id: a request id, an enum's number, and the last string as a name.
+//! What was last heard of a value: a header's request id, an enum's number, and the last string as a name.
 
-ghost use Rattle.std.specs.Prelude.{◌≡◌, ℕ, ◌<◌, ◌&&◌, true, List, [], ◌++◌, length};
+ghost use Rattle.std.specs.Prelude.{◌≡◌, ℕ, ◌<◌, ◌&&◌, IsTrue, true, false, List, [], ◌++◌, length};
 ghost use Rattle.std.specs.Option.{option_map};
 ghost use Rattle.giop_decode.specs.Heard.{Heard, nothing, with_piece, ended, heard_piece, is_member, is_header_root, hushed, hear_value, heard, names_operation};
 ghost use Rattle.giop_decode.specs.Holding.{Recalls};
-ghost use Rattle.giop_decode.specs.Recalling.{hushes};
+ghost use Rattle.giop_decode.specs.Recalling.{IsPlain, hushes};
 ghost use Rattle.giop_decode.specs.Spine.{Line};
 ghost use Rattle.giop_decode.specs.Spine as spines;
 ghost use Rattle.giop_decode.specs.Steps.{path_in};
@@ -79,13 +79,15 @@ impl Memory {
     }
 
     /// Lets go of the last name: the length of a string has come.
+    #[inline(always)]
     fn forget(&mut self)
         ensures hears { (h : Heard) → Recalls self.old h → Recalls self.new (hushed true h) }
+        ensures id { self.new.request_id ≡ self.old.request_id }
         ensures begun { self.new.buffer ≡ Buffer.Whole → ⊥ }
     {
         match self.buffer {
             Buffer::Whole => {
-                self.name.clear();
+                self.name = ArrayVec::new();
                 self.buffer = Buffer::Begun;
             }
             Buffer::Begun => {}
@@ -93,17 +95,19 @@ impl Memory {
         }
     }
 
-    /// Hears a piece of a string.
+    /// Hears octets of a string whose end is to come, where no name stands.
+    #[inline(always)]
     fn extend(&mut self, octets: &[u8])
+        requires { self.old.buffer ≡ Buffer.Whole → ⊥ }
         ensures hears { (h : Heard) → Recalls self.old h →
             Recalls self.new (with_piece h octets.now) }
+        ensures id { self.new.request_id ≡ self.old.request_id }
         ensures begun { self.new.buffer ≡ Buffer.Whole → ⊥ }
     {
-        self.forget();
         match self.buffer {
             Buffer::Begun => {
                 if self.name.try_extend_from_slice(octets).is_err() {
-                    self.name.clear();
+                    self.name = ArrayVec::new();
                     self.buffer = Buffer::TooLong;
                 }
             }
@@ -113,9 +117,11 @@ impl Memory {
     }
 
     /// Hears that a string has ended.
+    #[inline(always)]
     fn end(&mut self)
         requires { self.old.buffer ≡ Buffer.Whole → ⊥ }
-        ensures { (h : Heard) → Recalls self.old h → Recalls self.new (ended h) }
+        ensures hears { (h : Heard) → Recalls self.old h → Recalls self.new (ended h) }
+        ensures id { self.new.request_id ≡ self.old.request_id }
     {
         match self.buffer {
             Buffer::Begun => self.buffer = Buffer::Whole,
@@ -124,12 +130,17 @@ impl Memory {
         }
     }
 
-    /// Hears a piece of a string, which may be its last: the octets that were held, and the rest.
+    /// Hears a piece of a string, which may be its last: the octets that were held, mostly none, and the rest.
+    #[inline(always)]
     fn hear_piece(&mut self, held: &[u8], rest: &[u8], more: bool)
-        ensures { (h : Heard) → Recalls self.old h →
+        ensures hears { (h : Heard) → Recalls self.old h →
             Recalls self.new (heard_piece h (held.now ++ rest.now) more) }
+        ensures id { self.new.request_id ≡ self.old.request_id }
     {
-        self.extend(held);
+        self.forget();
+        if !held.is_empty() {
+            self.extend(held);
+        }
         self.extend(rest);
         if !more {
             self.end();
@@ -137,32 +148,31 @@ impl Memory {
     }
 
     /// Hears the number of a type, which is that of a request id or isn't.
+    #[inline(always)]
     fn hear_number(&mut self, catalogue: &Catalogue, t: TypeId, number: Number, is_id: bool)
         requires known { t.0 < length catalogue.now.types }
         requires number { IsNumberOf (tree catalogue.now t.0) number }
-        ensures { (h : Heard) (is : IsNumberOf (tree catalogue.now t.0) number) →
+        ensures hears { (h : Heard) (is : IsNumberOf (tree catalogue.now t.0) number) →
             Recalls self.old h →
             Recalls self.new (hear_value is_id h (spines.Number is.scalar is.n)) }
+        ensures id { is_id ≡ false → self.new.request_id ≡ self.old.request_id }
     {
+        let Number::Unsigned(n) = number else {
+            return;
+        };
         match catalogue.shape(t) {
-            Shape::Prim(prim) => match (prim, number) {
-                (Prim::ULong, Number::Unsigned(n)) => {
-                    if is_id && self.request_id.is_none() {
-                        self.request_id = Some(n as u32);
-                    }
+            Shape::Enumeration(_) => self.status = Some(n as u32),
+            Shape::Prim(Prim::ULong) => {
+                if is_id && self.request_id.is_none() {
+                    self.request_id = Some(n as u32);
                 }
-                _ => {}
-            },
-            Shape::Enumeration(_) => match number {
-                Number::Unsigned(n) => self.status = Some(n as u32),
-                _ => unreachable!(),
-            },
-            _ => unreachable!(),
+            }
+            _ => {}
         }
     }
 
     /// Hears what an octet gives to say of an innermost part of this type, and answers whether that ends the operation of
-    /// a Request's header. In a body nothing is heard, since nothing of it is asked for.
+    /// a Request's header. Below any other root nothing is heard of a primitive, as which this may be known.
     #[inline(always)]
     pub(crate) fn hear(
         &mut self,
@@ -173,12 +183,14 @@ impl Memory {
         spoken: Spoken,
         held: &[u8],
         rest: &[u8],
+        is_plain: bool,
     ) -> bool
         requires known { of.0 < length catalogue.now.types }
         requires known_outer { AreKnown catalogue.now outer.now }
         requires speaks { CanSpeak (tree catalogue.now of.0) spoken }
-        ensures hears { (root ≡ Root.Body → ⊥) →
-            (h : Heard) (here at : ℕ) (lines : List Line) → Recalls self.old h →
+        requires plain { IsTrue is_plain → IsPlain (tree catalogue.now of.0) spoken }
+        ensures id { is_header_root root ≡ false → self.new.request_id ≡ self.old.request_id }
+        ensures hears { (h : Heard) (here at : ℕ) (lines : List Line) → Recalls self.old h →
             IsSpoken (tree catalogue.now of.0) (path_in [] (places catalogue.now here outer.now))
             at spoken (held.now ++ rest.now) lines →
             Recalls self.new (hushed (hushes spoken) (heard (is_header_root root) h lines)) }
@@ -187,7 +199,7 @@ impl Memory {
             at spoken (held.now ++ rest.now) lines →
             result ≡ names_operation (is_header_root root) lines }
     {
-        if root == Root::Body {
+        if is_plain && !is_header(root) {
             return false;
         }
         match spoken {
@@ -213,16 +225,15 @@ impl Memory {
                     self.hear_piece(held, rest, more);
                     !more && is_header_member(catalogue, root, outer, b"operation")
                 }
-                Shape::Octets(_) => false,
-                Shape::Encapsulation => false,
-                _ => unreachable!(),
+                _ => false,
             },
         }
     }
 }
 
 /// Whether lines of this root are a header's.
-fn is_header(root: Root) -> bool
+#[inline(always)]
+pub(crate) fn is_header(root: Root) -> bool
     ensures { result ≡ is_header_root root }
 {
     match root {
@@ -233,6 +244,7 @@ fn is_header(root: Root) -> bool
 }
 
 /// Whether the innermost part is the member of this name of a header.
+#[inline(always)]
 fn is_header_member(catalogue: &Catalogue, root: Root, outer: &[Frame], name: &[u8]) -> bool
     requires { AreKnown catalogue.now outer.now }
     ensures { (here : ℕ) → result ≡ (is_header_root root

@@ -1,10 +1,12 @@
 //! Octets taken together: a run of them, up to the one behind which its caller has something to do.
 
-ghost use Rattle.std.specs.Prelude.{◌≡◌, ℕ, ◌+◌, ◌%◌, ◌^◌, ◌<◌, ◌≤◌, List, length, take, IfOk};
+ghost use Rattle.std.specs.Prelude.{◌≡◌, ℕ, ◌+◌, ◌%◌, ◌^◌, ◌<◌, ◌≤◌, List, length, take, IfOk, IsTrue};
 ghost use Rattle.giop_cdr.specs.declared.order.Order.{Order as ByteOrder};
 ghost use Rattle.giop_decode.specs.Holding.{Fits, GoesOn, IsDone, Reads};
+ghost use Rattle.giop_decode.specs.Recalling.{IsPlain};
 ghost use Rattle.giop_decode.specs.Runs.{TakesRun, WritesRun, AllGathered, ComesWhole};
 ghost use Rattle.giop_print.specs.declared.path.Root.{Root as PathRoot};
+ghost use Rattle.giop_sig.specs.Trees.{tree};
 ghost use Rattle.giop_sig.specs.Types.{Ty};
 
 use crate::ahead::Ahead;
@@ -81,13 +83,13 @@ impl Decoder {
         ensures done { IfOk result (λ taken. taken.1 ≡ Progress.Done → IsDone self.new) }
     {
         if let Some(ahead) = self.number_ahead(catalogue, octets) {
-            return self.take_ahead(catalogue, octets, ahead, out);
+            return self.take_ahead(catalogue, octets, ahead, true, out);
         }
         if let Some(ahead) = self.piece_ahead(catalogue, octets) {
-            return self.take_ahead(catalogue, octets, ahead, out);
+            return self.take_ahead(catalogue, octets, ahead, false, out);
         }
         if let Some(ahead) = self.head_ahead(catalogue, octets) {
-            return self.take_ahead(catalogue, octets, ahead, out);
+            return self.take_ahead(catalogue, octets, ahead, false, out);
         }
         let gathered = self.gather(catalogue, octets);
         if gathered == octets.len() {
@@ -97,18 +99,21 @@ impl Decoder {
         Ok((gathered + 1, progress))
     }
 
-    /// Takes octets ahead that belong together, and writes what they give to say.
+    /// Takes octets ahead that belong together, perhaps known as a primitive, and writes what they give to say.
     #[inline(always)]
     fn take_ahead<O: Out>(
         &mut self,
         catalogue: &Catalogue,
         octets: &[u8],
         ahead: Ahead<'_>,
+        is_plain: bool,
         out: &mut O,
     ) -> Result<(usize, Progress), OutFault>
         requires fits { Fits catalogue.now self.old }
         requires ahead { ComesWhole catalogue.now self.old octets.now ahead.of ahead.count
             ahead.step ahead.rest.now }
+        requires plain { IsTrue is_plain →
+            IsPlain (tree catalogue.now ahead.of.0) ahead.step.spoken }
         ensures writes { (T : Ty) (order : ByteOrder) (at message : ℕ) (root : PathRoot)
             (s : List ℕ) →
             Reads catalogue.now T order at message root self.old s →
@@ -125,7 +130,7 @@ impl Decoder {
     {
         let _octets = octets;
         self.at = further(self.at, ahead.count - 1);
-        let progress = self.tell(catalogue, ahead.of, ahead.step, ahead.rest, out)?;
+        let progress = self.tell(catalogue, ahead.of, ahead.step, ahead.rest, is_plain, out)?;
         Ok((ahead.count, progress))
     }
 

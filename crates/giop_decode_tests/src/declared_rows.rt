@@ -47,7 +47,9 @@ add big
 signatures 1; enum Hue { red, green }; struct Dot { Hue hue; short spot[2]; }; union Mark switch (Hue) { case red: Dot dot; default: octet code; }; operation void add(in Mark m, in sequence<ushort,3> s);
 00000000 00000001 ffff0002 00000002 00070008
 4 m1 body.m.switch enum red
+4 request_id None, status Some(0), name None
 8 m1 body.m.dot.hue enum green
+8 request_id None, status Some(1), name None
 10 m1 body.m.dot.spot[0] short -1
 12 m1 body.m.dot.spot[1] short 2
 16 m1 body.s count 2
@@ -60,6 +62,7 @@ add big
 signatures 1; enum Hue { red, green }; struct Dot { Hue hue; short spot[2]; }; union Mark switch (Hue) { case red: Dot dot; default: octet code; }; operation void add(in Mark m, in sequence<ushort,3> s);
 00000001 09 000000 00000000
 4 m1 body.m.switch enum green
+4 request_id None, status Some(1), name None
 5 m1 body.m.code octet 9
 12 m1 body.s count 0
 12 done
@@ -69,7 +72,9 @@ add big
 signatures 1; enum Hue { red, green }; struct Dot { Hue hue; short spot[2]; }; union Mark switch (Hue) { case red: Dot dot; default: octet code; }; operation void add(in Mark m, in sequence<ushort,3> s);
 00000000 00000001 ffff0002 00000004
 4 m1 body.m.switch enum red
+4 request_id None, status Some(0), name None
 8 m1 body.m.dot.hue enum green
+8 request_id None, status Some(1), name None
 10 m1 body.m.dot.spot[0] short -1
 12 m1 body.m.dot.spot[1] short 2
 16 fault bound
@@ -86,6 +91,7 @@ signatures 1; operation void say(in string s);
 00000021 61*32 00
 37 m1 body.s string @0 "aaaaaaaaaaaaaaaaaaaaaaaaaaaaaaaa"
 37 done
+37 request_id None, status None, name Some("aaaaaaaaaaaaaaaaaaaaaaaaaaaaaaaa")
 =
 a string of 33 octets
 say big
@@ -94,6 +100,7 @@ signatures 1; operation void say(in string s);
 36 m1 body.s string @0 "aaaaaaaaaaaaaaaaaaaaaaaaaaaaaaaa" more
 38 m1 body.s string @32 "a"
 38 done
+38 request_id None, status None, name Some("aaaaaaaaaaaaaaaaaaaaaaaaaaaaaaaaa")
 =
 a string of length 0
 say big
@@ -101,6 +108,7 @@ signatures 1; operation void say(in string s);
 00000000
 4 m1 body.s string @0 ""
 4 done
+4 request_id None, status None, name Some("")
 =
 a string with escapes
 say big
@@ -108,6 +116,7 @@ signatures 1; operation void say(in string s);
 00000004 225c0700
 8 m1 body.s string @0 "\x22\x5c\x07"
 8 done
+8 request_id None, status None, name Some("\"\\\u{7}")
 =
 a string whose last octet is no zero
 say big
@@ -155,6 +164,7 @@ signatures 1; operation void few(in string<2> s);
 03000000 616200
 7 m1 body.s string @0 "ab"
 7 done
+7 request_id None, status None, name Some("ab")
 =
 a label of a signed discriminator
 sign big

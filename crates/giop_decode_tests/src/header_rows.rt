@@ -80,6 +80,7 @@ Request 1.2 in a body
 10 m1 body.target.switch short 0
 16 m1 body.target.object_key octets @0
 22 m1 body.operation string @0 "a"
+22 request_id None, status None, name Some("a")
 28 m1 body.service_contexts count 0
 28 done
 =

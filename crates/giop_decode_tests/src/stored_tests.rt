@@ -181,7 +181,7 @@ fn a_decoder_in_a_piece_is_restored(rt: HostRuntime) -> Result<(), Fail> {
 }
 
 /// An octet that no decoder stores there, in place of that of the decoder in an array.
-static REFUSED: [(&str, usize, u8); 28] = [
+static REFUSED: [(&str, usize, u8); 29] = [
     ("a byte order", 0, 2),
     ("a root", 1, 3),
     ("an offset", 10, 8),
@@ -196,6 +196,7 @@ static REFUSED: [(&str, usize, u8); 28] = [
     ("an octet behind those of a number", 26, 1),
     ("a piece, in a number", 33, 1),
     ("an octet behind a piece", 34, 1),
+    ("a request id of a body", 66, 1),
     ("whether there is an id", 66, 2),
     ("an id that isn't there", 70, 1),
     ("whether there is a status", 71, 2),

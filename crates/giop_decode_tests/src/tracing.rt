@@ -12,7 +12,7 @@ use std::fmt::Write;
 use std::process::Abort;
 use std::test::Fail;
 
-/// What the readers tell of a value before its first octet, and of a body throughout.
+/// What the readers tell of a value before its first octet.
 const NOTHING: &str = "request_id None, status None, name None";
 
 /// Compares what comes of octets, in the place of a row's, with what the row wants.

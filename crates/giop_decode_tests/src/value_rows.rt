@@ -4,6 +4,7 @@ pub static ROWS: &str = r#"object reference of two profiles
 21 big 0 body
 00000002 6100 ee*2 00000002 00000003 00000001 ab ee*3 00000009 00000000
 6 m1 body.type_id string @0 "a"
+6 request_id None, status None, name Some("a")
 12 m1 body.profiles count 2
 16 m1 body.profiles[0].tag ulong 3
 21 m1 body.profiles[0].profile_data octets @0 ab
@@ -15,6 +16,7 @@ object reference without a profile, empty type id
 21 little 4 body
 00000000 00000000
 4 m1 body.type_id string @0 ""
+4 request_id None, status None, name Some("")
 8 m1 body.profiles count 0
 8 done
 =
@@ -39,6 +41,7 @@ target: an object reference
 2 m1 body.switch short 2
 8 m1 body.ior.selected_profile_index ulong 1
 13 m1 body.ior.ior.type_id string @0 ""
+13 request_id None, status None, name Some("")
 20 m1 body.ior.ior.profiles count 0
 20 done
 =
@@ -56,14 +59,17 @@ system exception
 25 little 24 body
 02000000 4500 ee*2 07000000 01000000
 6 m1 body.exception_id string @0 "E"
+6 request_id None, status None, name Some("E")
 12 m1 body.minor ulong 7
 16 m1 body.completed enum COMPLETED_NO
 16 done
+16 request_id None, status Some(1), name Some("E")
 =
 system exception: no such status
 25 big 24 body
 00000001 00 ee*3 00000007 00000003
 5 m1 body.exception_id string @0 ""
+5 request_id None, status None, name Some("")
 12 m1 body.minor ulong 7
 16 fault enum
 =
@@ -85,6 +91,7 @@ the greatest number of an enum
 02000000
 4 m1 body enum COMPLETED_MAYBE
 4 done
+4 request_id None, status Some(2), name None
 =
 a number above it
 24 big 3 body
@@ -140,6 +147,7 @@ an IIOP profile without an octet of its port
 6 m1 body.major octet 1
 7 m1 body.minor octet 0
 14 m1 body.host string @0 "h"
+14 request_id None, status None, name Some("h")
 15 fault encap-short
 =
 an IIOP profile whose host has no zero octet
@@ -161,13 +169,16 @@ an object reference of two profiles, one of them of octets
 21 big 0 body
 00000002 6100 ee*2 00000002 00000000 00000011 00 01 00 ee 00000001 00 ee 0b0c 00000001 ff ee*3 00000001 00000001 ab
 6 m1 body.type_id string @0 "a"
+6 request_id None, status None, name Some("a")
 12 m1 body.profiles count 2
 16 m1 body.profiles[0].tag ulong 0
 20 m1 body.profiles[0].profile_data encapsulation 17
 21 m1 body.profiles[0].profile_data order big
 22 m1 body.profiles[0].profile_data.major octet 1
 23 m1 body.profiles[0].profile_data.minor octet 0
+28 request_id None, status None, name None
 29 m1 body.profiles[0].profile_data.host string @0 ""
+29 request_id None, status None, name Some("")
 32 m1 body.profiles[0].profile_data.port ushort 2828
 37 m1 body.profiles[0].profile_data.object_key octets @0 ff
 44 m1 body.profiles[1].tag ulong 1

@@ -253,7 +253,7 @@ unfolding one_message told_with kept_messages some_octets
 first_reads = record {
   lines = [];
   is = refl;
-  minds = tt;
+  minds = record { request_id = refl; status = refl; name = (refl, refl, omega arith) };
   same_order = refl;
   same_message = refl;
   same_root = refl;
@@ -345,6 +345,7 @@ first_fits = record {
   known = below_all;
   clean = refl;
   at = omega arith;
+  heeds = λ other. refl;
 }
 
 -- ---- The checkpoint.

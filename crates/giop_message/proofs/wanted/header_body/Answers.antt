@@ -1,5 +1,6 @@
 use Rattle.std.proofs.Common.{true, sym, ap, ◌∙◌}
 use Rattle.giop_decode.specs.Heard.{heard_of}
+use Rattle.giop_print.specs.declared.path.Root.TheVariants as roots
 use Rattle.giop_message.specs.Messages.{request_body}
 use Rattle.giop_message.specs.Signatures.{said_by}
 use Rattle.giop_message.proofs.Starting.{request_wants, reply_wants, others_want}
@@ -8,13 +9,13 @@ use Rattle.giop_message.proofs.wanted.header_body.Goals as goal
 pub returns-then-kind_of-eq0-clause-is : goal.returns-then-kind_of-eq0-clause-is
 returns-then-kind_of-eq0-clause-is c r minds =
     let S = said_by c.args.catalogue.now c.args.requests.now in
-    c.request_body.ensures.is c.args.requests.now ∙ (ap (request_body S) (c.name.ensures.header r minds)
+    c.request_body.ensures.is c.args.requests.now ∙ (ap (request_body S) (c.name.ensures roots.Header r minds)
     ∙ sym (request_wants S c.args.header.now (heard_of true r) (sym c.kind_of.ensures ∙ c.if-kind_of-eq0.true)))
 
 pub returns-then-kind_of-eq1-clause-is : goal.returns-then-kind_of-eq1-clause-is
 returns-then-kind_of-eq1-clause-is c r minds =
     let S = said_by c.args.catalogue.now c.args.requests.now in
-    c.reply_body.ensures.is ∙ (rw (c.request_id.ensures r minds, c.status.ensures r minds)
+    c.reply_body.ensures.is ∙ (rw (c.request_id.ensures roots.Header r minds, c.status.ensures roots.Header r minds)
     (sym (reply_wants S c.args.header.now (heard_of true r) (sym c.kind_of-2.ensures ∙ c.if-kind_of-eq1.true))))
 
 pub returns-clause-is : goal.returns-clause-is

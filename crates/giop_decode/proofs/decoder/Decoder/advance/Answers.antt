@@ -2,12 +2,12 @@ use Rattle.std.proofs.Common.{◌+◌, [], ap, append-nil, subst, sym, ◌∙◌
 use Rattle.giop_decode.proofs.Advancing.{stands_at, same_some, goes, step_fits, lines_turned}
 use Rattle.giop_decode.proofs.Surrounding.{IsCoded, coded_in}
 use Rattle.giop_print.proofs.Writing.{writes_failed}
-use Rattle.giop_decode.proofs.Hearing.{heard_on, leaf_inside, minds_by, recalls_by}
+use Rattle.giop_decode.proofs.Hearing.{heard_on, leaf_inside}
 use Rattle.giop_decode.specs.Heard.{heard, hushed, in_string, is_header_root, nothing}
-use Rattle.giop_decode.specs.Holding.{Recalls, standing}
+use Rattle.giop_decode.specs.Holding.{Recalls}
 use Rattle.giop_decode.specs.Recalling.{leaf_in_string}
 use Rattle.giop_decode.specs.Moves.{stepped, leaf_in}
-use Rattle.giop_decode.specs.Spine.{plain, lines_of, with_front}
+use Rattle.giop_decode.specs.Spine.{plain, lines_of}
 use Rattle.giop_decode.specs.Steps.{around, path_in, step, coding_in}
 use Rattle.giop_decode.specs.Turns.{places, leaf_type, Link, coding_by, still_held}
 use Rattle.giop_sig.specs.Trees.{tree}
@@ -97,6 +97,7 @@ returns-clause-fits g c goes_on =
     let before : Link C f.root d.outer.items c.of-of.result.0 = rw (c.of-of.ensures, ← same) f.link in
     step_fits C d new f c.args.octet k (c.in_ok-progress.ensures.here f.here f.stands) next.ahead next.inside
     (next.link f.root k.leaf before k.goes_on) next.known_outer (next.known k.leaf k.goes_on) (next.clean k.leaf k.goes_on)
+    (λ other. let was = rw c.in_ok-progress.ensures.root at other in c.in_ok-progress.ensures.id was ∙ f.heeds was)
 
 pub returns-clause-minds : goal.returns-clause-minds
 returns-clause-minds g c here front h old_minds =
@@ -117,12 +118,11 @@ returns-clause-minds g c here front h old_minds =
     let ls = ap lines_of e ∙ lines_turned C here (plain d.order) [] d.outer.items T turn c.take_octet-step.new.carry (still_held spoken piece) t.lines f.ahead f.known_outer in
     let header = is_header_root d.root in
     let i = rw c.of-of.ensures at (c.in_ok-progress.ensures.inside here t.lines) in
-    minds_by d.root c.tell.new.self (with_front front (stepped C d here c.args.octet)) (λ asked.
     let before : Recalls d.memory (hushed (leaf_in_string T leaf) (heard header nothing front)) =
     subst (λ b. Recalls d.memory (hushed b (heard header nothing front))) (leaf_inside C leaf d.carry d.piece.items)
-    (rw c.in-Some.is at (recalls_by d.root d (standing C d front here) asked old_minds)) in
-    let now = rw (c.of-of.ensures, append-nil piece) at (c.in_ok-progress.ensures.hears asked (hushed (leaf_in_string T leaf)
+    (rw c.in-Some.is at old_minds) in
+    let now = rw (c.of-of.ensures, append-nil piece) at (c.in_ok-progress.ensures.hears (hushed (leaf_in_string T leaf)
     (heard header nothing front)) here (here + 1) t.lines before) in
     let on = heard_on header C leaf turn spoken (path_in [] ps) (here + 1) piece front t.lines (stepped C d here c.args.octet)
     c.take_octet-step.ensures.voices t.says (ap in_string e ∙ i) ls in
-    subst (Recalls c.tell.new.self.memory) on (now t.says))
+    subst (Recalls c.tell.new.self.memory) on (now t.says)

@@ -96,7 +96,7 @@ returns-clause-takes g c T order at message root s r =
     (takes_to C T order at message root before new (s ++ take i octets) b p whole.0 e.order e.root e.message e.here
     (λ here stands. rw (told_whole C d octets a.of a.count a.step a.rest.now f h there here step stands) (e.steps here (lines here) (says here)))
     (λ here front stands old. minds_whole C d octets a.of a.count a.step a.rest.now f h new there here front step stands (e.inside here (lines here))
-    (λ asked o recalls. e.hears asked o here (here + 1) (lines here) recalls (says here)) old)
+    (λ o recalls. e.hears o here (here + 1) (lines here) recalls (says here)) old)
     (held.takes.reads (λ fault. fault))))
 
 pub returns-clause-fits : goal.returns-clause-fits
@@ -123,6 +123,7 @@ returns-clause-fits g c goes_on =
     let link : Link C g'.root d.outer.items c.args.ahead.of.0 = subst (Link C g'.root d.outer.items) same g'.link in
     step_fits C before new g' b k (e.here g'.here g'.stands) next.ahead next.inside
     (next.link g'.root k.leaf link k.goes_on) next.known_outer (next.known k.leaf k.goes_on) (next.clean k.leaf k.goes_on)
+    (λ other. let was = rw e.root at other in e.id was ∙ f.heeds was)
 
 pub returns-clause-done : goal.returns-clause-done
 returns-clause-done g c is =

@@ -90,6 +90,6 @@ returns-clause-inside g c here lines =
     ap in_string come ∙ c.settle.ensures.inside (here + 1) lines
 
 pub returns-clause-hears : goal.returns-clause-hears
-returns-clause-hears g c asked h here at lines before says =
-    let now = rw (c.as_slice-2.ensures.value, c.deref-2.ensures.0) at (c.hear-named.ensures.hears asked h here at lines before) in
+returns-clause-hears g c h here at lines before says =
+    let now = rw (c.as_slice-2.ensures.value, c.deref-2.ensures.0) at (c.hear-named.ensures.hears h here at lines before) in
     rw c.settle.ensures.memory (now says)

@@ -1,4 +1,4 @@
-use Rattle.std.proofs.Common.{[], subst}
+use Rattle.std.proofs.Common.{[], ◌∙◌, refl, subst}
 use Rattle.giop_decode.specs.Heard.{is_header_root}
 use Rattle.giop_decode.specs.Holding.{Recalls}
 use Rattle.giop_decode.specs.Spine.{Number}
@@ -8,8 +8,11 @@ use Rattle.giop_decode.proofs.Hearing.{switch_heard}
 use Rattle.giop_decode.proofs.memory.Memory.hear.Goals as goal
 
 pub returns-in-Switch-clause-hears : goal.returns-in-Switch-clause-hears
-returns-in-Switch-clause-hears c asked h here at lines recalls says =
+returns-in-Switch-clause-hears c h here at lines recalls says =
     let path = path_in [] (places c.args.catalogue.now here c.args.outer.now) in
     let k = rw c.in-Switch.is at says in
-    let heard = rw c.switch_type.ensures.tree at c.hear_number-in-Switch.ensures in
+    let heard = rw c.switch_type.ensures.tree at c.hear_number-in-Switch.ensures.hears in
     rw (c.in-Switch.is, k.1) (subst (Recalls c.hear_number-in-Switch.new.self) (switch_heard (is_header_root c.args.root) path _ h (Number k.0.scalar k.0.n)) (heard h k.0 recalls))
+
+pub returns-in-Number-clause-id : goal.returns-in-Number-clause-id
+returns-in-Number-clause-id c other = c.hear_number.ensures.id (c.is_header_member-is_id.ensures 0 ∙ rw other refl)

@@ -1,0 +1,42 @@
+use Rattle.std.proofs.Common.{◌≡◌, ℕ, ◌+◌, List, refl, arith}
+use Rattle.giop_decode.specs.declared.decoder.Decoder.{Decoder}
+use Rattle.giop_decode.specs.Holding as decoder
+use Rattle.giop_decode.specs.Stored as decoders
+use Rattle.giop_message.specs.declared.part.Part.{Part}
+use Rattle.giop_message.specs.declared.part.Part.TheVariants as parts
+use Rattle.giop_message.specs.declared.part.Section.{Section}
+use Rattle.giop_message.specs.declared.part.Section.TheVariants as sections
+use Rattle.giop_message.specs.Holding.{FitsPart}
+use Rattle.giop_message.specs.Stored.{section_octet, part_octet, PartStored, GoesOn, ReadsOn}
+use Rattle.giop_sig.specs.Table.{Table}
+use Rattle.giop_message.proofs.part.Part.restore_typed.Goals as goal
+
+same : (own section : Section) → section_octet own ≡ section_octet section → section ≡ own
+same sections.Header sections.Header e = refl
+same sections.Exception sections.Exception e = refl
+same sections.Body sections.Body e = refl
+same sections.Header sections.Exception e = absurd (omega (arith, e))
+same sections.Header sections.Body e = absurd (omega (arith, e))
+same sections.Exception sections.Header e = absurd (omega (arith, e))
+same sections.Exception sections.Body e = absurd (omega (arith, e))
+same sections.Body sections.Header e = absurd (omega (arith, e))
+same sections.Body sections.Exception e = absurd (omega (arith, e))
+
+small : (n : ℕ) (section : Section) → 3 + n ≡ section_octet section → ⊥
+small n sections.Header e = omega (arith, e)
+small n sections.Exception e = omega (arith, e)
+small n sections.Body e = omega (arith, e)
+
+again : (C : Table) (section : Section) (e : Decoder) (octets frames : List ℕ) →
+    ((d : Decoder) → decoder.Fits C d → decoders.Stored d octets frames → ReadsOn C d e) →
+    (at : ℕ) (p : Part) → FitsPart C at p → part_octet p ≡ section_octet section →
+    PartStored p octets frames → GoesOn C p (parts.Typed section e)
+again C section e octets frames reads at (parts.Typed own d) fits octet stored =
+    (same own section octet, reads d fits stored)
+again C section e octets frames reads at (parts.Padding wanted) fits octet stored = absurd (small 0 section octet)
+again C section e octets frames reads at (parts.Rest r) fits octet stored = absurd (small 1 section octet)
+
+pub returns-clause-again : goal.returns-clause-again
+returns-clause-again c at p fits octet stored =
+    again c.args.catalogue.now c.args.section c.in-Some.decoder c.args.octets.now c.args.frames.now
+    (λ d fits stored. record { reads = c.in-Some.ensures.reads d fits stored }) at p fits octet stored
